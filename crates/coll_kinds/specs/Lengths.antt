@@ -1,0 +1,30 @@
+-- What a member gives to a collective and gets from it, in bytes (MPI 4.1, 6.4 to 6.11).
+use Rattle.std.specs.Prelude.{ℕ, ◌+◌, ◌*◌, ◌==◌, if◌then◌else◌}
+use Rattle.coll_kinds.specs.declared.kind.Kind.{Kind}
+use Rattle.coll_kinds.specs.declared.kind.Kind.TheVariants.{Bcast, Allreduce}
+use Rattle.coll_kinds.specs.declared.signature.Signature.{Signature}
+use Rattle.coll_kinds.specs.Elements.{width}
+
+-- the bytes of one block
+abbrev pub block_len : Signature → ℕ
+block_len sig = sig.count * width sig.ty
+
+-- what member r of n gives, where a block has b bytes
+abbrev pub given_by : Kind → ℕ → ℕ → ℕ → ℕ → ℕ
+given_by Bcast root n r b = if r == root then b else 0
+given_by Allreduce root n r b = b
+
+-- what member r of n gets
+abbrev pub got_by : Kind → ℕ → ℕ → ℕ → ℕ → ℕ
+got_by Bcast root n r b = b
+got_by Allreduce root n r b = b
+
+abbrev pub given_len : Signature → ℕ → ℕ → ℕ
+given_len sig n r = given_by sig.kind sig.root n r (block_len sig)
+
+abbrev pub got_len : Signature → ℕ → ℕ → ℕ
+got_len sig n r = got_by sig.kind sig.root n r (block_len sig)
+
+-- the bytes that an active request lends to the engine
+abbrev pub lent : Signature → ℕ → ℕ → ℕ
+lent sig n r = given_len sig n r + got_len sig n r

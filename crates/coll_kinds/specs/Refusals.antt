@@ -1,0 +1,24 @@
+-- The numbers of the refusals, which the program prints.
+use Rattle.std.specs.Prelude.{ℕ}
+use Rattle.coll_kinds.specs.declared.refusal.Refusal.{Refusal}
+use Rattle.coll_kinds.specs.declared.refusal.Refusal.TheVariants.{BadComm, NotMember, BadSignature, BadLength, Mismatch, Stale, NotYours, Active, NotPersistent, PlacesUsed, StartsUsed, Full, TraceFull, Stalled, StillActive, Torn, NoMemory, BadConfig}
+
+abbrev pub number_of : Refusal → ℕ
+number_of (BadComm comm) = 1
+number_of (NotMember rank) = 2
+number_of (BadSignature cause) = 3
+number_of (BadLength want got) = 4
+number_of (Mismatch place first sig) = 5
+number_of Stale = 6
+number_of NotYours = 7
+number_of Active = 8
+number_of NotPersistent = 9
+number_of PlacesUsed = 10
+number_of StartsUsed = 11
+number_of Full = 12
+number_of TraceFull = 13
+number_of Stalled = 14
+number_of (StillActive rank) = 15
+number_of Torn = 16
+number_of NoMemory = 17
+number_of (BadConfig field) = 18

@@ -1,0 +1,204 @@
+ghost use Rattle.std.specs.Prelude.{◌≡◌, ◌<◌, MatchOption, IsOk, IsErrOf};
+
+use crate::datatype::Datatype;
+use crate::kind::{Kind, Mode};
+use crate::operation::Op;
+use crate::refusal::{Refusal, SignatureFault};
+
+/// The most elements in a block.
+const MAX_COUNT: u32 = 65_536;
+
+/// The most bytes that one member gives or gets: 16 MiB.
+const MAX_LEN: usize = 16_777_216;
+
+/// What all members of a communicator have to agree on at one place of their posting lists.
+#[derive(Clone, Copy, Debug, PartialEq, Eq)]
+pub struct Signature {
+    pub kind: Kind,
+    pub mode: Mode,
+    /// The root's member number; 0 for a kind without a root.
+    pub root: u8,
+    /// The operation of a reduction; none for the other kinds.
+    pub op: Option<Op>,
+    pub ty: Datatype,
+    /// The elements in a block.
+    pub count: u32,
+}
+
+impl Signature {
+    ghost use Rattle.coll_kinds.specs.Lengths.{block_len, given_len, got_len, lent};
+    ghost use Rattle.coll_kinds.specs.Needs.{needs};
+    ghost use Rattle.coll_kinds.specs.Checks.{broken, root_fits, operation_fits, size_fits, sizes_fit};
+
+    /// Tests the signature for `n` members. Of the rules that it breaks, the first is told, in the
+    /// order [`SignatureFault::Root`], `Operation`, `Count`, `Size`.
+    pub fn check(self, n: u8) -> Result<(), Refusal>
+        ensures { MatchOption (broken self n)
+            (IsOk result)
+            (λ cause. IsErrOf result (Refusal.BadSignature cause)) }
+    {
+        if !self.root_fits(n) {
+            return Err(refused(SignatureFault::Root));
+        }
+        if !self.operation_fits() {
+            return Err(refused(SignatureFault::Operation));
+        }
+        if self.count > MAX_COUNT {
+            return Err(refused(SignatureFault::Count));
+        }
+        if !self.sizes_fit(n) {
+            return Err(refused(SignatureFault::Size));
+        }
+        Ok(())
+    }
+
+    /// The bytes of one block: the count times the element's width.
+    pub fn block_len(self) -> usize
+        ensures { result ≡ block_len self }
+    {
+        self.count as usize * self.ty.width()
+    }
+
+    /// The bytes that member `r` of `n` gives.
+    pub fn given_len(self, n: u8, r: u8) -> usize
+        ensures { result ≡ given_len self n r }
+    {
+        let block = self.block_len();
+        match self.kind {
+            Kind::Bcast if r == self.root => block,
+            Kind::Bcast => 0,
+            Kind::Allreduce => block,
+        }
+    }
+
+    /// The bytes that member `r` of `n` gets.
+    pub fn got_len(self, n: u8, r: u8) -> usize
+        ensures { result ≡ got_len self n r }
+    {
+        let block = self.block_len();
+        match self.kind {
+            Kind::Bcast | Kind::Allreduce => block,
+        }
+    }
+
+    /// The bytes that an active request of member `r` lends to the engine: given and got together.
+    pub fn lent(self, n: u8, r: u8) -> usize
+        ensures { result ≡ lent self n r }
+    {
+        self.given_len(n, r) + self.got_len(n, r)
+    }
+
+    /// Whether `p` is one of the `n` members, and member `r`'s outcome rests on what it gives.
+    pub fn needs(self, n: u8, r: u8, p: u8) -> bool
+        ensures { result ≡ needs self n r p }
+    {
+        p < n
+            && match self.kind {
+                Kind::Bcast => p == self.root,
+                Kind::Allreduce => true,
+            }
+    }
+
+    fn root_fits(self, n: u8) -> bool
+        ensures { result ≡ root_fits self n }
+    {
+        if self.kind.has_root() {
+            self.root < n
+        } else {
+            self.root == 0
+        }
+    }
+
+    fn operation_fits(self) -> bool
+        ensures { result ≡ operation_fits self }
+    {
+        if !self.kind.has_operation() {
+            return self.op.is_none();
+        }
+        match self.op {
+            Some(op) => op.is_allowed_on(self.ty),
+            None => false,
+        }
+    }
+
+    /// Asks each member in turn, so the cost is linear in `n`.
+    fn sizes_fit(self, n: u8) -> bool
+        ensures { result ≡ sizes_fit self n n }
+    {
+        let mut fits = true;
+        for r in 0..n {
+            fits = fits && self.size_fits(n, r);
+        }
+        fits
+    }
+
+    fn size_fits(self, n: u8, r: u8) -> bool
+        ensures { result ≡ size_fits self n r }
+    {
+        self.given_len(n, r) <= MAX_LEN && self.got_len(n, r) <= MAX_LEN
+    }
+}
+
+fn refused(cause: SignatureFault) -> Refusal
+    ensures { result ≡ Refusal.BadSignature cause }
+{
+    Refusal::BadSignature { cause }
+}
+
+#[cfg(test)]
+mod tests {
+    use super::*;
+
+    fn allreduce(count: u32) -> Signature {
+        Signature {
+            kind: Kind::Allreduce,
+            mode: Mode::Once,
+            root: 0,
+            op: Some(Op::Sum),
+            ty: Datatype::I32,
+            count,
+        }
+    }
+
+    #[test]
+    fn tells_the_first_broken_rule(rt: HostRuntime) {
+        let fine = allreduce(65_536);
+        let bcast = Signature {
+            kind: Kind::Bcast,
+            root: 2,
+            op: None,
+            ..fine
+        };
+        let all_wrong = Signature {
+            root: 3,
+            count: 65_537,
+            ..bcast
+        };
+        for (sig, want) in [
+            (fine, Ok(())),
+            (bcast, Ok(())),
+            (all_wrong, Err(refused(SignatureFault::Root))),
+            (
+                Signature { root: 1, ..fine },
+                Err(refused(SignatureFault::Root)),
+            ),
+            (
+                Signature {
+                    op: Some(Op::Land),
+                    ..bcast
+                },
+                Err(refused(SignatureFault::Operation)),
+            ),
+            (
+                Signature {
+                    op: None,
+                    ..allreduce(65_537)
+                },
+                Err(refused(SignatureFault::Operation)),
+            ),
+            (allreduce(65_537), Err(refused(SignatureFault::Count))),
+        ] {
+            assert_eq!(rt; sig.check(3), want, "at {sig:?}");
+        }
+    }
+}

@@ -1,0 +1,11 @@
+pub mod Changing
+pub mod Keeping
+pub mod Lawful
+pub mod Moving
+pub mod Occurrences
+pub mod Opening
+pub mod Reading
+pub mod Rings
+pub mod Showing
+pub mod Values
+pub mod WellLinked

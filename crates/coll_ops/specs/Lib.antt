@@ -1,0 +1,6 @@
+pub mod Operations
+pub mod Combinations
+pub mod Values
+pub mod Contributions
+pub mod Laws
+pub mod Rows

@@ -1,0 +1,46 @@
+-- Worked rows, computed.
+use Rattle.std.specs.Prelude.{◌≡◌, ℕ, List, [], ◌∷◌, ℤ, pos, negsuc, Some, None, refl}
+use Rattle.std.specs.Int.{int_wrap}
+use Rattle.coll_kinds.specs.declared.datatype.Datatype.TheVariants.{I8, I32}
+use Rattle.coll_kinds.specs.declared.operation.Op.TheVariants.{Sum, Land}
+use Rattle.coll_kinds.specs.declared.kind.Kind.TheVariants.{Bcast, Allreduce}
+use Rattle.coll_kinds.specs.declared.kind.Mode.TheVariants.{Once}
+use Rattle.coll_kinds.specs.declared.signature.Signature.{Signature}
+use Rattle.coll_kinds.specs.Elements.{element_bytes}
+use Rattle.coll_ops.specs.Values.{value}
+
+abbrev allreduce_sum_i32 : Signature
+allreduce_sum_i32 = record { kind = Allreduce; mode = Once; root = 0; op = Some Sum; ty = I32; count = 1 }
+
+abbrev allreduce_land_i32 : Signature
+allreduce_land_i32 = record { kind = Allreduce; mode = Once; root = 0; op = Some Land; ty = I32; count = 1 }
+
+abbrev allreduce_sum_i8 : Signature
+allreduce_sum_i8 = record { kind = Allreduce; mode = Once; root = 0; op = Some Sum; ty = I8; count = 1 }
+
+abbrev bcast_i32 : Signature
+bcast_i32 = record { kind = Bcast; mode = Once; root = 1; op = None; ty = I32; count = 1 }
+
+abbrev row : ℤ → List ℕ
+row z = element_bytes I32 z
+
+-- 1, 2 and 3 have the sum 6 at each member
+sum_of_three : value allreduce_sum_i32 (row (pos 1) ∷ row (pos 2) ∷ row (pos 3) ∷ []) 1 ≡ 6 ∷ 0 ∷ 0 ∷ 0 ∷ []
+unfolding int_wrap
+sum_of_three = refl
+
+-- two nonzero elements are 1
+land_of_two : value allreduce_land_i32 (row (pos 5) ∷ row (pos 5) ∷ []) 0 ≡ row (pos 1)
+land_of_two = refl
+
+-- one element isn't made 1
+one_member_keeps_its_value : value allreduce_land_i32 (row (pos 5) ∷ []) 0 ≡ row (pos 5)
+one_member_keeps_its_value = refl
+
+-- 127 and 1 have the i8 sum -128
+sum_wraps : value allreduce_sum_i8 ((127 ∷ []) ∷ (1 ∷ []) ∷ []) 0 ≡ element_bytes I8 (negsuc 127)
+unfolding int_wrap
+sum_wraps = refl
+
+bcast_of_seven : value bcast_i32 ([] ∷ row (pos 7) ∷ []) 0 ≡ row (pos 7)
+bcast_of_seven = refl

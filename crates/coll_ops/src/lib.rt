@@ -1,0 +1,16 @@
+//! Operations on rows of elements, and the value of a collective computed directly from what all
+//! members gave.
+//!
+//! | Module | Has |
+//! |---|---|
+//! | `rows` | `combine`, two rows place by place |
+//! | `value` | `plain_value`, a collective's value at a member |
+//! | `laws` | associativity, and that a value reads the needed members alone |
+#![tactic(auto)]
+
+pub mod laws;
+mod rows;
+mod value;
+
+pub use rows::combine;
+pub use value::plain_value;

@@ -1,0 +1,62 @@
+ghost use Rattle.std.specs.Prelude.{◌≡◌, ◌<◌, ◌≤◌, ◌%◌, ◌^◌, ◌*◌, ◌-◌, ◌++◌, length, drop, IsTrue};
+ghost use Rattle.std.specs.Int.{cast_unsigned};
+ghost use Rattle.coll_kinds.specs.Elements.{width, word, element_of, element_at, element_bytes};
+ghost use Rattle.coll_kinds.specs.Checks.{allowed};
+ghost use Rattle.coll_ops.specs.Operations.{applied};
+ghost use Rattle.coll_ops.specs.Combinations.{combined};
+
+use byteorder::{ByteOrder, LittleEndian};
+use coll_kinds::{Datatype, Op};
+
+/// Writes the combination of two rows into `out`, element by element, `left` being the first
+/// operand (MPI 4.1, 6.9.1). It takes no memory, and its cost is linear in the rows.
+pub fn combine(op: Op, ty: Datatype, left: &[u8], right: &[u8], out: &mut [u8])
+    requires allowed { IsTrue (allowed op ty) }
+    requires whole { length left.now % width ty ≡ 0 }
+    requires same { length right.now ≡ length left.now }
+    requires room { length out.old ≡ length left.now }
+    ensures { out.new ≡ combined op ty left.now right.now }
+{
+    let width = ty.width();
+    for place in 0..left.len() / width {
+        let at = place * width;
+        combine_elements(op, ty, &left[at..], &right[at..], &mut out[at..]);
+    }
+}
+
+/// Combines the elements in the first bytes of `left` and `right`.
+fn combine_elements(op: Op, ty: Datatype, left: &[u8], right: &[u8], out: &mut [u8])
+    requires allowed { IsTrue (allowed op ty) }
+    requires left { width ty ≤ length left.now }
+    requires right { width ty ≤ length right.now }
+    requires room { width ty ≤ length out.old }
+    ensures { out.new ≡
+        element_bytes ty (applied op ty (element_at ty left.now) (element_at ty right.now))
+        ++ drop (width ty) out.old }
+{
+    let width = ty.width();
+    let a = LittleEndian::read_uint(left, width);
+    let b = LittleEndian::read_uint(right, width);
+    LittleEndian::write_uint(out, apply_to_bits(op, ty, a, b), width);
+}
+
+/// The operation on the bits of two elements, whatever their type's width and sign.
+fn apply_to_bits(op: Op, ty: Datatype, a: u64, b: u64) -> u64
+    requires allowed { IsTrue (allowed op ty) }
+    requires left { a < 256 ^ width ty }
+    requires right { b < 256 ^ width ty }
+    ensures value { result ≡ cast_unsigned (word ty) (applied op ty (element_of ty a) (element_of ty b)) }
+    ensures fits { result < 256 ^ width ty }
+{
+    match op {
+        Op::Sum => a.wrapping_add(b) & mask(ty),
+        Op::Land => u64::from(a != 0 && b != 0),
+    }
+}
+
+/// All bits of an element set.
+fn mask(ty: Datatype) -> u64
+    ensures { result ≡ 2 ^ (8 * width ty) - 1 }
+{
+    u64::MAX >> (64 - 8 * ty.width())
+}
