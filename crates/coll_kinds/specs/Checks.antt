@@ -1,10 +1,10 @@
 -- Which rule a signature breaks for n members: the first, in the order root, operation, count, size.
-use Rattle.std.specs.Prelude.{ℕ, zero, suc, ◌==◌, Bool, true, false, ◌&&◌, nat_lt, nat_le, Option, Some, None, is_none, if◌then◌else◌}
+use Rattle.std.specs.Prelude.{ℕ, zero, suc, ◌==◌, Bool, true, false, ◌&&◌, ◌||◌, nat_lt, nat_le, Option, Some, None, is_none, if◌then◌else◌}
 use Rattle.coll_kinds.specs.declared.datatype.Datatype.{Datatype}
 use Rattle.coll_kinds.specs.declared.operation.Op.{Op}
-use Rattle.coll_kinds.specs.declared.operation.Op.TheVariants.{Sum, Land}
+use Rattle.coll_kinds.specs.declared.operation.Op.TheVariants.{Max, Min, Sum, Prod, Land, Lor, Lxor, Band, Bor, Bxor, LastNz}
 use Rattle.coll_kinds.specs.declared.kind.Kind.{Kind}
-use Rattle.coll_kinds.specs.declared.kind.Kind.TheVariants.{Bcast, Allreduce}
+use Rattle.coll_kinds.specs.declared.kind.Kind.TheVariants.{Barrier, Bcast, Gather, Scatter, Allgather, Alltoall, Reduce, Allreduce, Rsblock, Scan, Exscan}
 use Rattle.coll_kinds.specs.declared.signature.Signature.{Signature}
 use Rattle.coll_kinds.specs.declared.refusal.SignatureFault.{SignatureFault}
 use Rattle.coll_kinds.specs.declared.refusal.SignatureFault.TheVariants.{Root, Operation, Count, Size}
@@ -12,17 +12,61 @@ use Rattle.coll_kinds.specs.Elements.{is_integer}
 use Rattle.coll_kinds.specs.Lengths.{given_len, got_len}
 
 abbrev pub has_root : Kind → Bool
+has_root Barrier = false
 has_root Bcast = true
+has_root Gather = true
+has_root Scatter = true
+has_root Allgather = false
+has_root Alltoall = false
+has_root Reduce = true
 has_root Allreduce = false
+has_root Rsblock = false
+has_root Scan = false
+has_root Exscan = false
 
 abbrev pub has_operation : Kind → Bool
+has_operation Barrier = false
 has_operation Bcast = false
+has_operation Gather = false
+has_operation Scatter = false
+has_operation Allgather = false
+has_operation Alltoall = false
+has_operation Reduce = true
 has_operation Allreduce = true
+has_operation Rsblock = true
+has_operation Scan = true
+has_operation Exscan = true
 
--- the operation may be used on the type (MPI 4.1, 6.9.2)
+abbrev pub is_barrier : Kind → Bool
+is_barrier Barrier = true
+is_barrier Bcast = false
+is_barrier Gather = false
+is_barrier Scatter = false
+is_barrier Allgather = false
+is_barrier Alltoall = false
+is_barrier Reduce = false
+is_barrier Allreduce = false
+is_barrier Rsblock = false
+is_barrier Scan = false
+is_barrier Exscan = false
+
+-- the operation works on the bits, not on the number
+abbrev pub is_bitwise : Op → Bool
+is_bitwise Max = false
+is_bitwise Min = false
+is_bitwise Sum = false
+is_bitwise Prod = false
+is_bitwise Land = false
+is_bitwise Lor = false
+is_bitwise Lxor = false
+is_bitwise Band = true
+is_bitwise Bor = true
+is_bitwise Bxor = true
+is_bitwise LastNz = false
+
+-- the operation may be used on the type: an integer type takes all, bytes take those on bits (MPI 4.1, 6.9.2)
 abbrev pub allowed : Op → Datatype → Bool
-allowed Sum ty = is_integer ty
-allowed Land ty = is_integer ty
+allowed op ty = is_integer ty || is_bitwise op
 
 -- an operation is there, and may be used on the type
 abbrev pub reduces : Option Op → Datatype → Bool
@@ -36,8 +80,9 @@ root_fits sig n = if has_root sig.kind then nat_lt sig.root n else sig.root == 0
 abbrev pub operation_fits : Signature → Bool
 operation_fits sig = if has_operation sig.kind then reduces sig.op sig.ty else is_none sig.op
 
+-- a barrier has no elements
 abbrev pub count_fits : Signature → Bool
-count_fits sig = nat_le sig.count 65536
+count_fits sig = if is_barrier sig.kind then sig.count == 0 else nat_le sig.count 65536
 
 -- what member r of n gives and gets is at most 16 MiB each
 abbrev pub size_fits : Signature → ℕ → ℕ → Bool

@@ -1,7 +1,7 @@
 -- What a member gives to a collective and gets from it, in bytes (MPI 4.1, 6.4 to 6.11).
 use Rattle.std.specs.Prelude.{ℕ, ◌+◌, ◌*◌, ◌==◌, if◌then◌else◌}
 use Rattle.coll_kinds.specs.declared.kind.Kind.{Kind}
-use Rattle.coll_kinds.specs.declared.kind.Kind.TheVariants.{Bcast, Allreduce}
+use Rattle.coll_kinds.specs.declared.kind.Kind.TheVariants.{Barrier, Bcast, Gather, Scatter, Allgather, Alltoall, Reduce, Allreduce, Rsblock, Scan, Exscan}
 use Rattle.coll_kinds.specs.declared.signature.Signature.{Signature}
 use Rattle.coll_kinds.specs.Elements.{width}
 
@@ -11,13 +11,31 @@ block_len sig = sig.count * width sig.ty
 
 -- what member r of n gives, where a block has b bytes
 abbrev pub given_by : Kind → ℕ → ℕ → ℕ → ℕ → ℕ
+given_by Barrier root n r b = 0
 given_by Bcast root n r b = if r == root then b else 0
+given_by Gather root n r b = b
+given_by Scatter root n r b = if r == root then n * b else 0
+given_by Allgather root n r b = b
+given_by Alltoall root n r b = n * b
+given_by Reduce root n r b = b
 given_by Allreduce root n r b = b
+given_by Rsblock root n r b = n * b
+given_by Scan root n r b = b
+given_by Exscan root n r b = b
 
 -- what member r of n gets
 abbrev pub got_by : Kind → ℕ → ℕ → ℕ → ℕ → ℕ
+got_by Barrier root n r b = 0
 got_by Bcast root n r b = b
+got_by Gather root n r b = if r == root then n * b else 0
+got_by Scatter root n r b = b
+got_by Allgather root n r b = n * b
+got_by Alltoall root n r b = n * b
+got_by Reduce root n r b = if r == root then b else 0
 got_by Allreduce root n r b = b
+got_by Rsblock root n r b = b
+got_by Scan root n r b = b
+got_by Exscan root n r b = if r == 0 then 0 else b
 
 abbrev pub given_len : Signature → ℕ → ℕ → ℕ
 given_len sig n r = given_by sig.kind sig.root n r (block_len sig)

@@ -6,8 +6,22 @@ ghost use Rattle.std.specs.Prelude.{◌≡◌};
 pub enum Datatype {
     /// `MPI_INT8_T`, one byte.
     I8,
+    /// `MPI_INT16_T`, two bytes.
+    I16,
     /// `MPI_INT32_T`, four bytes.
     I32,
+    /// `MPI_INT64_T`, eight bytes.
+    I64,
+    /// `MPI_UINT8_T`, one byte.
+    U8,
+    /// `MPI_UINT16_T`, two bytes.
+    U16,
+    /// `MPI_UINT32_T`, four bytes.
+    U32,
+    /// `MPI_UINT64_T`, eight bytes.
+    U64,
+    /// `MPI_BYTE`, eight bits that are no number to MPI; its text is that of `U8`.
+    Byte,
 }
 
 impl Datatype {
@@ -18,8 +32,10 @@ impl Datatype {
         ensures { result ≡ width self }
     {
         match self {
-            Datatype::I8 => 1,
-            Datatype::I32 => 4,
+            Datatype::I8 | Datatype::U8 | Datatype::Byte => 1,
+            Datatype::I16 | Datatype::U16 => 2,
+            Datatype::I32 | Datatype::U32 => 4,
+            Datatype::I64 | Datatype::U64 => 8,
         }
     }
 
@@ -27,18 +43,17 @@ impl Datatype {
     pub fn is_signed(self) -> bool
         ensures { result ≡ is_signed self }
     {
-        match self {
-            Datatype::I8 | Datatype::I32 => true,
-        }
+        matches!(
+            self,
+            Datatype::I8 | Datatype::I16 | Datatype::I32 | Datatype::I64
+        )
     }
 
     /// Whether the type is one of MPI's integer types (MPI 4.1, 6.9.2).
     pub fn is_integer(self) -> bool
         ensures { result ≡ is_integer self }
     {
-        match self {
-            Datatype::I8 | Datatype::I32 => true,
-        }
+        !matches!(self, Datatype::Byte)
     }
 
     /// The least whole number above the type's range. The numbers go from minus that, or from 0
@@ -48,7 +63,13 @@ impl Datatype {
     {
         match self {
             Datatype::I8 => 1 << 7,
+            Datatype::I16 => 1 << 15,
             Datatype::I32 => 1 << 31,
+            Datatype::I64 => 1 << 63,
+            Datatype::U8 | Datatype::Byte => 1 << 8,
+            Datatype::U16 => 1 << 16,
+            Datatype::U32 => 1 << 32,
+            Datatype::U64 => 1 << 64,
         }
     }
 }

@@ -3,10 +3,30 @@ ghost use Rattle.std.specs.Prelude.{◌≡◌};
 /// A collective operation (MPI 4.1, 6.12).
 #[derive(Clone, Copy, Debug, PartialEq, Eq)]
 pub enum Kind {
+    /// `MPI_Ibarrier`: nobody completes before everybody has called it (MPI 4.1, 6.12.1).
+    Barrier,
     /// `MPI_Ibcast`: every member gets the root's block (MPI 4.1, 6.12.2).
     Bcast,
+    /// `MPI_Igather`: the root gets every member's block, in member order (MPI 4.1, 6.12.3).
+    Gather,
+    /// `MPI_Iscatter`: each member gets its block of the root's n (MPI 4.1, 6.12.4).
+    Scatter,
+    /// `MPI_Iallgather`: every member gets every member's block (MPI 4.1, 6.12.5).
+    Allgather,
+    /// `MPI_Ialltoall`: member r gets block r of each member's n (MPI 4.1, 6.12.6).
+    Alltoall,
+    /// `MPI_Ireduce`: the root gets the combination of all blocks (MPI 4.1, 6.12.7).
+    Reduce,
     /// `MPI_Iallreduce`: every member gets the combination of all blocks (MPI 4.1, 6.12.8).
     Allreduce,
+    /// `MPI_Ireduce_scatter_block`: member r gets block r of the combination of all rows of n
+    /// blocks (MPI 4.1, 6.12.9).
+    Rsblock,
+    /// `MPI_Iscan`: member r gets the combination of the blocks of 0 to r (MPI 4.1, 6.12.11).
+    Scan,
+    /// `MPI_Iexscan`: member r gets the combination of the blocks of 0 to r - 1, and member 0
+    /// nothing (MPI 4.1, 6.12.12).
+    Exscan,
 }
 
 impl Kind {
@@ -16,20 +36,20 @@ impl Kind {
     pub fn has_root(self) -> bool
         ensures { result ≡ has_root self }
     {
-        match self {
-            Kind::Bcast => true,
-            Kind::Allreduce => false,
-        }
+        matches!(
+            self,
+            Kind::Bcast | Kind::Gather | Kind::Scatter | Kind::Reduce
+        )
     }
 
     /// Whether the collective combines rows by an operation.
     pub fn has_operation(self) -> bool
         ensures { result ≡ has_operation self }
     {
-        match self {
-            Kind::Bcast => false,
-            Kind::Allreduce => true,
-        }
+        matches!(
+            self,
+            Kind::Reduce | Kind::Allreduce | Kind::Rsblock | Kind::Scan | Kind::Exscan
+        )
     }
 }
 

@@ -5,10 +5,29 @@ use crate::datatype::Datatype;
 /// A reduction operation on two elements (MPI 4.1, 6.9.2).
 #[derive(Clone, Copy, Debug, PartialEq, Eq)]
 pub enum Op {
+    /// `MPI_MAX`: the greater.
+    Max,
+    /// `MPI_MIN`: the lesser.
+    Min,
     /// `MPI_SUM`: the sum, wrapped to the type's bits.
     Sum,
+    /// `MPI_PROD`: the product, wrapped to the type's bits.
+    Prod,
     /// `MPI_LAND`: 1 where both are nonzero, else 0.
     Land,
+    /// `MPI_LOR`: 1 where one is nonzero, else 0.
+    Lor,
+    /// `MPI_LXOR`: 1 where exactly one is nonzero, else 0.
+    Lxor,
+    /// `MPI_BAND`, bit by bit.
+    Band,
+    /// `MPI_BOR`, bit by bit.
+    Bor,
+    /// `MPI_BXOR`, bit by bit.
+    Bxor,
+    /// The second where it isn't 0, else the first. It stands for the operations that users make
+    /// (MPI 4.1, 6.9.5): associative, but not commutative.
+    LastNz,
 }
 
 impl Op {
@@ -18,8 +37,6 @@ impl Op {
     pub fn is_allowed_on(self, ty: Datatype) -> bool
         ensures { result ≡ allowed self ty }
     {
-        match self {
-            Op::Sum | Op::Land => ty.is_integer(),
-        }
+        ty.is_integer() || matches!(self, Op::Band | Op::Bor | Op::Bxor)
     }
 }

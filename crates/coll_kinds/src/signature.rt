@@ -28,7 +28,7 @@ pub struct Signature {
 impl Signature {
     ghost use Rattle.coll_kinds.specs.Lengths.{block_len, given_len, got_len, lent};
     ghost use Rattle.coll_kinds.specs.Needs.{needs};
-    ghost use Rattle.coll_kinds.specs.Checks.{broken, root_fits, operation_fits, size_fits, sizes_fit};
+    ghost use Rattle.coll_kinds.specs.Checks.{broken, root_fits, operation_fits, count_fits, size_fits, sizes_fit};
 
     /// Tests the signature for `n` members. Of the rules that it breaks, the first is told, in the
     /// order [`SignatureFault::Root`], `Operation`, `Count`, `Size`.
@@ -43,7 +43,7 @@ impl Signature {
         if !self.operation_fits() {
             return Err(refused(SignatureFault::Operation));
         }
-        if self.count > MAX_COUNT {
+        if !self.count_fits() {
             return Err(refused(SignatureFault::Count));
         }
         if !self.sizes_fit(n) {
@@ -65,9 +65,17 @@ impl Signature {
     {
         let block = self.block_len();
         match self.kind {
+            Kind::Barrier => 0,
             Kind::Bcast if r == self.root => block,
-            Kind::Bcast => 0,
-            Kind::Allreduce => block,
+            Kind::Scatter if r == self.root => usize::from(n) * block,
+            Kind::Bcast | Kind::Scatter => 0,
+            Kind::Alltoall | Kind::Rsblock => usize::from(n) * block,
+            Kind::Gather
+            | Kind::Allgather
+            | Kind::Reduce
+            | Kind::Allreduce
+            | Kind::Scan
+            | Kind::Exscan => block,
         }
     }
 
@@ -77,7 +85,18 @@ impl Signature {
     {
         let block = self.block_len();
         match self.kind {
-            Kind::Bcast | Kind::Allreduce => block,
+            Kind::Barrier => 0,
+            Kind::Gather if r == self.root => usize::from(n) * block,
+            Kind::Reduce if r == self.root => block,
+            Kind::Gather | Kind::Reduce => 0,
+            Kind::Exscan if r == 0 => 0,
+            Kind::Allgather | Kind::Alltoall => usize::from(n) * block,
+            Kind::Bcast
+            | Kind::Scatter
+            | Kind::Allreduce
+            | Kind::Rsblock
+            | Kind::Scan
+            | Kind::Exscan => block,
         }
     }
 
@@ -94,8 +113,15 @@ impl Signature {
     {
         p < n
             && match self.kind {
-                Kind::Bcast => p == self.root,
-                Kind::Allreduce => true,
+                Kind::Bcast | Kind::Scatter => p == self.root,
+                Kind::Gather | Kind::Reduce => r == self.root || p == r,
+                Kind::Scan => p <= r,
+                Kind::Exscan => p < r,
+                Kind::Barrier
+                | Kind::Allgather
+                | Kind::Alltoall
+                | Kind::Allreduce
+                | Kind::Rsblock => true,
             }
     }
 
@@ -118,6 +144,15 @@ impl Signature {
         match self.op {
             Some(op) => op.is_allowed_on(self.ty),
             None => false,
+        }
+    }
+
+    fn count_fits(self) -> bool
+        ensures { result ≡ count_fits self }
+    {
+        match self.kind {
+            Kind::Barrier => self.count == 0,
+            _ => self.count <= MAX_COUNT,
         }
     }
 
@@ -191,7 +226,7 @@ mod tests {
             ),
             (
                 Signature {
-                    op: None,
+                    ty: Datatype::Byte,
                     ..allreduce(65_537)
                 },
                 Err(refused(SignatureFault::Operation)),
@@ -200,5 +235,20 @@ mod tests {
         ] {
             assert_eq!(rt; sig.check(3), want, "at {sig:?}");
         }
+    }
+
+    // The root of a gather of 65,536 elements of eight bytes gets 16 MiB of 32 members.
+    #[test]
+    fn tells_the_size_limit(rt: HostRuntime) {
+        let gather = Signature {
+            kind: Kind::Gather,
+            root: 31,
+            op: None,
+            ty: Datatype::U64,
+            ..allreduce(65_536)
+        };
+        assert_eq!(rt; gather.got_len(32, 31), 16_777_216);
+        assert_eq!(rt; gather.check(32), Ok(()));
+        assert_eq!(rt; gather.check(33), Err(refused(SignatureFault::Size)));
     }
 }

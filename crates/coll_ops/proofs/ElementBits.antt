@@ -1,62 +1,77 @@
--- Elements and their bits.
-use Rattle.std.proofs.Common.{◌≡◌, ℕ, ◌^◌, ◌<◌, ℤ, pos, negsuc, Bool, true, false, List, ◌++◌, refl, arith, ap, ◌∙◌}
-use Rattle.std.specs.Prelude.{FitsSigned, slice_index, ◌&&◌}
-use Rattle.std.proofs.lemmas.Bool.{false≢true, ltb-true, lt-ltb}
-use Rattle.std.specs.Int.{Width, w8, w32, cast_unsigned}
-use Rattle.std.proofs.Math.Facts.{sfits_to_z, Fits-of_lt}
-use Rattle.std.proofs.lemmas.Int.{to_z-of_z}
+-- Elements of a type and their bits.
+use Rattle.std.proofs.Common.{◌≡◌, ℕ, zero, suc, ◌*◌, ◌+◌, ◌%◌, ◌^◌, ◌<◌, ◌≤◌, ℤ, pos, ◌+ℤ◌, ◌*ℤ◌, List, ◌++◌, refl, arith, ap, sym, ◌∙◌, add-one}
+use Rattle.std.specs.Prelude.{slice_index}
+use Rattle.std.specs.Int.{cast_unsigned}
+use Rattle.std.proofs.lemmas.Nat.{pow-add}
+use Rattle.std.proofs.lemmas.Grind.{pow_more}
 use Rattle.byteorder.specs.Endian.{little_number}
 use Rattle.byteorder.specs.Numbers.{little_number-reads_back, little_from-lt}
-use mir.Val.{bits}
-use lib.Signed.{mag}
-use Rattle.std.proofs.lemmas.Nat.{pow_pos}
 use Rattle.coll_kinds.specs.declared.datatype.Datatype.{Datatype}
-use Rattle.coll_kinds.specs.declared.datatype.Datatype.TheVariants.{I8, I32}
-use Rattle.coll_kinds.specs.Elements.{width, word, is_signed, limit, IsElement, element_of, element_at, element_bytes}
+use Rattle.coll_kinds.specs.declared.datatype.Datatype.TheVariants.{I8, I16, I32, I64, U8, U16, U32, U64, Byte}
+use Rattle.coll_kinds.specs.Elements.{width, word, is_signed, IsElement, element_of, element_at, element_bytes}
+use Rattle.coll_ops.specs.Operations.{wrapped}
+use Rattle.coll_ops.proofs.Bits.{HasBits, cast_unsigned-element_by, is_element_by-element_by, cast_unsigned-lt_by, element_by-cast_unsigned, is_element_by-wrapped_by, cast_unsigned-wrapped_sum, cast_unsigned-wrapped_product, cast_unsigned-wrapped_pos}
 
--- the two readings of a signed type's range
-mag-lt : (z : ℤ) (ty : Datatype) → IsElement ty z → mag z < limit ty
-mag-lt (pos k) ty h = ltb-true k (limit ty) h
-mag-lt (negsuc k) ty h = ltb-true k (limit ty) (and_right _ _ h)
-  where
-    and_right : (a b : Bool) → (a && b) ≡ true → b ≡ true
-    and_right true b h = h
-    and_right false b h = absurd (false≢true h)
+-- a type's machine word has the type's bits
+pub HasBits-word : (ty : Datatype) → HasBits (word ty) (8 * width ty)
+HasBits-word I8 = record { some = omega arith; all = refl; half = refl }
+HasBits-word I16 = record { some = omega arith; all = refl; half = refl }
+HasBits-word I32 = record { some = omega arith; all = refl; half = refl }
+HasBits-word I64 = record { some = omega arith; all = refl; half = refl }
+HasBits-word U8 = record { some = omega arith; all = refl; half = refl }
+HasBits-word U16 = record { some = omega arith; all = refl; half = refl }
+HasBits-word U32 = record { some = omega arith; all = refl; half = refl }
+HasBits-word U64 = record { some = omega arith; all = refl; half = refl }
+HasBits-word Byte = record { some = omega arith; all = refl; half = refl }
 
-is_element-mag : (z : ℤ) (ty : Datatype) → is_signed ty ≡ true → mag z < limit ty → IsElement ty z
-is_element-mag (pos k) ty signed h = lt-ltb k (limit ty) h
-is_element-mag (negsuc k) ty signed h = and_both _ _ signed (lt-ltb k (limit ty) h)
-  where
-    and_both : (a b : Bool) → a ≡ true → b ≡ true → (a && b) ≡ true
-    and_both true b left right = right
-    and_both false b left right = absurd (false≢true left)
+-- and no more than the code's words
+pub width-le : (ty : Datatype) → 8 * width ty ≤ 64
+width-le I8 = omega arith
+width-le I16 = omega arith
+width-le I32 = omega arith
+width-le I64 = omega arith
+width-le U8 = omega arith
+width-le U16 = omega arith
+width-le U32 = omega arith
+width-le U64 = omega arith
+width-le Byte = omega arith
 
--- an element fits the machine word of its type
-pub FitsSigned-element : (ty : Datatype) (z : ℤ) → IsElement ty z → FitsSigned (word ty) z
-FitsSigned-element I8 z h = record { sfits = mag-lt z I8 h }
-FitsSigned-element I32 z h = record { sfits = mag-lt z I32 h }
+pow-bytes : (n : ℕ) → 256 ^ n ≡ 2 ^ (8 * n)
+pow-bytes zero = refl
+pow-bytes (suc n) =
+    let e : 8 * suc n ≡ 8 * n + 8 = omega arith in
+    ap (λ k. 256 ^ k) (sym (add-one n)) ∙ (pow_more 256 n ∙ (ap (λ k. k * 256) (pow-bytes n) ∙ (sym (pow-add 2 (8 * n) 8) ∙ ap (λ k. 2 ^ k) (sym e))))
 
-pub IsElement-fits : (ty : Datatype) (z : ℤ) → is_signed ty ≡ true → FitsSigned (word ty) z → IsElement ty z
-IsElement-fits I8 z signed h = is_element-mag z I8 refl h.sfits
-IsElement-fits I32 z signed h = is_element-mag z I32 refl h.sfits
+-- the numbers of a type's bytes are those of its bits
+pub pow-width : (ty : Datatype) → 256 ^ width ty ≡ 2 ^ (8 * width ty)
+pow-width ty = pow-bytes (width ty)
+
+pub cast_unsigned-element_of : (ty : Datatype) (n : ℕ) → n < 256 ^ width ty → cast_unsigned (word ty) (element_of ty n) ≡ n
+cast_unsigned-element_of ty n h = cast_unsigned-element_by (is_signed ty) (word ty) (8 * width ty) n (HasBits-word ty) (rw (sym (pow-width ty)) h)
 
 -- bits of the type's width are those of an element
 pub IsElement-element_of : (ty : Datatype) (n : ℕ) → n < 256 ^ width ty → IsElement ty (element_of ty n)
-IsElement-element_of I8 n h = IsElement-fits I8 _ refl (sfits_to_z (Fits-of_lt h))
-IsElement-element_of I32 n h = IsElement-fits I32 _ refl (sfits_to_z (Fits-of_lt h))
+IsElement-element_of ty n h = is_element_by-element_by (is_signed ty) (word ty) (8 * width ty) n (HasBits-word ty) (rw (sym (pow-width ty)) h)
 
-below_full : (w : Width) (z : ℤ) → mag z < 2 ^ bits w → cast_unsigned w z < 2 ^ bits w
-below_full w (pos n) h = h
-below_full w (negsuc n) h = omega (arith, pow_pos (bits w))
-
--- the bits of an element
 pub cast_unsigned-lt : (ty : Datatype) (z : ℤ) → IsElement ty z → cast_unsigned (word ty) z < 256 ^ width ty
-cast_unsigned-lt I8 z h = below_full w8 z (omega (arith, mag-lt z I8 h))
-cast_unsigned-lt I32 z h = below_full w32 z (omega (arith, mag-lt z I32 h))
+cast_unsigned-lt ty z h = rw (pow-width ty) (cast_unsigned-lt_by (is_signed ty) (word ty) (8 * width ty) z (HasBits-word ty) h)
 
 pub element_of-cast_unsigned : (ty : Datatype) (z : ℤ) → IsElement ty z → element_of ty (cast_unsigned (word ty) z) ≡ z
-element_of-cast_unsigned I8 z h = to_z-of_z w8 z (FitsSigned-element I8 z h)
-element_of-cast_unsigned I32 z h = to_z-of_z w32 z (FitsSigned-element I32 z h)
+element_of-cast_unsigned ty z h = element_by-cast_unsigned (is_signed ty) (word ty) (8 * width ty) z (HasBits-word ty) h
+
+-- a wrapped number is an element
+pub IsElement-wrapped : (ty : Datatype) (z : ℤ) → IsElement ty (wrapped ty z)
+IsElement-wrapped ty z = is_element_by-wrapped_by (is_signed ty) (word ty) (8 * width ty) z (HasBits-word ty)
+
+-- the bits of sums, products and patterns, wrapped
+pub cast_unsigned-sum : (ty : Datatype) (m n : ℕ) → m < 256 ^ width ty → n < 256 ^ width ty → cast_unsigned (word ty) (wrapped ty (element_of ty m +ℤ element_of ty n)) ≡ (m + n) % 2 ^ (8 * width ty)
+cast_unsigned-sum ty m n left right = cast_unsigned-wrapped_sum (is_signed ty) (word ty) (8 * width ty) m n (HasBits-word ty) (rw (sym (pow-width ty)) left) (rw (sym (pow-width ty)) right)
+
+pub cast_unsigned-product : (ty : Datatype) (m n : ℕ) → m < 256 ^ width ty → n < 256 ^ width ty → cast_unsigned (word ty) (wrapped ty (element_of ty m *ℤ element_of ty n)) ≡ (m * n) % 2 ^ (8 * width ty)
+cast_unsigned-product ty m n left right = cast_unsigned-wrapped_product (is_signed ty) (word ty) (8 * width ty) m n (HasBits-word ty) (rw (sym (pow-width ty)) left) (rw (sym (pow-width ty)) right)
+
+pub cast_unsigned-pattern : (ty : Datatype) (n : ℕ) → n < 256 ^ width ty → cast_unsigned (word ty) (wrapped ty (pos n)) ≡ n
+cast_unsigned-pattern ty n h = cast_unsigned-wrapped_pos (is_signed ty) (word ty) (8 * width ty) n (HasBits-word ty) (rw (sym (pow-width ty)) h)
 
 -- an element's bytes read back
 pub element_at-element_bytes : (ty : Datatype) (z : ℤ) (rest : List ℕ) → IsElement ty z → element_at ty (element_bytes ty z ++ rest) ≡ z

@@ -1,6 +1,9 @@
 pub mod Bits
+pub mod ElementBits
+pub mod BitOperations
 pub mod Places
 pub mod RowLists
-pub mod ElementBits
+pub mod Blocks
+pub mod Given
 pub mod Associating
 pub mod Agreeing

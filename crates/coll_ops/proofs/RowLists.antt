@@ -1,12 +1,13 @@
 -- Lists of rows, and their combination from the end.
-use Rattle.std.proofs.Common.{◌≡◌, ℕ, zero, suc, ◌+◌, ◌*◌, ◌/◌, ◌%◌, ◌<◌, List, [], ◌∷◌, length, drop, get_or, refl, arith, ap, sym, ◌∙◌, flat_map, length-append, Vec, Global, ℤ}
+use Rattle.std.proofs.Common.{◌≡◌, ℕ, zero, suc, ◌+◌, ◌*◌, ◌/◌, ◌%◌, ◌<◌, ◌≤◌, List, [], ◌∷◌, ◌++◌, length, drop, get_or, refl, arith, ap, sym, ◌∙◌, flat_map, length-append, Vec, Global, map, ℤ, add-one, take, subst, append_assoc, length-take, length-drop}
 use Rattle.std.proofs.lemmas.Nat.{div-add-mod'}
+use Rattle.std.proofs.lemmas.List.{append-nil}
 use Rattle.coll_kinds.specs.declared.datatype.Datatype.{Datatype}
 use Rattle.coll_kinds.specs.declared.operation.Op.{Op}
 use Rattle.coll_kinds.specs.Elements.{width, element_bytes}
 use Rattle.coll_ops.specs.Combinations.{elements, zipped, combined, combination}
-use Rattle.coll_ops.specs.Contributions.{rows_of}
-use Rattle.coll_ops.specs.Values.{row_of}
+use Rattle.coll_ops.specs.Contributions.{rows_of, HaveParts}
+use Rattle.coll_ops.specs.Values.{row_of, part}
 use Rattle.coll_ops.proofs.Places.{length-element_bytes}
 
 -- a row of the code's list, by its place
@@ -19,8 +20,35 @@ pub length-rows_of : (rows : List (Vec ℕ Global)) → length (rows_of rows) �
 length-rows_of [] = refl
 length-rows_of (row ∷ rows) = ap suc (length-rows_of rows)
 
-pub row_of-alike : (rows : List (Vec ℕ Global)) (i : ℕ) (v : Vec ℕ Global) → ((k : ℕ) → k < length (rows_of rows) → length (row_of (rows_of rows) k) ≡ length (row_of (rows_of rows) 0)) → i < length rows → v ≡ get_or rows i v → length v.items ≡ length (row_of (rows_of rows) 0)
-row_of-alike rows i v long within is = ap length (sym (row_of-rows_of rows i v within is)) ∙ long i (omega (arith, length-rows_of rows))
+-- parts of the code's rows, by their place
+pub row_of-parts : (rows : List (Vec ℕ Global)) (at len i : ℕ) (v : Vec ℕ Global) → i < length rows → v ≡ get_or rows i v → row_of (map (part at len) (rows_of rows)) i ≡ part at len v.items
+row_of-parts [] at len i v within is = absurd (omega arith)
+row_of-parts (row ∷ rows) at len zero v within is = ap (λ w. part at len w.items) (sym is)
+row_of-parts (row ∷ rows) at len (suc i) v within is = row_of-parts rows at len i v (omega arith) is
+
+pub length-parts : (rows : List (Vec ℕ Global)) (at len : ℕ) → length (map (part at len) (rows_of rows)) ≡ length rows
+length-parts [] at len = refl
+length-parts (row ∷ rows) at len = ap suc (length-parts rows at len)
+
+pub part-fits : (rows : List (Vec ℕ Global)) (at len i : ℕ) (v : Vec ℕ Global) → HaveParts at len (rows_of rows) → i < length rows → v ≡ get_or rows i v → at + len ≤ length v.items
+part-fits rows at len i v have within is =
+    subst (λ (row : List ℕ). at + len ≤ length row) (row_of-rows_of rows i v within is) (have i (omega (arith, length-rows_of rows)))
+
+pub length-part : (at len : ℕ) (row : List ℕ) → at + len ≤ length row → length (part at len row) ≡ len
+length-part at len row within = simp (length-take, length-drop) (omega arith)
+
+-- one more part behind those of the rows before
+flat_map-parts_suc : (rows : List (Vec ℕ Global)) (at len i : ℕ) (v : Vec ℕ Global) → i < length rows → v ≡ get_or rows i v →
+    flat_map (part at len) (take (suc i) (rows_of rows)) ≡ flat_map (part at len) (take i (rows_of rows)) ++ part at len v.items
+flat_map-parts_suc [] at len i v within is = absurd (omega arith)
+flat_map-parts_suc (row ∷ rows) at len zero v within is = append-nil (part at len row.items) ∙ ap (λ w. part at len w.items) (sym is)
+flat_map-parts_suc (row ∷ rows) at len (suc i) v within is =
+    ap (λ rest. part at len row.items ++ rest) (flat_map-parts_suc rows at len i v (omega arith) is)
+    ∙ sym (append_assoc (part at len row.items) (flat_map (part at len) (take i (rows_of rows))) (part at len v.items))
+
+pub flat_map-parts_more : (rows : List (Vec ℕ Global)) (at len i : ℕ) (v : Vec ℕ Global) → i < length rows → v ≡ get_or rows i v →
+    flat_map (part at len) (take (i + 1) (rows_of rows)) ≡ flat_map (part at len) (take i (rows_of rows)) ++ part at len v.items
+flat_map-parts_more rows at len i v within is = rw add-one (flat_map-parts_suc rows at len i v within is)
 
 combination-drop_suc : (op : Op) (ty : Datatype) (rows : List (List ℕ)) (i : ℕ) → suc i < length rows →
     combination op ty (drop i rows) ≡ combined op ty (row_of rows i) (combination op ty (drop (suc i) rows))
@@ -51,7 +79,7 @@ length-flat_map ty (z ∷ zs) =
     let rest : length (flat_map (element_bytes ty) zs) ≡ length zs * width ty = length-flat_map ty zs in
     length-append (element_bytes ty z) (flat_map (element_bytes ty) zs) ∙ grind (arith, first, rest)
 
-length-zipped : (op : Op) (ty : Datatype) (n : ℕ) (a b : List ℕ) → length (zipped op ty (elements ty n a) (elements ty n b)) ≡ n
+pub length-zipped : (op : Op) (ty : Datatype) (n : ℕ) (a b : List ℕ) → length (zipped op ty (elements ty n a) (elements ty n b)) ≡ n
 length-zipped op ty zero a b = refl
 length-zipped op ty (suc n) a b = ap suc (length-zipped op ty n (drop (width ty) a) (drop (width ty) b))
 

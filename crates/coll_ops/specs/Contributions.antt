@@ -1,9 +1,7 @@
 -- What the members gave, as the code holds it: a vector of bytes for each member, in member order.
-use Rattle.std.specs.Prelude.{◌≡◌, ℕ, ◌<◌, ◌%◌, List, length, map, Vec}
+use Rattle.std.specs.Prelude.{◌≡◌, ℕ, ◌<◌, ◌≤◌, ◌+◌, List, length, map, Vec}
 use Rattle.std.specs.Global.{Global}
-use Rattle.coll_kinds.specs.declared.datatype.Datatype.{Datatype}
 use Rattle.coll_kinds.specs.declared.signature.Signature.{Signature}
-use Rattle.coll_kinds.specs.Elements.{width}
 use Rattle.coll_kinds.specs.Lengths.{given_len}
 use Rattle.coll_ops.specs.Values.{row_of}
 
@@ -16,7 +14,6 @@ pub record AreGiven (sig : Signature) (n : ℕ) (rows : List (List ℕ)) : Type 
   pub each : length rows ≡ n
   pub long : (i : ℕ) → i < n → length (row_of rows i) ≡ given_len sig n i
 
--- all rows have one length, of whole elements
-pub record AreAlike (ty : Datatype) (rows : List (List ℕ)) : Type 0 where
-  pub whole : length (row_of rows 0) % width ty ≡ 0
-  pub long : (i : ℕ) → i < length rows → length (row_of rows i) ≡ length (row_of rows 0)
+-- each row has so many bytes from there on
+abbrev pub HaveParts : ℕ → ℕ → List (List ℕ) → Type 0
+HaveParts at len rows = (i : ℕ) → i < length rows → at + len ≤ length (row_of rows i)

@@ -1,9 +1,9 @@
 -- Worked rows, computed.
 use Rattle.std.specs.Prelude.{◌≡◌, ℕ, List, [], ◌∷◌, ℤ, pos, negsuc, Some, None, refl}
 use Rattle.std.specs.Int.{int_wrap}
-use Rattle.coll_kinds.specs.declared.datatype.Datatype.TheVariants.{I8, I32}
-use Rattle.coll_kinds.specs.declared.operation.Op.TheVariants.{Sum, Land}
-use Rattle.coll_kinds.specs.declared.kind.Kind.TheVariants.{Bcast, Allreduce}
+use Rattle.coll_kinds.specs.declared.datatype.Datatype.TheVariants.{I8, I32, U8}
+use Rattle.coll_kinds.specs.declared.operation.Op.TheVariants.{Sum, Land, Lxor, LastNz}
+use Rattle.coll_kinds.specs.declared.kind.Kind.TheVariants.{Bcast, Alltoall, Allreduce, Reduce}
 use Rattle.coll_kinds.specs.declared.kind.Mode.TheVariants.{Once}
 use Rattle.coll_kinds.specs.declared.signature.Signature.{Signature}
 use Rattle.coll_kinds.specs.Elements.{element_bytes}
@@ -44,3 +44,23 @@ sum_wraps = refl
 
 bcast_of_seven : value bcast_i32 ([] ∷ row (pos 7) ∷ []) 0 ≡ row (pos 7)
 bcast_of_seven = refl
+
+abbrev reduce_lastnz_i32 : Signature
+reduce_lastnz_i32 = record { kind = Reduce; mode = Once; root = 2; op = Some LastNz; ty = I32; count = 1 }
+
+abbrev alltoall_u8 : Signature
+alltoall_u8 = record { kind = Alltoall; mode = Once; root = 0; op = None; ty = U8; count = 1 }
+
+abbrev allreduce_lxor_i8 : Signature
+allreduce_lxor_i8 = record { kind = Allreduce; mode = Once; root = 0; op = Some Lxor; ty = I8; count = 1 }
+
+-- the last that isn't 0, in member order; the reverse order would give 3
+lastnz_in_order : value reduce_lastnz_i32 (row (pos 3) ∷ row (pos 0) ∷ row (pos 5) ∷ []) 2 ≡ row (pos 5)
+lastnz_in_order = refl
+
+alltoall_of_three : value alltoall_u8 ((1 ∷ 2 ∷ 3 ∷ []) ∷ (4 ∷ 5 ∷ 6 ∷ []) ∷ (7 ∷ 8 ∷ 9 ∷ []) ∷ []) 1 ≡ 2 ∷ 5 ∷ 8 ∷ []
+alltoall_of_three = refl
+
+-- 5 and 5 are 0, and 0 and 5 are 1
+lxor_of_three : value allreduce_lxor_i8 ((5 ∷ []) ∷ (5 ∷ []) ∷ (5 ∷ []) ∷ []) 0 ≡ 1 ∷ []
+lxor_of_three = refl

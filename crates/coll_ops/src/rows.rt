@@ -1,4 +1,4 @@
-ghost use Rattle.std.specs.Prelude.{◌≡◌, ◌<◌, ◌≤◌, ◌%◌, ◌^◌, ◌*◌, ◌-◌, ◌++◌, length, drop, IsTrue};
+ghost use Rattle.std.specs.Prelude.{◌≡◌, ◌<◌, ◌≤◌, ◌%◌, ◌^◌, ◌*◌, ◌-◌, ◌++◌, length, drop, int_lt, IsTrue};
 ghost use Rattle.std.specs.Int.{cast_unsigned};
 ghost use Rattle.coll_kinds.specs.Elements.{width, word, element_of, element_at, element_bytes};
 ghost use Rattle.coll_kinds.specs.Checks.{allowed};
@@ -49,8 +49,34 @@ fn apply_to_bits(op: Op, ty: Datatype, a: u64, b: u64) -> u64
     ensures fits { result < 256 ^ width ty }
 {
     match op {
+        Op::Max => if is_less(ty, b, a) { a } else { b },
+        Op::Min => if is_less(ty, b, a) { b } else { a },
         Op::Sum => a.wrapping_add(b) & mask(ty),
+        Op::Prod => a.wrapping_mul(b) & mask(ty),
         Op::Land => u64::from(a != 0 && b != 0),
+        Op::Lor => u64::from(a != 0 || b != 0),
+        Op::Lxor => u64::from((a != 0) != (b != 0)),
+        Op::Band => a & b,
+        Op::Bor => a | b,
+        Op::Bxor => a ^ b,
+        Op::LastNz => if b == 0 { a } else { b },
+    }
+}
+
+/// Whether the element of the bits `a` is less than that of `b`. In two's complement the bits of a
+/// negative number are those from the type's limit on.
+fn is_less(ty: Datatype, a: u64, b: u64) -> bool
+    requires left { a < 256 ^ width ty }
+    requires right { b < 256 ^ width ty }
+    ensures { result ≡ int_lt (element_of ty a) (element_of ty b) }
+{
+    let limit = ty.limit();
+    let a_is_negative = u128::from(a) >= limit;
+    let b_is_negative = u128::from(b) >= limit;
+    if a_is_negative == b_is_negative {
+        a < b
+    } else {
+        a_is_negative
     }
 }
 

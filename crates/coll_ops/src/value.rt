@@ -1,8 +1,10 @@
-ghost use Rattle.std.specs.Prelude.{◌≡◌, ◌<◌, ℕ, length, None, IfOk, IsTrue, IsOkUnless};
-ghost use Rattle.coll_kinds.specs.Checks.{allowed, broken};
+ghost use Rattle.std.specs.Prelude.{◌≡◌, ◌<◌, ◌≤◌, ◌+◌, length, map, unwrap_or, None, IfOk, IsTrue, IsOkUnless};
+ghost use Rattle.std.specs.List.{flat_map};
+ghost use Rattle.coll_kinds.specs.Checks.{broken, reduces};
+ghost use Rattle.coll_kinds.specs.Lengths.{block_len};
 ghost use Rattle.coll_ops.specs.Combinations.{combination};
-ghost use Rattle.coll_ops.specs.Contributions.{rows_of, AreGiven, AreAlike};
-ghost use Rattle.coll_ops.specs.Values.{value};
+ghost use Rattle.coll_ops.specs.Contributions.{rows_of, AreGiven, HaveParts};
+ghost use Rattle.coll_ops.specs.Values.{part, value};
 
 use crate::rows::combine;
 use coll_kinds::{Datatype, Kind, Op, Refusal, Signature};
@@ -11,7 +13,7 @@ use std::mem;
 
 /// The value of a collective at member `r` of `n`, computed directly from what all members gave,
 /// in member order, with no rounds and no messages (MPI 4.1, 6.4 to 6.11). Refuses
-/// [`Refusal::NoMemory`] alone. The cost is linear in the bytes read and written.
+/// [`Refusal::NoMemory`] alone. The cost is linear in the bytes that the value is made of.
 pub fn plain_value(
     alloc: Global,
     sig: Signature,
@@ -25,37 +27,90 @@ pub fn plain_value(
     ensures ok { IfOk result (λ bytes. bytes.items ≡ value sig (rows_of given.now) r) }
     ensures refusal { IsOkUnless result Refusal.NoMemory }
 {
+    let block = sig.block_len();
+    let own = usize::from(r) * block;
+    let root = usize::from(sig.root);
     match sig.kind {
-        Kind::Bcast => copied(alloc, given[sig.root as usize].as_slice()),
-        Kind::Allreduce => match sig.op {
-            Some(op) => combined_rows(alloc, op, sig.ty, given),
-            None => unreachable!(),
-        },
+        Kind::Barrier => Ok(Vec::new(alloc)),
+        Kind::Bcast => copied(alloc, part(&given[root], 0, block)),
+        Kind::Gather => {
+            if r == sig.root {
+                joined(alloc, given, 0, block)
+            } else {
+                Ok(Vec::new(alloc))
+            }
+        }
+        Kind::Scatter => copied(alloc, part(&given[root], own, block)),
+        Kind::Allgather => joined(alloc, given, 0, block),
+        Kind::Alltoall => joined(alloc, given, own, block),
+        Kind::Reduce => {
+            if r == sig.root {
+                combined(alloc, sig, given, 0)
+            } else {
+                Ok(Vec::new(alloc))
+            }
+        }
+        Kind::Allreduce => combined(alloc, sig, given, 0),
+        Kind::Rsblock => combined(alloc, sig, given, own),
+        Kind::Scan => combined(alloc, sig, &given[..usize::from(r) + 1], 0),
+        Kind::Exscan => {
+            if r == 0 {
+                Ok(Vec::new(alloc))
+            } else {
+                combined(alloc, sig, &given[..usize::from(r)], 0)
+            }
+        }
     }
 }
 
-/// The combination of rows of one length, from the last row to the first.
-fn combined_rows(alloc: Global, op: Op, ty: Datatype, rows: &[Vec<u8>]) -> Result<Vec<u8>, Refusal>
-    requires allowed { IsTrue (allowed op ty) }
+/// The blocks that stand at byte `at` of each row, combined from the last row to the first.
+fn combined(alloc: Global, sig: Signature, rows: &[Vec<u8>], at: usize) -> Result<Vec<u8>, Refusal>
+    requires reduces { IsTrue (reduces sig.op sig.ty) }
     requires some { 0 < length rows.now }
-    requires alike { AreAlike ty (rows_of rows.now) }
-    ensures ok { IfOk result (λ bytes. bytes.items ≡ combination op ty (rows_of rows.now)) }
+    requires parts { HaveParts at (block_len sig) (rows_of rows.now) }
+    ensures ok { IfOk result (λ bytes. bytes.items ≡
+        combination (unwrap_or sig.op Op.Sum) sig.ty (map (part at (block_len sig)) (rows_of rows.now))) }
     ensures refusal { IsOkUnless result Refusal.NoMemory }
 {
+    let Some(op) = sig.op else { unreachable!() };
+    let block = sig.block_len();
     let last = rows.len() - 1;
-    let mut sum = copied(alloc, rows[last].as_slice())?;
-    let mut next = copied(alloc, rows[last].as_slice())?;
+    let mut sum = copied(alloc, part(&rows[last], at, block))?;
+    let mut next = copied(alloc, sum.as_slice())?;
     for i in (0..last).rev() {
         combine(
             op,
-            ty,
-            rows[i].as_slice(),
+            sig.ty,
+            part(&rows[i], at, block),
             sum.as_slice(),
             next.as_mut_slice(),
         );
         mem::swap(&mut sum, &mut next);
     }
     Ok(sum)
+}
+
+/// The `len` bytes that stand at byte `at` of each row, one row after the other.
+fn joined(alloc: Global, rows: &[Vec<u8>], at: usize, len: usize) -> Result<Vec<u8>, Refusal>
+    requires { HaveParts at len (rows_of rows.now) }
+    ensures ok { IfOk result (λ bytes. bytes.items ≡ flat_map (part at len) (rows_of rows.now)) }
+    ensures refusal { IsOkUnless result Refusal.NoMemory }
+{
+    let mut bytes = Vec::new(alloc);
+    for row in rows {
+        if bytes.extend_from_slice(part(row, at, len)).is_err() {
+            return Err(Refusal::NoMemory);
+        }
+    }
+    Ok(bytes)
+}
+
+/// `len` bytes of a row, from byte `at` on.
+fn part(row: &Vec<u8>, at: usize, len: usize) -> &[u8]
+    requires { at + len ≤ length row.now.items }
+    ensures { result.now ≡ part at len row.now.items }
+{
+    &row.as_slice()[at..at + len]
 }
 
 fn copied(alloc: Global, row: &[u8]) -> Result<Vec<u8>, Refusal>
@@ -104,25 +159,46 @@ mod tests {
         plain_value(alloc, sig, n, given, r)
     }
 
+    // Rows of one byte an element; `want` is what member `r` gets.
     #[test]
     fn values_of_small_jobs(rt: HostRuntime) -> Result<(), Fail> {
         let alloc = rt.alloc();
         let sum = signature(Kind::Allreduce, 0, Some(Op::Sum), Datatype::I8);
         let land = signature(Kind::Allreduce, 0, Some(Op::Land), Datatype::I8);
-        let bcast = signature(Kind::Bcast, 1, None, Datatype::I8);
-        for (sig, given, want) in [
-            (sum, [&[1u8] as &[u8], &[2], &[3]], 6),
-            (sum, [&[127], &[1], &[0]], 128),
-            (land, [&[1], &[2], &[3]], 1),
-            (land, [&[1], &[0], &[3]], 0),
-            (bcast, [&[], &[7], &[]], 7),
+        let lxor = signature(Kind::Allreduce, 0, Some(Op::Lxor), Datatype::I8);
+        let lastnz = signature(Kind::Reduce, 2, Some(Op::LastNz), Datatype::I8);
+        let max = signature(Kind::Reduce, 1, Some(Op::Max), Datatype::I8);
+        let scan = signature(Kind::Scan, 0, Some(Op::Prod), Datatype::U8);
+        let exscan = signature(Kind::Exscan, 0, Some(Op::Sum), Datatype::U8);
+        let gather = signature(Kind::Gather, 1, None, Datatype::Byte);
+        let scatter = signature(Kind::Scatter, 1, None, Datatype::U8);
+        let alltoall = signature(Kind::Alltoall, 0, None, Datatype::U8);
+        let rsblock = signature(Kind::Rsblock, 0, Some(Op::Bxor), Datatype::Byte);
+        let blocks = [&[1u8, 2, 3] as &[u8], &[4, 5, 6], &[7, 8, 9]];
+        for (sig, given, r, want) in [
+            (sum, [&[1u8] as &[u8], &[2], &[3]], 2, &[6u8] as &[u8]),
+            (sum, [&[127], &[1], &[0]], 0, &[128]),
+            (land, [&[1], &[0], &[3]], 1, &[0]),
+            (lxor, [&[5], &[5], &[5]], 1, &[1]),
+            (lastnz, [&[3], &[0], &[5]], 2, &[5]),
+            (lastnz, [&[3], &[0], &[5]], 0, &[]),
+            (max, [&[255], &[128], &[254]], 1, &[255]),
+            (scan, [&[20], &[13], &[2]], 0, &[20]),
+            (scan, [&[20], &[13], &[2]], 1, &[4]),
+            (scan, [&[20], &[13], &[2]], 2, &[8]),
+            (exscan, [&[1], &[2], &[3]], 0, &[]),
+            (exscan, [&[1], &[2], &[3]], 2, &[3]),
+            (gather, [&[1], &[2], &[3]], 1, &[1, 2, 3]),
+            (scatter, [&[], &[1, 2, 3], &[]], 2, &[3]),
+            (alltoall, blocks, 1, &[2, 5, 8]),
+            (rsblock, blocks, 2, &[12]),
         ] {
             let mut rows = Vec::new(alloc);
             for row in given {
                 rows.push(Vec::from_slice(alloc, row)?)?;
             }
-            let value = value_at(&rt, alloc, sig, &rows, 2);
-            assert_eq!(rt; value?.as_slice(), [want].as_slice());
+            let value = value_at(&rt, alloc, sig, &rows, r);
+            assert_eq!(rt; value?.as_slice(), want, "at {sig:?}");
         }
         Ok(())
     }

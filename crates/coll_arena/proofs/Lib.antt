@@ -1,0 +1,7 @@
+pub mod Calls
+pub mod Lents
+pub mod Lookups
+pub mod Opening
+pub mod Sounds
+pub mod Viewed
+pub mod Walking

@@ -1,0 +1,10 @@
+pub mod Changes
+pub mod Lends
+pub mod ListNames
+pub mod Lookups
+pub mod Rows
+pub mod Slots
+pub mod Sound
+pub mod TicketLists
+pub mod Views
+pub mod Walks

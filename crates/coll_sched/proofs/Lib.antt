@@ -1,0 +1,10 @@
+pub mod Buffers
+pub mod Each
+pub mod Rounds
+pub mod Counts
+pub mod Track
+pub mod Quiet
+pub mod Builders
+pub mod Views
+pub mod Serving
+pub mod Orders

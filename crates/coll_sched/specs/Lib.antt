@@ -1,0 +1,11 @@
+pub mod Regions
+pub mod Actions
+pub mod Schedules
+pub mod Families
+pub mod Worlds
+pub mod Tracks
+pub mod Heart
+pub mod Views
+pub mod Orders
+pub mod Served
+pub mod Rows

@@ -1,0 +1,52 @@
+//! Laws of families of schedules. Each is the contract of a function that does nothing, so a crate
+//! above may cite it.
+
+ghost use Rattle.coll_sched.specs.Heart.{Heart, Finishes};
+ghost use Rattle.coll_sched.specs.Orders.{BoundsMembers, Commutes, RestsOnHeard};
+ghost use Rattle.coll_sched.specs.Served.{HeldValue};
+ghost use Rattle.coll_sched.specs.Views.{Empties, Skips};
+
+/// The heart: in a lawful family, whatever the interleaving of its members' actions, a member that has
+/// done all of them has the lock-step result over what was given, and all whom it has heard have
+/// joined. The operands of a Combine about to be done are those of lock-step, a message taken has its
+/// region's length, and a Send finds no message under its key.
+pub fn heart()
+    ensures { Heart }
+{}
+
+/// A member that has done all its actions in a family that serves a signature holds the collective's
+/// value, and all whom it needs have joined.
+pub fn holds_value()
+    ensures { HeldValue }
+{}
+
+/// Quiet means finished: once all have joined, a world in which no member can go on is one in which
+/// each has done all its actions.
+pub fn quiet_is_finished()
+    ensures { Finishes }
+{}
+
+/// Once all have joined and left, no message stands.
+pub fn nothing_stands()
+    ensures { Empties }
+{}
+
+/// A member's buffer before a round is the same for two inputs that agree on those whom it has heard.
+pub fn rests_on_heard()
+    ensures { RestsOnHeard }
+{}
+
+/// The writes of one round commute, so they are done at once.
+pub fn writes_commute()
+    ensures { Commutes }
+{}
+
+/// No member has more exchanges than its family.
+pub fn bounds_members()
+    ensures { BoundsMembers }
+{}
+
+/// Passing over the ends of several rounds in one go keeps what holds of a running instance.
+pub fn skips_empty_rounds()
+    ensures { Skips }
+{}

@@ -1,0 +1,55 @@
+ghost use Rattle.std.specs.Prelude.{◌≡◌, ◌+◌, ◌↔◌, length, IsTrue};
+
+/// A run of bytes of a member's buffer.
+#[derive(Clone, Copy, Debug, Default, PartialEq, Eq)]
+pub struct Region {
+    /// The number of the first byte.
+    pub at: u32,
+    /// How many bytes; it may be none.
+    pub len: u32,
+}
+
+impl Region {
+    ghost use Rattle.coll_sched.specs.Regions.{Inside, Apart, read_of, written};
+
+    /// Whether a buffer of `size` bytes holds the region. An empty region has its place too.
+    pub fn is_inside(self, size: u32) -> bool
+        ensures { IsTrue result ↔ Inside size self }
+    {
+        self.end() <= u64::from(size)
+    }
+
+    /// Whether the regions share no byte.
+    pub fn is_apart(self, other: Region) -> bool
+        ensures { IsTrue result ↔ Apart self other }
+    {
+        self.len == 0
+            || other.len == 0
+            || self.end() <= u64::from(other.at)
+            || other.end() <= u64::from(self.at)
+    }
+
+    /// The bytes of the region.
+    pub fn read(self, buf: &[u8]) -> &[u8]
+        requires { Inside (length buf.now) self }
+        ensures { result.now ≡ read_of buf.now self }
+    {
+        &buf[self.at as usize..self.at as usize + self.len as usize]
+    }
+
+    /// Writes `bytes` into the region.
+    pub fn write(self, bytes: &[u8], buf: &mut [u8])
+        requires inside { Inside (length buf.old) self }
+        requires same { length bytes.now ≡ self.len }
+        ensures { buf.new ≡ written buf.old self bytes.now }
+    {
+        buf[self.at as usize..self.at as usize + self.len as usize].copy_from_slice(bytes);
+    }
+
+    // The number of the byte behind the region.
+    fn end(self) -> u64
+        ensures { result ≡ self.at + self.len }
+    {
+        u64::from(self.at) + u64::from(self.len)
+    }
+}

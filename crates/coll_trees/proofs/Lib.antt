@@ -1,0 +1,14 @@
+pub mod Columns
+pub mod Depths
+pub mod Turns
+pub mod Spreads
+pub mod Spans
+pub mod Folds
+pub mod Checked
+pub mod Bcasts
+pub mod RowBytes
+pub mod Firsts
+pub mod Allreduces
+pub mod Hops
+pub mod Reduces
+pub mod Steps

@@ -1,0 +1,36 @@
+ghost use Rattle.std.specs.Prelude.{◌≡◌, ◌<◌, ◌≤◌, None, IfOk, IsOkUnless};
+ghost use Rattle.coll_kinds.specs.declared.kind.Kind.TheVariants.{Bcast};
+ghost use Rattle.coll_kinds.specs.Checks.{broken};
+ghost use Rattle.coll_trees.specs.Depths.{depth};
+ghost use Rattle.coll_trees.specs.Trees.{bcast_family, IsTreeFor};
+
+use crate::rounds::{block_if, schedule};
+use crate::spreading::Spreading;
+use coll_kinds::{Refusal, Signature};
+use coll_sched::{Region, Schedule};
+use std::alloc::Global;
+
+/// Member `r`'s schedule of a bcast among `n` members (MPI 4.1, 6.4): the root's block goes to all by a
+/// binomial tree, in as many rounds as it takes to double up to `n`. Refuses [`Refusal::NoMemory`]
+/// alone.
+pub fn bcast(alloc: Global, sig: Signature, n: u8, r: u8) -> Result<Schedule, Refusal>
+    requires kind { sig.kind ≡ Bcast }
+    requires checked { broken sig n ≡ None }
+    requires member { r < n }
+    requires few { n ≤ 64 }
+    ensures schedule { IfOk result (λ s. s ≡ bcast_family sig n r) }
+    ensures family { IsTreeFor sig n (bcast_family sig n) (depth n) }
+    ensures refusal { IsOkUnless result Refusal.NoMemory }
+{
+    let len = sig.block_len() as u32;
+    let tree = Spreading {
+        n,
+        root: sig.root,
+        len,
+    };
+    let mut rounds = Vec::new(alloc);
+    tree.push_rounds(alloc, r, &mut rounds)?;
+    let input = block_if(r == sig.root, len);
+    let block = Region { at: 0, len };
+    Ok(schedule(len, input, block, rounds))
+}

@@ -1,0 +1,112 @@
+ghost use Rattle.std.specs.Prelude.{◌≡◌, ◌+◌, ◌++◌, ◌<◌, ◌≤◌, ◌^◌, IfOk, OnOk, IsOkUnless};
+ghost use Rattle.coll_trees.specs.Columns.{rounds_of};
+ghost use Rattle.coll_trees.specs.Depths.{depth, front, behind};
+
+use crate::depth::depth_of;
+use crate::role::Role;
+use crate::rounds::{one_action, push_round};
+use coll_kinds::{Datatype, Op, Refusal};
+use coll_sched::{Action, Region, Round};
+use std::alloc::Global;
+
+/// The tree that brings the combination of all members' blocks to member 0, in member order.
+#[derive(Clone, Copy, Debug)]
+pub(crate) struct Folding {
+    pub op: Op,
+    pub ty: Datatype,
+    /// How many members there are.
+    pub n: u8,
+    /// The bytes of a block.
+    pub len: u32,
+    ghost few: { n ≤ 64 },
+    ghost small: { len < 2 ^ 31 },
+}
+
+impl Folding {
+    ghost use Rattle.coll_trees.specs.Folding.{role, moves, combines, folding};
+
+    /// Appends the rounds of member `r`, two for each step.
+    pub fn push_rounds(self, alloc: Global, r: u8, rounds: &mut Vec<Round>) -> Result<(), Refusal>
+        requires { r < self.n }
+        ensures ok { OnOk result (rounds.new.items ≡ rounds.old.items ++ rounds_of (folding self.op self.ty self.len self.n 0 (depth self.n)) r) }
+        ensures refusal { IsOkUnless result Refusal.NoMemory }
+    {
+        let steps = depth_of(self.n);
+        for step in 0..steps {
+            let distance = 2u8.pow(u32::from(step));
+            let part = Role::new(self.n, r, distance);
+            let moves = self.moves(alloc, r, distance, part)?;
+            push_round(rounds, moves)?;
+            let combines = self.combines(alloc, part)?;
+            push_round(rounds, combines)?;
+        }
+        Ok(())
+    }
+
+    // The round in which blocks move, of member r whose role is known.
+    fn moves(self, alloc: Global, r: u8, distance: u8, part: Role) -> Result<Round, Refusal>
+        requires member { r < self.n }
+        requires some { 0 < distance }
+        requires near { distance ≤ 64 }
+        requires is { part ≡ role self.n r distance }
+        ensures ok { IfOk result (λ round. round ≡ moves self.len r distance part) }
+        ensures refusal { IsOkUnless result Refusal.NoMemory }
+    {
+        match part {
+            Role::Gives => one_action(
+                alloc,
+                Action::Send {
+                    to: r - distance,
+                    from: self.front(),
+                },
+            ),
+            Role::Takes => one_action(
+                alloc,
+                Action::Recv {
+                    of: r + distance,
+                    into: self.behind(),
+                },
+            ),
+            Role::Rests => Ok(Round::new(alloc)),
+        }
+    }
+
+    // The round in which what was taken is combined behind what the member holds.
+    fn combines(self, alloc: Global, part: Role) -> Result<Round, Refusal>
+        ensures ok { IfOk result (λ round. round ≡ combines self.op self.ty self.len part) }
+        ensures refusal { IsOkUnless result Refusal.NoMemory }
+    {
+        match part {
+            Role::Takes => one_action(
+                alloc,
+                Action::Combine {
+                    op: self.op,
+                    ty: self.ty,
+                    left: self.front(),
+                    right: self.behind(),
+                    into: self.front(),
+                },
+            ),
+            Role::Gives | Role::Rests => Ok(Round::new(alloc)),
+        }
+    }
+
+    // Where a member keeps what it holds, and where it takes.
+    fn front(self) -> Region
+        ensures { result ≡ front self.len }
+    {
+        Region {
+            at: 0,
+            len: self.len,
+        }
+    }
+
+    fn behind(self) -> Region
+        ensures { result ≡ behind self.len }
+    {
+        Region {
+            at: self.len,
+            len: self.len,
+        }
+    }
+}

@@ -1,0 +1,97 @@
+ghost use Rattle.std.specs.Prelude.{◌≡◌, ◌+◌, ◌++◌, ◌<◌, ◌≤◌, IfOk, OnOk, IsOkUnless};
+ghost use Rattle.coll_trees.specs.Columns.{rounds_of};
+ghost use Rattle.coll_trees.specs.Depths.{depth, front};
+
+use crate::depth::depth_of;
+use crate::rounds::{one_action, push_round};
+use crate::way::Way;
+use coll_kinds::Refusal;
+use coll_sched::{Action, Region, Round};
+use std::alloc::Global;
+
+/// The tree that carries a block from the root to all members.
+#[derive(Clone, Copy, Debug)]
+pub(crate) struct Spreading {
+    /// How many members there are.
+    pub n: u8,
+    /// The root's member number.
+    pub root: u8,
+    /// The bytes of the block.
+    pub len: u32,
+    ghost root_low: { root < n },
+    ghost few: { n ≤ 64 },
+}
+
+impl Spreading {
+    ghost use Rattle.coll_trees.specs.Spreading.{from_root, member_at, way, hop, spreading};
+
+    /// Appends the rounds of member `r`, one for each step.
+    pub fn push_rounds(self, alloc: Global, r: u8, rounds: &mut Vec<Round>) -> Result<(), Refusal>
+        requires { r < self.n }
+        ensures ok { OnOk result (rounds.new.items ≡ rounds.old.items ++ rounds_of (spreading self.len self.n self.root 0 (depth self.n)) r) }
+        ensures refusal { IsOkUnless result Refusal.NoMemory }
+    {
+        let number = self.from_root(r);
+        let steps = depth_of(self.n);
+        for step in 0..steps {
+            let round = self.hop(alloc, number, 2u8.pow(u32::from(step)))?;
+            push_round(rounds, round)?;
+        }
+        Ok(())
+    }
+
+    // The round of the member with that number in the step at that distance.
+    fn hop(self, alloc: Global, number: u8, distance: u8) -> Result<Round, Refusal>
+        requires member { number < self.n }
+        requires near { distance ≤ 64 }
+        ensures ok { IfOk result (λ round. round ≡ hop self.len self.n self.root number distance (way self.n number distance)) }
+        ensures refusal { IsOkUnless result Refusal.NoMemory }
+    {
+        let block = Region {
+            at: 0,
+            len: self.len,
+        };
+        match Way::new(self.n, number, distance) {
+            Way::Passes => one_action(
+                alloc,
+                Action::Send {
+                    to: self.member_at(number + distance),
+                    from: block,
+                },
+            ),
+            Way::Gets => one_action(
+                alloc,
+                Action::Recv {
+                    of: self.member_at(number - distance),
+                    into: block,
+                },
+            ),
+            Way::Idles => Ok(Round::new(alloc)),
+        }
+    }
+
+    // Member r's number, counted round from the root.
+    fn from_root(self, r: u8) -> u8
+        requires { r < self.n }
+        ensures number { result ≡ from_root self.n self.root r }
+        ensures low { result < self.n }
+    {
+        if self.root <= r {
+            r - self.root
+        } else {
+            r + self.n - self.root
+        }
+    }
+
+    // The member with that number.
+    fn member_at(self, number: u8) -> u8
+        requires { number < self.n }
+        ensures { result ≡ member_at self.n self.root number }
+    {
+        if number + self.root < self.n {
+            number + self.root
+        } else {
+            number + self.root - self.n
+        }
+    }
+}
