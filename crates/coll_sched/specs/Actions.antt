@@ -79,6 +79,7 @@ IsLocal (Copy from into) = Unit {0}
 IsLocal (Combine op ty left right into) = Unit {0}
 IsLocal (Recv of into) = ⊥
 
+-- the action is a Send
 abbrev pub IsSend : Action → Type 0
 IsSend (Send to from) = Unit {0}
 IsSend (Copy from into) = ⊥

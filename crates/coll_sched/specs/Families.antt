@@ -32,6 +32,7 @@ in_link p (Copy from into ∷ rest) = in_link p rest
 in_link p (Combine op ty left right into ∷ rest) = in_link p rest
 in_link p (Recv of into ∷ rest) = cond (of == p) (Some into) (in_link p rest)
 
+-- the bytes of a region; no bytes without one
 abbrev pub read_at : List ℕ → Option Region → List ℕ
 read_at buf None = []
 read_at buf (Some g) = read_of buf g
@@ -57,6 +58,7 @@ messages f given j r p = sent r (actions_at f j p) (lock_step f given j p)
 abbrev pub result_at : Family → (ℕ → List ℕ) → ℕ → List ℕ
 result_at f given r = read_of (lock_step f given (length (f r).rounds) r) (f r).output
 
+-- the action is a Recv of member p
 abbrev pub IsRecvOf : Action → ℕ → Type 0
 IsRecvOf (Send to from) p = ⊥
 IsRecvOf (Copy from into) p = ⊥
@@ -73,6 +75,7 @@ abbrev pub Heard : Family → ℕ → ℕ → ℕ → Type 0
 Heard f zero r p = p ≡ r
 Heard f (suc j) r p = Heard f j r p ⊎ ((q : ℕ) × Receives (actions_at f j r) q × Heard f j q p)
 
+-- a link's length; None without one
 abbrev pub len_of : Option Region → Option ℕ
 len_of None = None
 len_of (Some g) = Some g.len
@@ -97,12 +100,14 @@ is_exchange n f j = list_any (λ r. list_any has_peer (actions_at f j r)) (membe
 abbrev pub family_exchanges : ℕ → Family → ℕ
 family_exchanges n f = count_by (is_exchange n f) (members 0 (length (f 0).rounds))
 
+-- the action is a Send
 abbrev pub is_send : Action → Bool
 is_send (Send to from) = true
 is_send (Copy from into) = false
 is_send (Combine op ty left right into) = false
 is_send (Recv of into) = false
 
+-- the action is a Recv
 abbrev pub is_recv : Action → Bool
 is_recv (Send to from) = false
 is_recv (Copy from into) = false

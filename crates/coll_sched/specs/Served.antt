@@ -22,6 +22,7 @@ pub record Serves (sig : Signature) (n : ℕ) (f : Family) : Type 0 where
   pub has_value : (given : List (List ℕ)) → AreGiven sig n given → ((r : ℕ) → r < n → AreBytes (row_of given r)) → (r : ℕ) → r < n → result_at f (row_of given) r ≡ value sig given r
   pub hears : (r p : ℕ) → r < n → needs sig n r p ≡ true → Heard f (length (f r).rounds) r p
 
+-- what a member of such a family has when it has done all its actions
 pub record HoldsValue (sig : Signature) (n : ℕ) (f : Family) (w : World) (r : ℕ) (p : Progress) : Type 0 where
   pub value_is : read_of p.buf (f r).output ≡ value sig (listing (filled f w.given) 0 n) r
   pub needed : (s : ℕ) → needs sig n r s ≡ true → w.given s ≢ None

@@ -11,19 +11,21 @@ use Rattle.coll_sched.specs.Worlds.{Progress, World, filled}
 abbrev pub moment : Family → (ℕ → List ℕ) → ℕ → ℕ → ℕ → List ℕ
 moment f given j i r = wrote_all (messages f given j r) (lock_step f given j r) (take i (actions_at f j r)) (lock_step f given j r)
 
--- how many Sends to r, and how many Recvs of q
+-- how many Sends to r
 abbrev pub outs : ℕ → Action → ℕ
 outs r (Send to from) = cond (to == r) 1 0
 outs r (Copy from into) = 0
 outs r (Combine op ty a b into) = 0
 outs r (Recv of into) = 0
 
+-- how many Recvs of q
 abbrev pub ins : ℕ → Action → ℕ
 ins q (Send to from) = 0
 ins q (Copy from into) = 0
 ins q (Combine op ty a b into) = 0
 ins q (Recv of into) = cond (of == q) 1 0
 
+-- the sum of a weight over actions
 abbrev pub total : (Action → ℕ) → List Action → ℕ
 total weight [] = 0
 total weight (a ∷ rest) = weight a + total weight rest
@@ -34,9 +36,11 @@ done_by None None j actions = []
 done_by None (Some bytes) j actions = actions
 done_by (Some p) g j actions = cond (nat_lt j p.round) actions (cond (j == p.round) (take p.index actions) [])
 
+-- the actions of round j that member r has done
 abbrev pub done_at : Family → World → ℕ → ℕ → List Action
 done_at f w j r = done_by (w.progress r) (w.given r) j (actions_at f j r)
 
+-- how many messages: one or none
 abbrev pub standing : Option (List ℕ) → ℕ
 standing None = 0
 standing (Some bytes) = 1
@@ -59,6 +63,7 @@ pub record IsLetter (f : Family) (given : ℕ → Option (List ℕ)) (q r j : �
 abbrev pub Balanced : Family → World → Type 0
 Balanced f w = (q r j : ℕ) → standing (w.mail q r j) + total (ins q) (done_at f w j r) ≡ total (outs r) (done_at f w j q)
 
+-- an instance on its way: contributions of the right lengths, every member and message on the track, and the balance
 pub record Tracks (n : ℕ) (f : Family) (w : World) : Type 0 where
   pub lengths : (r : ℕ) (bytes : List ℕ) → w.given r ≡ Some bytes → length bytes ≡ (f r).input.len
   pub bytes : (r : ℕ) (given : List ℕ) → w.given r ≡ Some given → AreBytes given

@@ -5,6 +5,7 @@ use Rattle.coll_sched.specs.Families.{Family, actions_at, IsLawful}
 use Rattle.coll_sched.specs.Worlds.{Progress, World, put, Reached}
 use Rattle.coll_sched.specs.Tracks.{Tracks}
 
+-- the worlds are alike at each place
 pub record Agrees (w v : World) : Type 0 where
   pub given : (r : ℕ) → v.given r ≡ w.given r
   pub progress : (r : ℕ) → v.progress r ≡ w.progress r

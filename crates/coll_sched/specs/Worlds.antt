@@ -19,6 +19,7 @@ pub record World : Type 0 where
   pub progress : ℕ → Option Progress
   pub mail : ℕ → ℕ → ℕ → Option (List ℕ)
 
+-- nobody has joined
 abbrev pub empty : World
 empty = record { given = λ r. None; progress = λ r. None; mail = λ q r j. None }
 
@@ -26,6 +27,7 @@ empty = record { given = λ r. None; progress = λ r. None; mail = λ q r j. Non
 abbrev pub put : {X : Type 0} → (ℕ → X) → ℕ → X → ℕ → X
 put f k v i = cond (i == k) v (f i)
 
+-- the mail with another value under one key
 abbrev pub put_mail : (ℕ → ℕ → ℕ → Option (List ℕ)) → ℕ → ℕ → ℕ → Option (List ℕ) → ℕ → ℕ → ℕ → Option (List ℕ)
 put_mail m q r j v a b c = cond ((a == q) && ((b == r) && (c == j))) v (m a b c)
 
@@ -33,6 +35,7 @@ put_mail m q r j v a b c = cond ((a == q) && ((b == r) && (c == j))) v (m a b c)
 abbrev pub filled : Family → (ℕ → Option (List ℕ)) → ℕ → List ℕ
 filled f given r = unwrap_or (given r) (replicate (f r).input.len 0)
 
+-- member r has joined with these bytes
 abbrev pub joined : Family → World → ℕ → List ℕ → World
 joined f w r bytes = record { given = put w.given r (Some bytes); progress = put w.progress r (Some (record { round = 0; index = 0; buf = laid_in (f r) bytes })); mail = w.mail }
 
@@ -40,9 +43,11 @@ joined f w r bytes = record { given = put w.given r (Some bytes); progress = put
 abbrev pub acted : World → ℕ → Progress → List ℕ → (ℕ → ℕ → ℕ → Option (List ℕ)) → World
 acted w r p buf mail = record { given = w.given; progress = put w.progress r (Some (record { round = p.round; index = suc p.index; buf = buf })); mail = mail }
 
+-- member r is at the beginning of its next round
 abbrev pub turned : World → ℕ → Progress → World
 turned w r p = record { given = w.given; progress = put w.progress r (Some (record { round = suc p.round; index = 0; buf = p.buf })); mail = w.mail }
 
+-- member r has left
 abbrev pub left : World → ℕ → World
 left w r = record { given = w.given; progress = put w.progress r None; mail = w.mail }
 
@@ -50,6 +55,7 @@ left w r = record { given = w.given; progress = put w.progress r None; mail = w.
 abbrev pub IsNext : Family → World → ℕ → Progress → Action → Type 0
 IsNext f w r p a = (w.progress r ≡ Some p) × (slice_get (actions_at f p.round r) p.index ≡ Some a)
 
+-- one event: a join, one action, the end of a round, or a leave
 pub data Step (n : ℕ) (f : Family) : World → World → Type 0 where
   join : {w : World} (r : ℕ) (bytes : List ℕ) → r < n → w.given r ≡ None → length bytes ≡ (f r).input.len → AreBytes bytes → Step n f w (joined f w r bytes)
   send : {w : World} (r : ℕ) (p : Progress) (to : ℕ) (from : Region) → IsNext f w r p (Send to from) → Step n f w (acted w r p p.buf (put_mail w.mail r to p.round (Some (read_of p.buf from))))

@@ -24,7 +24,7 @@ use Rattle.coll_trees.specs.Columns.{Column, rounds_of}
 use Rattle.coll_trees.specs.Depths.{depth, front}
 use Rattle.coll_trees.specs.Spreading.{from_root, spread, spreading}
 use Rattle.coll_trees.specs.Folding.{folding}
-use Rattle.coll_trees.specs.Trees.{allreduce_family, IsTreeFor}
+use Rattle.coll_trees.specs.Trees.{allreduce_family, IsNarrowFor}
 use Rattle.coll_trees.proofs.Checked.{checked, operation_allowed, block_whole}
 use Rattle.coll_trees.proofs.Columns.{IsColumn, column_of, all_append, round-column, rounds-append, length-rounds, lawful_family, narrow_family, few_exchanges, costs_append}
 use Rattle.coll_trees.proofs.Depths.{depth_reaches}
@@ -92,7 +92,7 @@ module _ (sig : Signature) (n : ℕ) (kind : sig.kind ≡ Allreduce) (pos : 0 < 
       (first_hears (unwrap_or sig.op Sum) sig.ty (block_len sig) n (allreduce_family sig n) (spreading (block_len sig) n 0 0 (depth n)) is_at top p (ltb-true p n parts.0))
       (depth n) r (omega arith) h (near r h))
 
-  allreduce_tree : IsTreeFor sig n (allreduce_family sig n) (depth n + depth n)
+  allreduce_tree : IsNarrowFor sig n (allreduce_family sig n) (depth n + depth n)
   allreduce_tree = record {
     serves = record {
       lawful = allreduce_lawful;
@@ -108,7 +108,7 @@ module _ (sig : Signature) (n : ℕ) (kind : sig.kind ≡ Allreduce) (pos : 0 < 
   }
 
 -- the family of allreduce serves each checked allreduce
-pub allreduce_serves : (sig : Signature) (n : ℕ) → broken sig n ≡ None → sig.kind ≡ Allreduce → 0 < n → n ≤ 64 → IsTreeFor sig n (allreduce_family sig n) (depth n + depth n)
+pub allreduce_serves : (sig : Signature) (n : ℕ) → broken sig n ≡ None → sig.kind ≡ Allreduce → 0 < n → n ≤ 64 → IsNarrowFor sig n (allreduce_family sig n) (depth n + depth n)
 allreduce_serves sig n h kind pos top = allreduce_tree sig n kind pos top (operation_allowed sig n (checked sig n h) (ap has_operation kind))
 
 -- the parts that the builder makes are the family's

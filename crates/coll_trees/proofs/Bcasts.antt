@@ -19,7 +19,7 @@ use Rattle.coll_sched.proofs.Builders.{input_held}
 use Rattle.coll_trees.specs.Columns.{rounds_of}
 use Rattle.coll_trees.specs.Depths.{depth, front, nothing}
 use Rattle.coll_trees.specs.Spreading.{from_root, spread, spreading}
-use Rattle.coll_trees.specs.Trees.{bcast_family, IsTreeFor}
+use Rattle.coll_trees.specs.Trees.{bcast_family, IsNarrowFor}
 use Rattle.coll_trees.proofs.Checked.{checked, root_low}
 use Rattle.coll_trees.proofs.Columns.{round-column, length-rounds, lawful_family, narrow_family, few_exchanges}
 use Rattle.coll_trees.proofs.Depths.{depth_reaches}
@@ -75,7 +75,7 @@ module _ (sig : Signature) (n : ℕ) (kind : sig.kind ≡ Bcast) (low : sig.root
       subst (λ j. Heard (bcast_family sig n) j r p) (sym (bcast_length r))
       (spread_hears (bcast_family sig n) (block_len sig) n sig.root 0 (depth n) low bcast_rounds p same (depth n) r (omega arith) h (near r h))
 
-  bcast_tree : IsTreeFor sig n (bcast_family sig n) (depth n)
+  bcast_tree : IsNarrowFor sig n (bcast_family sig n) (depth n)
   bcast_tree = record {
     serves = record {
       lawful = bcast_lawful;
@@ -89,7 +89,7 @@ module _ (sig : Signature) (n : ℕ) (kind : sig.kind ≡ Bcast) (low : sig.root
   }
 
 -- the family of bcast serves each checked bcast
-pub bcast_serves : (sig : Signature) (n : ℕ) → broken sig n ≡ None → sig.kind ≡ Bcast → n ≤ 64 → IsTreeFor sig n (bcast_family sig n) (depth n)
+pub bcast_serves : (sig : Signature) (n : ℕ) → broken sig n ≡ None → sig.kind ≡ Bcast → n ≤ 64 → IsNarrowFor sig n (bcast_family sig n) (depth n)
 bcast_serves sig n h kind top = bcast_tree sig n kind (root_low sig n (checked sig n h) (ap has_root kind)) top
 
 -- the parts that the builder makes are the family's

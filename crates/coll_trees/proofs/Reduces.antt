@@ -27,7 +27,7 @@ use Rattle.coll_sched.proofs.Builders.{Has, round_held, round_kept, message_is, 
 use Rattle.coll_trees.specs.Columns.{Column, rounds_of}
 use Rattle.coll_trees.specs.Depths.{depth, front, nothing}
 use Rattle.coll_trees.specs.Folding.{folding, last_hop}
-use Rattle.coll_trees.specs.Trees.{reduce_family, IsTreeFor}
+use Rattle.coll_trees.specs.Trees.{reduce_family, IsNarrowFor}
 use Rattle.coll_trees.proofs.Checked.{checked, root_low, operation_allowed, block_whole}
 use Rattle.coll_trees.proofs.Columns.{IsColumn, column_of, all_append, round-column, rounds-append, length-rounds, lawful_family, narrow_family, few_exchanges, costs_append, free, exchange}
 use Rattle.coll_trees.proofs.Folds.{folding_columns, folding_costs, length-folding}
@@ -125,7 +125,7 @@ module _ (sig : Signature) (n : ℕ) (kind : sig.kind ≡ Reduce) (low : sig.roo
       go l (inl e) = subst (λ q. Heard (reduce_family sig n) (suc (depth n + depth n)) q p) (sym (eqb-true r sig.root e)) (root_hears p l)
       go l (inr e) = subst (λ q. Heard (reduce_family sig n) (suc (depth n + depth n)) r q) (sym (eqb-true p r e)) (heard_self (reduce_family sig n) (suc (depth n + depth n)) r)
 
-  reduce_tree : IsTreeFor sig n (reduce_family sig n) (depth n + 1)
+  reduce_tree : IsNarrowFor sig n (reduce_family sig n) (depth n + 1)
   reduce_tree = record {
     serves = record {
       lawful = reduce_lawful;
@@ -141,7 +141,7 @@ module _ (sig : Signature) (n : ℕ) (kind : sig.kind ≡ Reduce) (low : sig.roo
   }
 
 -- the family of reduce serves each checked reduce
-pub reduce_serves : (sig : Signature) (n : ℕ) → broken sig n ≡ None → sig.kind ≡ Reduce → n ≤ 64 → IsTreeFor sig n (reduce_family sig n) (depth n + 1)
+pub reduce_serves : (sig : Signature) (n : ℕ) → broken sig n ≡ None → sig.kind ≡ Reduce → n ≤ 64 → IsNarrowFor sig n (reduce_family sig n) (depth n + 1)
 reduce_serves sig n h kind top = reduce_tree sig n kind (root_low sig n (checked sig n h) (ap has_root kind)) top (operation_allowed sig n (checked sig n h) (ap has_operation kind))
 
 -- the parts that the builder makes are the family's

@@ -11,12 +11,14 @@ depth_from (suc fuel) k n = cond (nat_le n (2 ^ k)) k (depth_from fuel (suc k) n
 unfoldable pub depth : ℕ → ℕ
 depth n = depth_from 6 0 n
 
--- the first block of a buffer, and the second
+-- the first block of a buffer
 abbrev pub front : ℕ → Region
 front b = record { at = 0; len = b }
 
+-- the second block
 abbrev pub behind : ℕ → Region
 behind b = record { at = b; len = b }
 
+-- no bytes
 abbrev pub nothing : Region
 nothing = record { at = 0; len = 0 }

@@ -14,19 +14,23 @@ use Rattle.coll_trees.specs.Depths.{front, behind}
 abbrev pub role : ℕ → ℕ → ℕ → Role
 role n r s = cond (r % (s + s) == s) Gives (cond ((r % (s + s) == 0) && nat_lt (r + s) n) Takes Rests)
 
+-- the round in which blocks move
 abbrev pub moves : ℕ → ℕ → ℕ → Role → List Action
 moves b r s Gives = Send (r - s) (front b) ∷ []
 moves b r s Takes = Recv (r + s) (behind b) ∷ []
 moves b r s Rests = []
 
+-- the round in which what was taken is combined behind what the member has
 abbrev pub combines : Op → Datatype → ℕ → Role → List Action
 combines op ty b Gives = []
 combines op ty b Takes = Combine op ty (front b) (behind b) (front b) ∷ []
 combines op ty b Rests = []
 
+-- the first round of the step at distance s
 abbrev pub move_at : ℕ → ℕ → ℕ → Column
 move_at b n s r = moves b r s (role n r s)
 
+-- the second
 abbrev pub combine_at : Op → Datatype → ℕ → ℕ → ℕ → Column
 combine_at op ty b n s r = combines op ty b (role n r s)
 

@@ -20,11 +20,13 @@ member_at n root v = cond (nat_lt (v + root) n) (v + root) (v + root - n)
 abbrev pub way : ℕ → ℕ → ℕ → Way
 way n v s = cond (nat_lt v s) (cond (nat_lt (v + s) n) Passes Idles) (cond (nat_lt v (s + s)) Gets Idles)
 
+-- the round of the member with number v in the step at distance s
 abbrev pub hop : ℕ → ℕ → ℕ → ℕ → ℕ → Way → List Action
 hop b n root v s Passes = Send (member_at n root (v + s)) (front b) ∷ []
 hop b n root v s Gets = Recv (member_at n root (v - s)) (front b) ∷ []
 hop b n root v s Idles = []
 
+-- the step at distance s
 abbrev pub spread : ℕ → ℕ → ℕ → ℕ → Column
 spread b n root s r = hop b n root (from_root n root r) s (way n (from_root n root r) s)
 

@@ -2,7 +2,7 @@ ghost use Rattle.std.specs.Prelude.{◌≡◌, ◌+◌, ◌<◌, ◌≤◌, None
 ghost use Rattle.coll_kinds.specs.declared.kind.Kind.TheVariants.{Allreduce};
 ghost use Rattle.coll_kinds.specs.Checks.{broken};
 ghost use Rattle.coll_trees.specs.Depths.{depth};
-ghost use Rattle.coll_trees.specs.Trees.{allreduce_family, IsTreeFor};
+ghost use Rattle.coll_trees.specs.Trees.{allreduce_family, IsNarrowFor};
 
 use crate::folding::Folding;
 use crate::rounds::schedule;
@@ -21,7 +21,7 @@ pub fn allreduce(alloc: Global, sig: Signature, n: u8, r: u8) -> Result<Schedule
     requires member { r < n }
     requires few { n ≤ 64 }
     ensures schedule { IfOk result (λ s. s ≡ allreduce_family sig n r) }
-    ensures family { IsTreeFor sig n (allreduce_family sig n) (depth n + depth n) }
+    ensures family { IsNarrowFor sig n (allreduce_family sig n) (depth n + depth n) }
     ensures refusal { IsOkUnless result Refusal.NoMemory }
 {
     let Some(op) = sig.op else { unreachable!() };

@@ -2,7 +2,7 @@ ghost use Rattle.std.specs.Prelude.{◌≡◌, ◌<◌, ◌≤◌, None, IfOk, I
 ghost use Rattle.coll_kinds.specs.declared.kind.Kind.TheVariants.{Bcast};
 ghost use Rattle.coll_kinds.specs.Checks.{broken};
 ghost use Rattle.coll_trees.specs.Depths.{depth};
-ghost use Rattle.coll_trees.specs.Trees.{bcast_family, IsTreeFor};
+ghost use Rattle.coll_trees.specs.Trees.{bcast_family, IsNarrowFor};
 
 use crate::rounds::{block_if, schedule};
 use crate::spreading::Spreading;
@@ -19,7 +19,7 @@ pub fn bcast(alloc: Global, sig: Signature, n: u8, r: u8) -> Result<Schedule, Re
     requires member { r < n }
     requires few { n ≤ 64 }
     ensures schedule { IfOk result (λ s. s ≡ bcast_family sig n r) }
-    ensures family { IsTreeFor sig n (bcast_family sig n) (depth n) }
+    ensures family { IsNarrowFor sig n (bcast_family sig n) (depth n) }
     ensures refusal { IsOkUnless result Refusal.NoMemory }
 {
     let len = sig.block_len() as u32;

@@ -24,6 +24,7 @@ mod way;
 
 pub use allreduce_builder::allreduce;
 pub use bcast_builder::bcast;
+pub use depth::depth_of;
 pub use reduce_builder::reduce;
 
 #[cfg(test)]

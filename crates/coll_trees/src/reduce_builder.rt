@@ -3,7 +3,7 @@ ghost use Rattle.coll_kinds.specs.declared.kind.Kind.TheVariants.{Reduce};
 ghost use Rattle.coll_kinds.specs.Checks.{broken};
 ghost use Rattle.coll_trees.specs.Depths.{depth};
 ghost use Rattle.coll_trees.specs.Folding.{last_hop};
-ghost use Rattle.coll_trees.specs.Trees.{reduce_family, IsTreeFor};
+ghost use Rattle.coll_trees.specs.Trees.{reduce_family, IsNarrowFor};
 
 use crate::folding::Folding;
 use crate::rounds::{block_if, one_action, push_round, schedule};
@@ -20,7 +20,7 @@ pub fn reduce(alloc: Global, sig: Signature, n: u8, r: u8) -> Result<Schedule, R
     requires member { r < n }
     requires few { n ≤ 64 }
     ensures schedule { IfOk result (λ s. s ≡ reduce_family sig n r) }
-    ensures family { IsTreeFor sig n (reduce_family sig n) (depth n + 1) }
+    ensures family { IsNarrowFor sig n (reduce_family sig n) (depth n + 1) }
     ensures refusal { IsOkUnless result Refusal.NoMemory }
 {
     let Some(op) = sig.op else { unreachable!() };

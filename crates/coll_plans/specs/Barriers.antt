@@ -1,0 +1,21 @@
+-- The barrier by dissemination (MPI 4.1, 6.3): in the step at distance s each member sends an empty message to the member s
+-- further, counted round, and receives one of the member s before
+use Rattle.std.specs.Prelude.{ℕ, zero, suc, ◌+◌, ◌-◌, ◌%◌, ◌^◌, List, [], ◌∷◌}
+use Rattle.coll_kinds.specs.declared.signature.Signature.{Signature}
+use Rattle.coll_sched.specs.declared.action.Action.TheVariants.{Send, Recv}
+use Rattle.coll_sched.specs.Families.{Family}
+use Rattle.coll_trees.specs.Columns.{Column, family_of}
+use Rattle.coll_trees.specs.Depths.{depth, nothing}
+
+-- the step at distance s
+abbrev pub meeting : ℕ → ℕ → Column
+meeting n s r = Send ((r + s) % n) nothing ∷ Recv ((r + (n - s)) % n) nothing ∷ []
+
+-- c steps, the first at distance 2 ^ k
+abbrev pub meetings : ℕ → ℕ → ℕ → List Column
+meetings n k zero = []
+meetings n k (suc c) = meeting n (2 ^ k) ∷ meetings n (suc k) c
+
+-- the barrier of n members: all messages and buffers are empty
+abbrev pub barrier_family : Signature → ℕ → Family
+barrier_family sig n = family_of 0 (λ r. nothing) (λ r. nothing) (meetings n 0 (depth n))

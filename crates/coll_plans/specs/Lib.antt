@@ -1,0 +1,2 @@
+pub mod Barriers
+pub mod Rows

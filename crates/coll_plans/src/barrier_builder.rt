@@ -1,0 +1,71 @@
+ghost use Rattle.std.specs.Prelude.{◌≡◌, ◌++◌, ◌<◌, ◌≤◌, IfOk, OnOk, IsOkUnless};
+ghost use Rattle.coll_kinds.specs.declared.kind.Kind.TheVariants.{Barrier};
+ghost use Rattle.coll_trees.specs.Columns.{rounds_of};
+ghost use Rattle.coll_trees.specs.Depths.{depth};
+ghost use Rattle.coll_trees.specs.Trees.{IsNarrowFor};
+ghost use Rattle.coll_plans.specs.Barriers.{meeting, meetings, barrier_family};
+
+use coll_kinds::{Refusal, Signature};
+use coll_sched::{Action, Region, Round, Schedule};
+use coll_trees::depth_of;
+use std::alloc::Global;
+
+const NOTHING: Region = Region { at: 0, len: 0 };
+
+/// Member `r`'s schedule of a barrier among `n` members (MPI 4.1, 6.3), by dissemination: empty messages at
+/// distances 1, 2, 4, .. reach all in as many rounds as it takes to double up to `n`. Refuses
+/// [`Refusal::NoMemory`] alone.
+pub fn barrier(alloc: Global, sig: Signature, n: u8, r: u8) -> Result<Schedule, Refusal>
+    requires kind { sig.kind ≡ Barrier }
+    requires member { r < n }
+    requires few { n ≤ 64 }
+    ensures schedule { IfOk result (λ s. s ≡ barrier_family sig n r) }
+    ensures family { IsNarrowFor sig n (barrier_family sig n) (depth n) }
+    ensures refusal { IsOkUnless result Refusal.NoMemory }
+{
+    let _ = sig;
+    let rounds = meetings(alloc, n, r)?;
+    match Schedule::of_rounds(0, NOTHING, NOTHING, rounds) {
+        Some(schedule) => Ok(schedule),
+        None => unreachable!(),
+    }
+}
+
+// The rounds of member r, one for each step.
+fn meetings(alloc: Global, n: u8, r: u8) -> Result<Vec<Round>, Refusal>
+    requires member { r < n }
+    requires few { n ≤ 64 }
+    ensures ok { IfOk result (λ rounds. rounds.items ≡ rounds_of (meetings n 0 (depth n)) r) }
+    ensures refusal { IsOkUnless result Refusal.NoMemory }
+{
+    let mut rounds = Vec::new(alloc);
+    let steps = depth_of(n);
+    for step in 0..steps {
+        let round = meeting(alloc, n, r, 2u8.pow(u32::from(step)))?;
+        match rounds.push(round) {
+            Ok(()) => {}
+            Err(_) => return Err(Refusal::NoMemory),
+        }
+    }
+    Ok(rounds)
+}
+
+// The round of member r in the step at that distance.
+fn meeting(alloc: Global, n: u8, r: u8, distance: u8) -> Result<Round, Refusal>
+    requires member { r < n }
+    requires few { n ≤ 64 }
+    requires near { distance < n }
+    ensures ok { IfOk result (λ round. round ≡ meeting n distance r) }
+    ensures refusal { IsOkUnless result Refusal.NoMemory }
+{
+    let mut round = Round::new(alloc);
+    round.push(Action::Send {
+        to: (r + distance) % n,
+        from: NOTHING,
+    })?;
+    round.push(Action::Recv {
+        of: (r + (n - distance)) % n,
+        into: NOTHING,
+    })?;
+    Ok(round)
+}

@@ -1,0 +1,15 @@
+pub mod Values
+pub mod Replicates
+pub mod SamenessLemmas
+pub mod Placing
+pub mod Slots
+pub mod Posting
+pub mod Tabled
+pub mod Shown
+pub mod Judging
+pub mod Completing
+pub mod Finishing
+pub mod Reading
+pub mod Printing
+pub mod Placed
+pub mod Gifts

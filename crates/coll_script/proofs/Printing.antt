@@ -1,0 +1,104 @@
+-- Output as far as it is printed, and what is still to come.
+use Rattle.std.proofs.Common.{◌≡◌, ℕ, suc, ◌+◌, ◌-◌, ◌*◌, ◌/◌, ◌<◌, ◌≤◌, List, [], ◌∷◌, ◌++◌, length, get_or, take, drop, refl, ap, sym, ◌∙◌, append_assoc, add-one, arith}
+use Rattle.std.specs.Prelude.{flat_map, Result, Ok, Err, OnErr}
+use Rattle.std.specs.List.{range_with_len, enumerate_from}
+use Rattle.std.proofs.lemmas.List.{append-nil, take_at, drop_all, length-drop}
+use Rattle.std.proofs.lemmas.List.Concat.{flat_map-cons}
+use Rattle.std.proofs.Math.Nat.{mul-le-mul_right}
+use Rattle.std.proofs.Math.Seq.{drop-cons}
+use Rattle.std.specs.Fmt.{signed_decimal}
+use Rattle.coll_kinds.specs.declared.datatype.Datatype.{Datatype}
+use Rattle.coll_kinds.specs.declared.datatype.Datatype.TheVariants.{I8, I16, I32, I64, U8, U16, U32, U64, Byte}
+use Rattle.coll_kinds.specs.Elements.{width, element_at}
+use Rattle.coll_ops.specs.Combinations.{elements}
+use Rattle.coll_script.specs.Meaning.{element_text, place_line}
+use Rattle.coll_script.specs.Jobs.{Place}
+use Rattle.coll_script.specs.Growing.{Extends}
+
+pub Extends-self : (old : List ℕ) → Extends old old
+Extends-self old = ([], sym (append-nil old))
+
+pub Extends-more : (old new newer more : List ℕ) → Extends old new → newer ≡ new ++ more → Extends old newer
+Extends-more old new newer more front e = (front.0 ++ more, e ∙ ap (λ (xs : List ℕ). xs ++ more) front.1 ∙ append_assoc old front.0 more)
+
+pub take-Extends : (old new : List ℕ) → Extends old new → take (length old) new ≡ old
+take-Extends old new front = ap (take (length old)) front.1 ∙ take_at old front.0 (length old) refl
+
+-- ---- the elements of a row
+
+pub width-positive : (ty : Datatype) → 0 < width ty
+width-positive I8 = omega arith
+width-positive I16 = omega arith
+width-positive I32 = omega arith
+width-positive I64 = omega arith
+width-positive U8 = omega arith
+width-positive U16 = omega arith
+width-positive U32 = omega arith
+width-positive U64 = omega arith
+width-positive Byte = omega arith
+
+-- an element that is still to come lies in the rest of the row
+pub width-le : (ty : Datatype) (len i rest : ℕ) → i < len / width ty → rest + i * width ty ≡ len → width ty ≤ rest
+width-le ty len i rest lt split =
+    let positive = width-positive ty in
+    let more : i + 1 ≤ len / width ty = omega arith in
+    let scaled = mul-le-mul_right (width ty) more in
+    omega arith
+
+-- the row from the next element on
+pub rest-more : (ty : Datatype) (len i : ℕ) (row : List ℕ) → width ty ≤ length row → length row + i * width ty ≡ len → length (drop (width ty) row) + (i + 1) * width ty ≡ len
+rest-more ty len i row le split = let dropped = length-drop (width ty) row in omega arith
+
+pub elements-more : (ty : Datatype) (end i : ℕ) (rest out total : List ℕ) → i < end → out ++ flat_map element_text (elements ty (end - i) rest) ≡ total
+    → ((out ++ 32 ∷ []) ++ signed_decimal (element_at ty rest)) ++ flat_map element_text (elements ty (end - (i + 1)) (drop (width ty) rest)) ≡ total
+elements-more ty end i rest out total lt so_far =
+    let left : end - i ≡ suc (end - (i + 1)) = omega arith in
+    let others = flat_map element_text (elements ty (end - (i + 1)) (drop (width ty) rest)) in
+    let here : flat_map element_text (elements ty (end - i) rest) ≡ element_text (element_at ty rest) ++ others =
+    ap (λ n. flat_map element_text (elements ty n rest)) left ∙ flat_map-cons element_text (element_at ty rest) (elements ty (end - (i + 1)) (drop (width ty) rest)) in
+    ap (λ (xs : List ℕ). xs ++ others) (append_assoc out (32 ∷ []) (signed_decimal (element_at ty rest)))
+    ∙ append_assoc out (element_text (element_at ty rest)) others ∙ ap (λ (xs : List ℕ). out ++ xs) (sym here) ∙ so_far
+
+pub elements-done : (ty : Datatype) (end i : ℕ) (rest out total : List ℕ) → end ≤ i → out ++ flat_map element_text (elements ty (end - i) rest) ≡ total → out ≡ total
+elements-done ty end i rest out total le so_far =
+    let none : end - i ≡ 0 = omega arith in
+    sym (append-nil out) ∙ ap (λ n. out ++ flat_map element_text (elements ty n rest)) (sym none) ∙ so_far
+
+-- ---- the lines of a rank
+
+pub rank_lines-more : (rank i : ℕ) (places : List Place) (place : Place) (out total : List ℕ) → i < length places → place ≡ get_or places i place → out ++ flat_map (place_line rank) (enumerate_from i (drop i places)) ≡ total
+    → (out ++ place_line rank (i, place)) ++ flat_map (place_line rank) (enumerate_from (i + 1) (drop (i + 1) places)) ≡ total
+rank_lines-more rank i places place out total lt is so_far =
+    let next : drop i places ≡ place ∷ drop (i + 1) places = rw (add-one, drop-cons places i place lt, ← is) refl in
+    let others = flat_map (place_line rank) (enumerate_from (i + 1) (drop (i + 1) places)) in
+    let here : flat_map (place_line rank) (enumerate_from i (drop i places)) ≡ place_line rank (i, place) ++ others =
+    ap (λ (rest : List Place). flat_map (place_line rank) (enumerate_from i rest)) next ∙ flat_map-cons (place_line rank) (i, place) (enumerate_from (i + 1) (drop (i + 1) places)) in
+    append_assoc out (place_line rank (i, place)) others ∙ ap (λ (xs : List ℕ). out ++ xs) (sym here) ∙ so_far
+
+pub rank_lines-done : (rank i : ℕ) (places : List Place) (out total : List ℕ) → length places ≤ i → out ++ flat_map (place_line rank) (enumerate_from i (drop i places)) ≡ total → out ≡ total
+rank_lines-done rank i places out total le so_far =
+    sym (append-nil out) ∙ ap (λ (rest : List Place). out ++ flat_map (place_line rank) (enumerate_from i rest)) (sym (drop_all i places le)) ∙ so_far
+
+-- ---- the lines of all ranks
+
+pub ranks-more : (f : ℕ → List ℕ) (n i : ℕ) (out total : List ℕ) → i < n → out ++ flat_map f (range_with_len i (n - i)) ≡ total → (out ++ f i) ++ flat_map f (range_with_len (i + 1) (n - (i + 1))) ≡ total
+ranks-more f n i out total lt so_far =
+    let left : n - i ≡ suc (n - (i + 1)) = omega arith in
+    let others = flat_map f (range_with_len (i + 1) (n - (i + 1))) in
+    let here : flat_map f (range_with_len i (n - i)) ≡ f i ++ others =
+    ap (λ m. flat_map f (range_with_len i m)) left ∙ flat_map-cons f i (range_with_len (i + 1) (n - (i + 1))) in
+    append_assoc out (f i) others ∙ ap (λ (xs : List ℕ). out ++ xs) (sym here) ∙ so_far
+
+pub ranks-done : (f : ℕ → List ℕ) (n i : ℕ) (out total : List ℕ) → n ≤ i → out ++ flat_map f (range_with_len i (n - i)) ≡ total → out ≡ total
+ranks-done f n i out total le so_far =
+    let none : n - i ≡ 0 = omega arith in
+    sym (append-nil out) ∙ ap (λ m. out ++ flat_map f (range_with_len i m)) (sym none) ∙ so_far
+
+-- ---- exits
+
+pub OnErr-always : {T E P : Type 0} (r : Result T E) → P → OnErr r P
+OnErr-always (Ok x) p = tt
+OnErr-always (Err e) p = p
+
+pub minus-zero : (n : ℕ) → n - 0 ≡ n
+minus-zero n = omega arith

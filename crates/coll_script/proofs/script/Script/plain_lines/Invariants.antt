@@ -1,0 +1,9 @@
+use Rattle.std.proofs.Common.{◌≡◌, ◌-◌, ◌++◌}
+use Rattle.std.specs.Prelude.{flat_map}
+use Rattle.std.specs.List.{range_with_len}
+use Rattle.coll_script.specs.Meaning.{rank_lines, job_lines}
+use Rattle.coll_script.proofs.script.Script.plain_lines.Given as goal
+
+abbrev pub invariant-loop-rank : goal.invariant-loop-rank
+invariant-loop-rank l =
+    l.out.items ++ flat_map (rank_lines l.self.places) (range_with_len l.rank (l.self.ranks - l.rank)) ≡ job_lines l.self

@@ -1,0 +1,17 @@
+pub mod Steps
+pub mod Faults
+pub mod Cutting
+pub mod Words
+pub mod Signatures
+pub mod Posts
+pub mod Lines
+pub mod Sound
+pub mod Histories
+pub mod Sameness
+pub mod Jobs
+pub mod Places
+pub mod Tables
+pub mod Scripts
+pub mod Meaning
+pub mod Growing
+pub mod Rows
