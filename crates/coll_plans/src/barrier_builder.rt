@@ -5,6 +5,7 @@ ghost use Rattle.coll_trees.specs.Depths.{depth};
 ghost use Rattle.coll_trees.specs.Trees.{IsNarrowFor};
 ghost use Rattle.coll_plans.specs.Barriers.{meeting, meetings, barrier_family};
 
+use crate::layout::schedule;
 use coll_kinds::{Refusal, Signature};
 use coll_sched::{Action, Region, Round, Schedule};
 use coll_trees::depth_of;
@@ -25,10 +26,7 @@ pub fn barrier(alloc: Global, sig: Signature, n: u8, r: u8) -> Result<Schedule, 
 {
     let _ = sig;
     let rounds = meetings(alloc, n, r)?;
-    match Schedule::of_rounds(0, NOTHING, NOTHING, rounds) {
-        Some(schedule) => Ok(schedule),
-        None => unreachable!(),
-    }
+    Ok(schedule(0, NOTHING, NOTHING, rounds))
 }
 
 // The rounds of member r, one for each step.

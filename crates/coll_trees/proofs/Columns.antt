@@ -6,6 +6,7 @@ use Rattle.coll_sched.specs.Regions.{Inside}
 use Rattle.coll_sched.specs.Actions.{IsAmong}
 use Rattle.coll_sched.specs.Schedules.{IsRound, has_peer}
 use Rattle.coll_sched.specs.Families.{Family, actions_at, in_link, out_link, len_of, IsLawful, members, is_exchange, family_exchanges, is_send, is_recv, IsNarrow}
+use Rattle.coll_sched.proofs.Each.{all_map}
 use Rattle.coll_sched.proofs.Orders.{count_cons}
 use Rattle.coll_trees.specs.Columns.{Column, rounds_of, family_of}
 
@@ -66,20 +67,48 @@ pub column-right : (xs ys : List Column) (j : ℕ) → column_of (xs ++ ys) (len
 column-right [] ys j = ap (column_of ys) (omega arith)
 column-right (x ∷ xs) ys j = ap (column_of (x ∷ (xs ++ ys))) (let e : suc (length xs) + j ≡ suc (length xs + j) = omega arith in e) ∙ column-right xs ys j
 
-rounds_all : (size r : ℕ) (n : ℕ) → r < n → (columns : List Column) → AllByRecursion (IsColumn n size) columns → AllByRecursion (IsRound size) (rounds_of columns r)
-rounds_all size r n low [] h = tt
-rounds_all size r n low (c ∷ cs) h = (h.0.is_round r low, rounds_all size r n low cs h.1)
+-- a lawful round of n members, each in a buffer of its own size
+pub record IsLawfulColumn (n : ℕ) (size : ℕ → ℕ) (column : Column) : Type 0 where
+  pub is_round : (r : ℕ) → r < n → IsRound (size r) (column r)
+  pub peers : (r : ℕ) → r < n → AllByRecursion (IsAmong n) (column r)
+  pub aligned : (r p : ℕ) → r < n → p < n → len_of (in_link p (column r)) ≡ len_of (out_link r (column p))
 
-pub lawful_family : (n size : ℕ) (input output : ℕ → Region) (columns : List Column) → ((r : ℕ) → r < n → Inside size (input r)) → ((r : ℕ) → r < n → Inside size (output r)) → AllByRecursion (IsColumn n size) columns → IsLawful n (family_of size input output columns)
-lawful_family n size input output columns ins outs h = record {
-  schedules = λ r low. record { input_inside = ins r low; output_inside = outs r low; each_round = rounds_all size r n low columns h };
-  same_rounds = λ r p hr hp. length-rounds columns r ∙ sym (length-rounds columns p);
-  peers = λ j r low. subst (AllByRecursion (IsAmong n)) (sym (round-column columns j r)) ((at j).peers r low);
-  aligned = λ j r p hr hp. ap (λ xs. len_of (in_link p xs)) (round-column columns j r) ∙ ((at j).aligned r p hr hp ∙ sym (ap (λ xs. len_of (out_link r xs)) (round-column columns j p)));
+empty_lawful : (n : ℕ) (size : ℕ → ℕ) → IsLawfulColumn n size empty
+empty_lawful n size = record {
+  is_round = λ r low. record { fits = tt; follows = tt };
+  peers = λ r low. tt;
+  aligned = λ r p hr hp. refl;
+}
+
+rounds_all : (n : ℕ) (size : ℕ → ℕ) (r : ℕ) → r < n → (columns : List Column) → AllByRecursion (IsLawfulColumn n size) columns → AllByRecursion (IsRound (size r)) (rounds_of columns r)
+rounds_all n size r low [] h = tt
+rounds_all n size r low (c ∷ cs) h = (h.0.is_round r low, rounds_all n size r low cs h.1)
+
+-- a family whose rounds are lawful columns, each member's buffer having its own size
+pub lawful_columns : (n : ℕ) (f : Family) (columns : List Column) → ((r : ℕ) → (f r).rounds ≡ rounds_of columns r) → ((r : ℕ) → r < n → Inside (f r).size (f r).input) → ((r : ℕ) → r < n → Inside (f r).size (f r).output) → AllByRecursion (IsLawfulColumn n (λ r. (f r).size)) columns → IsLawful n f
+lawful_columns n f columns is ins outs h = record {
+  schedules = λ r low. record { input_inside = ins r low; output_inside = outs r low; each_round = subst (AllByRecursion (IsRound (f r).size)) (sym (is r)) (rounds_all n (λ q. (f q).size) r low columns h) };
+  same_rounds = λ r p hr hp. rounds r ∙ sym (rounds p);
+  peers = λ j r low. subst (AllByRecursion (IsAmong n)) (sym (acts j r)) ((at j).peers r low);
+  aligned = λ j r p hr hp. ap (λ xs. len_of (in_link p xs)) (acts j r) ∙ ((at j).aligned r p hr hp ∙ sym (ap (λ xs. len_of (out_link r xs)) (acts j p)));
 }
   where
-    at : (j : ℕ) → IsColumn n size (column_of columns j)
-    at j = column_all (IsColumn n size) columns j (empty_column n size) h
+    at : (j : ℕ) → IsLawfulColumn n (λ r. (f r).size) (column_of columns j)
+    at j = column_all (IsLawfulColumn n (λ r. (f r).size)) columns j (empty_lawful n (λ r. (f r).size)) h
+
+    rounds : (r : ℕ) → length (f r).rounds ≡ length columns
+    rounds r = ap length (is r) ∙ length-rounds columns r
+
+    acts : (j r : ℕ) → actions_at f j r ≡ column_of columns j r
+    acts j r = ap (λ xs. unwrap_or (slice_get xs j) []) (is r) ∙ round-column columns j r
+
+lawful_column : (n size : ℕ) (column : Column) → IsColumn n size column → IsLawfulColumn n (λ r. size) column
+lawful_column n size column h = record { is_round = h.is_round; peers = h.peers; aligned = h.aligned }
+
+pub lawful_family : (n size : ℕ) (input output : ℕ → Region) (columns : List Column) → ((r : ℕ) → r < n → Inside size (input r)) → ((r : ℕ) → r < n → Inside size (output r)) → AllByRecursion (IsColumn n size) columns → IsLawful n (family_of size input output columns)
+lawful_family n size input output columns ins outs h =
+    lawful_columns n (family_of size input output columns) columns (λ r. refl) ins outs
+    (all_map (IsColumn n size) (IsLawfulColumn n (λ r. size)) (lawful_column n size) columns h)
 
 pub narrow_family : (n size : ℕ) (input output : ℕ → Region) (columns : List Column) → AllByRecursion (IsColumn n size) columns → IsNarrow n (family_of size input output columns)
 narrow_family n size input output columns h = record {
@@ -112,9 +141,9 @@ costs_append (x ∷ xs) ys k l m e (local_round h c) d = local_round h (costs_ap
 costs_append (x ∷ xs) ys (suc k) l zero e (exchange c) d = absurd (omega arith)
 costs_append (x ∷ xs) ys (suc k) l (suc m) e (exchange c) d = exchange (costs_append xs ys k l m (omega arith) c d)
 
-none_any : (p : ℕ → Bool) (k c : ℕ) → ((r : ℕ) → p r ≡ false) → list_any p (members k c) ≡ false
+none_any : (p : ℕ → Bool) (k c : ℕ) → ((r : ℕ) → r < k + c → p r ≡ false) → list_any p (members k c) ≡ false
 none_any p k zero h = refl
-none_any p k (suc c) h = ap (λ (b : Bool). b || list_any p (members (suc k) c)) (h k) ∙ none_any p (suc k) c h
+none_any p k (suc c) h = ap (λ (b : Bool). b || list_any p (members (suc k) c)) (h k (omega arith)) ∙ none_any p (suc k) c (λ r low. h r (omega arith))
 
 at_most_one : (b : Bool) → cond b 1 0 ≤ 1
 at_most_one true = omega arith
@@ -124,7 +153,7 @@ count_columns : (n : ℕ) (f : Family) (columns : List Column) (j k : ℕ) → C
 count_columns n f [] j k c h = omega arith
 count_columns n f (x ∷ xs) j k (local_round e c) h =
     let rest : count_by (is_exchange n f) (members (suc j) (length xs)) ≤ k = count_columns n f xs (suc j) k c (λ i r low. ap (λ m. actions_at f m r) (let z : suc j + i ≡ j + suc i = omega arith in z) ∙ h (suc i) r (omega arith)) in
-    let here : is_exchange n f j ≡ false = none_any (λ r. list_any has_peer (actions_at f j r)) 0 n (λ r. ap (list_any has_peer) (ap (λ m. actions_at f m r) (let z : j ≡ j + 0 = omega arith in z) ∙ h 0 r (omega arith)) ∙ e r) in
+    let here : is_exchange n f j ≡ false = none_any (λ r. list_any has_peer (actions_at f j r)) 0 n (λ r low. ap (list_any has_peer) (ap (λ m. actions_at f m r) (let z : j ≡ j + 0 = omega arith in z) ∙ h 0 r (omega arith)) ∙ e r) in
     let all : count_by (is_exchange n f) (members j (suc (length xs))) ≡ 0 + count_by (is_exchange n f) (members (suc j) (length xs)) = count_cons (is_exchange n f) j (members (suc j) (length xs)) ∙ ap (λ (b : Bool). cond b 1 0 + count_by (is_exchange n f) (members (suc j) (length xs))) here in
     omega arith
 count_columns n f (x ∷ xs) j (suc k) (exchange c) h =
@@ -137,3 +166,14 @@ pub few_exchanges : (n size : ℕ) (input output : ℕ → Region) (columns : Li
 few_exchanges n size input output columns k c =
     subst (λ m. count_by (is_exchange n (family_of size input output columns)) (members 0 m) ≤ k) (sym (length-rounds columns 0))
     (count_columns n (family_of size input output columns) columns 0 k c (λ i r low. ap (λ m. unwrap_or (slice_get (rounds_of columns r) m) []) (let z : 0 + i ≡ i = omega arith in z) ∙ round-column columns i r))
+
+count_none : (p : ℕ → Bool) (k c : ℕ) → ((j : ℕ) → p j ≡ false) → count_by p (members k c) ≤ 0
+count_none p k zero h = omega arith
+count_none p k (suc c) h =
+    let rest : count_by p (members (suc k) c) ≤ 0 = count_none p (suc k) c h in
+    let all : count_by p (members k (suc c)) ≡ 0 + count_by p (members (suc k) c) = count_cons p k (members (suc k) c) ∙ ap (λ (b : Bool). cond b 1 0 + count_by p (members (suc k) c)) (h k) in
+    omega arith
+
+-- a family without Sends and Recvs has no exchanges
+pub no_exchanges : (n : ℕ) (f : Family) → ((j r : ℕ) → r < n → list_any has_peer (actions_at f j r) ≡ false) → family_exchanges n f ≤ 0
+no_exchanges n f h = count_none (is_exchange n f) 0 (length (f 0).rounds) (λ j. none_any (λ r. list_any has_peer (actions_at f j r)) 0 n (λ r low. h j r (omega arith)))

@@ -1,6 +1,5 @@
 -- the family serves the signature, so its schedules are accepted
 use Rattle.std.proofs.Common.{arith, sym, subst}
-use Rattle.std.proofs.lemmas.Bool.{false≢true}
 use Rattle.coll_sched.specs.Schedules.{IsSchedule}
 use Rattle.coll_trees.specs.Depths.{nothing}
 use Rattle.coll_plans.proofs.Meetings.{barrier_serves}
@@ -9,11 +8,10 @@ use Rattle.coll_plans.proofs.barrier_builder.barrier.Goals as goal
 pub returns-in_err-rounds-clause-family : goal.returns-in_err-rounds-clause-family
 returns-in_err-rounds-clause-family c = barrier_serves c.args.sig c.args.n c.requires.kind (omega arith) c.requires.few
 
-pub unreachable-requires : goal.unreachable-requires
-unreachable-requires c =
-    false≢true (c.in-None.ensures.accepts.1
-    (subst (λ rounds. IsSchedule (record { size = 0; input = nothing; output = nothing; rounds = rounds })) (sym c.in_ok-rounds.ensures.ok)
-    ((barrier_serves c.args.sig c.args.n c.requires.kind (omega arith) c.requires.few).serves.lawful.schedules c.args.r c.requires.member)))
+pub schedule-requires : goal.schedule-requires
+schedule-requires c =
+    subst (λ rounds. IsSchedule (record { size = 0; input = nothing; output = nothing; rounds = rounds })) (sym c.in_ok-rounds.ensures.ok)
+    ((barrier_serves c.args.sig c.args.n c.requires.kind (omega arith) c.requires.few).serves.lawful.schedules c.args.r c.requires.member)
 
 pub returns-clause-family : goal.returns-clause-family
 returns-clause-family c = barrier_serves c.args.sig c.args.n c.requires.kind (omega arith) c.requires.few

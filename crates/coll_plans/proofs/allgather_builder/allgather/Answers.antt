@@ -1,0 +1,28 @@
+-- the family serves the signature, so its schedules are accepted
+use Rattle.std.proofs.Common.{◌≡◌, ◌+◌, List, [], ◌∷◌, sym, ap, subst, ◌∙◌}
+use Rattle.coll_sched.specs.declared.action.Action.{Action}
+use Rattle.coll_sched.specs.Schedules.{Parts, IsSchedule}
+use Rattle.coll_plans.specs.declared.pattern.Pattern.TheVariants.{ToAll}
+use Rattle.coll_plans.specs.Exchanges.{exchange}
+use Rattle.coll_plans.specs.Directs.{allgather_by}
+use Rattle.coll_plans.proofs.Allgathers.{allgather_serves}
+use Rattle.coll_plans.proofs.allgather_builder.allgather.Goals as goal
+
+pub schedule-requires : goal.schedule-requires
+schedule-requires c =
+    let rounds : c.in_ok-rounds.rounds.items ≡ (allgather_by c.args.n c.block_bytes-len.result c.args.r).rounds =
+    c.in_ok-rounds.ensures.ok
+    ∙ (ap (λ (x : List Action). x ∷ []) c.in_ok-round.ensures.ok ∙ (λ k. exchange (ToAll) (c.one.ensures k) (c.each.ensures k) c.args.n c.args.r ∷ [])) in
+    let parts : ◌≡◌ {A = Parts} (record { size = c.block_bytes-len.result + c.all_bytes.result; input = record { at = 0; len = c.block_bytes-len.result }; output = c.all_blocks-output.result; rounds = c.in_ok-rounds.rounds.items }) (allgather_by c.args.n c.block_bytes-len.result c.args.r) =
+    λ k. record { size = c.block_bytes-len.result + c.all_bytes.ensures.length k; input = record { at = 0; len = c.block_bytes-len.result }; output = c.all_blocks-output.ensures k; rounds = rounds k } in
+    subst IsSchedule (sym (parts ∙ ap (λ b. allgather_by c.args.n b c.args.r) c.block_bytes-len.ensures.length))
+    ((allgather_serves c.args.sig c.args.n c.requires.kind).serves.lawful.schedules c.args.r c.requires.member)
+
+pub returns-in_err-round-clause-family : goal.returns-in_err-round-clause-family
+returns-in_err-round-clause-family c = allgather_serves c.args.sig c.args.n c.requires.kind
+
+pub returns-in_err-rounds-clause-family : goal.returns-in_err-rounds-clause-family
+returns-in_err-rounds-clause-family c = allgather_serves c.args.sig c.args.n c.requires.kind
+
+pub returns-clause-family : goal.returns-clause-family
+returns-clause-family c = allgather_serves c.args.sig c.args.n c.requires.kind

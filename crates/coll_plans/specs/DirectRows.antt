@@ -1,0 +1,47 @@
+-- Worked rows of the direct collectives, computed: three members, blocks of one byte.
+use Rattle.std.specs.Prelude.{◌≡◌, ℕ, List, [], ◌∷◌, refl}
+use Rattle.coll_kinds.specs.declared.operation.Op.TheVariants.{LastNz}
+use Rattle.coll_kinds.specs.declared.datatype.Datatype.TheVariants.{I8}
+use Rattle.coll_ops.specs.Values.{row_of}
+use Rattle.coll_sched.specs.declared.action.Action.TheVariants.{Send, Copy, Recv}
+use Rattle.coll_sched.specs.Families.{result_at, family_exchanges}
+use Rattle.coll_plans.specs.declared.pattern.Pattern.TheVariants.{ToRoot}
+use Rattle.coll_plans.specs.Exchanges.{exchange}
+use Rattle.coll_plans.specs.Directs.{one_block, blocks_from, gather_by, scatter_by, allgather_by, alltoall_by, rsblock_by}
+
+-- the root of a gather, member 1, copies its own block and receives the others
+root_gathers : exchange (ToRoot 1) (one_block 1) (blocks_from 1 1) 3 1 ≡ Copy (record { at = 0; len = 1 }) (record { at = 2; len = 1 }) ∷ Recv 0 (record { at = 1; len = 1 }) ∷ Recv 2 (record { at = 3; len = 1 }) ∷ []
+root_gathers = refl
+
+-- the others send theirs
+member_sends : exchange (ToRoot 1) (one_block 1) (blocks_from 1 1) 3 2 ≡ Send 1 (record { at = 0; len = 1 }) ∷ []
+member_sends = refl
+
+abbrev blocks : ℕ → List ℕ
+blocks r = row_of ((7 ∷ []) ∷ (8 ∷ []) ∷ (9 ∷ []) ∷ []) r
+
+abbrev rows : ℕ → List ℕ
+rows r = row_of ((1 ∷ 2 ∷ 3 ∷ []) ∷ (4 ∷ 5 ∷ 0 ∷ []) ∷ (7 ∷ 0 ∷ 0 ∷ []) ∷ []) r
+
+gathered : result_at (gather_by 1 3 1) blocks 1 ≡ 7 ∷ 8 ∷ 9 ∷ []
+gathered = refl
+
+scattered : result_at (scatter_by 1 3 1) (λ r. row_of ([] ∷ (4 ∷ 5 ∷ 6 ∷ []) ∷ [] ∷ []) r) 2 ≡ 6 ∷ []
+scattered = refl
+
+gathered_by_all : result_at (allgather_by 3 1) blocks 2 ≡ 7 ∷ 8 ∷ 9 ∷ []
+gathered_by_all = refl
+
+-- member 1 gets the second block of each
+exchanged : result_at (alltoall_by 3 1) rows 1 ≡ 2 ∷ 5 ∷ 0 ∷ []
+exchanged = refl
+
+-- the last that isn't 0, in member order
+combined_in_order : result_at (rsblock_by LastNz I8 3 1) rows 1 ≡ 5 ∷ []
+combined_in_order = refl
+
+one_exchange : family_exchanges 3 (rsblock_by LastNz I8 3 1) ≡ 1
+one_exchange = refl
+
+alone : family_exchanges 1 (rsblock_by LastNz I8 1 1) ≡ 0
+alone = refl

@@ -1,0 +1,83 @@
+-- The one family that a signature and a number of members fix, and what is known of it
+use Rattle.std.specs.Prelude.{◌≡◌, ℕ, ◌+◌, ◌<◌, ◌≤◌, Bool, true, false, None}
+use Rattle.coll_kinds.specs.declared.kind.Kind.{Kind}
+use Rattle.coll_kinds.specs.declared.kind.Kind.TheVariants.{Barrier, Bcast, Gather, Scatter, Allgather, Alltoall, Reduce, Allreduce, Rsblock, Scan, Exscan}
+use Rattle.coll_kinds.specs.declared.signature.Signature.{Signature}
+use Rattle.coll_kinds.specs.Checks.{broken}
+use Rattle.coll_sched.specs.Schedules.{Parts}
+use Rattle.coll_sched.specs.Families.{Family, IsNarrow, family_exchanges}
+use Rattle.coll_sched.specs.Served.{Serves}
+use Rattle.coll_trees.specs.Depths.{depth}
+use Rattle.coll_trees.specs.Trees.{bcast_family, reduce_family, allreduce_family}
+use Rattle.coll_plans.specs.Barriers.{barrier_family}
+use Rattle.coll_plans.specs.Scans.{scan_family, exscan_family}
+use Rattle.coll_plans.specs.Directs.{direct_bound, gather_family, scatter_family, allgather_family, alltoall_family, rsblock_family}
+
+-- by kind
+abbrev pub family_by : Kind → Signature → ℕ → Family
+family_by Barrier sig n = barrier_family sig n
+family_by Bcast sig n = bcast_family sig n
+family_by Gather sig n = gather_family sig n
+family_by Scatter sig n = scatter_family sig n
+family_by Allgather sig n = allgather_family sig n
+family_by Alltoall sig n = alltoall_family sig n
+family_by Reduce sig n = reduce_family sig n
+family_by Allreduce sig n = allreduce_family sig n
+family_by Rsblock sig n = rsblock_family sig n
+family_by Scan sig n = scan_family sig n
+family_by Exscan sig n = exscan_family sig n
+
+-- the family of a collective among n members; a crate above needs nothing of it but IsPlanned
+unfoldable pub family : Signature → ℕ → Family
+family sig n = family_by sig.kind sig n
+
+-- the kinds whose members send straight to whoever needs their bytes
+abbrev pub is_direct : Kind → Bool
+is_direct Barrier = false
+is_direct Bcast = false
+is_direct Gather = true
+is_direct Scatter = true
+is_direct Allgather = true
+is_direct Alltoall = true
+is_direct Reduce = false
+is_direct Allreduce = false
+is_direct Rsblock = true
+is_direct Scan = false
+is_direct Exscan = false
+
+-- the most rounds in which some member sends or receives; a single member never does
+abbrev pub most_exchanges : Kind → ℕ → ℕ
+most_exchanges Barrier n = depth n
+most_exchanges Bcast n = depth n
+most_exchanges Gather n = direct_bound n
+most_exchanges Scatter n = direct_bound n
+most_exchanges Allgather n = direct_bound n
+most_exchanges Alltoall n = direct_bound n
+most_exchanges Reduce n = depth n + direct_bound n
+most_exchanges Allreduce n = depth n + depth n
+most_exchanges Rsblock n = direct_bound n
+most_exchanges Scan n = depth n
+most_exchanges Exscan n = depth n
+
+-- the family serves the signature within the kind's bound, and is narrow unless it is direct
+pub record IsPlanned (sig : Signature) (n : ℕ) (f : Family) : Type 0 where
+  pub serves : Serves sig n f
+  pub few : family_exchanges n f ≤ most_exchanges sig.kind n
+  pub narrow : is_direct sig.kind ≡ false → IsNarrow n f
+
+-- so it is with every checked signature
+abbrev pub FamiliesServe : Type 0
+FamiliesServe = (sig : Signature) (n : ℕ) → broken sig n ≡ None → 0 < n → n ≤ 64 → IsPlanned sig n (family sig n)
+
+-- what a plan is of
+pub record Planned : Type 0 where
+  pub sig : Signature
+  pub n : ℕ
+  pub member : ℕ
+
+-- a checked signature, a member of at most 64, and that member's schedule in the family
+pub record IsPlan (sig : Signature) (n member : ℕ) (schedule : Parts) : Type 0 where
+  pub checked : broken sig n ≡ None
+  pub low : member < n
+  pub few : n ≤ 64
+  pub schedule_is : schedule ≡ family sig n member

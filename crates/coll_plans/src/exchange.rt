@@ -1,0 +1,86 @@
+ghost use Rattle.std.specs.Prelude.{◌≡◌, ◌++◌, ◌<◌, ◌≤◌, ◌^◌, IfOk, OnOk, IsOkUnless};
+
+use crate::blocks::Blocks;
+use crate::pattern::Pattern;
+use coll_kinds::Refusal;
+use coll_sched::{Action, Round};
+use std::alloc::Global;
+
+/// One round in which each member sends straight to those whom its bytes are for.
+#[derive(Clone, Copy, Debug)]
+pub(crate) struct Exchange {
+    pub pattern: Pattern,
+    /// What a member gives, by receiver.
+    pub from: Blocks,
+    /// What it gets, by sender.
+    pub into: Blocks,
+    /// How many members there are.
+    pub n: u8,
+    ghost few: { n ≤ 64 },
+    ghost from_near: { from.at < 2 ^ 31 },
+    ghost from_short: { from.step ≤ 2 ^ 24 },
+    ghost into_near: { into.at < 2 ^ 31 },
+    ghost into_short: { into.step ≤ 2 ^ 24 },
+}
+
+impl Exchange {
+    ghost use Rattle.coll_plans.specs.Exchanges.{sends, keeps, recvs, exchange};
+
+    /// The round of member `r`: its sends, in the order of their receivers, the copy of what it keeps, and its
+    /// receives, in the order of their senders.
+    pub fn round(self, alloc: Global, r: u8) -> Result<Round, Refusal>
+        requires { r < self.n }
+        ensures ok { IfOk result (λ round. round ≡ exchange self.pattern self.from self.into self.n r) }
+        ensures refusal { IsOkUnless result Refusal.NoMemory }
+    {
+        let mut round = Round::new(alloc);
+        self.push_sends(r, &mut round)?;
+        self.push_kept(r, &mut round)?;
+        self.push_recvs(r, &mut round)?;
+        Ok(round)
+    }
+
+    fn push_sends(self, r: u8, round: &mut Round) -> Result<(), Refusal>
+        ensures ok { OnOk result (round.new ≡ round.old ++ sends self.pattern self.from r 0 self.n) }
+        ensures refusal { IsOkUnless result Refusal.NoMemory }
+    {
+        for p in 0..self.n {
+            if self.pattern.crosses(r, p) {
+                round.push(Action::Send {
+                    to: p,
+                    from: self.from.place(p),
+                })?;
+            }
+        }
+        Ok(())
+    }
+
+    fn push_kept(self, r: u8, round: &mut Round) -> Result<(), Refusal>
+        requires { r < self.n }
+        ensures ok { OnOk result (round.new ≡ round.old ++ keeps self.pattern self.from self.into r) }
+        ensures refusal { IsOkUnless result Refusal.NoMemory }
+    {
+        if self.pattern.carries(r, r) {
+            round.push(Action::Copy {
+                from: self.from.place(r),
+                into: self.into.place(r),
+            })?;
+        }
+        Ok(())
+    }
+
+    fn push_recvs(self, r: u8, round: &mut Round) -> Result<(), Refusal>
+        ensures ok { OnOk result (round.new ≡ round.old ++ recvs self.pattern self.into r 0 self.n) }
+        ensures refusal { IsOkUnless result Refusal.NoMemory }
+    {
+        for q in 0..self.n {
+            if self.pattern.crosses(q, r) {
+                round.push(Action::Recv {
+                    of: q,
+                    into: self.into.place(q),
+                })?;
+            }
+        }
+        Ok(())
+    }
+}

@@ -1,0 +1,11 @@
+//! What is known of every plan's family, as the contract of a function that does nothing, so that a crate
+//! above may cite it.
+
+ghost use Rattle.coll_plans.specs.Plans.{FamiliesServe};
+
+/// The family of every checked signature serves it, for 1 to 64 members: it is lawful, its lock-step result is the
+/// collective's value, and each member hears all whom it needs. Its exchanges are within the kind's bound,
+/// and it is narrow unless the kind is direct.
+pub fn families_serve()
+    ensures { FamiliesServe }
+{}

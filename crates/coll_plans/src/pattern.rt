@@ -1,0 +1,34 @@
+ghost use Rattle.std.specs.Prelude.{◌≡◌};
+
+/// Which members have bytes for which others.
+#[derive(Clone, Copy, Debug)]
+pub(crate) enum Pattern {
+    /// Each member for each.
+    ToAll,
+    /// Each member for the root.
+    ToRoot { root: u8 },
+    /// The root for each member.
+    FromRoot { root: u8 },
+}
+
+impl Pattern {
+    ghost use Rattle.coll_plans.specs.Exchanges.{carries, crosses};
+
+    /// Whether member `q` has bytes for member `r`, which may be itself.
+    pub fn carries(self, q: u8, r: u8) -> bool
+        ensures { result ≡ carries self q r }
+    {
+        match self {
+            Pattern::ToAll => true,
+            Pattern::ToRoot { root } => r == root,
+            Pattern::FromRoot { root } => q == root,
+        }
+    }
+
+    /// Whether it has bytes for another member `r`.
+    pub fn crosses(self, q: u8, r: u8) -> bool
+        ensures { result ≡ crosses self q r }
+    {
+        q != r && self.carries(q, r)
+    }
+}

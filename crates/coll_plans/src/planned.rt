@@ -1,0 +1,76 @@
+ghost use Rattle.std.specs.Prelude.{◌≡◌, ◌<◌, ◌≤◌, None};
+ghost use Rattle.coll_kinds.specs.Checks.{broken};
+
+use coll_kinds::Signature;
+use coll_sched::Schedule;
+use std::marker::Model;
+
+/// One member's part of one collective: its schedule in the family that the signature and the number of
+/// members fix. So the plans of one signature for all members of a communicator fit together. Only
+/// [`plan`](crate::plan) makes one.
+#[derive(Debug, Drop)]
+pub struct Plan {
+    sig: Signature,
+    n: u8,
+    member: u8,
+    schedule: Schedule,
+}
+
+impl Model for Plan {
+    ghost use Rattle.coll_plans.specs.Plans.{Planned, IsPlan};
+
+    ghost Value = { Planned };
+
+    ghost view = { λ p. record { sig = p.sig; n = p.n; member = p.member } };
+
+    ghost invariant = { λ p. IsPlan p.sig p.n p.member p.schedule };
+}
+
+impl Plan {
+    ghost use Rattle.coll_plans.specs.Plans.{family, IsPlan, IsPlanned};
+
+    // The plan of these parts.
+    pub(crate) fn of_parts(sig: Signature, n: u8, member: u8, schedule: Schedule) -> Self
+        requires { IsPlan sig n member schedule }
+        ensures { result ≡ record { sig = sig; n = n; member = member } }
+    {
+        Plan {
+            sig,
+            n,
+            member,
+            schedule,
+        }
+    }
+
+    /// The signature, which breaks no rule.
+    pub fn sig(&self) -> Signature
+        ensures sig { result ≡ self.now.sig }
+        ensures checked { broken self.now.sig self.now.n ≡ None }
+    {
+        self.sig
+    }
+
+    /// How many members there are.
+    pub fn n(&self) -> u8
+        ensures n { result ≡ self.now.n }
+        ensures few { result ≤ 64 }
+    {
+        self.n
+    }
+
+    /// The member's number.
+    pub fn member(&self) -> u8
+        ensures member { result ≡ self.now.member }
+        ensures low { result < self.now.n }
+    {
+        self.member
+    }
+
+    /// The member's schedule in the family of the signature, which serves it.
+    pub fn schedule(&self) -> &Schedule
+        ensures schedule { result.now ≡ family self.now.sig self.now.n self.now.member }
+        ensures family { IsPlanned self.now.sig self.now.n (family self.now.sig self.now.n) }
+    {
+        &self.schedule
+    }
+}

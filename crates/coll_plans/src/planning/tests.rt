@@ -1,0 +1,324 @@
+ghost use Rattle.std.specs.Prelude.{◌≤◌};
+
+use super::lock_step::{push, run};
+use crate::{Plan, plan};
+use coll_kinds::{Datatype, Kind, Mode, Op, Refusal, Signature, SignatureFault};
+use coll_ops::plain_value;
+use coll_sched::Action;
+use std::alloc::Global;
+use std::process::Abort;
+
+const ALL: [Kind; 11] = [
+    Kind::Barrier,
+    Kind::Bcast,
+    Kind::Gather,
+    Kind::Scatter,
+    Kind::Allgather,
+    Kind::Alltoall,
+    Kind::Reduce,
+    Kind::Allreduce,
+    Kind::Rsblock,
+    Kind::Scan,
+    Kind::Exscan,
+];
+
+const OPERATIONS: [(Op, Datatype); 4] = [
+    (Op::Sum, Datatype::I32),
+    (Op::LastNz, Datatype::I16),
+    (Op::Prod, Datatype::U8),
+    (Op::Bxor, Datatype::Byte),
+];
+
+fn signature(kind: Kind, root: u8, op: Op, ty: Datatype, count: u32) -> Signature {
+    Signature {
+        kind,
+        mode: Mode::Once,
+        root,
+        op: if kind.has_operation() { Some(op) } else { None },
+        ty,
+        count: if matches!(kind, Kind::Barrier) {
+            0
+        } else {
+            count
+        },
+    }
+}
+
+// The least number of doublings that reach n.
+fn doublings(n: u8) -> usize
+    ensures { result ≤ 6 }
+{
+    match n {
+        0 | 1 => 0,
+        2 => 1,
+        3..=4 => 2,
+        5..=8 => 3,
+        9..=16 => 4,
+        17..=32 => 5,
+        _ => 6,
+    }
+}
+
+// The most exchanges among n members.
+fn most_exchanges(kind: Kind, n: u8) -> usize {
+    let hop = if n == 1 { 0 } else { 1 };
+    match kind {
+        Kind::Barrier | Kind::Bcast | Kind::Scan | Kind::Exscan => doublings(n),
+        Kind::Reduce => doublings(n) + hop,
+        Kind::Allreduce => 2 * doublings(n),
+        Kind::Gather | Kind::Scatter | Kind::Allgather | Kind::Alltoall | Kind::Rsblock => hop,
+    }
+}
+
+// What member r gives: bytes of which some are zero, so that `lastnz` tells orders apart.
+fn contribution(alloc: Global, len: usize, r: u8) -> Result<Vec<u8>, Refusal> {
+    let mut bytes = Vec::new(alloc);
+    for i in 0..len {
+        let place = (i % 32) as u8 * 5 + (r % 64) * 3 % 97;
+        push(&mut bytes, if place % 5 < 2 { 0 } else { place })?;
+    }
+    Ok(bytes)
+}
+
+// Asserts what `plain_value` asks for, and then calls it.
+fn value_at(
+    rt: &impl Abort,
+    alloc: Global,
+    sig: Signature,
+    given: &[Vec<u8>],
+    r: u8,
+) -> Result<Vec<u8>, Refusal> {
+    assert!(rt; given.len() < 256);
+    let n = given.len() as u8;
+    assert!(rt; r < n);
+    sig.check(n)?;
+    for i in 0..n {
+        assert_eq!(rt; given[i as usize].len(), sig.given_len(n, i));
+    }
+    plain_value(alloc, sig, n, given, r)
+}
+
+// Runs a family, and compares each member's outcome with the value computed directly, and its exchanges
+// with the bound.
+fn compare(rt: &impl Abort, alloc: Global, sig: Signature, n: u8) -> Result<(), Refusal> {
+    assert!(rt; n <= 64);
+    let mut plans = Vec::new(alloc);
+    let mut given = Vec::new(alloc);
+    for r in 0..n {
+        push(&mut plans, plan(alloc, sig, n, r)?)?;
+        push(&mut given, contribution(alloc, sig.given_len(n, r), r)?)?;
+    }
+    let bufs = run(rt, alloc, &plans, &given)?;
+    for r in 0..n {
+        let me = r as usize;
+        assert!(rt; me < bufs.len());
+        assert!(rt; me < plans.len());
+        let want = value_at(rt, alloc, sig, &given, r)?;
+        let schedule = plans[me].schedule();
+        let output = schedule.output();
+        let buf = &bufs[me];
+        assert!(rt; buf.len() < 1000000);
+        assert!(rt; output.is_inside(buf.len() as u32));
+        assert_eq!(rt; output.read(buf), want.as_slice(), "member {r} of {n}");
+        assert!(rt;
+            schedule.exchanges() <= most_exchanges(sig.kind, n),
+            "member {r} of {n}"
+        );
+    }
+    Ok(())
+}
+
+// Every operation where the kind has one, else one type; of many members one count.
+fn compare_kind(
+    rt: &impl Abort,
+    alloc: Global,
+    kind: Kind,
+    n: u8,
+    root: u8,
+) -> Result<(), Refusal> {
+    for (op, ty) in OPERATIONS {
+        for count in [3, 1, 0] {
+            compare(rt, alloc, signature(kind, root, op, ty, count), n)?;
+            if n > 32 {
+                break;
+            }
+        }
+        if !kind.has_operation() {
+            break;
+        }
+    }
+    Ok(())
+}
+
+// Every kind, with each root where it has one.
+fn compare_all(rt: &impl Abort, alloc: Global, n: u8) {
+    for kind in ALL {
+        let roots = if kind.has_root() { n } else { 1 };
+        for root in 0..roots {
+            assert_eq!(rt;
+                compare_kind(rt, alloc, kind, n, root),
+                Ok(()),
+                "{kind:?}, root {root} of {n}"
+            );
+        }
+    }
+}
+
+#[test]
+fn lock_step_of_one_to_seventeen(rt: HostRuntime) {
+    for n in 1..18 {
+        compare_all(&rt, rt.alloc(), n);
+    }
+}
+
+#[test]
+fn lock_step_of_thirty_three(rt: HostRuntime) {
+    compare_all(&rt, rt.alloc(), 33);
+}
+
+#[test]
+fn lock_step_of_sixty_four(rt: HostRuntime) {
+    compare_all(&rt, rt.alloc(), 64);
+}
+
+#[test]
+fn plan_exchanges(rt: HostRuntime) {
+    for kind in ALL {
+        let sig = signature(kind, 0, Op::Sum, Datatype::I32, 1);
+        let direct = matches!(
+            kind,
+            Kind::Gather | Kind::Scatter | Kind::Allgather | Kind::Alltoall | Kind::Rsblock
+        );
+        let doubling = matches!(
+            kind,
+            Kind::Barrier | Kind::Bcast | Kind::Scan | Kind::Exscan
+        );
+        for (n, most) in [(1, 0), (5, 3), (64, 6)] {
+            for r in 0..n {
+                let exchanges = plan(rt.alloc(), sig, n, r).map(|plan| plan.schedule().exchanges());
+                let bound = if direct {
+                    most.min(1)
+                } else if doubling {
+                    most
+                } else {
+                    2 * most
+                };
+                assert!(rt;
+                    exchanges.is_ok_and(|count| count <= bound),
+                    "{kind:?}, {r} of {n}"
+                );
+            }
+        }
+    }
+}
+
+// How many messages all n members send, and the rounds of each.
+fn messages_and_rounds(kind: Kind, n: u8, root: u8) -> (usize, usize)
+    requires { n ≤ 64 }
+{
+    let steps = doublings(n);
+    let many = n as usize;
+    let others = many.saturating_sub(1);
+    match kind {
+        Kind::Barrier => (many * steps, steps),
+        Kind::Bcast => (others, steps),
+        Kind::Gather | Kind::Scatter => (others, 1),
+        Kind::Allgather | Kind::Alltoall => (many * others, 1),
+        Kind::Reduce if root == 0 => (others, 2 * steps + 1),
+        Kind::Reduce => (many, 2 * steps + 1),
+        Kind::Allreduce => (2 * others, 3 * steps),
+        Kind::Rsblock => (many * others, many),
+        Kind::Scan | Kind::Exscan => {
+            let reached = 2usize.pow(steps as u32);
+            ((many * steps + 1).saturating_sub(reached), 2 * steps)
+        }
+    }
+}
+
+// How many blocks the buffer of a member has, which is the root or another.
+fn blocks_of_buffer(kind: Kind, n: u8, is_root: bool) -> usize {
+    let many = n as usize;
+    match kind {
+        Kind::Barrier => 0,
+        Kind::Gather | Kind::Scatter if is_root => many + 1,
+        Kind::Bcast | Kind::Gather | Kind::Scatter => 1,
+        Kind::Reduce | Kind::Allreduce | Kind::Scan => 2,
+        Kind::Exscan => 3,
+        Kind::Allgather => many + 1,
+        Kind::Alltoall | Kind::Rsblock => 2 * many,
+    }
+}
+
+// The messages of one member's plan; each has the bytes of one block.
+fn sends(rt: &impl Abort, plan: &Plan) -> usize {
+    let mut count: usize = 0;
+    for round in plan.schedule().rounds() {
+        for action in round.actions() {
+            if let Action::Send { from, .. } = *action {
+                assert_eq!(rt; from.len as usize, plan.sig().block_len());
+                assert!(rt; count < 1000);
+                count += 1;
+            }
+        }
+    }
+    count
+}
+
+fn count_messages(rt: &impl Abort, alloc: Global, sig: Signature, n: u8) -> Result<(), Refusal> {
+    assert!(rt; 0 < n && n <= 64);
+    let (messages, rounds) = messages_and_rounds(sig.kind, n, sig.root);
+    let mut count: usize = 0;
+    for r in 0..n {
+        let plan = plan(alloc, sig, n, r)?;
+        let schedule = plan.schedule();
+        let blocks = blocks_of_buffer(sig.kind, n, r == sig.root);
+        assert_eq!(rt; schedule.rounds().len(), rounds);
+        assert_eq!(rt;
+            schedule.size() as usize,
+            blocks.wrapping_mul(sig.block_len())
+        );
+        assert!(rt; count < 1000000);
+        let sent = sends(rt, &plan);
+        assert!(rt; sent < 1000000);
+        count += sent;
+    }
+    assert_eq!(rt;
+        count,
+        messages,
+        "{:?} of {n} with root {}",
+        sig.kind, sig.root
+    );
+    Ok(())
+}
+
+// docs/SCHEDULES.md has these numbers.
+#[test]
+fn messages_of_each_kind(rt: HostRuntime) {
+    for kind in ALL {
+        for n in [1, 2, 3, 4, 5, 6, 7, 8, 9, 17, 33, 63, 64] {
+            let roots = if kind.has_root() { n } else { 1 };
+            for root in 0..roots {
+                let sig = signature(kind, root, Op::Sum, Datatype::I32, 2);
+                assert_eq!(rt; count_messages(&rt, rt.alloc(), sig, n), Ok(()));
+            }
+        }
+    }
+}
+
+#[test]
+fn plan_of_byte_sum(rt: HostRuntime) {
+    let sig = signature(Kind::Allreduce, 0, Op::Sum, Datatype::Byte, 1);
+    let cause = SignatureFault::Operation;
+    let refused = plan(rt.alloc(), sig, 3, 1).map(|plan| plan.member());
+    assert_eq!(rt; refused, Err(Refusal::BadSignature { cause }));
+}
+
+#[test]
+fn plan_tells_its_parts(rt: HostRuntime) {
+    let sig = signature(Kind::Reduce, 2, Op::LastNz, Datatype::I16, 3);
+    let Ok(plan) = plan(rt.alloc(), sig, 5, 4) else {
+        return assert!(rt; false);
+    };
+    assert_eq!(rt; plan.sig(), sig);
+    assert_eq!(rt; (plan.n(), plan.member()), (5, 4));
+}

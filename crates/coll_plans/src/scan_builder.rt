@@ -1,0 +1,38 @@
+ghost use Rattle.std.specs.Prelude.{◌≡◌, ◌<◌, ◌≤◌, None, IfOk, IsOkUnless};
+ghost use Rattle.coll_kinds.specs.declared.kind.Kind.TheVariants.{Scan};
+ghost use Rattle.coll_kinds.specs.Checks.{broken};
+ghost use Rattle.coll_trees.specs.Depths.{depth};
+ghost use Rattle.coll_trees.specs.Trees.{IsNarrowFor};
+ghost use Rattle.coll_plans.specs.Scans.{scan_family};
+
+use crate::layout::{block_bytes, schedule};
+use crate::scanning::Scanning;
+use coll_kinds::{Refusal, Signature};
+use coll_sched::{Region, Schedule};
+use std::alloc::Global;
+
+/// Member `r`'s schedule of a scan among `n` members (MPI 4.1, 6.11.1): it gets the combination of the rows
+/// of members 0 to `r`, in member order, by ranges of rows that double in each step. Its buffer has two
+/// blocks. Refuses [`Refusal::NoMemory`] alone.
+pub fn scan(alloc: Global, sig: Signature, n: u8, r: u8) -> Result<Schedule, Refusal>
+    requires kind { sig.kind ≡ Scan }
+    requires checked { broken sig n ≡ None }
+    requires member { r < n }
+    requires few { n ≤ 64 }
+    ensures schedule { IfOk result (λ s. s ≡ scan_family sig n r) }
+    ensures family { IsNarrowFor sig n (scan_family sig n) (depth n) }
+    ensures refusal { IsOkUnless result Refusal.NoMemory }
+{
+    let Some(op) = sig.op else { unreachable!() };
+    let len = block_bytes(sig, n);
+    let scanning = Scanning {
+        op,
+        ty: sig.ty,
+        n,
+        len,
+        exclusive: false,
+    };
+    let rounds = scanning.rounds(alloc, r)?;
+    let block = Region { at: 0, len };
+    Ok(schedule(len + len, block, block, rounds))
+}

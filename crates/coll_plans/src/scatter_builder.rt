@@ -1,0 +1,40 @@
+ghost use Rattle.std.specs.Prelude.{◌≡◌, ◌<◌, ◌≤◌, None, IfOk, IsOkUnless};
+ghost use Rattle.coll_kinds.specs.declared.kind.Kind.TheVariants.{Scatter};
+ghost use Rattle.coll_kinds.specs.Checks.{broken};
+ghost use Rattle.coll_plans.specs.Directs.{IsDirectFor, direct_bound, scatter_family};
+
+use crate::blocks::Blocks;
+use crate::exchange::Exchange;
+use crate::layout::{block_bytes, blocks_if, one_round, schedule, size_at};
+use crate::pattern::Pattern;
+use coll_kinds::{Refusal, Signature};
+use coll_sched::{Region, Schedule};
+use std::alloc::Global;
+
+/// Member `r`'s schedule of a scatter among `n` members (MPI 4.1, 6.6): the root sends each its block in one round,
+/// in which it also copies its own. The outcome is the first block of the buffer; the root's n blocks lie
+/// behind it. Refuses [`Refusal::NoMemory`] alone.
+pub fn scatter(alloc: Global, sig: Signature, n: u8, r: u8) -> Result<Schedule, Refusal>
+    requires kind { sig.kind ≡ Scatter }
+    requires checked { broken sig n ≡ None }
+    requires member { r < n }
+    requires few { n ≤ 64 }
+    ensures schedule { IfOk result (λ s. s ≡ scatter_family sig n r) }
+    ensures family { IsDirectFor sig n (scatter_family sig n) (direct_bound n) }
+    ensures refusal { IsOkUnless result Refusal.NoMemory }
+{
+    let len = block_bytes(sig, n);
+    let exchange = Exchange {
+        pattern: Pattern::FromRoot { root: sig.root },
+        from: Blocks::each(len, len),
+        into: Blocks::one(len),
+        n,
+    };
+    let round = exchange.round(alloc, r)?;
+    let rounds = one_round(alloc, round)?;
+    let is_root = r == sig.root;
+    let size = size_at(is_root, n, len);
+    let input = blocks_if(is_root, len, n, len);
+    let output = Region { at: 0, len };
+    Ok(schedule(size, input, output, rounds))
+}
