@@ -1,5 +1,5 @@
 -- What the members gave, as a value reads it.
-use Rattle.std.proofs.Common.{◌≡◌, ℕ, zero, suc, ◌+◌, ◌*◌, ◌-◌, ◌<◌, Bool, true, false, List, [], ◌∷◌, ◌++◌, length, take, get_or, map, refl, arith, ap, sym, ◌∙◌, subst, rules, Vec, Global, Result, Ok, Err, Option, Some, None, min, length-take}
+use Rattle.std.proofs.Common.{◌≡◌, ℕ, zero, suc, ◌+◌, ◌*◌, ◌-◌, ◌<◌, Bool, true, false, List, [], ◌∷◌, ◌++◌, length, take, get_or, map, refl, arith, ap, sym, ◌∙◌, subst, rules, Vec, Global, Result, Ok, Err, Option, Some, None, min, length-take, MatchOption, IsOk}
 use Rattle.std.proofs.Math.Seq.{take-length}
 use Rattle.std.specs.Prelude.{IfOk, ◌==◌, nat_lt, unwrap_or, if◌then◌else◌}
 use Rattle.std.specs.List.{flat_map}
@@ -12,6 +12,8 @@ use Rattle.coll_ops.specs.Values.{part, row_of, all_rows, value, value_by}
 use Rattle.std.proofs.lemmas.Bool.{false≢true, ltb-true}
 use Rattle.std.proofs.lemmas.Grind.{common_steps}
 use Rattle.coll_kinds.specs.declared.refusal.SignatureFault.{SignatureFault}
+use Rattle.coll_kinds.specs.declared.refusal.Refusal.{Refusal}
+use Rattle.coll_kinds.specs.declared.refusal.Refusal.TheVariants.{BadSignature}
 use Rattle.coll_kinds.specs.Checks.{has_root, broken, root_fits}
 use Rattle.coll_ops.proofs.RowLists.{row_of-rows_of, length-rows_of}
 
@@ -99,3 +101,8 @@ pub blocks-around : (r n count w : ℕ) → r < n → (r * count + (count + (n -
 blocks-around r n count w member =
     let split : n ≡ (r + 1) + (n - (r + 1)) = omega arith in
     subst (λ (k : ℕ). (r * count + (count + (n - (r + 1)) * count)) * w ≡ k * (count * w)) (sym split) (grind arith)
+
+-- a signature whose check passed breaks no rule
+pub unbroken : (x : Option SignatureFault) (r : Result (Unit {0}) Refusal) (u : Unit {0}) → MatchOption x (IsOk r) (λ cause. r ≡ Err (BadSignature cause)) → r ≡ Ok u → x ≡ None
+unbroken None r u told ok = refl
+unbroken (Some cause) r u told ok = cc

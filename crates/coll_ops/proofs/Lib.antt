@@ -7,3 +7,5 @@ pub mod Blocks
 pub mod Given
 pub mod Associating
 pub mod Agreeing
+pub mod RowBytes
+pub mod Prefixes

@@ -3,7 +3,7 @@ use Rattle.std.specs.Prelude.{◌≡◌, ℕ, List, [], ◌∷◌, ℤ, pos, neg
 use Rattle.std.specs.Int.{int_wrap}
 use Rattle.coll_kinds.specs.declared.datatype.Datatype.TheVariants.{I8, I32, U8}
 use Rattle.coll_kinds.specs.declared.operation.Op.TheVariants.{Sum, Land, Lxor, LastNz}
-use Rattle.coll_kinds.specs.declared.kind.Kind.TheVariants.{Bcast, Alltoall, Allreduce, Reduce}
+use Rattle.coll_kinds.specs.declared.kind.Kind.TheVariants.{Bcast, Alltoall, Allreduce, Reduce, Scan, Exscan}
 use Rattle.coll_kinds.specs.declared.kind.Mode.TheVariants.{Once}
 use Rattle.coll_kinds.specs.declared.signature.Signature.{Signature}
 use Rattle.coll_kinds.specs.Elements.{element_bytes}
@@ -64,3 +64,19 @@ alltoall_of_three = refl
 -- 5 and 5 are 0, and 0 and 5 are 1
 lxor_of_three : value allreduce_lxor_i8 ((5 ∷ []) ∷ (5 ∷ []) ∷ (5 ∷ []) ∷ []) 0 ≡ 1 ∷ []
 lxor_of_three = refl
+
+abbrev scan_lastnz_i8 : Signature
+scan_lastnz_i8 = record { kind = Scan; mode = Once; root = 0; op = Some LastNz; ty = I8; count = 1 }
+
+abbrev exscan_lastnz_i8 : Signature
+exscan_lastnz_i8 = record { kind = Exscan; mode = Once; root = 0; op = Some LastNz; ty = I8; count = 1 }
+
+-- a scan combines up to the member's own row, an exscan up to the one before, and the first gets nothing
+scan_of_three : value scan_lastnz_i8 ((3 ∷ []) ∷ (0 ∷ []) ∷ (5 ∷ []) ∷ []) 2 ≡ 5 ∷ []
+scan_of_three = refl
+
+exscan_of_three : value exscan_lastnz_i8 ((3 ∷ []) ∷ (0 ∷ []) ∷ (5 ∷ []) ∷ []) 2 ≡ 3 ∷ []
+exscan_of_three = refl
+
+exscan_of_the_first : value exscan_lastnz_i8 ((3 ∷ []) ∷ (0 ∷ []) ∷ (5 ∷ []) ∷ []) 0 ≡ []
+exscan_of_the_first = refl

@@ -5,12 +5,15 @@
 //! |---|---|
 //! | `rows` | `combine`, two rows place by place |
 //! | `value` | `plain_value`, a collective's value at a member |
+//! | `values` | `plain_values`, the values of all members |
 //! | `laws` | associativity, and that a value reads the needed members alone |
 #![tactic(auto)]
 
 pub mod laws;
 mod rows;
 mod value;
+mod values;
 
 pub use rows::combine;
 pub use value::plain_value;
+pub use values::plain_values;

@@ -113,7 +113,7 @@ fn part(row: &Vec<u8>, at: usize, len: usize) -> &[u8]
     &row.as_slice()[at..at + len]
 }
 
-fn copied(alloc: Global, row: &[u8]) -> Result<Vec<u8>, Refusal>
+pub(crate) fn copied(alloc: Global, row: &[u8]) -> Result<Vec<u8>, Refusal>
     ensures ok { IfOk result (λ bytes. bytes.items ≡ row.now) }
     ensures refusal { IsOkUnless result Refusal.NoMemory }
 {
