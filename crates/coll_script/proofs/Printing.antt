@@ -1,18 +1,16 @@
 -- Output as far as it is printed, and what is still to come.
-use Rattle.std.proofs.Common.{◌≡◌, ℕ, suc, ◌+◌, ◌-◌, ◌*◌, ◌/◌, ◌<◌, ◌≤◌, List, [], ◌∷◌, ◌++◌, length, get_or, take, drop, refl, ap, sym, ◌∙◌, append_assoc, add-one, arith}
+use Rattle.std.proofs.Common.{◌≡◌, ℕ, suc, ◌+◌, ◌-◌, ◌*◌, ◌/◌, ◌<◌, ◌≤◌, List, [], ◌∷◌, ◌++◌, length, take, drop, refl, ap, sym, ◌∙◌, append_assoc, arith}
 use Rattle.std.specs.Prelude.{flat_map, Result, Ok, Err, OnErr}
-use Rattle.std.specs.List.{range_with_len, enumerate_from}
-use Rattle.std.proofs.lemmas.List.{append-nil, take_at, drop_all, length-drop}
+use Rattle.std.specs.List.{range_with_len}
+use Rattle.std.proofs.lemmas.List.{append-nil, take_at, length-drop}
 use Rattle.std.proofs.lemmas.List.Concat.{flat_map-cons}
 use Rattle.std.proofs.Math.Nat.{mul-le-mul_right}
-use Rattle.std.proofs.Math.Seq.{drop-cons}
 use Rattle.std.specs.Fmt.{signed_decimal}
 use Rattle.coll_kinds.specs.declared.datatype.Datatype.{Datatype}
 use Rattle.coll_kinds.specs.declared.datatype.Datatype.TheVariants.{I8, I16, I32, I64, U8, U16, U32, U64, Byte}
 use Rattle.coll_kinds.specs.Elements.{width, element_at}
 use Rattle.coll_ops.specs.Combinations.{elements}
-use Rattle.coll_script.specs.Meaning.{element_text, place_line}
-use Rattle.coll_script.specs.Jobs.{Place}
+use Rattle.coll_script.specs.Meaning.{element_text}
 use Rattle.coll_script.specs.Growing.{Extends}
 
 pub Extends-self : (old : List ℕ) → Extends old old
@@ -63,21 +61,6 @@ pub elements-done : (ty : Datatype) (end i : ℕ) (rest out total : List ℕ) �
 elements-done ty end i rest out total le so_far =
     let none : end - i ≡ 0 = omega arith in
     sym (append-nil out) ∙ ap (λ n. out ++ flat_map element_text (elements ty n rest)) (sym none) ∙ so_far
-
--- ---- the lines of a rank
-
-pub rank_lines-more : (rank i : ℕ) (places : List Place) (place : Place) (out total : List ℕ) → i < length places → place ≡ get_or places i place → out ++ flat_map (place_line rank) (enumerate_from i (drop i places)) ≡ total
-    → (out ++ place_line rank (i, place)) ++ flat_map (place_line rank) (enumerate_from (i + 1) (drop (i + 1) places)) ≡ total
-rank_lines-more rank i places place out total lt is so_far =
-    let next : drop i places ≡ place ∷ drop (i + 1) places = rw (add-one, drop-cons places i place lt, ← is) refl in
-    let others = flat_map (place_line rank) (enumerate_from (i + 1) (drop (i + 1) places)) in
-    let here : flat_map (place_line rank) (enumerate_from i (drop i places)) ≡ place_line rank (i, place) ++ others =
-    ap (λ (rest : List Place). flat_map (place_line rank) (enumerate_from i rest)) next ∙ flat_map-cons (place_line rank) (i, place) (enumerate_from (i + 1) (drop (i + 1) places)) in
-    append_assoc out (place_line rank (i, place)) others ∙ ap (λ (xs : List ℕ). out ++ xs) (sym here) ∙ so_far
-
-pub rank_lines-done : (rank i : ℕ) (places : List Place) (out total : List ℕ) → length places ≤ i → out ++ flat_map (place_line rank) (enumerate_from i (drop i places)) ≡ total → out ≡ total
-rank_lines-done rank i places out total le so_far =
-    sym (append-nil out) ∙ ap (λ (rest : List Place). out ++ flat_map (place_line rank) (enumerate_from i rest)) (sym (drop_all i places le)) ∙ so_far
 
 -- ---- the lines of all ranks
 

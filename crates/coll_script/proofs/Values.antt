@@ -1,8 +1,7 @@
 -- The bytes of values, one after another.
-use Rattle.std.proofs.Common.{◌≡◌, ℕ, ◌+◌, ◌<◌, List, ◌∷◌, ◌++◌, length, take, drop, get_or, refl, sym, ap, ◌∙◌, append_assoc, add-one, Option, Some, None, Result, Ok, Err, ℤ, Bor}
+use Rattle.std.proofs.Common.{◌≡◌, ℕ, ◌+◌, ◌<◌, List, ◌∷◌, ◌++◌, length, take, drop, get_or, refl, sym, ap, ◌∙◌, append_assoc, Option, Some, None, Result, Ok, Err, ℤ, Bor}
 use Rattle.std.specs.Option.{option_map}
-use Rattle.std.proofs.lemmas.List.{take_at, get_or-map, length-map}
-use Rattle.std.proofs.Math.Seq.{drop-cons}
+use Rattle.std.proofs.lemmas.List.{take_at}
 use Rattle.coll_kinds.specs.declared.datatype.Datatype.{Datatype}
 use Rattle.coll_kinds.specs.declared.datatype.Datatype.TheVariants.{I8, I16, I32, I64, U8, U16, U32, U64, Byte}
 use Rattle.coll_kinds.specs.Elements.{element_bytes, width}
@@ -11,6 +10,7 @@ use Rattle.coll_script.specs.declared.cause.Cause.{Cause}
 use Rattle.coll_script.specs.declared.cause.Cause.TheVariants.{BadValue}
 use Rattle.coll_script.specs.Steps.{◌>>=◌, texts}
 use Rattle.coll_script.specs.Posts.{bytes_at}
+use Rattle.coll_script.proofs.Texts.{drop-texts}
 
 length-element_bytes : (ty : Datatype) (value : ℤ) → length (element_bytes ty value) ≡ width ty
 length-element_bytes I8 value = refl
@@ -22,12 +22,6 @@ length-element_bytes U16 value = refl
 length-element_bytes U32 value = refl
 length-element_bytes U64 value = refl
 length-element_bytes Byte value = refl
-
--- the words from a place on
-drop-texts : (words : List (Bor (List ℕ))) (i : ℕ) (d : Bor (List ℕ)) → i < length words → drop i (texts words) ≡ (get_or words i d).now ∷ drop (i + 1) (texts words)
-drop-texts words i d lt =
-    let within : i < length (texts words) = rw length-map lt in
-    rw (add-one, drop-cons (texts words) i d.now within, get_or-map (λ word. word.now) words i d d.now lt) refl
 
 -- bytes that are read already, in front of those still to be read
 abbrev pub with_front : List ℕ → Result (List ℕ) Cause → Result (List ℕ) Cause

@@ -1,6 +1,6 @@
 -- The meaning of a job text: its output lines, or its fault.
-use Rattle.std.specs.Prelude.{ℕ, ℤ, ◌/◌, List, [], ◌∷◌, ◌++◌, length, flat_map, codes, Result, Ok}
-use Rattle.std.specs.List.{range_with_len, enumerate_from}
+use Rattle.std.specs.Prelude.{ℕ, ℤ, ◌/◌, List, [], ◌∷◌, ◌++◌, length, map, flat_map, codes, slice_get, unwrap_or, Option, Some, None, Result, Ok}
+use Rattle.std.specs.List.{range_with_len}
 use Rattle.std.specs.Fmt.{decimal, signed_decimal}
 use Rattle.coll_kinds.specs.declared.datatype.Datatype.{Datatype}
 use Rattle.coll_kinds.specs.Elements.{width}
@@ -8,7 +8,9 @@ use Rattle.coll_ops.specs.Combinations.{elements}
 use Rattle.coll_ops.specs.Values.{value}
 use Rattle.coll_script.specs.declared.fault.Fault.{Fault}
 use Rattle.coll_script.specs.Steps.{◌>>=◌}
-use Rattle.coll_script.specs.Jobs.{Place, Job, job_of}
+use Rattle.coll_script.specs.Histories.{Request}
+use Rattle.coll_script.specs.Postings.{posted_on, requests_of, postings}
+use Rattle.coll_script.specs.Jobs.{Job, job_of}
 
 -- the decimal text of an element, behind a space
 abbrev pub element_text : ℤ → List ℕ
@@ -27,18 +29,44 @@ outcome_head rank req start =
 abbrev pub outcome_line : ℕ → ℕ → ℕ → Datatype → List ℕ → List ℕ
 outcome_line rank req start ty row = outcome_head rank req start ++ elements_text ty row ++ 10 ∷ []
 
--- the line of a rank at a numbered place: there is one communicator, so a request has the number of its place, and each is
--- started once
-abbrev pub place_line : ℕ → ℕ × Place → List ℕ
-place_line rank entry = outcome_line rank entry.0 0 entry.1.sig.ty (value entry.1.sig entry.1.given rank)
+-- what a member gives at a start of its request at a place
+abbrev pub given_by : ℕ → Option Request → List ℕ
+given_by start None = []
+given_by start (Some p) = unwrap_or (slice_get p.starts start) []
 
--- the lines of a rank, in rising request
-abbrev pub rank_lines : List Place → ℕ → List ℕ
-rank_lines places rank = flat_map (place_line rank) (enumerate_from 0 places)
+-- what the members of a communicator give there, in member order
+abbrev pub given_at : List (List Request) → ℕ → ℕ → List (List ℕ)
+given_at lists place start = map (λ list. given_by start (slice_get list place)) lists
 
--- the lines of a job, in rising rank, request and start
+-- the line of a start of a rank's numbered request, which stands at a place of posting lists
+abbrev pub start_line : ℕ → ℕ → List (List Request) → ℕ → Request → ℕ → List ℕ
+start_line rank number lists place p start =
+    outcome_line rank number start p.sig.ty (value p.sig (given_at lists place start) p.member)
+
+-- the lines of its starts
+abbrev pub request_lines : ℕ → ℕ → List (List Request) → ℕ → Request → List ℕ
+request_lines rank number lists place p = flat_map (start_line rank number lists place p) (range_with_len 0 (length p.starts))
+
+-- the posting lists of a communicator
+abbrev pub lists_of : Job → ℕ → List (List Request)
+lists_of job comm = postings job.requests comm (unwrap_or (slice_get job.groups comm) [])
+
+-- the lines of a rank's requests that follow others: a request's place is the number of the rank's requests on the same
+-- communicator before it
+abbrev pub lines_behind : Job → ℕ → List Request → List Request → List ℕ
+lines_behind job rank before [] = []
+lines_behind job rank before (p ∷ requests) =
+    request_lines rank (length before) (lists_of job p.comm) (length (posted_on p.comm before)) p
+    ++ lines_behind job rank (before ++ p ∷ []) requests
+
+-- the lines of a rank, in rising request and start
+abbrev pub rank_lines : Job → ℕ → List ℕ
+rank_lines job rank = lines_behind job rank [] (requests_of job.requests rank)
+
+-- the lines of a job, in rising rank
 abbrev pub job_lines : Job → List ℕ
-job_lines job = flat_map (rank_lines job.places) (range_with_len 0 job.ranks)
+job_lines job = flat_map (rank_lines job) (range_with_len 0 (length job.requests))
 
+-- the output lines of a text, or its fault
 abbrev pub meaning : List ℕ → Result (List ℕ) Fault
 meaning text = job_of text >>= λ job. Ok (job_lines job)

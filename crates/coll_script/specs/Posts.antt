@@ -1,17 +1,22 @@
--- The words of a post, after the word `post`: C SIG : v ..
-use Rattle.std.specs.Prelude.{ℕ, ◌/◌, ◌==◌, List, [], ◌∷◌, ◌++◌, length, Result, Ok, Err, ok_or, is_none, codes, if◌then◌else◌}
+-- The words of a new request, behind `post` (C SIG : v ..) and `init` (C SIG).
+use Rattle.std.specs.Prelude.{ℕ, ◌+◌, ◌/◌, ◌==◌, nat_lt, false, List, [], ◌∷◌, ◌++◌, length, Result, Ok, Err, ok_or, is_none, codes, if◌then◌else◌}
 use Rattle.std.specs.Str.{bytes_eq}
 use Rattle.coll_kinds.specs.declared.datatype.Datatype.{Datatype}
+use Rattle.coll_kinds.specs.declared.kind.Mode.{Mode}
+use Rattle.coll_kinds.specs.declared.kind.Mode.TheVariants.{Once, Persistent}
 use Rattle.coll_kinds.specs.declared.signature.Signature.{Signature}
 use Rattle.coll_kinds.specs.Elements.{width, element_bytes}
-use Rattle.coll_kinds.specs.Texts.{number_of, value_of}
+use Rattle.coll_kinds.specs.Texts.{value_of}
 use Rattle.coll_kinds.specs.Lengths.{given_len}
 use Rattle.coll_kinds.specs.Checks.{broken}
 use Rattle.coll_script.specs.declared.cause.Cause.{Cause}
-use Rattle.coll_script.specs.declared.cause.Cause.TheVariants.{BadWords, BadNumber, BadCommunicator, BadSignature, WrongValueCount, BadValue}
+use Rattle.coll_script.specs.declared.cause.Cause.TheVariants.{BadWords, BadSignature, WrongValueCount, BadValue, TooManyRequests}
 use Rattle.coll_script.specs.Steps.{◌>>=◌, demand}
-use Rattle.coll_script.specs.Words.{next_word}
+use Rattle.coll_script.specs.Words.{end_of_line}
 use Rattle.coll_script.specs.Signatures.{signature_at}
+use Rattle.coll_script.specs.declared.communicators.Membership.{Membership}
+use Rattle.coll_script.specs.Communicators.{communicator_at}
+use Rattle.coll_script.specs.Histories.{Request, History}
 
 -- the words of the values, where so many are due; the colon may be left out where none is
 abbrev pub values_at : ℕ → List (List ℕ) → Result (List (List ℕ)) Cause
@@ -26,18 +31,39 @@ bytes_at ty [] = Ok []
 bytes_at ty (word ∷ words) =
     ok_or (value_of ty word) BadValue >>= λ value. bytes_at ty words >>= λ bytes. Ok (element_bytes ty value ++ bytes)
 
--- the communicator is a number, and there is one alone, 0, of which every rank is a member
-abbrev pub communicator_at : List (List ℕ) → Result (List (List ℕ)) Cause
-communicator_at words =
-    next_word words >>= λ first. ok_or (number_of first.0) BadNumber
-    >>= λ comm. demand (comm == 0) BadCommunicator >>= λ _. Ok first.1
+-- : v ..: the bytes that a member of n gives
+unfoldable pub given_at : Signature → ℕ → ℕ → List (List ℕ) → Result (List ℕ) Cause
+given_at sig n member words = values_at (given_len sig n member / width sig.ty) words >>= bytes_at sig.ty
 
--- what a rank of n posts: the signature, and the bytes that it gives
-unfoldable pub post_at : ℕ → ℕ → List (List ℕ) → Result (Signature × List ℕ) Cause
-post_at n rank words = do
-  rest ← communicator_at words
-  sig ← signature_at rest
+-- SIG: a signature that n members may use, and the words behind it
+unfoldable pub usable_at : Mode → ℕ → List (List ℕ) → Result (Signature × List (List ℕ)) Cause
+usable_at mode n words = do
+  sig ← signature_at mode words
   checked ← demand (is_none (broken sig.0 n)) BadSignature
-  values ← values_at (given_len sig.0 n rank / width sig.0.ty) sig.1
-  given ← bytes_at sig.0.ty values
-  Ok (sig.0, given)
+  Ok sig
+
+-- a request that the next line makes
+abbrev pub new_request : History → Membership → Signature → List (List ℕ) → Request
+new_request h at sig starts = record { line = h.lines + 1; comm = at.comm; member = at.member; sig = sig; starts = starts; since = 0; freed = false }
+
+-- a job has at most 4,096 requests
+abbrev pub room : History → Result (Unit {0}) Cause
+room h = demand (nat_lt h.total 4096) TooManyRequests
+
+-- a rank's once request, which is started at once
+unfoldable pub post_at : History → ℕ → List (List ℕ) → Result Request Cause
+post_at h rank words = do
+  at ← communicator_at h.groups rank words
+  sig ← usable_at Once at.0.size at.1
+  given ← given_at sig.0 at.0.size at.0.member sig.1
+  fits ← room h
+  Ok (new_request h at.0 sig.0 (given ∷ []))
+
+-- a rank's persistent request
+unfoldable pub init_at : History → ℕ → List (List ℕ) → Result Request Cause
+init_at h rank words = do
+  at ← communicator_at h.groups rank words
+  sig ← usable_at Persistent at.0.size at.1
+  ended ← end_of_line sig.1
+  fits ← room h
+  Ok (new_request h at.0 sig.0 [])

@@ -3,12 +3,14 @@ use Rattle.std.specs.Prelude.{◌≡◌, ℕ, List, [], ◌∷◌, ◌++◌, Res
 use Rattle.std.specs.Fmt.{digits}
 use Rattle.std.specs.Int.{int_wrap}
 use Rattle.coll_script.specs.declared.cause.Cause.{Cause}
-use Rattle.coll_script.specs.declared.cause.Cause.TheVariants.{MissingRanks, UnknownCommand, OutOfPlace, BadWords, BadNumber, BadRank, BadCommunicator, BadSignature, WrongValueCount, BadValue, PlaceMismatch, PlaceMissing}
+use Rattle.coll_script.specs.declared.cause.Cause.TheVariants.{MissingRanks, PlaceMismatch, PlaceMissing, StartMissing}
 use Rattle.coll_script.specs.declared.fault.Fault.{Fault}
 use Rattle.coll_script.specs.Signatures.{type_and_count_at, fields_at, signature_at}
-use Rattle.coll_script.specs.Posts.{post_at}
-use Rattle.coll_script.specs.Lines.{ranks_at, section_at, said_by}
-use Rattle.coll_script.specs.Histories.{judged_line}
+use Rattle.coll_script.specs.Communicators.{group_at, communicator_at}
+use Rattle.coll_script.specs.Posts.{given_at, usable_at, post_at, init_at}
+use Rattle.coll_script.specs.Requests.{one_at, startable_at, start_at}
+use Rattle.coll_script.specs.Lines.{ranks_at, comm_at, section_at, said_by}
+use Rattle.coll_script.specs.Judging.{judged_line}
 use Rattle.coll_script.specs.Jobs.{job_of}
 use Rattle.coll_script.specs.Meaning.{meaning}
 
@@ -19,10 +21,6 @@ text lines = flat_map (λ line. line ++ 10 ∷ []) lines
 abbrev fault : ℕ → Cause → Result (List ℕ) Fault
 fault line cause = Err (record { line = line; cause = cause })
 
--- what stands before the third line of many rows
-abbrev one_rank : List ℕ → List ℕ
-one_rank post = text (codes "ranks 1" ∷ codes "rank 0" ∷ post ∷ [])
-
 -- a text of no bytes has one line
 empty_text : meaning [] ≡ fault 1 MissingRanks
 unfolding job_of judged_line said_by
@@ -31,33 +29,31 @@ empty_text = refl
 sum_of_three : meaning (text (codes "ranks 3" ∷ codes "rank 0" ∷ codes "post 0 allreduce sum i32 1 : 1" ∷ codes "rank 1" ∷ codes "post 0 allreduce sum i32 1 : 2"
     ∷ codes "rank 2" ∷ codes "post 0 allreduce sum i32 1 : 3" ∷ []))
     ≡ Ok (text (codes "rank 0 req 0 start 0 : 6" ∷ codes "rank 1 req 0 start 0 : 6" ∷ codes "rank 2 req 0 start 0 : 6" ∷ []))
-unfolding digits int_wrap job_of judged_line said_by ranks_at section_at post_at signature_at fields_at type_and_count_at
+unfolding digits int_wrap job_of judged_line said_by ranks_at section_at post_at communicator_at usable_at signature_at fields_at type_and_count_at given_at
 sum_of_three = refl
 
 -- comments and empty lines are skipped, and -1 and 7 are values; there need be no line feed at the end
 comments_and_leading_zeros : meaning (text (codes "# x" ∷ codes "ranks 1" ∷ [] ∷ codes "rank 0" ∷ []) ++ codes "post 0 bcast 0 i8 2 : -1 007") ≡ Ok (text (codes "rank 0 req 0 start 0 : -1 7" ∷ []))
-unfolding digits job_of judged_line said_by ranks_at section_at post_at signature_at fields_at type_and_count_at
+unfolding digits job_of judged_line said_by ranks_at section_at post_at communicator_at usable_at signature_at fields_at type_and_count_at given_at
 comments_and_leading_zeros = refl
 
--- faults of the lines before a post
-first_lines : map meaning (codes "rank 0" ∷ codes "ranks 65" ∷ codes "ranks" ∷ codes "ranks 1 1" ∷ text (codes "ranks 1" ∷ codes "ranks 1" ∷ []) ∷ text (codes "ranks 1" ∷ codes "rank 1" ∷ [])
-    ∷ text (codes "ranks 1" ∷ codes "foo" ∷ []) ∷ text (codes "ranks 1" ∷ codes "post 0 bcast 0 i8 0" ∷ []) ∷ [])
-    ≡ fault 1 MissingRanks ∷ fault 1 BadNumber ∷ fault 1 BadWords ∷ fault 1 BadWords ∷ fault 2 OutOfPlace ∷ fault 2 BadRank ∷ fault 2 UnknownCommand ∷ fault 2 OutOfPlace ∷ []
-unfolding job_of judged_line said_by ranks_at section_at
-first_lines = refl
+-- on a communicator of ranks 1 and 0, in that order, rank 1 is the root
+member_numbers : meaning (text (codes "ranks 2" ∷ codes "comm 1 0" ∷ codes "rank 0" ∷ codes "post 1 bcast 0 u8 1" ∷ codes "rank 1" ∷ codes "post 1 bcast 0 u8 1 : 9" ∷ []))
+    ≡ Ok (text (codes "rank 0 req 0 start 0 : 9" ∷ codes "rank 1 req 0 start 0 : 9" ∷ []))
+unfolding digits job_of judged_line said_by ranks_at comm_at group_at section_at post_at communicator_at usable_at signature_at fields_at type_and_count_at given_at
+member_numbers = refl
 
--- faults of a post, from its left
-posts : map (λ post. meaning (one_rank post)) (codes "post" ∷ codes "post x" ∷ codes "post 1 foo" ∷ codes "post 0" ∷ codes "post 0 foo" ∷ codes "post 0 allreduce sum" ∷ codes "post 0 allreduce sum byte 1 : 1"
-    ∷ codes "post 0 bcast 255" ∷ codes "post 0 bcast 256" ∷ codes "post 0 bcast 1 i8 1 x" ∷ codes "post 0 bcast 0 i8 1" ∷ codes "post 0 bcast 0 i8 0 x" ∷ codes "post 0 allreduce sum i8 2 : 1"
-    ∷ codes "post 0 allreduce sum i8 1 : 128" ∷ codes "post 0 bcast 0 i8 65537" ∷ [])
-    ≡ fault 3 BadWords ∷ fault 3 BadNumber ∷ fault 3 BadCommunicator ∷ fault 3 BadWords ∷ fault 3 BadSignature ∷ fault 3 BadWords ∷ fault 3 BadSignature
-    ∷ fault 3 BadWords ∷ fault 3 BadSignature ∷ fault 3 BadSignature ∷ fault 3 BadWords ∷ fault 3 BadWords ∷ fault 3 WrongValueCount ∷ fault 3 BadValue ∷ fault 3 BadSignature ∷ []
-unfolding job_of judged_line said_by ranks_at section_at post_at signature_at fields_at type_and_count_at
-posts = refl
+-- a request that is started twice has two lines, one that isn't started has none
+starts : meaning (text (codes "ranks 1" ∷ codes "rank 0" ∷ codes "init 0 bcast 0 u8 1" ∷ codes "init 0 barrier" ∷ codes "start 0 : 3" ∷ codes "wait 0" ∷ codes "start 0 : 4" ∷ []))
+    ≡ Ok (text (codes "rank 0 req 0 start 0 : 3" ∷ codes "rank 0 req 0 start 1 : 4" ∷ []))
+unfolding digits job_of judged_line said_by ranks_at section_at init_at communicator_at usable_at signature_at fields_at type_and_count_at startable_at one_at start_at given_at
+starts = refl
 
--- faults that are judged after all lines
-places : map meaning (text (codes "ranks 2" ∷ codes "rank 0" ∷ codes "post 0 bcast 0 i32 1 : 7" ∷ codes "rank 1" ∷ codes "post 0 allreduce sum i32 1 : 7" ∷ [])
-    ∷ text (codes "ranks 2" ∷ codes "rank 0" ∷ codes "post 0 bcast 0 i32 0" ∷ []) ∷ [])
-    ≡ fault 5 PlaceMismatch ∷ fault 3 PlaceMissing ∷ []
-unfolding job_of judged_line said_by ranks_at section_at post_at signature_at fields_at type_and_count_at
-places = refl
+-- faults that are judged after all lines: signatures, modes, places, starts
+ends : map meaning (text (codes "ranks 2" ∷ codes "rank 0" ∷ codes "post 0 bcast 0 i32 1 : 7" ∷ codes "rank 1" ∷ codes "post 0 allreduce sum i32 1 : 7" ∷ [])
+    ∷ text (codes "ranks 2" ∷ codes "rank 1" ∷ codes "init 0 barrier" ∷ codes "rank 0" ∷ codes "post 0 barrier" ∷ [])
+    ∷ text (codes "ranks 2" ∷ codes "rank 0" ∷ codes "post 0 bcast 0 i32 0" ∷ [])
+    ∷ text (codes "ranks 2" ∷ codes "rank 0" ∷ codes "init 0 barrier" ∷ codes "start 0" ∷ codes "rank 1" ∷ codes "init 0 barrier" ∷ []) ∷ [])
+    ≡ fault 5 PlaceMismatch ∷ fault 5 PlaceMismatch ∷ fault 3 PlaceMissing ∷ fault 6 StartMissing ∷ []
+unfolding job_of judged_line said_by ranks_at section_at init_at post_at communicator_at usable_at signature_at fields_at type_and_count_at startable_at one_at start_at given_at
+ends = refl

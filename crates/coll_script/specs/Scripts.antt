@@ -1,16 +1,22 @@
 -- What holds of a job that was read.
-use Rattle.std.specs.Prelude.{◌≡◌, ℕ, ◌≤◌, List, length, None}
+use Rattle.std.specs.Prelude.{◌≡◌, ℕ, ◌<◌, ◌≤◌, List, length, Some, slice_get, IfSome}
 use Rattle.std.specs.List.{AllByRecursion}
-use Rattle.coll_kinds.specs.Checks.{broken}
-use Rattle.coll_ops.specs.Contributions.{AreGiven}
-use Rattle.coll_script.specs.Jobs.{Place}
+use Rattle.coll_script.specs.Histories.{Request}
+use Rattle.coll_script.specs.Groups.{member_of, IsGroup}
+use Rattle.coll_script.specs.Postings.{requests_of, postings_from}
+use Rattle.coll_script.specs.Outcomes.{AreMatched}
+use Rattle.coll_script.specs.Jobs.{Job}
 
--- a place of n ranks: its signature passes its check, and each rank gives what it wants
-pub record IsPlace (n : ℕ) (place : Place) : Type 0 where
-  pub checked : broken place.sig n ≡ None
-  pub given : AreGiven place.sig n place.given
+-- a request of a rank on one of the communicators
+pub record IsOwned (groups : List (List ℕ)) (rank : ℕ) (p : Request) : Type 0 where
+  pub known : p.comm < length groups
+  pub member : IfSome (slice_get groups p.comm) (λ group. member_of rank group ≡ Some p.member)
+  pub few : length p.starts ≤ 4294967295
 
--- the places of a job of n ranks
-pub record IsJob (n : ℕ) (places : List Place) : Type 0 where
-  pub few : length places ≤ 4096
-  pub each : AllByRecursion (IsPlace n) places
+pub record IsJob (job : Job) : Type 0 where
+  pub few_groups : length job.groups ≤ 16
+  pub few_ranks : length job.requests ≤ 64
+  pub groups : AllByRecursion (IsGroup (length job.requests)) job.groups
+  pub few_requests : (rank : ℕ) → length (requests_of job.requests rank) ≤ 4096
+  pub owned : (rank : ℕ) → AllByRecursion (IsOwned job.groups rank) (requests_of job.requests rank)
+  pub matched : AllByRecursion (λ lists. AreMatched (length lists) lists) (postings_from job.requests 0 job.groups)

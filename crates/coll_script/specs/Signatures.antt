@@ -6,7 +6,7 @@ use Rattle.coll_kinds.specs.declared.datatype.Datatype.TheVariants.{Byte}
 use Rattle.coll_kinds.specs.declared.operation.Op.{Op}
 use Rattle.coll_kinds.specs.declared.kind.Kind.{Kind}
 use Rattle.coll_kinds.specs.declared.kind.Kind.TheVariants.{Barrier}
-use Rattle.coll_kinds.specs.declared.kind.Mode.TheVariants.{Once}
+use Rattle.coll_kinds.specs.declared.kind.Mode.{Mode}
 use Rattle.coll_kinds.specs.declared.signature.Signature.{Signature}
 use Rattle.coll_kinds.specs.Checks.{has_root, has_operation, is_barrier}
 use Rattle.coll_script.specs.declared.cause.Cause.{Cause}
@@ -34,19 +34,20 @@ operation_at false words = Ok (None, words)
 operation_at true words = next_word words >>= λ first. ok_or (operation_of first.0) BadSignature >>= λ op. Ok (Some op, first.1)
 
 -- a barrier has no further words: its type is byte, and its count 0
-abbrev pub barrier_signature : Signature
-barrier_signature = record { kind = Barrier; mode = Once; root = 0; op = None; ty = Byte; count = 0 }
+abbrev pub barrier_signature : Mode → Signature
+barrier_signature mode = record { kind = Barrier; mode = mode; root = 0; op = None; ty = Byte; count = 0 }
 
 -- what stands behind the word of a kind that has elements
-unfoldable pub fields_at : Kind → List (List ℕ) → Result (Signature × List (List ℕ)) Cause
-fields_at kind words = do
+unfoldable pub fields_at : Mode → Kind → List (List ℕ) → Result (Signature × List (List ℕ)) Cause
+fields_at mode kind words = do
   root ← root_at (has_root kind) words
   op ← operation_at (has_operation kind) root.1
   rest ← type_and_count_at op.1
-  Ok (record { kind = kind; mode = Once; root = root.0; op = op.0; ty = rest.0.0; count = rest.0.1 }, rest.1)
+  Ok (record { kind = kind; mode = mode; root = root.0; op = op.0; ty = rest.0.0; count = rest.0.1 }, rest.1)
 
-unfoldable pub signature_at : List (List ℕ) → Result (Signature × List (List ℕ)) Cause
-signature_at words = do
+-- the signature of a request of that mode
+unfoldable pub signature_at : Mode → List (List ℕ) → Result (Signature × List (List ℕ)) Cause
+signature_at mode words = do
   first ← next_word words
   kind ← ok_or (kind_of first.0) BadSignature
-  if is_barrier kind then Ok (barrier_signature, first.1) else fields_at kind first.1
+  if is_barrier kind then Ok (barrier_signature mode, first.1) else fields_at mode kind first.1

@@ -1,28 +1,31 @@
--- What holds of each line that is accepted.
-use Rattle.std.specs.Prelude.{◌≡◌, ℕ, ◌<◌, ◌≤◌, List, length, Option, Some, None, MatchOption}
-use Rattle.coll_kinds.specs.declared.signature.Signature.{Signature}
+-- What holds of every history.
+use Rattle.std.specs.Prelude.{◌≡◌, ℕ, ◌<◌, ◌≤◌, List, length, Some, None, slice_get, unwrap_or, IfSome}
+use Rattle.std.specs.List.{AllByRecursion}
 use Rattle.coll_kinds.specs.Lengths.{given_len}
 use Rattle.coll_kinds.specs.Checks.{broken}
-use Rattle.coll_script.specs.declared.said.Said.{Said}
-use Rattle.coll_script.specs.declared.said.Said.TheVariants as told
-use Rattle.coll_script.specs.Lines as lines
+use Rattle.coll_script.specs.Groups.{member_of, IsGroup}
+use Rattle.coll_script.specs.Histories.{Request, History}
 
--- the signature passes its check for n ranks, and the rank gives as many bytes as it wants
-pub record IsGift (n rank : ℕ) (sig : Signature) (given : List ℕ) : Type 0 where
-  pub checked : broken sig n ≡ None
-  pub length : length given ≡ given_len sig n rank
+-- a request of a rank on the communicator of this group: the signature passes its check, and each start gives as many bytes
+-- as it wants
+pub record IsRequestOn (group : List ℕ) (rank : ℕ) (p : Request) : Type 0 where
+  pub member : member_of rank group ≡ Some p.member
+  pub checked : broken p.sig (length group) ≡ None
+  pub given : AllByRecursion (λ given. length given ≡ given_len p.sig (length group) p.member) p.starts
 
--- what a line says, without where its bytes lie in memory
-abbrev pub said_view : Said → lines.Said
-said_view told.Nothing = lines.Nothing
-said_view (told.Ranks n) = lines.Ranks n
-said_view (told.Section rank) = lines.Section rank
-said_view (told.Post rank sig given) = lines.Post rank sig given.items
+-- a request of a rank, of which there were so many lines
+pub record IsRequest (lines : ℕ) (groups : List (List ℕ)) (rank : ℕ) (p : Request) : Type 0 where
+  pub known : p.comm < length groups
+  pub fits : IfSome (slice_get groups p.comm) (λ group. IsRequestOn group rank p)
+  pub early : p.line ≤ lines
+  pub few : length p.starts ≤ lines
 
--- what a line may say where the number of ranks and the section are these
-abbrev pub IsSound : Option ℕ → Option ℕ → Said → Type 0
-IsSound ranks section told.Nothing = Unit {0}
-IsSound ranks section (told.Ranks n) = (1 ≤ n) × (n ≤ 64) × (ranks ≡ None)
-IsSound ranks section (told.Section rank) = MatchOption ranks ⊥ (λ n. rank < n)
-IsSound ranks section (told.Post rank sig given) =
-    MatchOption ranks ⊥ (λ n. (section ≡ Some rank) × IsGift n rank sig given.items)
+pub record IsHistory (h : History) : Type 0 where
+  pub ranks : unwrap_or h.ranks 0 ≡ length h.sections
+  pub few_ranks : length h.sections ≤ 64
+  pub few_groups : length h.groups ≤ 16
+  pub groups : AllByRecursion (IsGroup (length h.sections)) h.groups
+  pub opened : IfSome h.opened (λ rank. rank < length h.sections)
+  pub requests : (rank : ℕ) → IfSome (slice_get h.sections rank) (λ s. AllByRecursion (IsRequest h.lines h.groups rank) s.requests)
+  pub few_requests : (rank : ℕ) → IfSome (slice_get h.sections rank) (λ s. length s.requests ≤ h.total)
+  pub few : h.total ≤ 4096

@@ -8,6 +8,8 @@ use Rattle.coll_kinds.specs.declared.operation.Op.TheVariants.{Max, Min, Sum, Pr
 use Rattle.coll_kinds.specs.declared.kind.Kind.{Kind}
 use Rattle.coll_kinds.specs.declared.kind.Kind.TheVariants.{Barrier, Bcast, Gather, Scatter, Allgather, Alltoall, Reduce, Allreduce, Rsblock, Scan, Exscan}
 use Rattle.coll_kinds.specs.Texts.{number_of}
+use Rattle.coll_script.specs.declared.verb.Verb.{Verb}
+use Rattle.coll_script.specs.declared.verb.Verb.TheVariants.{Post, Init, Start, Wait, Test, Free, WaitAny, WaitSome, WaitAll}
 use Rattle.coll_script.specs.declared.cause.Cause.{Cause}
 use Rattle.coll_script.specs.declared.cause.Cause.TheVariants.{BadWords}
 
@@ -67,4 +69,18 @@ datatype_of word =
     else (if bytes_eq word (codes "u32") then Some U32
     else (if bytes_eq word (codes "u64") then Some U64
     else (if bytes_eq word (codes "byte") then Some Byte
+    else None))))))))
+
+-- what a line of a section does
+abbrev pub verb_of : List ℕ → Option Verb
+verb_of word =
+    if bytes_eq word (codes "post") then Some Post
+    else (if bytes_eq word (codes "init") then Some Init
+    else (if bytes_eq word (codes "start") then Some Start
+    else (if bytes_eq word (codes "wait") then Some Wait
+    else (if bytes_eq word (codes "test") then Some Test
+    else (if bytes_eq word (codes "free") then Some Free
+    else (if bytes_eq word (codes "waitany") then Some WaitAny
+    else (if bytes_eq word (codes "waitsome") then Some WaitSome
+    else (if bytes_eq word (codes "waitall") then Some WaitAll
     else None))))))))

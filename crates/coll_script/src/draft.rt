@@ -1,112 +1,176 @@
-ghost use Rattle.std.specs.Prelude.{◌≡◌, MatchResult, Ok};
-ghost use Rattle.coll_script.specs.Steps.{Fails};
-ghost use Rattle.coll_script.specs.Sound.{said_view, IsSound};
-ghost use Rattle.coll_script.specs.Histories.{History, start, told, posted, judged_line};
+ghost use Rattle.std.specs.Prelude.{◌≡◌, ◌+◌, ◌<◌, ◌≤◌, length, replicate, Ok, IfOk, OnOk, IsOkUnless, MatchResult};
+ghost use Rattle.std.specs.List.{range_with_len};
+ghost use Rattle.coll_script.specs.Steps.{Fails, FailsText};
+ghost use Rattle.coll_script.specs.Cutting.{lines_of};
+ghost use Rattle.coll_script.specs.Histories.{start};
+ghost use Rattle.coll_script.specs.Sound.{IsHistory};
+ghost use Rattle.coll_script.specs.Views.{sections_view, history_of};
+ghost use Rattle.coll_script.specs.Requests.{no_section, section_of};
+ghost use Rattle.coll_script.specs.Lines.{Ranks, In};
+ghost use Rattle.coll_script.specs.Sayings.{act_view, said_view, IsActIn, IsSaid};
+ghost use Rattle.coll_script.specs.Judging.{noted, told, judged_line, judged};
 
-use crate::cause::Cause;
-use crate::cutting::words;
-use crate::fault::LineFault;
-use crate::place::{Place, first_mismatch, give_at};
-use crate::said::{Said, said_by};
-use coll_kinds::Signature;
-use std::alloc::Global;
+use crate::cutting::{lines, words};
+use crate::fault::{LineFault, ScriptFault};
+use crate::lines::said_by;
+use crate::request::MAX_REQUESTS;
+use crate::said::{Act, Said};
+use crate::section::Section;
+use std::alloc::{AllocError, Global};
 
-/// The most posts of a job.
-const MAX_POSTS: u32 = 4096;
+/// The most bytes of a text.
+pub(crate) const MAX_TEXT: usize = 1_048_576;
+
+/// The most lines of a text: one more than its bytes.
+pub(crate) const MAX_LINES: u32 = 1_048_577;
 
 /// A job as far as its lines are read.
-#[derive(Drop)]
+#[derive(Debug, Drop)]
 pub(crate) struct Draft {
+    /// How many lines are read.
+    pub(crate) lines: u32,
     /// The number of ranks, once it is known.
     pub(crate) ranks: Option<u8>,
+    /// The ranks that are the members of each communicator, in order.
+    pub(crate) groups: Vec<Vec<u8>>,
     /// The rank whose section stands open.
-    pub(crate) section: Option<u8>,
-    /// How many posts each rank has.
-    pub(crate) counts: [u32; 64],
-    pub(crate) places: Vec<Place>,
-    /// How many posts there are.
-    pub(crate) posts: u32,
-    /// The first line whose signature isn't that of the earliest line at its place.
-    pub(crate) mismatch: Option<u32>,
+    pub(crate) opened: Option<u8>,
+    /// What each rank has said.
+    pub(crate) sections: Vec<Section>,
+    /// How many requests there are in all.
+    pub(crate) total: u32,
 }
 
 impl Draft {
-    ghost use Rattle.coll_script.specs.Tables.{Shows};
-    ghost use Rattle.coll_script.specs.declared.said.Said.TheVariants as says;
+    /// The job that a text tells, or its first fault of a line. Linear in the text.
+    ///
+    /// What is judged after the last line is left to the caller.
+    pub(crate) fn read(alloc: Global, text: &[u8]) -> Result<Draft, ScriptFault>
+        requires { length text.now ≤ MAX_TEXT }
+        ensures read { MatchResult result
+            (λ draft. (judged start (lines_of text.now) ≡ Ok (history_of draft)) × IsHistory (history_of draft))
+            (λ fault. FailsText fault (judged start (lines_of text.now))) }
+        ensures lines { IfOk result (λ draft. draft.lines ≡ length (lines_of text.now)) }
+    {
+        let Ok(lines) = lines(alloc, text) else {
+            return Err(ScriptFault::NoMemory);
+        };
+        let mut draft = Draft::new(alloc);
+        for bytes in &lines {
+            let number = draft.lines + 1;
+            match draft.read_line(alloc, bytes) {
+                Ok(()) => {}
+                Err(fault) => return Err(fault.in_line(number)),
+            }
+        }
+        Ok(draft)
+    }
 
     /// A job of which no line is read.
-    pub(crate) fn new(alloc: Global) -> Draft
-        ensures { Shows result start }
+    fn new(alloc: Global) -> Draft
+        ensures { history_of result ≡ start }
     {
         Draft {
+            lines: 0,
             ranks: None,
-            section: None,
-            counts: [0; 64],
-            places: Vec::new(alloc),
-            posts: 0,
-            mismatch: None,
+            groups: Vec::new(alloc),
+            opened: None,
+            sections: Vec::new(alloc),
+            total: 0,
         }
     }
 
-    /// Takes what the line of that number says. The cost is that of the line, and at a new place linear
-    /// in the number of ranks.
-    fn tell(&mut self, alloc: Global, line: u32, said: Said) -> Result<(), LineFault>
-        requires shown { (h : History) × Shows self.old h }
-        requires sound { IsSound self.old.ranks self.old.section said }
-        ensures { (h : History) → Shows self.old h → MatchResult result
-            (λ _. (next : History) × (told h line (said_view said) ≡ Ok next) × Shows self.new next)
-            (λ fault. Fails fault (told h line (said_view said))) }
+    /// Reads the next line. Linear in the line.
+    fn read_line(&mut self, alloc: Global, bytes: &[u8]) -> Result<(), LineFault>
+        requires history { IsHistory (history_of self.old) }
+        requires few_lines { self.old.lines < MAX_LINES }
+        ensures read { MatchResult result
+            (λ _. (judged_line (history_of self.old) bytes.now ≡ Ok (history_of self.new))
+            × IsHistory (history_of self.new))
+            (λ fault. Fails fault (judged_line (history_of self.old) bytes.now)) }
+        ensures lines { OnOk result (self.new.lines ≡ self.old.lines + 1) }
+    {
+        let words = words(alloc, bytes)?;
+        let said = said_by(alloc, self, &words)?;
+        self.tell(alloc, said)
+    }
+
+    /// Takes what the next line says. The cost is that of the line, and for the first one linear in the
+    /// number of ranks.
+    fn tell(&mut self, alloc: Global, said: Said) -> Result<(), LineFault>
+        requires history { IsHistory (history_of self.old) }
+        requires few_lines { self.old.lines < MAX_LINES }
+        requires said { IsSaid (history_of self.old) (said_view said) }
+        ensures told { OnOk result (history_of self.new ≡ told (history_of self.old) (said_view said)) }
+        ensures memory { IsOkUnless result LineFault.NoMemory }
+    {
+        let line = self.lines + 1;
+        self.note(alloc, line, said)?;
+        self.lines = line;
+        Ok(())
+    }
+
+    /// Notes what is said in the line of that number.
+    fn note(&mut self, alloc: Global, line: u32, said: Said) -> Result<(), LineFault>
+        requires history { IsHistory (history_of self.old) }
+        requires said { IsSaid (history_of self.old) (said_view said) }
+        ensures noted { OnOk result (history_of self.new ≡ noted line (said_view said) (history_of self.old)) }
+        ensures memory { IsOkUnless result LineFault.NoMemory }
     {
         match said {
             Said::Nothing => {}
-            Said::Ranks(n) => self.ranks = Some(n),
-            Said::Section(rank) => self.section = Some(rank),
-            Said::Post(rank, sig, given) => self.post(alloc, line, rank, sig, given)?,
+            Said::Ranks(n) => return self.begin(alloc, n),
+            Said::Group(group) => self.groups.push(group)?,
+            Said::Section(rank) => self.opened = Some(rank),
+            Said::In(rank, act) => return self.act(line, rank, act),
         }
         Ok(())
     }
 
-    /// Reads the line of that number. The cost is that of the line, and at a new place linear in the
-    /// number of ranks.
-    pub(crate) fn read_line(
-        &mut self,
-        alloc: Global,
-        line: u32,
-        bytes: &[u8],
-    ) -> Result<(), LineFault>
-        requires { (h : History) × Shows self.old h }
-        ensures { (h : History) → Shows self.old h → MatchResult result
-            (λ _. (next : History) × (judged_line h line bytes.now ≡ Ok next) × Shows self.new next)
-            (λ fault. Fails fault (judged_line h line bytes.now)) }
+    /// Begins a job of `n` ranks, with a communicator of all of them. Linear in `n`.
+    fn begin(&mut self, alloc: Global, n: u8) -> Result<(), LineFault>
+        ensures begun { OnOk result (history_of self.new ≡ noted 0 (Ranks n) (history_of self.old)) }
+        ensures memory { IsOkUnless result LineFault.NoMemory }
     {
-        let words = words(alloc, bytes)?;
-        let said = said_by(alloc, self.ranks, self.section, &words)?;
-        self.tell(alloc, line, said)
-    }
-
-    fn post(
-        &mut self,
-        alloc: Global,
-        line: u32,
-        rank: u8,
-        sig: Signature,
-        given: Vec<u8>,
-    ) -> Result<(), LineFault>
-        requires shown { (h : History) × Shows self.old h }
-        requires sound { IsSound self.old.ranks self.old.section (says.Post rank sig given) }
-        ensures { (h : History) → Shows self.old h → MatchResult result
-            (λ _. (next : History) × (posted h line rank sig given.items ≡ Ok next) × Shows self.new next)
-            (λ fault. Fails fault (posted h line rank sig given.items)) }
-    {
-        if self.posts >= MAX_POSTS {
-            return Err(LineFault::Broken(Cause::TooManyRequests));
-        }
-        let n = self.ranks.unwrap_or(0);
-        let place = self.counts[rank as usize];
-        let fits = give_at(alloc, &mut self.places, n, place, rank, sig, given)?;
-        self.mismatch = first_mismatch(self.mismatch, fits, line);
-        self.counts[rank as usize] = place + 1;
-        self.posts += 1;
+        let mut groups = Vec::new(alloc);
+        groups.push(all_ranks(alloc, n)?)?;
+        self.sections = sections(alloc, n)?;
+        self.groups = groups;
+        self.ranks = Some(n);
         Ok(())
     }
+
+    /// Notes what a command does in the section of a rank.
+    fn act(&mut self, line: u32, rank: u8, act: Act) -> Result<(), LineFault>
+        requires rank { rank < length self.old.sections.items }
+        requires act { IsActIn (section_of (history_of self.old) rank).requests (act_view act) }
+        requires few { self.old.total ≤ MAX_REQUESTS }
+        ensures acted { OnOk result (history_of self.new ≡ noted line (In rank (act_view act)) (history_of self.old)) }
+        ensures memory { IsOkUnless result LineFault.NoMemory }
+    {
+        self.total += act.made();
+        self.sections[rank as usize].act(line, act)
+    }
+}
+
+/// All ranks below `n`, in rising order.
+fn all_ranks(alloc: Global, n: u8) -> Result<Vec<u8>, AllocError>
+    ensures { IfOk result (λ ranks. ranks.items ≡ range_with_len 0 n) }
+{
+    (0..n).collect(alloc)
+}
+
+/// The sections of `n` ranks, which have said nothing.
+fn sections(alloc: Global, n: u8) -> Result<Vec<Section>, LineFault>
+    ensures sections { IfOk result (λ sections. sections_view sections.items ≡ replicate n no_section) }
+    ensures memory { IsOkUnless result LineFault.NoMemory }
+{
+    let mut sections = Vec::new(alloc);
+    for _ in 0..n {
+        sections.push(Section {
+            requests: Vec::new(alloc),
+            waited: 0,
+        })?;
+    }
+    Ok(sections)
 }

@@ -1,51 +1,111 @@
-//! The words of a post.
+//! The words of a new request, and those of the values that a request is started with.
 
-ghost use Rattle.std.specs.Prelude.{◌≡◌, ◌*◌, ◌/◌, length, IfOk, OnOk, None, is_none};
+ghost use Rattle.std.specs.Prelude.{◌≡◌, ◌+◌, ◌*◌, ◌/◌, ◌<◌, length, IfOk, OnOk, None, is_none};
 ghost use Rattle.coll_kinds.specs.Elements.{width};
 ghost use Rattle.coll_kinds.specs.Lengths.{given_len};
 ghost use Rattle.coll_kinds.specs.Checks.{broken};
 ghost use Rattle.coll_script.specs.Steps.{texts, demand, Answers, Gives};
-ghost use Rattle.coll_script.specs.Posts.{communicator_at, values_at, bytes_at, post_at};
+ghost use Rattle.coll_script.specs.Sound.{IsRequest, IsHistory};
+ghost use Rattle.coll_script.specs.Views.{rows_view, request_view, history_of};
+ghost use Rattle.coll_script.specs.Posts.{values_at, bytes_at, given_at, usable_at, room, post_at, init_at};
 
 use crate::cause::Cause;
+use crate::communicators::communicator_at;
+use crate::draft::{Draft, MAX_LINES};
 use crate::fault::LineFault;
+use crate::request::{MAX_REQUESTS, Request};
 use crate::signatures::signature_at;
-use crate::words::{Words, next_word};
-use coll_kinds::{Datatype, Signature, read_element, read_number};
+use crate::words::{Words, end_of_line};
+use coll_kinds::{Datatype, Mode, Signature, read_element};
 use std::alloc::Global;
 
-/// What `rank` of `n` ranks posts: the signature, and the bytes that it gives. `words` are those
-/// behind the word `post`. Linear in the line.
+/// The once request that the words behind `post` make for `rank`. Linear in the line.
 #[tactic(auto, unfolding(crate::specs::Posts::post_at))]
 pub(crate) fn post_at(
     alloc: Global,
-    n: u8,
+    draft: &Draft,
     rank: u8,
     words: Words,
-) -> Result<(Signature, Vec<u8>), LineFault>
-    ensures given { Gives (λ post. (post.0, post.1.items)) result (post_at n rank (texts words.now)) }
-    ensures checked { IfOk result (λ post. broken post.0 n ≡ None) }
-    ensures length { IfOk result (λ post. length post.1.items ≡ given_len post.0 n rank) }
+) -> Result<Request, LineFault>
+    requires history { IsHistory (history_of draft.now) }
+    requires few_lines { draft.now.lines < MAX_LINES }
+    ensures given { Gives request_view result (post_at (history_of draft.now) rank (texts words.now)) }
+    ensures request { IfOk result (λ p.
+        IsRequest (draft.now.lines + 1) (rows_view draft.now.groups.items) rank (request_view p)) }
+    ensures room { OnOk result (draft.now.total < MAX_REQUESTS) }
 {
-    let words = communicator_at(words)?;
-    let (sig, words) = signature_at(words)?;
-    check(sig, n)?;
-    let due = sig.given_len(n, rank) / sig.ty.width();
-    let values = values_at(due, words)?;
-    let given = bytes_at(alloc, sig.ty, values)?;
-    Ok((sig, given))
+    let (at, words) = communicator_at(draft, rank, words)?;
+    let (sig, words) = usable_at(Mode::Once, at.size, words)?;
+    let given = given_at(alloc, sig, at.size, at.member, words)?;
+    room(draft)?;
+    let mut starts = Vec::new(alloc);
+    starts.push(given)?;
+    Ok(Request {
+        line: draft.lines + 1,
+        comm: at.comm,
+        member: at.member,
+        sig,
+        starts,
+        since: 0,
+        freed: false,
+    })
 }
 
-/// The words behind the communicator's number.
-fn communicator_at<'w, 'a>(words: Words<'w, 'a>) -> Result<Words<'w, 'a>, Cause>
-    ensures { Answers (λ rest. texts rest.now) result (communicator_at (texts words.now)) }
+/// The persistent request that the words behind `init` make for `rank`. Linear in the line.
+#[tactic(auto, unfolding(crate::specs::Posts::init_at))]
+pub(crate) fn init_at(
+    alloc: Global,
+    draft: &Draft,
+    rank: u8,
+    words: Words,
+) -> Result<Request, LineFault>
+    requires history { IsHistory (history_of draft.now) }
+    requires few_lines { draft.now.lines < MAX_LINES }
+    ensures given { Gives request_view result (init_at (history_of draft.now) rank (texts words.now)) }
+    ensures request { IfOk result (λ p.
+        IsRequest (draft.now.lines + 1) (rows_view draft.now.groups.items) rank (request_view p)) }
+    ensures room { OnOk result (draft.now.total < MAX_REQUESTS) }
 {
-    let (word, words) = next_word(words)?;
-    let comm = read_number(word).ok_or(Cause::BadNumber)?;
-    if comm != 0 {
-        return Err(Cause::BadCommunicator);
+    let (at, words) = communicator_at(draft, rank, words)?;
+    let (sig, words) = usable_at(Mode::Persistent, at.size, words)?;
+    end_of_line(words)?;
+    room(draft)?;
+    Ok(Request {
+        line: draft.lines + 1,
+        comm: at.comm,
+        member: at.member,
+        sig,
+        starts: Vec::new(alloc),
+        since: 0,
+        freed: false,
+    })
+}
+
+/// Asks that there is room for one more request.
+fn room(draft: &Draft) -> Result<(), Cause>
+    ensures given { Answers (λ _. tt) result (room (history_of draft.now)) }
+    ensures room { OnOk result (draft.now.total < MAX_REQUESTS) }
+{
+    if draft.total < MAX_REQUESTS as u32 {
+        Ok(())
+    } else {
+        Err(Cause::TooManyRequests)
     }
-    Ok(words)
+}
+
+/// A signature that `n` members may use, for a request of that mode, and the words behind it.
+#[tactic(auto, unfolding(crate::specs::Posts::usable_at))]
+fn usable_at<'w, 'a>(
+    mode: Mode,
+    n: u8,
+    words: Words<'w, 'a>,
+) -> Result<(Signature, Words<'w, 'a>), Cause>
+    ensures given { Answers (λ next. (next.0, texts next.1.now)) result (usable_at mode n (texts words.now)) }
+    ensures checked { IfOk result (λ next. broken next.0 n ≡ None) }
+{
+    let (sig, words) = signature_at(mode, words)?;
+    check(sig, n)?;
+    Ok((sig, words))
 }
 
 /// Asks that the signature may be used by `n` members.
@@ -57,6 +117,23 @@ fn check(sig: Signature, n: u8) -> Result<(), Cause>
         Ok(()) => Ok(()),
         Err(_) => Err(Cause::BadSignature),
     }
+}
+
+/// The bytes that a member of `n` starts a request with. Linear in the line.
+#[tactic(auto, unfolding(crate::specs::Posts::given_at))]
+pub(crate) fn given_at(
+    alloc: Global,
+    sig: Signature,
+    n: u8,
+    member: u8,
+    words: Words,
+) -> Result<Vec<u8>, LineFault>
+    ensures given { Gives (λ given. given.items) result (given_at sig n member (texts words.now)) }
+    ensures length { IfOk result (λ given. length given.items ≡ given_len sig n member) }
+{
+    let due = sig.given_len(n, member) / sig.ty.width();
+    let values = values_at(due, words)?;
+    bytes_at(alloc, sig.ty, values)
 }
 
 /// The words of the values, of which `due` are due.

@@ -1,52 +1,46 @@
-ghost use Rattle.std.specs.Prelude.{◌≡◌, ◌≤◌, ◌+◌, ℕ, length, slice_index, MatchResult, IsTrue, ◌↔◌, Ok, ◌<◌, ◌++◌, IfOk, OnOk, IsOkUnless};
-ghost use Rattle.coll_script.specs.Steps.{FailsText, GivesText};
-ghost use Rattle.coll_script.specs.Cutting.{lines_of};
-ghost use Rattle.coll_script.specs.Histories.{History, start, judged};
-ghost use Rattle.coll_script.specs.Jobs.{completed, job_of};
-ghost use Rattle.coll_script.specs.Tables.{Shows};
-ghost use Rattle.coll_script.specs.Places.{places_view};
-ghost use Rattle.coll_script.specs.Scripts.{IsJob};
-ghost use Rattle.coll_script.specs.Meaning.{job_lines, rank_lines};
+ghost use Rattle.std.specs.Prelude.{◌≡◌, ◌≤◌, length, IfOk, IsOkUnless};
+ghost use Rattle.coll_script.specs.Steps.{GivesText};
+ghost use Rattle.coll_script.specs.Sound.{IsHistory};
+ghost use Rattle.coll_script.specs.Views.{history_of};
+ghost use Rattle.coll_script.specs.Jobs.{job_of, job_from, matched_job, completed};
+ghost use Rattle.coll_script.specs.Meaning.{job_lines};
 
 use crate::cause::Cause;
-use crate::cutting::lines;
-use crate::draft::Draft;
+use crate::draft::{Draft, MAX_TEXT};
+use crate::evaluation::all_values;
 use crate::fault::{Fault, ScriptFault};
-use crate::outcome::print_outcome;
-use crate::place::Place;
+use crate::matching::{all_have_places, all_have_starts, mismatch};
+use crate::postings::all_postings;
+use crate::rank_lines::print_rank;
+use crate::section::Section;
 use coll_kinds::Refusal;
-use coll_ops::plain_value;
 use std::alloc::Global;
 use std::marker::Model;
 
-/// The most bytes of a text.
-const MAX_TEXT: usize = 1_048_576;
-
-/// The job of a text without a fault: at each place of the posting lists a signature, and what each
-/// rank gives.
+/// The job of a text without a fault: the members of each communicator, and what each rank has said.
 #[derive(Debug, Drop)]
 pub struct Script {
-    ranks: u8,
-    places: Vec<Place>,
+    groups: Vec<Vec<u8>>,
+    sections: Vec<Section>,
 }
 
 impl Model for Script {
-    ghost use Rattle.std.specs.Prelude.{ℕ};
     ghost use Rattle.coll_script.specs.Jobs.{Job};
 
     ghost Value = { Job };
 
-    ghost use Rattle.coll_script.specs.Places.{places_view};
+    ghost use Rattle.coll_script.specs.Views.{rows_view};
+    ghost use Rattle.coll_script.specs.PostingViews.{requests_view};
     ghost use Rattle.coll_script.specs.Scripts.{IsJob};
 
-    ghost view = { λ s. record { ranks = s.ranks; places = places_view s.places.items } };
+    ghost view = { λ s. record { groups = rows_view s.groups.items; requests = requests_view s.sections.items } };
 
-    ghost invariant = { λ s. IsJob s.ranks (places_view s.places.items) };
+    ghost invariant = { λ s. IsJob (record { groups = rows_view s.groups.items; requests = requests_view s.sections.items }) };
 }
 
 impl Script {
     /// Reads a job text: its job, or the first rule that it breaks. Takes a text as it is, whatever its
-    /// bytes. The cost is linear in the text, and in the number of ranks for each place.
+    /// bytes. The cost is linear in the text, and for each communicator in the requests of its members.
     ///
     /// A fault is [`ScriptFault::Text`], or [`ScriptFault::NoMemory`] where memory was refused.
     pub fn read(alloc: Global, text: &[u8]) -> Result<Script, ScriptFault>
@@ -55,43 +49,28 @@ impl Script {
         if text.len() > MAX_TEXT {
             return Err(fault(1, Cause::TooLong));
         }
-        let (draft, last) = draft_of(alloc, text)?;
-        completed(draft, last)
+        let draft = Draft::read(alloc, text)?;
+        completed(alloc, draft)
     }
 
-    /// The output lines of the job, in rising rank and request: the value of each post, computed directly
-    /// from what all ranks give. Refuses [`Refusal::NoMemory`] alone. The cost is linear in the output and
-    /// in the bytes that all ranks give, once for each rank.
+    /// The output lines of the job, in rising rank, request and start: the value of each start, computed
+    /// directly from what all members give. Refuses [`Refusal::NoMemory`] alone. The cost is linear in the
+    /// output and in the bytes that the members give, and for each communicator in the requests of its
+    /// members.
     pub fn plain_lines(&self, alloc: Global) -> Result<Vec<u8>, Refusal>
         ensures ok { IfOk result (λ out. out.items ≡ job_lines self.now) }
         ensures refusal { IsOkUnless result Refusal.NoMemory }
     {
+        let Ok(all) = all_postings(alloc, &self.sections, &self.groups) else {
+            return Err(Refusal::NoMemory);
+        };
+        let values = all_values(alloc, &all)?;
         let mut out = Vec::new(alloc);
-        for rank in 0..self.ranks {
-            print_rank(alloc, &self.places, self.ranks, rank, &mut out)?;
+        for (rank, section) in self.sections.iter().enumerate() {
+            print_rank(alloc, rank as u8, &section.requests, &values, &mut out)?;
         }
         Ok(out)
     }
-}
-
-/// Appends the lines of a rank.
-fn print_rank(
-    alloc: Global,
-    places: &[Place],
-    n: u8,
-    rank: u8,
-    out: &mut Vec<u8>,
-) -> Result<(), Refusal>
-    requires job { IsJob n (places_view places.now) }
-    requires member { rank < n }
-    ensures ok { OnOk result (out.new.items ≡ out.old.items ++ rank_lines (places_view places.now) rank) }
-    ensures refusal { IsOkUnless result Refusal.NoMemory }
-{
-    for (req, place) in places.iter().enumerate() {
-        let value = plain_value(alloc, place.sig, n, &place.given, rank)?;
-        print_outcome(alloc, rank, req as u32, 0, place.sig, &value, out)?;
-    }
-    Ok(())
 }
 
 fn fault(line: u32, cause: Cause) -> ScriptFault
@@ -100,57 +79,41 @@ fn fault(line: u32, cause: Cause) -> ScriptFault
     ScriptFault::Text(Fault { line, cause })
 }
 
-/// The job as all lines leave it, and the number of lines.
-fn draft_of(alloc: Global, text: &[u8]) -> Result<(Draft, u32), ScriptFault>
-    requires { length text.now ≤ MAX_TEXT }
-    ensures { MatchResult result
-        (λ read. (h : History) × (judged start 0 (lines_of text.now) ≡ Ok h) × Shows read.0 h × (read.1 ≡ length (lines_of text.now)))
-        (λ fault. FailsText fault (judged start 0 (lines_of text.now))) }
-{
-    let Ok(lines) = lines(alloc, text) else {
-        return Err(ScriptFault::NoMemory);
-    };
-    let mut draft = Draft::new(alloc);
-    let mut last = 0;
-    for bytes in &lines {
-        last += 1;
-        match draft.read_line(alloc, last, bytes) {
-            Ok(()) => {}
-            Err(fault) => return Err(fault.in_line(last)),
-        }
-    }
-    Ok((draft, last))
-}
-
 /// The job of a draft, or what is judged after the last line.
-fn completed(draft: Draft, last: u32) -> Result<Script, ScriptFault>
-    requires { (h : History) × Shows draft h }
-    ensures { (h : History) → Shows draft h → GivesText (λ script. script) result (completed last h.ranks h.posts) }
+fn completed(alloc: Global, draft: Draft) -> Result<Script, ScriptFault>
+    requires read { IsHistory (history_of draft) }
+    requires few { draft.lines ≤ 1048577 }
+    ensures { GivesText (λ script. script) result (completed (history_of draft)) }
 {
-    let Some(ranks) = draft.ranks else {
-        return Err(fault(last, Cause::MissingRanks));
-    };
-    if let Some(line) = draft.mismatch {
-        return Err(fault(line, Cause::PlaceMismatch));
+    if draft.ranks.is_none() {
+        return Err(fault(draft.lines, Cause::MissingRanks));
     }
-    if !are_equal(&draft.counts, ranks) {
-        return Err(fault(last, Cause::PlaceMissing));
-    }
+    check(alloc, &draft)?;
     Ok(Script {
-        ranks,
-        places: draft.places,
+        groups: draft.groups,
+        sections: draft.sections,
     })
 }
 
-/// Whether the first `n` counts are all the same.
-fn are_equal(counts: &[u32], n: u8) -> bool
-    requires { n ≤ length counts.now }
-    ensures { IsTrue result ↔ ((r : ℕ) → r < n → slice_index counts.now r ≡ slice_index counts.now 0) }
+/// Asks that the requests at each place belong together.
+fn check(alloc: Global, draft: &Draft) -> Result<(), ScriptFault>
+    requires { IsHistory (history_of draft.now) }
+    ensures { GivesText (λ _. job_from (history_of draft.now)) result (matched_job draft.now.lines (job_from (history_of draft.now))) }
 {
-    for r in 0..n as usize {
-        if counts[r] != counts[0] {
-            return false;
-        }
+    let Ok(all) = all_postings(alloc, &draft.sections, &draft.groups) else {
+        return Err(ScriptFault::NoMemory);
+    };
+    let Ok(mismatch) = mismatch(alloc, &all) else {
+        return Err(ScriptFault::NoMemory);
+    };
+    if let Some(line) = mismatch {
+        return Err(fault(line, Cause::PlaceMismatch));
     }
-    true
+    if !all_have_places(&all) {
+        return Err(fault(draft.lines, Cause::PlaceMissing));
+    }
+    if !all_have_starts(&all) {
+        return Err(fault(draft.lines, Cause::StartMissing));
+    }
+    Ok(())
 }

@@ -2,7 +2,7 @@
 
 ghost use Rattle.std.specs.Prelude.{◌≡◌};
 ghost use Rattle.coll_script.specs.Steps.{texts, Answers};
-ghost use Rattle.coll_script.specs.Signatures.{type_and_count_at, root_at, operation_at, fields_at, signature_at};
+ghost use Rattle.coll_script.specs.Signatures.{type_and_count_at, root_at, operation_at, barrier_signature, fields_at, signature_at};
 ghost use Rattle.coll_kinds.specs.Checks.{is_barrier};
 
 use crate::cause::Cause;
@@ -15,29 +15,35 @@ const ROOT_LIMIT: u64 = 256;
 /// The number above the greatest count that has room in a signature.
 const COUNT_LIMIT: u64 = 1 << 32;
 
-/// A barrier has no words of its own.
-const BARRIER: Signature = Signature {
-    kind: Kind::Barrier,
-    mode: Mode::Once,
-    root: 0,
-    op: None,
-    ty: Datatype::Byte,
-    count: 0,
-};
-
-/// A signature's words, and those after them. Of the rules that the words break it tells the first.
+/// A signature's words, for a request of that mode, and the words after them. Of the rules that the
+/// words break it tells the first.
 #[tactic(auto, unfolding(crate::specs::Signatures::signature_at))]
 pub(crate) fn signature_at<'w, 'a>(
+    mode: Mode,
     words: Words<'w, 'a>,
 ) -> Result<(Signature, Words<'w, 'a>), Cause>
-    ensures { Answers (λ next. (next.0, texts next.1.now)) result (signature_at (texts words.now)) }
+    ensures { Answers (λ next. (next.0, texts next.1.now)) result (signature_at mode (texts words.now)) }
 {
     let (word, words) = next_word(words)?;
     let kind = kind_of(word).ok_or(Cause::BadSignature)?;
     if is_barrier(kind) {
-        return Ok((BARRIER, words));
+        return Ok((barrier_signature(mode), words));
     }
-    fields_at(kind, words)
+    fields_at(mode, kind, words)
+}
+
+/// A barrier has no words of its own.
+fn barrier_signature(mode: Mode) -> Signature
+    ensures { result ≡ barrier_signature mode }
+{
+    Signature {
+        kind: Kind::Barrier,
+        mode,
+        root: 0,
+        op: None,
+        ty: Datatype::Byte,
+        count: 0,
+    }
 }
 
 fn is_barrier(kind: Kind) -> bool
@@ -47,15 +53,19 @@ fn is_barrier(kind: Kind) -> bool
 }
 
 #[tactic(auto, unfolding(crate::specs::Signatures::fields_at))]
-fn fields_at<'w, 'a>(kind: Kind, words: Words<'w, 'a>) -> Result<(Signature, Words<'w, 'a>), Cause>
-    ensures { Answers (λ next. (next.0, texts next.1.now)) result (fields_at kind (texts words.now)) }
+fn fields_at<'w, 'a>(
+    mode: Mode,
+    kind: Kind,
+    words: Words<'w, 'a>,
+) -> Result<(Signature, Words<'w, 'a>), Cause>
+    ensures { Answers (λ next. (next.0, texts next.1.now)) result (fields_at mode kind (texts words.now)) }
 {
     let (root, words) = root_at(kind.has_root(), words)?;
     let (op, words) = operation_at(kind.has_operation(), words)?;
     let (ty, count, words) = type_and_count_at(words)?;
     let sig = Signature {
         kind,
-        mode: Mode::Once,
+        mode,
         root,
         op,
         ty,

@@ -59,9 +59,13 @@ fn words_of_the_causes(rt: HostRuntime) -> Result<(), Fail> {
         (Cause::BadSignature, "line 7: bad signature"),
         (Cause::WrongValueCount, "line 7: wrong value count"),
         (Cause::BadValue, "line 7: bad value"),
+        (Cause::UnknownRequest, "line 7: unknown request"),
+        (Cause::NamedTwice, "line 7: named twice"),
+        (Cause::NotStartable, "line 7: not startable"),
         (Cause::TooManyRequests, "line 7: too many requests"),
         (Cause::PlaceMismatch, "line 7: place mismatch"),
         (Cause::PlaceMissing, "line 7: place missing"),
+        (Cause::StartMissing, "line 7: start missing"),
     ] {
         assert_eq!(rt;
             Fault { line: 7, cause }.to_string(rt.alloc())?.as_str(),

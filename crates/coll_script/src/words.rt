@@ -2,9 +2,10 @@
 
 ghost use Rattle.std.specs.Prelude.{◌≡◌, ◌≤◌, ◌^◌};
 ghost use Rattle.coll_script.specs.Steps.{texts, Answers};
-ghost use Rattle.coll_script.specs.Words.{next_word, end_of_line, number_within, kind_of, operation_of, datatype_of};
+ghost use Rattle.coll_script.specs.Words.{next_word, end_of_line, number_within, kind_of, operation_of, datatype_of, verb_of};
 
 use crate::cause::Cause;
+use crate::verb::Verb;
 use coll_kinds::{Datatype, Kind, Op, read_number};
 
 /// The words of a line that are still to be read.
@@ -125,6 +126,32 @@ pub(crate) fn datatype_of(word: &[u8]) -> Option<Datatype>
         Some(Datatype::U64)
     } else if word == b"byte".as_slice() {
         Some(Datatype::Byte)
+    } else {
+        None
+    }
+}
+
+pub(crate) fn verb_of(word: &[u8]) -> Option<Verb>
+    ensures { result ≡ verb_of word.now }
+{
+    if word == b"post".as_slice() {
+        Some(Verb::Post)
+    } else if word == b"init".as_slice() {
+        Some(Verb::Init)
+    } else if word == b"start".as_slice() {
+        Some(Verb::Start)
+    } else if word == b"wait".as_slice() {
+        Some(Verb::Wait)
+    } else if word == b"test".as_slice() {
+        Some(Verb::Test)
+    } else if word == b"free".as_slice() {
+        Some(Verb::Free)
+    } else if word == b"waitany".as_slice() {
+        Some(Verb::WaitAny)
+    } else if word == b"waitsome".as_slice() {
+        Some(Verb::WaitSome)
+    } else if word == b"waitall".as_slice() {
+        Some(Verb::WaitAll)
     } else {
         None
     }

@@ -1,23 +1,17 @@
-use Rattle.std.proofs.Common.{Ok, ap, ◌∙◌}
-use Rattle.coll_script.specs.Tables.{tables_of}
-use Rattle.coll_script.specs.Jobs.{Job}
-use Rattle.coll_script.proofs.Completing.{IsJob-from, job_from-tables}
-use Rattle.coll_script.proofs.Finishing.{Finishes-from, completes, completed-missing, completed-whole}
+use Rattle.std.proofs.Common.{not, List, Ok, ap, subst, ◌∙◌, arith}
+use Rattle.coll_script.specs.Histories.{Request}
+use Rattle.coll_script.specs.Views.{history_of, rows_view}
+use Rattle.coll_script.specs.Scripts.{IsJob}
+use Rattle.coll_script.proofs.Ending.{IsJob-history, completed-known}
+use Rattle.coll_script.proofs.Matched.{requests_view-history}
 use Rattle.coll_script.proofs.script.completed.Goals as goal
-
-pub returns-then-not-are_equal : goal.returns-then-not-are_equal
-returns-then-not-are_equal c h shows =
-    let is = Finishes-from c.args.draft h c.in-Some.ranks c.are_equal.result shows c.in-Some.is c.in_default-mismatch.is c.are_equal.ensures in
-    rw c.fault-then-not-are_equal.ensures (completed-missing c.args.draft h c.in-Some.ranks c.args.last c.are_equal.result is c.if-not-are_equal.true)
 
 pub invariant_of-result : goal.invariant_of-result
 invariant_of-result c =
-    let shown = c.requires in
-    let is = Finishes-from c.args.draft shown.0 c.in-Some.ranks c.are_equal.result shown.1 c.in-Some.is c.in_default-mismatch.is c.are_equal.ensures in
-    IsJob-from c.in-Some.ranks (tables_of c.args.draft) shown.0.posts is.tables (completes c.args.draft shown.0 c.in-Some.ranks c.are_equal.result is c.if-not-are_equal.false) is.none
+    subst (λ (requests : List (List Request)). IsJob (record { groups = rows_view c.args.draft.groups.items; requests = requests })) (requests_view-history c.args.draft)
+    (IsJob-history (history_of c.args.draft) c.args.draft.lines _ c.requires.read (omega (arith, c.requires.few)) c.in_ok-check.ensures)
 
 pub returns : goal.returns
-returns c h shows =
-    let is = Finishes-from c.args.draft h c.in-Some.ranks c.are_equal.result shows c.in-Some.is c.in_default-mismatch.is c.are_equal.ensures in
-    completed-whole c.args.draft h c.in-Some.ranks c.args.last c.are_equal.result is c.if-not-are_equal.false
-    ∙ ap (λ (job : Job). Ok job) (job_from-tables c.in-Some.ranks (tables_of c.args.draft) h.posts is.tables (completes c.args.draft h c.in-Some.ranks c.are_equal.result is c.if-not-are_equal.false))
+returns c =
+    completed-known (history_of c.args.draft) _ (c.is_none.ensures ∙ ap not c.if-is_none.false) c.in_ok-check.ensures
+    ∙ ap (λ (requests : List (List Request)). Ok (record { groups = rows_view c.args.draft.groups.items; requests = requests })) (requests_view-history c.args.draft)

@@ -1,4 +1,4 @@
-use Rattle.std.proofs.Common.{◌≡◌, ◌-◌, ◌++◌}
+use Rattle.std.proofs.Common.{◌≡◌, ◌-◌, ◌++◌, length}
 use Rattle.std.specs.Prelude.{flat_map}
 use Rattle.std.specs.List.{range_with_len}
 use Rattle.coll_script.specs.Meaning.{rank_lines, job_lines}
@@ -6,4 +6,4 @@ use Rattle.coll_script.proofs.script.Script.plain_lines.Given as goal
 
 abbrev pub invariant-loop-rank : goal.invariant-loop-rank
 invariant-loop-rank l =
-    l.out.items ++ flat_map (rank_lines l.self.places) (range_with_len l.rank (l.self.ranks - l.rank)) ≡ job_lines l.self
+    l.out.items ++ flat_map (rank_lines l.self) (range_with_len l.rank (length l.self.requests - l.rank)) ≡ job_lines l.self

@@ -1,0 +1,32 @@
+-- What holds of each element of a list, and of the elements at places.
+use Rattle.std.proofs.Common.{◌≡◌, ℕ, zero, suc, ◌<◌, List, [], ◌∷◌, ◌++◌, length, get_or, map, refl, ap, ◌∙◌, subst, arith, Some}
+use Rattle.std.specs.Prelude.{slice_get}
+use Rattle.std.specs.List.{AllByRecursion}
+use Rattle.std.proofs.lemmas.Option.{none-some, same_Some, slice_get-map, slice_get-get_or, slice_get_read}
+use Rattle.std.specs.Option.{option_map}
+
+pub AllByRecursion-at : {X : Type 0} (P : X → Type 0) (xs : List X) (i : ℕ) (x : X) → AllByRecursion P xs → slice_get xs i ≡ Some x → P x
+AllByRecursion-at P [] i x h e = absurd (none-some x e)
+AllByRecursion-at P (y ∷ ys) zero x h e = subst P (same_Some y x e) h.0
+AllByRecursion-at P (y ∷ ys) (suc i) x h e = AllByRecursion-at P ys i x h.1 e
+
+pub AllByRecursion-weaker : {X : Type 0} (P Q : X → Type 0) → ((x : X) → P x → Q x) → (xs : List X) → AllByRecursion P xs → AllByRecursion Q xs
+AllByRecursion-weaker P Q f [] h = tt
+AllByRecursion-weaker P Q f (x ∷ xs) h = (f x h.0, AllByRecursion-weaker P Q f xs h.1)
+
+pub AllByRecursion-push : {X : Type 0} (P : X → Type 0) (xs : List X) (y : X) → AllByRecursion P xs → P y → AllByRecursion P (xs ++ y ∷ [])
+AllByRecursion-push P [] y h here = (here, tt)
+AllByRecursion-push P (x ∷ xs) y h here = (h.0, AllByRecursion-push P xs y h.1 here)
+
+-- what was read of a list, in a view of it
+pub slice_get-view : {X Y : Type 0} (view : X → Y) (xs : List X) (i : ℕ) (x : X) → i < length xs → x ≡ get_or xs i x → slice_get (map view xs) i ≡ Some (view x)
+slice_get-view view xs i x lt is = slice_get-map view xs i ∙ ap (option_map view) (slice_get_read xs (length xs) i x refl lt is)
+
+-- one more element leaves the others at their places
+pub slice_get-push : {X : Type 0} (xs : List X) (i : ℕ) (y : X) → i < length xs → slice_get (xs ++ y ∷ []) i ≡ slice_get xs i
+slice_get-push [] i y lt = absurd (omega arith)
+slice_get-push (x ∷ xs) zero y lt = refl
+slice_get-push (x ∷ xs) (suc i) y lt = slice_get-push xs i y (omega arith)
+
+pub AllByRecursion-read : {X : Type 0} (P : X → Type 0) (xs : List X) (i : ℕ) (d : X) → AllByRecursion P xs → i < length xs → P (get_or xs i d)
+AllByRecursion-read P xs i d h lt = AllByRecursion-at P xs i (get_or xs i d) h (slice_get-get_or xs i d lt)

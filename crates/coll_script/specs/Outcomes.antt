@@ -1,0 +1,58 @@
+-- The values of a job, as they are computed before they are printed: for each communicator, place, start and member.
+use Rattle.std.specs.Prelude.{◌≡◌, ℕ, ◌+◌, ◌<◌, ◌≤◌, List, [], ◌∷◌, length, map, slice_get, unwrap_or, Some, None, Vec}
+use Rattle.std.specs.List.{range_with_len, AllByRecursion}
+use Rattle.std.specs.Global.{Global}
+use Rattle.coll_kinds.specs.Lengths.{given_len}
+use Rattle.coll_kinds.specs.Checks.{broken}
+use Rattle.coll_ops.specs.Values.{value}
+use Rattle.coll_script.specs.Histories.{Request}
+use Rattle.coll_script.specs.Views.{rows_view}
+use Rattle.coll_script.specs.Matching.{first_list}
+use Rattle.coll_script.specs.Meaning.{given_at}
+
+-- the values of all members at a start of a place where this request stands
+abbrev pub start_values : List (List Request) → ℕ → Request → ℕ → List (List ℕ)
+start_values lists place p start = map (value p.sig (given_at lists place start)) (range_with_len 0 (length lists))
+
+abbrev pub place_values : List (List Request) → ℕ → Request → List (List (List ℕ))
+place_values lists place p = map (start_values lists place p) (range_with_len 0 (length p.starts))
+
+-- the values at the places of these requests, from a place on
+abbrev pub values_from : List (List Request) → ℕ → List Request → List (List (List (List ℕ)))
+values_from lists place [] = []
+values_from lists place (p ∷ requests) = place_values lists place p ∷ values_from lists (place + 1) requests
+
+abbrev pub group_values : List (List Request) → List (List (List (List ℕ)))
+group_values lists = values_from lists 0 (first_list lists)
+
+-- the values at the starts of a place, without where they lie in memory
+abbrev pub place_view : List (Vec (Vec ℕ Global) Global) → List (List (List ℕ))
+place_view starts = map (λ rows. rows_view rows.items) starts
+
+abbrev pub group_view : List (Vec (Vec (Vec ℕ Global) Global) Global) → List (List (List (List ℕ)))
+group_view places = map (λ starts. place_view starts.items) places
+
+abbrev pub values_view : List (Vec (Vec (Vec (Vec ℕ Global) Global) Global) Global) → List (List (List (List (List ℕ))))
+values_view groups = map (λ places. group_view places.items) groups
+
+-- a request of member m of n stands where the first member's request stands
+pub record Accords (n m : ℕ) (first p : Request) : Type 0 where
+  pub member : p.member ≡ m
+  pub sig : p.sig ≡ first.sig
+  pub starts : length p.starts ≡ length first.starts
+  pub checked : broken p.sig n ≡ None
+  pub given : AllByRecursion (λ given. length given ≡ given_len p.sig n m) p.starts
+
+abbrev pub list_at : List (List Request) → ℕ → List Request
+list_at lists m = unwrap_or (slice_get lists m) []
+
+-- each member has a request at a place, and that one has a start of that number
+abbrev pub HaveStart : List (List Request) → ℕ → ℕ → Type 0
+HaveStart lists place start = (m : ℕ) → m < length lists → (p : Request) × (slice_get (list_at lists m) place ≡ Some p) × (start < length p.starts)
+
+-- at each place of the first member's list each of n members has a request that accords with it, and no member has more
+pub record AreMatched (n : ℕ) (lists : List (List Request)) : Type 0 where
+  pub few : n ≤ 64
+  pub each : length lists ≡ n
+  pub same_length : (m : ℕ) → m < n → length (list_at lists m) ≡ length (first_list lists)
+  pub accord : (m place : ℕ) (first : Request) → m < n → slice_get (first_list lists) place ≡ Some first → (p : Request) × (slice_get (list_at lists m) place ≡ Some p) × Accords n m first p

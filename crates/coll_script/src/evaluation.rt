@@ -1,0 +1,131 @@
+//! The values of a job, computed directly from what all members give.
+
+ghost use Rattle.std.specs.Prelude.{◌≡◌, ◌≤◌, ◌++◌, ◌∷◌, [], length, map, slice_get, Some, None, IfOk, OnOk, IsOkUnless};
+ghost use Rattle.std.specs.List.{AllByRecursion, range_with_len};
+ghost use Rattle.coll_kinds.specs.Checks.{broken};
+ghost use Rattle.coll_ops.specs.Contributions.{AreGiven};
+ghost use Rattle.coll_ops.specs.Values.{value};
+ghost use Rattle.coll_script.specs.Views.{request_view, rows_view};
+ghost use Rattle.coll_script.specs.Matching.{first_list};
+ghost use Rattle.coll_script.specs.Meaning.{given_at};
+ghost use Rattle.coll_script.specs.PostingViews.{lists_view, all_lists_view};
+ghost use Rattle.coll_script.specs.Outcomes.{place_values, group_values, place_view, group_view, values_view, HaveStart, AreMatched};
+
+use crate::postings::Postings;
+use crate::request::Request;
+use coll_kinds::{Refusal, Signature};
+use coll_ops::plain_values;
+use std::alloc::Global;
+
+/// A row of bytes for each member of a communicator.
+pub(crate) type Rows = Vec<Vec<u8>>;
+
+/// What the members of a communicator give at a start of a place. Linear in the bytes.
+fn given_at(
+    alloc: Global,
+    lists: &[Vec<&Request>],
+    place: usize,
+    start: usize,
+) -> Result<Rows, Refusal>
+    requires { HaveStart (lists_view lists.now) place start }
+    ensures ok { IfOk result (λ rows. rows_view rows.items ≡ given_at (lists_view lists.now) place start) }
+    ensures refusal { IsOkUnless result Refusal.NoMemory }
+{
+    let mut rows = Vec::new(alloc);
+    for list in lists {
+        let row = copied(alloc, &list[place].starts[start])?;
+        push(row, &mut rows)?;
+    }
+    Ok(rows)
+}
+
+/// The values of all members at a start of a place.
+fn start_values(
+    alloc: Global,
+    sig: Signature,
+    lists: &[Vec<&Request>],
+    place: usize,
+    start: usize,
+) -> Result<Rows, Refusal>
+    requires few { length lists.now ≤ 64 }
+    requires checked { broken sig (length lists.now) ≡ None }
+    requires starts { HaveStart (lists_view lists.now) place start }
+    requires given { AreGiven sig (length lists.now) (given_at (lists_view lists.now) place start) }
+    ensures ok { IfOk result (λ values. rows_view values.items ≡ map (value sig (given_at (lists_view lists.now) place start)) (range_with_len 0 (length lists.now))) }
+    ensures refusal { IsOkUnless result Refusal.NoMemory }
+{
+    let given = given_at(alloc, lists, place, start)?;
+    plain_values(alloc, sig, lists.len() as u8, &given)
+}
+
+/// The values at each start of a place.
+fn place_values(
+    alloc: Global,
+    lists: &[Vec<&Request>],
+    place: usize,
+    request: &Request,
+) -> Result<Vec<Rows>, Refusal>
+    requires matched { AreMatched (length lists.now) (lists_view lists.now) }
+    requires there { slice_get (first_list (lists_view lists.now)) place ≡ Some (request_view request.now) }
+    ensures ok { IfOk result (λ starts. place_view starts.items ≡ place_values (lists_view lists.now) place (request_view request.now)) }
+    ensures refusal { IsOkUnless result Refusal.NoMemory }
+{
+    let mut starts = Vec::new(alloc);
+    for start in 0..request.starts.len() {
+        push(
+            start_values(alloc, request.sig, lists, place, start)?,
+            &mut starts,
+        )?;
+    }
+    Ok(starts)
+}
+
+/// The values at each place of a communicator.
+fn group_values(alloc: Global, lists: &[Vec<&Request>]) -> Result<Vec<Vec<Rows>>, Refusal>
+    requires { AreMatched (length lists.now) (lists_view lists.now) }
+    ensures ok { IfOk result (λ places. group_view places.items ≡ group_values (lists_view lists.now)) }
+    ensures refusal { IsOkUnless result Refusal.NoMemory }
+{
+    let mut places = Vec::new(alloc);
+    if lists.is_empty() {
+        return Ok(places);
+    }
+    for (place, request) in lists[0].iter().enumerate() {
+        push(place_values(alloc, lists, place, *request)?, &mut places)?;
+    }
+    Ok(places)
+}
+
+/// The values of all communicators, by place, start and member. Linear in the bytes that are given and
+/// got.
+pub(crate) fn all_values(alloc: Global, all: &[Postings]) -> Result<Vec<Vec<Vec<Rows>>>, Refusal>
+    requires { AllByRecursion (λ lists. AreMatched (length lists) lists) (all_lists_view all.now) }
+    ensures ok { IfOk result (λ groups. values_view groups.items ≡ map group_values (all_lists_view all.now)) }
+    ensures refusal { IsOkUnless result Refusal.NoMemory }
+{
+    let mut groups = Vec::new(alloc);
+    for lists in all {
+        push(group_values(alloc, lists)?, &mut groups)?;
+    }
+    Ok(groups)
+}
+
+fn copied(alloc: Global, row: &[u8]) -> Result<Vec<u8>, Refusal>
+    ensures ok { IfOk result (λ bytes. bytes.items ≡ row.now) }
+    ensures refusal { IsOkUnless result Refusal.NoMemory }
+{
+    match Vec::from_slice(alloc, row) {
+        Ok(bytes) => Ok(bytes),
+        Err(_) => Err(Refusal::NoMemory),
+    }
+}
+
+fn push<T: Drop>(item: T, items: &mut Vec<T>) -> Result<(), Refusal>
+    ensures ok { OnOk result (items.new.items ≡ items.old.items ++ item ∷ []) }
+    ensures refusal { IsOkUnless result Refusal.NoMemory }
+{
+    match items.push(item) {
+        Ok(()) => Ok(()),
+        Err(_) => Err(Refusal::NoMemory),
+    }
+}

@@ -1,0 +1,171 @@
+//! What is judged after the last line: whether the requests at each place belong together.
+
+ghost use Rattle.std.specs.Prelude.{◌≡◌, ◌≤◌, ℕ, length, flat_map, slice_get, None, IfOk, OnOk, if◌then◌else◌};
+ghost use Rattle.coll_script.specs.Matching.{earlier, earliest, agrees, differing_from, lower, least, mismatch, have_places, started_alike, have_starts};
+ghost use Rattle.std.specs.List.{list_all};
+ghost use Rattle.coll_script.specs.Views.{request_view};
+ghost use Rattle.coll_script.specs.Matching.{IsKept};
+ghost use Rattle.coll_script.specs.PostingViews.{list_view, lists_view, all_lists_view};
+
+use crate::postings::Postings;
+use crate::request::Request;
+use crate::sameness::is_same;
+use coll_kinds::Signature;
+use std::alloc::{AllocError, Global};
+
+/// The first line whose signature or mode differs from that of the earliest line at its communicator and
+/// place. Linear in the requests.
+pub(crate) fn mismatch(alloc: Global, all: &[Postings]) -> Result<Option<u32>, AllocError>
+    ensures { IfOk result (λ line. line ≡ mismatch (all_lists_view all.now)) }
+{
+    let mut line = None;
+    for lists in all {
+        let firsts = earliest(alloc, lists)?;
+        line = differing(&firsts, lists, line);
+    }
+    Ok(line)
+}
+
+/// The earliest request at each place of a communicator.
+fn earliest<'a>(alloc: Global, lists: &[Vec<&'a Request>]) -> Result<Vec<&'a Request>, AllocError>
+    ensures { IfOk result (λ firsts. (place : ℕ) → slice_get (list_view firsts.items) place ≡ earliest None place (lists_view lists.now)) }
+{
+    let mut firsts = Vec::new(alloc);
+    for list in lists {
+        keep_earlier(list, &mut firsts)?;
+    }
+    Ok(firsts)
+}
+
+/// Puts those of a member's requests into the list of the earliest that are earlier.
+fn keep_earlier<'a>(list: &[&'a Request], firsts: &mut Vec<&'a Request>) -> Result<(), AllocError>
+    ensures { OnOk result ((place : ℕ) → slice_get (list_view firsts.new.items) place
+        ≡ earlier (slice_get (list_view firsts.old.items) place) (slice_get (list_view list.now) place)) }
+{
+    for (place, request) in list.iter().enumerate() {
+        keep_at(place, *request, firsts)?;
+    }
+    Ok(())
+}
+
+/// Puts a request into the list at that place, if it is earlier or the first there.
+fn keep_at<'a>(
+    place: usize,
+    request: &'a Request,
+    firsts: &mut Vec<&'a Request>,
+) -> Result<(), AllocError>
+    requires { place ≤ length firsts.old.items }
+    ensures { OnOk result (IsKept place (request_view request.now) (list_view firsts.old.items) (list_view firsts.new.items)) }
+{
+    if place == firsts.len() {
+        firsts.push(request)?;
+    } else if request.line < firsts[place].line {
+        firsts[place] = request;
+    }
+    Ok(())
+}
+
+/// The least of `line` and of the lines of a communicator's requests that differ from the first ones at
+/// their places.
+fn differing(firsts: &[&Request], lists: &[Vec<&Request>], line: Option<u32>) -> Option<u32>
+    ensures { result ≡ least line (flat_map (differing_from (slice_get (list_view firsts.now)) 0) (lists_view lists.now)) }
+{
+    let mut line = line;
+    for list in lists {
+        line = differing_in(firsts, list, line);
+    }
+    line
+}
+
+/// The same of one member's requests.
+fn differing_in(firsts: &[&Request], list: &[&Request], line: Option<u32>) -> Option<u32>
+    ensures { result ≡ least line (differing_from (slice_get (list_view firsts.now)) 0 (list_view list.now)) }
+{
+    let mut line = line;
+    for (place, request) in list.iter().enumerate() {
+        line = lower_unless(agrees(firsts, place, request.sig), line, request.line);
+    }
+    line
+}
+
+/// Whether the first request at a place has this signature.
+fn agrees(firsts: &[&Request], place: usize, sig: Signature) -> bool
+    ensures { result ≡ agrees (slice_get (list_view firsts.now) place) sig }
+{
+    match firsts.get(place) {
+        Some(first) => is_same(first.sig, sig),
+        None => false,
+    }
+}
+
+fn lower_unless(agrees: bool, least: Option<u32>, line: u32) -> Option<u32>
+    ensures { result ≡ (if agrees then least else lower least line) }
+{
+    if agrees {
+        return least;
+    }
+    match least {
+        None => Some(line),
+        Some(least) => Some(if line < least { line } else { least }),
+    }
+}
+
+/// Whether no member of a communicator lacks a place that another has. Linear in the members.
+pub(crate) fn all_have_places(all: &[Postings]) -> bool
+    ensures { result ≡ list_all have_places (all_lists_view all.now) }
+{
+    for lists in all {
+        if !have_places(lists) {
+            return false;
+        }
+    }
+    true
+}
+
+/// Whether each member of a communicator has as many requests there as the first.
+fn have_places(lists: &[Vec<&Request>]) -> bool
+    ensures { result ≡ have_places (lists_view lists.now) }
+{
+    for list in lists {
+        if list.len() != lists[0].len() {
+            return false;
+        }
+    }
+    true
+}
+
+/// Whether the members of each communicator have the same number of starts at each place. Linear in the
+/// requests.
+pub(crate) fn all_have_starts(all: &[Postings]) -> bool
+    ensures { result ≡ list_all have_starts (all_lists_view all.now) }
+{
+    for lists in all {
+        if !have_starts(lists) {
+            return false;
+        }
+    }
+    true
+}
+
+/// Whether the members of a communicator have started their requests equally often, place by place.
+fn have_starts(lists: &[Vec<&Request>]) -> bool
+    ensures { result ≡ have_starts (lists_view lists.now) }
+{
+    for list in lists {
+        if !started_alike(&lists[0], list) {
+            return false;
+        }
+    }
+    true
+}
+
+fn started_alike(first: &[&Request], list: &[&Request]) -> bool
+    ensures { result ≡ started_alike (list_view first.now) (list_view list.now) }
+{
+    for place in 0..first.len().min(list.len()) {
+        if list[place].starts.len() != first[place].starts.len() {
+            return false;
+        }
+    }
+    true
+}

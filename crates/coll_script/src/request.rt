@@ -1,0 +1,38 @@
+ghost use Rattle.std.specs.Prelude.{◌≡◌, OnOk, IsOkUnless};
+ghost use Rattle.coll_script.specs.Views.{request_view};
+ghost use Rattle.coll_script.specs.Judging.{started};
+
+use crate::fault::LineFault;
+use coll_kinds::Signature;
+
+/// The most requests of a job.
+pub(crate) const MAX_REQUESTS: usize = 4096;
+
+/// A request of a rank.
+#[derive(Debug, Drop)]
+pub(crate) struct Request {
+    /// The line that made it.
+    pub(crate) line: u32,
+    pub(crate) comm: u8,
+    /// The number that the rank has within the communicator.
+    pub(crate) member: u8,
+    /// The signature, with the mode.
+    pub(crate) sig: Signature,
+    /// The bytes given at each start.
+    pub(crate) starts: Vec<Vec<u8>>,
+    /// The line of the last start; 0 if there was none, or a wait has named the request since.
+    pub(crate) since: u32,
+    pub(crate) freed: bool,
+}
+
+impl Request {
+    /// Notes a start with these bytes in the line of that number.
+    pub(crate) fn start(&mut self, line: u32, given: Vec<u8>) -> Result<(), LineFault>
+        ensures ok { OnOk result (request_view self.new ≡ started line given.items (request_view self.old)) }
+        ensures memory { IsOkUnless result LineFault.NoMemory }
+    {
+        self.starts.push(given)?;
+        self.since = line;
+        Ok(())
+    }
+}
