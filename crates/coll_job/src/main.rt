@@ -6,9 +6,11 @@
 //! |---|---|
 //! | `words` | the words of the command line |
 //! | `plain` | `plain_job`, from a text to its lines |
+//! | `counted` | `Counted`, a reader that counts its reads |
 //! | `fault` | `JobFault`, why there is no answer, with its line and exit status |
 #![tactic(auto)]
 
+mod counted;
 mod fault;
 mod plain;
 mod words;

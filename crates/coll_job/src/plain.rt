@@ -5,6 +5,7 @@ ghost use Rattle.std.specs.Io.KnownBytes.{Appends, Consumes, Keeps, IsAtEnd};
 ghost use Rattle.coll_job.specs.Plain.{IsReadFault, IsPlainFault, WritesMeaning, IsAnswerFault};
 ghost use Rattle.coll_script.specs.Meaning.{meaning};
 
+use crate::counted::Counted;
 use crate::fault::JobFault;
 use coll_script::Script;
 use std::alloc::Global;
@@ -24,6 +25,19 @@ pub fn read_text<R: Read>(alloc: Global, reader: &mut R) -> Result<Vec<u8>, JobF
     ensures left { IfOk result (λ text. Consumes (R.remaining reader.old) (R.remaining reader.new) text.items) }
     ensures faults { IfErr result IsReadFault }
 {
+    let mut counted = Counted::new(reader);
+    read_counted(alloc, &mut counted)
+}
+
+/// The same through a reader that counts: only [`Counted::read`] reads it, each time once.
+fn read_counted<R: Read>(alloc: Global, reader: &mut Counted<'_, R>) -> Result<Vec<u8>, JobFault>
+    requires unread { reader.old.reads ≡ 0 }
+    ensures text { IfOk result (λ text. IfSome (R.remaining reader.old.reader.now) (λ input. text.items ≡ take READ_LIMIT input)) }
+    ensures left { IfOk result (λ text. Consumes (R.remaining reader.old.reader.now) (R.remaining reader.new.reader.now) text.items) }
+    ensures faults { IfErr result IsReadFault }
+    ensures reads { reader.new.reads ≤ READ_LIMIT }
+    ensures same_reference { reader.new.reader.ghost_name ≡ reader.old.reader.ghost_name }
+{
     let mut text = Vec::new(alloc);
     let mut piece = [0u8; PIECE];
     for _ in 0..READ_LIMIT {
@@ -38,18 +52,21 @@ pub fn read_text<R: Read>(alloc: Global, reader: &mut R) -> Result<Vec<u8>, JobF
 /// Appends the bytes of one read, at most `room` and at most a piece. Answers how many there are; 0 is
 /// the end.
 fn read_piece<R: Read>(
-    reader: &mut R,
+    reader: &mut Counted<'_, R>,
     room: usize,
     piece: &mut [u8],
     text: &mut Vec<u8>,
 ) -> Result<usize, JobFault>
     requires some { 0 < room }
     requires buffer { 0 < length piece.old }
+    requires few { reader.old.reads < READ_LIMIT }
     ensures bound { IfOk result (λ n. n ≤ room) }
     ensures text { IfOk result (λ n. text.new.items ≡ text.old.items ++ take n piece.new) }
     ensures len { IfOk result (λ n. vec_len text.new ≡ vec_len text.old + n) }
-    ensures consumed { IfOk result (λ n. Consumes (R.remaining reader.old) (R.remaining reader.new) (take n piece.new)) }
-    ensures end { IfOk result (λ n. n ≡ 0 → IsAtEnd (R.remaining reader.new)) }
+    ensures consumed { IfOk result (λ n. Consumes (R.remaining reader.old.reader.now) (R.remaining reader.new.reader.now) (take n piece.new)) }
+    ensures end { IfOk result (λ n. n ≡ 0 → IsAtEnd (R.remaining reader.new.reader.now)) }
+    ensures reads { reader.new.reads ≡ reader.old.reads + 1 }
+    ensures same_reference { reader.new.reader.ghost_name ≡ reader.old.reader.ghost_name }
     ensures faults { IfErr result IsReadFault }
 {
     let room = room.min(piece.len());

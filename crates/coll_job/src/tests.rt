@@ -95,6 +95,89 @@ fn texts_and_what_is_shown(rt: HostRuntime) -> Result<(), Fail> {
 }
 
 #[test]
+fn kinds_and_commands(rt: HostRuntime) -> Result<(), Fail> {
+    for (text, want) in [
+        (
+            "ranks 3\nrank 0\npost 0 gather 1 u8 2 : 1 2\nrank 1\npost 0 gather 1 u8 2 : 3 4\n\
+             rank 2\npost 0 gather 1 u8 2 : 5 6\n",
+            "rank 0 req 0 start 0 :\nrank 1 req 0 start 0 : 1 2 3 4 5 6\nrank 2 req 0 start 0 :\n",
+        ),
+        (
+            "ranks 2\nrank 0\npost 0 scatter 1 u8 2\nrank 1\npost 0 scatter 1 u8 2 : 1 2 3 4\n",
+            "rank 0 req 0 start 0 : 1 2\nrank 1 req 0 start 0 : 3 4\n",
+        ),
+        (
+            "ranks 2\nrank 0\npost 0 allgather u16 1 : 10\nrank 1\npost 0 allgather u16 1 : 20\n",
+            "rank 0 req 0 start 0 : 10 20\nrank 1 req 0 start 0 : 10 20\n",
+        ),
+        (
+            "ranks 5\nrank 4\npost 0 allgather u16 1 : 50\nrank 0\npost 0 allgather u16 1 : 10\nrank 3\n\
+             post 0 allgather u16 1 : 40\nrank 2\npost 0 allgather u16 1 : 30\nrank 1\npost 0 allgather u16 1 : 20\n",
+            "rank 0 req 0 start 0 : 10 20 30 40 50\nrank 1 req 0 start 0 : 10 20 30 40 50\n\
+             rank 2 req 0 start 0 : 10 20 30 40 50\nrank 3 req 0 start 0 : 10 20 30 40 50\n\
+             rank 4 req 0 start 0 : 10 20 30 40 50\n",
+        ),
+        (
+            "ranks 2\nrank 0\npost 0 rsblock sum i16 1 : 1 2\nrank 1\npost 0 rsblock sum i16 1 : 10 20\n",
+            "rank 0 req 0 start 0 : 11\nrank 1 req 0 start 0 : 22\n",
+        ),
+        (
+            "ranks 3\nrank 0\npost 0 scan prod u8 1 : 20\nrank 1\npost 0 scan prod u8 1 : 13\n\
+             rank 2\npost 0 scan prod u8 1 : 2\n",
+            "rank 0 req 0 start 0 : 20\nrank 1 req 0 start 0 : 4\nrank 2 req 0 start 0 : 8\n",
+        ),
+        (
+            "ranks 3\nrank 0\npost 0 allreduce lxor i8 1 : 5\nrank 1\npost 0 allreduce lxor i8 1 : 5\n\
+             rank 2\npost 0 allreduce lxor i8 1 : 5\n",
+            "rank 0 req 0 start 0 : 1\nrank 1 req 0 start 0 : 1\nrank 2 req 0 start 0 : 1\n",
+        ),
+        (
+            "ranks 2\ncomm 0 1\ncomm 0 1\nrank 0\npost 1 barrier\nwait 0\npost 2 barrier\nwait 1\n\
+             rank 1\npost 2 barrier\nwait 0\npost 1 barrier\nwait 1\n",
+            "rank 0 req 0 start 0 :\nrank 0 req 1 start 0 :\nrank 1 req 0 start 0 :\nrank 1 req 1 start 0 :\n",
+        ),
+        (
+            "ranks 2\nrank 0\ninit 0 allreduce sum i32 1\ninit 0 allreduce max i32 1\n\
+             start 0 : 1\nstart 1 : 10\nwaitall\nstart 0 : 2\nstart 1 : 20\nwaitall\nstart 0 : 3\nstart 1 : 30\n\
+             rank 1\ninit 0 allreduce sum i32 1\ninit 0 allreduce max i32 1\n\
+             start 1 : 11\nstart 0 : 4\nwaitall\nstart 1 : 19\nstart 0 : 5\nwaitall\nstart 1 : 31\nstart 0 : 6\n",
+            "rank 0 req 0 start 0 : 5\nrank 0 req 0 start 1 : 7\nrank 0 req 0 start 2 : 9\n\
+             rank 0 req 1 start 0 : 11\nrank 0 req 1 start 1 : 20\nrank 0 req 1 start 2 : 31\n\
+             rank 1 req 0 start 0 : 5\nrank 1 req 0 start 1 : 7\nrank 1 req 0 start 2 : 9\n\
+             rank 1 req 1 start 0 : 11\nrank 1 req 1 start 1 : 20\nrank 1 req 1 start 2 : 31\n",
+        ),
+        (
+            "ranks 1\nrank 0\ninit 0 barrier\nstart 0\nstart 0\n",
+            "2: line 5: not startable\n",
+        ),
+        (
+            "ranks 2\ncomm 0\nrank 1\npost 1 barrier\n",
+            "2: line 4: bad rank\n",
+        ),
+        (
+            "ranks 2\nrank 0\ninit 0 barrier\nstart 0\nrank 1\ninit 0 barrier\n",
+            "2: line 6: start missing\n",
+        ),
+        (
+            "ranks 1\nrank 0\npost 0 barrier\nwaitany 0 0\n",
+            "2: line 4: named twice\n",
+        ),
+        (
+            "ranks 33\nrank 0\npost 0 gather 0 u64 65536\n",
+            "2: line 3: bad signature\n",
+        ),
+        (
+            "ranks 32\nrank 1\npost 0 gather 0 u64 65536\n",
+            "2: line 3: bad words\n",
+        ),
+        ("ranks 1\nrank 0\ninit 0 barrier\n", ""),
+    ] {
+        assert_eq!(rt; shown(rt.alloc(), text)?.as_str(), want);
+    }
+    Ok(())
+}
+
+#[test]
 fn a_text_is_read_whole(rt: HostRuntime) -> Result<(), Fail> {
     let text = read_text(rt.alloc(), &mut Cursor::new(COMMENTS.as_bytes()))?;
     assert_eq!(rt; text.as_slice(), COMMENTS.as_bytes());
@@ -119,6 +202,43 @@ impl Read for Failing {
             }
         }
     }
+}
+
+/// Gives a `#` at each read, without end, and counts its reads.
+#[derive(Drop)]
+struct Endless(u32);
+
+impl Read for Endless {
+    fn read(&mut self, buf: &mut [u8]) -> io::Result<usize> {
+        self.0 = self.0.wrapping_add(1);
+        match buf {
+            [] => Ok(0),
+            [first, ..] => {
+                *first = b'#';
+                Ok(1)
+            }
+        }
+    }
+}
+
+#[test]
+fn reads_are_counted(rt: HostRuntime) -> Result<(), Fail> {
+    let mut reader = Endless(0);
+    let text = read_text(rt.alloc(), &mut reader)?;
+    assert_eq!(rt; text.len(), 1_048_577);
+    assert_eq!(rt; reader.0, 1_048_577);
+    let mut out = Vec::new(rt.alloc());
+    let mut reader = Endless(0);
+    let fault = plain_job(rt.alloc(), &mut reader, &mut out);
+    assert_eq!(rt;
+        fault,
+        Err(JobFault::Text(Fault {
+            line: 1,
+            cause: Cause::TooLong
+        }))
+    );
+    assert_eq!(rt; reader.0, 1_048_577);
+    Ok(())
 }
 
 /// Takes no byte.

@@ -1,16 +1,16 @@
 use Rattle.std.proofs.Common.{subst, sym, arith}
 use Rattle.std.specs.Io.KnownBytes.{Consumes}
 use Rattle.coll_job.proofs.Consuming.{Consumes-more, take-whole, take-front}
-use Rattle.coll_job.proofs.plain.read_text.Goals as goal
-use Rattle.coll_job.proofs.plain.read_text.Goals.{then-n-eq0-via-then-n-eq0, then-n-eq0-via-else-n-eq0+then-len-eq-READ_LIMIT}
+use Rattle.coll_job.proofs.plain.read_counted.Goals as goal
+use Rattle.coll_job.proofs.plain.read_counted.Goals.{then-n-eq0-via-then-n-eq0, then-n-eq0-via-else-n-eq0+then-len-eq-READ_LIMIT}
 
 pub overflow_sub-len : goal.overflow_sub-len
 overflow_sub-len g c = omega (arith, c.loop.text.ok.0)
 
 pub returns-then-n-eq0-clause-text : goal.returns-then-n-eq0-clause-text
 returns-then-n-eq0-clause-text g c =
-    let start = g.R.Read.remaining c.args.reader.now in
-    let end = g.R.Read.remaining c.read_piece.new.reader in
+    let start = g.R.Read.remaining c.args.reader.now.reader.now in
+    let end = g.R.Read.remaining c.read_piece.new.reader.reader.now in
     let text = c.read_piece.new.text.items in
     let parts = Consumes-more _ _ _ _ _ c.loop.invariant.consumed c.in_ok-n.ensures.consumed in
     let all : Consumes start end text = subst (Consumes start end) (sym c.in_ok-n.ensures.text) parts in
