@@ -1,5 +1,5 @@
 #!/usr/bin/env python3
-"""Times `colljob plain` on two large texts: seconds, peak memory and MB/s of text and output.
+"""Times `colljob plain` on large texts: seconds, peak memory and MB/s of text and output.
 
 Run it at the top of the repository after the program is built (`./colljob plain < examples/sum_of_three.job`).
 """
@@ -23,6 +23,23 @@ def many_posts():
     return "\n".join(lines) + "\n"
 
 
+def many_communicators():
+    """4,096 requests over 64 ranks and 16 communicators of all ranks, every second one persistent and started twice."""
+    lines = ["ranks 64"] + ["comm " + " ".join(str((rank + comm) % 64) for rank in range(64)) for comm in range(1, 16)]
+    values = " ".join(str(i % 10) for i in range(60))
+    for rank in range(64):
+        lines.append(f"rank {rank}")
+        for request in range(64):
+            comm = request % 16
+            if request % 2:
+                lines.append(f"init {comm} scan sum i8 20")
+                start = f"start {request} : {values[:39]}"
+                lines += [start, "waitall", start]
+            else:
+                lines.append(f"post {comm} allreduce max i8 60 : {values}")
+    return "\n".join(lines) + "\n"
+
+
 def wide_posts():
     """One allreduce of 65,500 elements over 8 ranks; 65,536 would pass the limit of a text."""
     lines = ["ranks 8"]
@@ -30,6 +47,33 @@ def wide_posts():
         lines.append(f"rank {rank}")
         lines.append("post 0 allreduce sum i8 65500 : " + " ".join(str((i + rank) % 10) for i in range(65500)))
     return "\n".join(lines) + "\n"
+
+
+def one_allgather():
+    """An allgather of 8,000 elements over 64 ranks: 64 rows of 512,000 elements come out."""
+    lines = ["ranks 64"]
+    for rank in range(64):
+        lines.append(f"rank {rank}")
+        lines.append("post 0 allgather u8 8000 : " + " ".join(str((i + rank) % 10) for i in range(8000)))
+    return "\n".join(lines) + "\n"
+
+
+def one_rsblock():
+    """A reduce-scatter of 510 elements a block over 32 ranks."""
+    lines = ["ranks 32"]
+    for rank in range(32):
+        lines.append(f"rank {rank}")
+        lines.append("post 0 rsblock sum i64 510 : " + " ".join(str((i + rank) % 10) for i in range(32 * 510)))
+    return "\n".join(lines) + "\n"
+
+
+TEXTS = [
+    ("4,096 posts over 64 ranks", many_posts),
+    ("4,096 requests over 64 ranks and 16 communicators", many_communicators),
+    ("allreduce of 65,500 elements over 8 ranks", wide_posts),
+    ("allgather of 8,000 elements over 64 ranks", one_allgather),
+    ("rsblock of 510 elements over 32 ranks", one_rsblock),
+]
 
 
 def timed(name, text):
@@ -42,10 +86,14 @@ def timed(name, text):
     moved = (len(data) + len(out)) / 1e6
     print(
         f"{name}: status {child.returncode}, {len(data)} bytes in, {len(out)} bytes out, "
-        f"{seconds:.3f} s, peak so far {peak:.1f} MiB, {moved / seconds:.1f} MB/s"
+        f"{seconds:.3f} s, {peak:.1f} MiB, {moved / seconds:.1f} MB/s"
     )
     return child.returncode
 
 
 if __name__ == "__main__":
-    sys.exit(max(timed("4,096 posts over 64 ranks", many_posts()), timed("65,500 elements over 8 ranks", wide_posts())))
+    if len(sys.argv) > 1:
+        name, text = TEXTS[int(sys.argv[1])]
+        sys.exit(timed(name, text()))
+    # Each text in a process of its own, whose one child's memory is then the program's.
+    sys.exit(max([subprocess.call([sys.executable, __file__, str(i)]) for i in range(len(TEXTS))]))
