@@ -1,5 +1,5 @@
 -- The calls of an arena, under the names of its fields: `v` is what clauses see, before the call.
-use Rattle.std.proofs.Common.{◌≡◌, ℕ, ◌+◌, ◌<◌, ◌≤◌, ◌^◌, true, cond, List, ◌∷◌, length, eqb, sym, ap, subst, ◌∙◌, Option, Some, None, is_some, lt-ltb, get_or, set, sum, take, take_all, arith}
+use Rattle.std.proofs.Common.{◌≡◌, ℕ, ◌+◌, ◌<◌, ◌≤◌, ◌^◌, true, cond, List, ◌∷◌, length, eqb, sym, ap, subst, ◌∙◌, Option, Some, None, get_or, set, sum, take, take_all, arith}
 use Rattle.coll_lists.specs.Layouts.{Layout, list_of, sequence, size}
 use Rattle.coll_lists.specs.Moves.{moved_back, moved_front}
 use Rattle.coll_lists.specs.Neighbours.{after_in, first_in}
@@ -32,11 +32,6 @@ module _ {R : Type 0} (items : List (Slot R)) (links : Layout) (wear : ℕ) (v :
 
   pub named_low : (t : Ticket) → names v t ≡ true → t.slot < length items
   named_low t is = subst (λ n. t.slot < n) (count_seen items links wear) (named t is).low
-
-  pub named_recorded : (t : Ticket) (old : Slot R) → names v t ≡ true → old ≡ get_or items t.slot old → is_some old.request ≡ true
-  named_recorded t old is old_is =
-      let at : Named (view_of items links wear) t = named t is in
-      ap is_some (sym (record_seen items links wear t.slot old (named_low t is) old_is)) ∙ (s.slots t.slot at.low).recorded ∙ lt-ltb 1 _ at.live
 
   pub named_found : (t : Ticket) (old : Slot R) → names v t ≡ true → old ≡ get_or items t.slot old → record_in v t.slot ≡ old.request
   named_found t old is old_is = ap (λ z. record_in z t.slot) (sym e) ∙ record_seen items links wear t.slot old (named_low t is) old_is

@@ -2,10 +2,9 @@
 use Rattle.std.proofs.Common.{◌≡◌, ℕ, ◌+◌, ◌*◌, ◌<◌, ◌≤◌, ◌^◌, ◌&&◌, List, length, map, sym, ap, subst, ◌∙◌, inl, inr, cond, ltb, lt-ltb, le-ltb, get_or, set, sum, arith, add-zero}
 use Rattle.std.proofs.lemmas.Bool.{cases_lt}
 use Rattle.std.proofs.lemmas.List.{ext_get_or, get_or_default, length-map}
-use Rattle.std.proofs.lemmas.List.FromFn.{get_or-map-range_with_len}
+use Rattle.std.proofs.lemmas.List.FromFn.{get_or-map-range_with_len, length-range_with_len}
 use Rattle.std.proofs.lemmas.List.Sums.{sum_by-le, sum_by-set}
 use Rattle.std.specs.List.{range_with_len}
-use Rattle.coll_lists.proofs.Opening.{length-range_with_len}
 use Rattle.coll_arena.specs.Changes.{retired, reweighed, taken}
 use Rattle.coll_arena.specs.Slots.{Slots, count, home, lent, lent_by, weight_of}
 use Rattle.coll_arena.specs.Sound.{IsSound}

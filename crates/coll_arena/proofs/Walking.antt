@@ -1,6 +1,7 @@
 -- Walks along an arena's lists give the lists.
 use Rattle.std.proofs.Common.{◌≡◌, ◌≢◌, ℕ, ◌<◌, ◌≤◌, cond, List, [], ◌∷◌, length, sym, refl, ap, subst, ◌∙◌, inl, inr, Option, Some, None, eq-eqb, ne_eqb, lt-ltb, le-ltb, arith}
 use Rattle.std.proofs.lemmas.Bool.{cases_eq, cases_lt}
+use Rattle.std.proofs.lemmas.Option.{same_Some}
 use Rattle.std.specs.List.{concat}
 use Rattle.std.specs.Option.{ForSome}
 use Rattle.coll_lists.specs.Layouts.{sequence, times}
@@ -33,9 +34,6 @@ pub from_first : (s : List ℕ) → from_option (first_in s) s ≡ s
 from_first [] = refl
 from_first (y ∷ rest) = from_node-here y y rest refl
 
-pub same_some : (x y : ℕ) → ◌≡◌ {A = Option ℕ} (Some x) (Some y) → x ≡ y
-same_some x y e = cc
-
 -- where each node stands once at most, a walk goes on with the next node
 pub record Goes (x : ℕ) (s : List ℕ) : Type 0 where
   pub on : from_node x s ≡ x ∷ from_option (after_in x s) s
@@ -64,7 +62,7 @@ goes x (y ∷ z ∷ rest) once some =
             on = from_node-here x y (z ∷ rest) e ∙ ap (λ k. k ∷ z ∷ rest) e
                 ∙ ap (λ k. x ∷ k) (sym (ap (λ r. from_option r (y ∷ z ∷ rest)) next ∙ from_node-later z y (z ∷ rest) apart ∙ from_node-here z z rest refl));
             stays = λ w is.
-                let same : z ≡ w = same_some z w (sym next ∙ is) in
+                let same : z ≡ w = same_Some z w (sym next ∙ is) in
                 subst (λ k. 0 < times k (y ∷ z ∷ rest)) same (subst (λ k. 0 < k) (sym (times-other z y (z ∷ rest) apart)) here);
           }
       | inr ne ↦

@@ -1,4 +1,4 @@
-ghost use Rattle.std.specs.Prelude.{◌≡◌, ℕ, ◌+◌, ◌*◌, ◌^◌, ◌<◌, ◌≤◌, ◌==◌, List, [], ◌∷◌, length, Some, is_ok, is_err, IfOk, IfErr, OnOk, OnErr, None, replicate};
+ghost use Rattle.std.specs.Prelude.{◌≡◌, ◌+◌, ◌*◌, ◌^◌, ◌<◌, ◌≤◌, ◌==◌, ◌∷◌, length, Some, is_ok, is_err, IfOk, IfErr, OnOk, OnErr, None, replicate};
 ghost use Rattle.std.specs.Option.{ForSome};
 ghost use Rattle.coll_lists.specs.Layouts.{sequence};
 ghost use Rattle.coll_lists.specs.Neighbours.{first_in};
@@ -32,7 +32,6 @@ pub struct Arena<R> {
 }
 
 impl<R> Model for Arena<R> {
-    ghost use Rattle.std.specs.Prelude.{map};
     ghost use Rattle.coll_arena.specs.Slots.{Slots, slots_code};
 
     ghost Value = { Slots R };
@@ -72,9 +71,7 @@ impl<R: Drop> Arena<R> {
         ensures opened { IfOk result (λ arena. arena ≡ opened slots (4 + 3 * comms) wear) }
         ensures refused { IfErr result (λ why. why ≡ Refusal.NoMemory) }
     {
-        let Ok(made) = unused_slots(alloc, slots) else {
-            return Err(Refusal::NoMemory);
-        };
+        let made = unused_slots(alloc, slots)?;
         let links = Links::new(alloc, slots, 4 + 3 * comms)?;
         Ok(Arena {
             slots: made,

@@ -61,10 +61,8 @@ pub fn print_element(bytes: &[u8], ty: Datatype, out: &mut Vec<u8>) -> Result<()
     } else {
         buffer.format(LittleEndian::read_uint(bytes, ty.width()))
     };
-    match out.extend_from_slice(text.as_bytes()) {
-        Ok(()) => Ok(()),
-        Err(_) => Err(Refusal::NoMemory),
-    }
+    out.extend_from_slice(text.as_bytes())?;
+    Ok(())
 }
 
 #[cfg(test)]

@@ -1,6 +1,8 @@
 ghost use Rattle.std.specs.Prelude.{◌≡◌};
+ghost use Rattle.coll_kinds.specs.declared.refusal.Refusal.TheVariants.{NoMemory};
 
 use crate::signature::Signature;
+use std::alloc::{AllocError, AllocFailed};
 use thiserror::Error;
 
 /// Which rule a signature breaks, in the order in which they are tested.
@@ -150,6 +152,22 @@ impl Refusal {
             Refusal::NoMemory => 17,
             Refusal::BadConfig { .. } => 18,
         }
+    }
+}
+
+impl From<AllocError> for Refusal {
+    ghost from_gives = { λ _ why. why ≡ NoMemory };
+
+    fn from(_error: AllocError) -> Refusal {
+        Refusal::NoMemory
+    }
+}
+
+impl<T: Drop> From<AllocFailed<T>> for Refusal {
+    ghost from_gives = { λ _ why. why ≡ NoMemory };
+
+    fn from(_error: AllocFailed<T>) -> Refusal {
+        Refusal::NoMemory
     }
 }
 

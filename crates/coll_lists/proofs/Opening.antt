@@ -2,6 +2,7 @@
 use Rattle.std.proofs.Common.{◌≡◌, ℕ, zero, suc, ◌+◌, ◌-◌, ◌<◌, ◌≤◌, ◌^◌, ◌&&◌, cond, List, [], ◌∷◌, length, eqb, ltb, sym, refl, ap, subst, ◌∙◌, inl, inr, eq-eqb, ne_eqb, lt-ltb, le-ltb, set, slice_index, replicate, arith, zero-add, add-zero}
 use Rattle.std.proofs.lemmas.Bool.{cases_eq, cases_lt}
 use Rattle.std.proofs.lemmas.List.{get_or-replicate, get_or_past, length-replicate, length-set}
+use Rattle.std.proofs.lemmas.List.FromFn.{length-range_with_len}
 use Rattle.std.specs.List.{range_with_len}
 use Rattle.coll_lists.specs.Columns.{Joined, Shows, opening_next, opening_prev}
 use Rattle.coll_lists.specs.Layouts.{Layout, sequence, times}
@@ -11,10 +12,6 @@ use Rattle.coll_lists.proofs.Showing.{at_set, off_set}
 -- the layout of `new`
 abbrev pub opening : ℕ → ℕ → Layout
 opening nodes lists = range_with_len 0 nodes ∷ replicate (lists - 1) []
-
-pub length-range_with_len : (a k : ℕ) → length (range_with_len a k) ≡ k
-length-range_with_len a zero = refl
-length-range_with_len a (suc k) = ap suc (length-range_with_len (a + 1) k)
 
 pub times-range_before : (x a k : ℕ) → x < a → times x (range_with_len a k) ≡ 0
 times-range_before x a zero low = refl
@@ -38,9 +35,6 @@ next_head n = ap (λ b. cond b (n + 1) (cond (eqb n n) 0 n)) (le-ltb n n (omega 
 
 pub next_high : (n i : ℕ) → n < i → opening_next n i ≡ i
 next_high n i high = ap (λ b. cond b (i + 1) (cond (eqb i n) 0 i)) (le-ltb i n (omega arith)) ∙ ap (λ b. cond b 0 i) (ne_eqb i n (λ e. absurd (omega (arith, e))))
-
-pub prev_zero : (n : ℕ) → opening_prev n 0 ≡ n
-prev_zero n = refl
 
 pub prev_low : (n i : ℕ) → i < n → opening_prev n (i + 1) ≡ i
 prev_low n i low =

@@ -39,10 +39,8 @@ impl Links {
         ensures made { IfOk result (λ links. links ≡ range_with_len 0 nodes ∷ replicate (lists - 1) []) }
         ensures refused { IfErr result (λ why. why ≡ Refusal.NoMemory) }
     {
-        match Columns::new(alloc, nodes, lists) {
-            Ok(columns) => Ok(Links { columns }),
-            Err(_) => Err(Refusal::NoMemory),
-        }
+        let columns = Columns::new(alloc, nodes, lists)?;
+        Ok(Links { columns })
     }
 
     /// The first node of a list; None where it is empty.

@@ -12,7 +12,6 @@ use Rattle.std.specs.Int.{bit_at}
 use Rattle.std.proofs.lemmas.Nat.{and_assoc, mul-mod_first, mul-mod_second}
 use Rattle.std.proofs.lemmas.List.{drop_at, get_or-drop}
 use Rattle.coll_kinds.specs.declared.datatype.Datatype.{Datatype}
-use Rattle.coll_kinds.specs.declared.datatype.Datatype.TheVariants.{I8, I16, I32, I64, U8, U16, U32, U64, Byte}
 use Rattle.coll_kinds.specs.declared.operation.Op.{Op}
 use Rattle.coll_kinds.specs.declared.operation.Op.TheVariants.{Max, Min, Sum, Prod, Land, Lor, Lxor, Band, Bor, Bxor, LastNz}
 use Rattle.coll_kinds.specs.Checks.{allowed}
@@ -21,7 +20,7 @@ use Rattle.coll_ops.specs.Operations.{wrapped, is_zero, flag, bitwise, applied}
 use Rattle.coll_ops.specs.Combinations.{elements, zipped, combined}
 use Rattle.coll_ops.specs.Laws.{OperationsAssociate, OperationsStay, CombinationsAssociate, IsRow}
 use Rattle.coll_ops.proofs.BitOperations.{Stays, bit_and-lt, bit_or-lt, bit_xor-lt, bitwise-bits}
-use Rattle.coll_ops.proofs.ElementBits.{cast_unsigned-lt, element_of-cast_unsigned, IsElement-wrapped, IsElement-element_at, element_at-element_bytes, cast_unsigned-sum, cast_unsigned-product}
+use Rattle.coll_ops.proofs.ElementBits.{limit-some, cast_unsigned-lt, element_of-cast_unsigned, IsElement-wrapped, IsElement-element_at, element_at-element_bytes, cast_unsigned-sum, cast_unsigned-product}
 use Rattle.coll_ops.proofs.Places.{length-element_bytes}
 use Rattle.coll_ops.proofs.RowLists.{length-combined, length-zipped}
 
@@ -94,24 +93,16 @@ is_zero-flag false = refl
 
 -- the three logical operations, of the tests for 0
 land-assoc : (a b c : Bool) → (not (not (not a && not b)) && not c) ≡ (not a && not (not (not b && not c)))
-land-assoc true true true = refl
-land-assoc true true false = refl
-land-assoc true false true = refl
-land-assoc true false false = refl
-land-assoc false true true = refl
-land-assoc false true false = refl
+land-assoc true b c = refl
+land-assoc false true c = refl
 land-assoc false false true = refl
 land-assoc false false false = refl
 
 lor-assoc : (a b c : Bool) → (not (not (not a || not b)) || not c) ≡ (not a || not (not (not b || not c)))
 lor-assoc true true true = refl
 lor-assoc true true false = refl
-lor-assoc true false true = refl
-lor-assoc true false false = refl
-lor-assoc false true true = refl
-lor-assoc false true false = refl
-lor-assoc false false true = refl
-lor-assoc false false false = refl
+lor-assoc true false c = refl
+lor-assoc false b c = refl
 
 lxor-assoc : (a b c : Bool) → cond (not (cond a (not b) b)) (not c) c ≡ cond a (not (not (cond b (not c) c))) (not (cond b (not c) c))
 lxor-assoc true true true = refl
@@ -158,17 +149,6 @@ operations_associate LastNz ty may a b c a_is b_is c_is = last-assoc a b c
 IsElement-cond : (ty : Datatype) (t : Bool) (a b : ℤ) → IsElement ty a → IsElement ty b → IsElement ty (cond t a b)
 IsElement-cond ty true a b a_is b_is = a_is
 IsElement-cond ty false a b a_is b_is = b_is
-
-limit-some : (ty : Datatype) → 1 < limit ty
-limit-some I8 = omega arith
-limit-some I16 = omega arith
-limit-some I32 = omega arith
-limit-some I64 = omega arith
-limit-some U8 = omega arith
-limit-some U16 = omega arith
-limit-some U32 = omega arith
-limit-some U64 = omega arith
-limit-some Byte = omega arith
 
 IsElement-flag : (ty : Datatype) (b : Bool) → IsElement ty (flag b)
 IsElement-flag ty true = lt-ltb 1 (limit ty) (limit-some ty)

@@ -25,14 +25,19 @@ is_element_by signed k (negsuc n) = signed && nat_lt n (limit_by signed k)
 abbrev pub wrapped_by : Bool → Width → ℕ → ℤ → ℤ
 wrapped_by signed w k z = if signed then int_wrap w z else pos (unsigned_abs (int_rem_euclid z (pos (2 ^ k))))
 
--- the word w has k bits
+-- the word w has k bits, from 2 to 64
 pub record HasBits (w : Width) (k : ℕ) : Type 0 where
-  pub some : 0 < k
+  pub some : 1 < k
+  pub most : k ≤ 64
   pub all : bits w ≡ k
   pub half : hbits w ≡ k - 1
 
 half-le : (k : ℕ) → 2 ^ (k - 1) ≤ 2 ^ k
 half-le k = pow-le-pow_right {n = 2} (omega arith) (let le : k - 1 ≤ k = omega arith in le)
+
+pub limit_by-some : (signed : Bool) (k : ℕ) → 1 < k → 1 < limit_by signed k
+limit_by-some true k some = pow-le-pow_right {n = 2} (omega arith) (let le : 1 ≤ k - 1 = omega arith in le)
+limit_by-some false k some = pow-le-pow_right {n = 2} (omega arith) (let le : 1 ≤ k = omega arith in le)
 
 -- the bits of an element
 pub cast_unsigned-element_by : (signed : Bool) (w : Width) (k n : ℕ) → HasBits w k → n < 2 ^ k → cast_unsigned w (element_by signed w n) ≡ n

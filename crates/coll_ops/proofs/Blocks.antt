@@ -1,19 +1,19 @@
 -- A block of a combination is the combination of the blocks.
-use Rattle.std.proofs.Common.{◌≡◌, ℕ, zero, suc, ◌+◌, ◌-◌, ◌*◌, ◌/◌, ◌%◌, ◌<◌, ◌≤◌, List, [], ◌∷◌, ◌++◌, ℤ, length, take, drop, refl, arith, ap, sym, ◌∙◌, map, flat_map, length-take, length-drop}
+use Rattle.std.proofs.Common.{◌≡◌, ℕ, zero, suc, ◌+◌, ◌-◌, ◌*◌, ◌/◌, ◌<◌, ◌≤◌, List, [], ◌∷◌, ◌++◌, ℤ, length, take, drop, refl, arith, ap, sym, ◌∙◌, map, flat_map, length-take, length-drop}
 use Rattle.std.proofs.Math.Nat.{zero-mul, mul-div_left, mul-mod_left}
 use Rattle.std.proofs.lemmas.List.{drop-drop, drop-take, take-append-drop}
 use Rattle.std.proofs.Math.Seq.{drop-nil, take-nil, drop-append-add, take-append-add}
 use Rattle.byteorder.specs.Endian.{little_number}
 use Rattle.byteorder.specs.Numbers.{little_from-append}
 use Rattle.coll_kinds.specs.declared.datatype.Datatype.{Datatype}
-use Rattle.coll_kinds.specs.declared.datatype.Datatype.TheVariants.{I8, I16, I32, I64, U8, U16, U32, U64, Byte}
 use Rattle.coll_kinds.specs.declared.operation.Op.{Op}
 use Rattle.coll_kinds.specs.Elements.{width, element_of, element_at, element_bytes}
 use Rattle.coll_ops.specs.Operations.{applied}
 use Rattle.coll_ops.specs.Combinations.{elements, zipped, combined, combination}
 use Rattle.coll_ops.specs.Values.{part, row_of}
 use Rattle.coll_ops.proofs.Places.{length-element_bytes}
-use Rattle.coll_ops.proofs.RowLists.{length-combined, length-part}
+use Rattle.coll_ops.proofs.ElementBits.{width-some}
+use Rattle.coll_ops.proofs.RowLists.{length-combination, length-part}
 
 -- the elements behind the first m
 elements-drop : (ty : Datatype) (m k : ℕ) (row : List ℕ) → elements ty k (drop (m * width ty) row) ≡ drop m (elements ty (m + k) row)
@@ -85,17 +85,6 @@ length-elements : (ty : Datatype) (n : ℕ) (row : List ℕ) → length (element
 length-elements ty zero row = refl
 length-elements ty (suc n) row = ap suc (length-elements ty n (drop (width ty) row))
 
-width-some : (ty : Datatype) → 0 < width ty
-width-some I8 = omega arith
-width-some I16 = omega arith
-width-some I32 = omega arith
-width-some I64 = omega arith
-width-some U8 = omega arith
-width-some U16 = omega arith
-width-some U32 = omega arith
-width-some U64 = omega arith
-width-some Byte = omega arith
-
 count-of : (ty : Datatype) (n len : ℕ) → len ≡ n * width ty → len / width ty ≡ n
 count-of ty n len e = ap (λ v. v / width ty) e ∙ mul-div_left n (width-some ty)
 
@@ -129,12 +118,6 @@ combined-part op ty m c j x y long same =
     ∙ (ap (take (c * w)) (sym (flat_map-drop ty m zs))
     ∙ ap (λ k. part (m * w) (c * w) (write (zipped op ty (elements ty k x) (elements ty k y)))) (sym (count-of ty n (length x) long)))))))
 
-length-combination : (op : Op) (ty : Datatype) (n : ℕ) (rows : List (List ℕ)) → 0 < length rows → ((i : ℕ) → i < length rows → length (row_of rows i) ≡ n * width ty) → length (combination op ty rows) ≡ n * width ty
-length-combination op ty n [] some long = absurd (omega arith)
-length-combination op ty n (row ∷ []) some long = long 0 (omega arith)
-length-combination op ty n (row ∷ next ∷ rows) some long =
-    length-combined op ty row (combination op ty (next ∷ rows)) (ap (λ k. k % width ty) (long 0 (omega arith)) ∙ mul-mod_left n (width ty)) ∙ long 0 (omega arith)
-
 pub combination-parts : (op : Op) (ty : Datatype) (m c j : ℕ) (rows : List (List ℕ)) → 0 < length rows → ((i : ℕ) → i < length rows → length (row_of rows i) ≡ (m + (c + j)) * width ty) →
     combination op ty (map (part (m * width ty) (c * width ty)) rows) ≡ part (m * width ty) (c * width ty) (combination op ty rows)
 combination-parts op ty m c j [] some long = absurd (omega arith)
@@ -142,4 +125,4 @@ combination-parts op ty m c j (row ∷ []) some long = refl
 combination-parts op ty m c j (row ∷ next ∷ rows) some long =
     let rest : (i : ℕ) → i < length (next ∷ rows) → length (row_of (next ∷ rows) i) ≡ (m + (c + j)) * width ty = λ i within. long (suc i) (omega arith) in
     ap (λ sum. combined op ty (part (m * width ty) (c * width ty) row) sum) (combination-parts op ty m c j (next ∷ rows) (omega arith) rest)
-    ∙ combined-part op ty m c j row (combination op ty (next ∷ rows)) (long 0 (omega arith)) (length-combination op ty (m + (c + j)) (next ∷ rows) (omega arith) rest ∙ sym (long 0 (omega arith)))
+    ∙ combined-part op ty m c j row (combination op ty (next ∷ rows)) (long 0 (omega arith)) (length-combination op ty ((m + (c + j)) * width ty) (next ∷ rows) (mul-mod_left (m + (c + j)) (width ty)) (omega arith) rest ∙ sym (long 0 (omega arith)))

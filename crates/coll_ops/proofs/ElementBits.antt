@@ -1,5 +1,5 @@
 -- Elements of a type and their bits.
-use Rattle.std.proofs.Common.{◌≡◌, ℕ, zero, suc, ◌*◌, ◌+◌, ◌%◌, ◌^◌, ◌<◌, ◌≤◌, ℤ, pos, ◌+ℤ◌, ◌*ℤ◌, List, ◌++◌, refl, arith, ap, sym, ◌∙◌, add-one}
+use Rattle.std.proofs.Common.{◌≡◌, ℕ, zero, suc, ◌*◌, ◌+◌, ◌%◌, ◌^◌, ◌<◌, ℤ, pos, ◌+ℤ◌, ◌*ℤ◌, List, ◌++◌, refl, arith, ap, sym, ◌∙◌, add-one}
 use Rattle.std.specs.Prelude.{slice_index}
 use Rattle.std.specs.Int.{cast_unsigned}
 use Rattle.std.proofs.lemmas.Nat.{pow-add}
@@ -8,33 +8,27 @@ use Rattle.byteorder.specs.Endian.{little_number}
 use Rattle.byteorder.specs.Numbers.{little_number-reads_back, little_from-lt}
 use Rattle.coll_kinds.specs.declared.datatype.Datatype.{Datatype}
 use Rattle.coll_kinds.specs.declared.datatype.Datatype.TheVariants.{I8, I16, I32, I64, U8, U16, U32, U64, Byte}
-use Rattle.coll_kinds.specs.Elements.{width, word, is_signed, IsElement, element_of, element_at, element_bytes}
+use Rattle.coll_kinds.specs.Elements.{width, word, is_signed, limit, IsElement, element_of, element_at, element_bytes}
 use Rattle.coll_ops.specs.Operations.{wrapped}
-use Rattle.coll_ops.proofs.Bits.{HasBits, cast_unsigned-element_by, is_element_by-element_by, cast_unsigned-lt_by, element_by-cast_unsigned, is_element_by-wrapped_by, cast_unsigned-wrapped_sum, cast_unsigned-wrapped_product, cast_unsigned-wrapped_pos}
+use Rattle.coll_ops.proofs.Bits.{HasBits, limit_by-some, cast_unsigned-element_by, is_element_by-element_by, cast_unsigned-lt_by, element_by-cast_unsigned, is_element_by-wrapped_by, cast_unsigned-wrapped_sum, cast_unsigned-wrapped_product, cast_unsigned-wrapped_pos}
 
 -- a type's machine word has the type's bits
 pub HasBits-word : (ty : Datatype) → HasBits (word ty) (8 * width ty)
-HasBits-word I8 = record { some = omega arith; all = refl; half = refl }
-HasBits-word I16 = record { some = omega arith; all = refl; half = refl }
-HasBits-word I32 = record { some = omega arith; all = refl; half = refl }
-HasBits-word I64 = record { some = omega arith; all = refl; half = refl }
-HasBits-word U8 = record { some = omega arith; all = refl; half = refl }
-HasBits-word U16 = record { some = omega arith; all = refl; half = refl }
-HasBits-word U32 = record { some = omega arith; all = refl; half = refl }
-HasBits-word U64 = record { some = omega arith; all = refl; half = refl }
-HasBits-word Byte = record { some = omega arith; all = refl; half = refl }
+HasBits-word I8 = record { some = omega arith; most = omega arith; all = refl; half = refl }
+HasBits-word I16 = record { some = omega arith; most = omega arith; all = refl; half = refl }
+HasBits-word I32 = record { some = omega arith; most = omega arith; all = refl; half = refl }
+HasBits-word I64 = record { some = omega arith; most = omega arith; all = refl; half = refl }
+HasBits-word U8 = record { some = omega arith; most = omega arith; all = refl; half = refl }
+HasBits-word U16 = record { some = omega arith; most = omega arith; all = refl; half = refl }
+HasBits-word U32 = record { some = omega arith; most = omega arith; all = refl; half = refl }
+HasBits-word U64 = record { some = omega arith; most = omega arith; all = refl; half = refl }
+HasBits-word Byte = record { some = omega arith; most = omega arith; all = refl; half = refl }
 
--- and no more than the code's words
-pub width-le : (ty : Datatype) → 8 * width ty ≤ 64
-width-le I8 = omega arith
-width-le I16 = omega arith
-width-le I32 = omega arith
-width-le I64 = omega arith
-width-le U8 = omega arith
-width-le U16 = omega arith
-width-le U32 = omega arith
-width-le U64 = omega arith
-width-le Byte = omega arith
+pub width-some : (ty : Datatype) → 0 < width ty
+width-some ty = let some = (HasBits-word ty).some in omega arith
+
+pub limit-some : (ty : Datatype) → 1 < limit ty
+limit-some ty = limit_by-some (is_signed ty) (8 * width ty) (HasBits-word ty).some
 
 pow-bytes : (n : ℕ) → 256 ^ n ≡ 2 ^ (8 * n)
 pow-bytes zero = refl

@@ -10,7 +10,6 @@ use Rattle.coll_kinds.specs.Lengths.{block_len, given_by}
 use Rattle.coll_ops.specs.Contributions.{rows_of, AreGiven}
 use Rattle.coll_ops.specs.Values.{part, row_of, all_rows, value, value_by}
 use Rattle.std.proofs.lemmas.Bool.{false≢true, ltb-true}
-use Rattle.std.proofs.lemmas.Grind.{common_steps}
 use Rattle.coll_kinds.specs.declared.refusal.SignatureFault.{SignatureFault}
 use Rattle.coll_kinds.specs.declared.refusal.Refusal.{Refusal}
 use Rattle.coll_kinds.specs.declared.refusal.Refusal.TheVariants.{BadSignature}
@@ -28,9 +27,6 @@ value-kind sig kind rows r is = ap (λ k. value_by k (unwrap_or sig.op Sum) sig.
 -- a row's length by the kind
 pub length-given : (sig : Signature) (kind : Kind) (n : ℕ) (rows : List (List ℕ)) → sig.kind ≡ kind → AreGiven sig n rows → (i : ℕ) → i < n → length (row_of rows i) ≡ given_by kind sig.root n i (block_len sig)
 length-given sig kind n rows is given i within = given.long i within ∙ ap (λ k. given_by k sig.root n i (block_len sig)) is
-
-pub if-same : (a x y : ℕ) → (if a == a then x else y) ≡ x
-if-same a x y = let e : (a == a) ≡ true = search rules in rw e refl
 
 -- the code's row, by the definition's
 pub length-item : (rows : List (Vec ℕ Global)) (i : ℕ) (v : Vec ℕ Global) → i < length rows → v ≡ get_or rows i v → length v.items ≡ length (row_of (rows_of rows) i)
@@ -90,11 +86,8 @@ root-row sig kind n given root v is rooted fits rows root_is v_is =
     let same : v.items ≡ row_of (rows_of given) sig.root = sym (row_of-rows_of given root v within v_is) ∙ ap (row_of (rows_of given)) root_is in
     (ap length same ∙ length-given sig kind n (rows_of given) is rows sig.root member, same)
 
-pub if-equal : (a b : ℕ) (x y : List ℕ) → a ≡ b → (if a == b then x else y) ≡ x
+pub if-equal : {X : Type 0} (a b : ℕ) (x y : X) → a ≡ b → (if a == b then x else y) ≡ x
 if-equal a b x y h = let e : (a == b) ≡ true = search rules in rw e refl
-
-pub if-differs : (a b : ℕ) (x y : List ℕ) → (a ≡ b → ⊥) → (if a == b then x else y) ≡ y
-if-differs a b x y h = grind (arith, common_steps)
 
 -- n blocks are those before r, block r, and those behind it
 pub blocks-around : (r n count w : ℕ) → r < n → (r * count + (count + (n - (r + 1)) * count)) * w ≡ n * (count * w)

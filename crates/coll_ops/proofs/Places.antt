@@ -5,7 +5,7 @@ use Rattle.std.proofs.lemmas.List.{append-nil, drop-drop}
 use Rattle.std.proofs.lemmas.Grind.{common_steps}
 use Rattle.std.proofs.lemmas.Slice.{between_to_end}
 use borrow.Rule.Slice.PartMut.{put_mid}
-use Rattle.std.specs.Int.{bytes_low_first}
+use Rattle.byteorder.specs.Numbers.{length-bytes_low_first}
 use Rattle.coll_kinds.specs.declared.datatype.Datatype.{Datatype}
 use Rattle.coll_kinds.specs.declared.operation.Op.{Op}
 use Rattle.coll_kinds.specs.Elements.{width, element_at, element_bytes}
@@ -27,10 +27,6 @@ places-suc op ty (suc count) left right =
     λ row. drop-drop (count * width ty) (width ty) row ∙ ap (λ n. drop n row) (omega arith) in
     ap (λ rest. first ++ rest) (places-suc op ty count (drop (width ty) left) (drop (width ty) right))
     ∙ (rw (at_next left, at_next right) (sym (append_assoc first (places op ty count (drop (width ty) left) (drop (width ty) right)) _)))
-
-length-bytes_low_first : (i k n : ℕ) → length (bytes_low_first i k n) ≡ k
-length-bytes_low_first i zero n = refl
-length-bytes_low_first i (suc k) n = ap suc (length-bytes_low_first (suc i) k n)
 
 pub length-element_bytes : (ty : Datatype) (z : ℤ) → length (element_bytes ty z) ≡ width ty
 length-element_bytes ty z = length-bytes_low_first 0 (width ty) _

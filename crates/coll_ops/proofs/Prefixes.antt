@@ -14,7 +14,7 @@ use Rattle.coll_ops.specs.Laws.{IsRow}
 use Rattle.coll_ops.specs.Values.{row_of}
 use Rattle.coll_ops.specs.Contributions.{rows_of}
 use Rattle.coll_ops.proofs.RowBytes.{AreBytes, IsRow-combined}
-use Rattle.coll_ops.proofs.RowLists.{length-combined, length-rows_of}
+use Rattle.coll_ops.proofs.RowLists.{length-combination, length-rows_of}
 use Rattle.coll_ops.proofs.Given.{row_of-take}
 use Rattle.coll_ops.proofs.Associating.{combinations_associate}
 
@@ -35,13 +35,6 @@ IsRow-combination op ty len [] some are = absurd (omega arith)
 IsRow-combination op ty len (row ∷ []) some are = are.each 0 (omega arith)
 IsRow-combination op ty len (row ∷ next ∷ rows) some are = IsRow-combined op ty row (combination op ty (next ∷ rows)) (are.each 0 (omega arith))
 
-length-combination : (op : Op) (ty : Datatype) (len : ℕ) (rows : List (List ℕ)) → 0 < length rows → AreAlike ty len rows → length (combination op ty rows) ≡ len
-length-combination op ty len [] some are = absurd (omega arith)
-length-combination op ty len (row ∷ []) some are = are.long 0 (omega arith)
-length-combination op ty len (row ∷ next ∷ rows) some are =
-    let first : IsRow ty row = are.each 0 (omega arith) in
-    length-combined op ty row (combination op ty (next ∷ rows)) first.whole ∙ are.long 0 (omega arith)
-
 -- one more row at the end is the right operand
 pub combination-append : (op : Op) (ty : Datatype) (len : ℕ) (rows : List (List ℕ)) (row : List ℕ) → IsTrue (allowed op ty) → 0 < length rows → AreAlike ty len rows → IsRow ty row → length row ≡ len →
     combination op ty (rows ++ row ∷ []) ≡ combined op ty (combination op ty rows) row
@@ -50,7 +43,7 @@ combination-append op ty len (first ∷ []) row may some are is long = refl
 combination-append op ty len (first ∷ next ∷ rows) row may some are is long =
     let rest : AreAlike ty len (next ∷ rows) = AreAlike-rest ty len first (next ∷ rows) are in
     let sum : List ℕ = combination op ty (next ∷ rows) in
-    let sum_long : length sum ≡ len = length-combination op ty len (next ∷ rows) (omega arith) rest in
+    let sum_long : length sum ≡ len = length-combination op ty len (next ∷ rows) (ap (λ n. n % width ty) (sym long) ∙ is.whole) (omega arith) rest.long in
     ap (combined op ty first) (combination-append op ty len (next ∷ rows) row may (omega arith) rest is long)
     ∙ sym (combinations_associate op ty may first sum row (are.each 0 (omega arith)) (IsRow-combination op ty len (next ∷ rows) (omega arith) rest) is
     (are.long 0 (omega arith) ∙ sym sum_long) (sum_long ∙ sym long))
@@ -90,7 +83,7 @@ AreAlike-take ty len read k rows are le = record { each = each; long = long }
 
 pub length-prefix : (op : Op) (ty : Datatype) (len read k : ℕ) (rows : List (List ℕ)) → AreRead ty len read rows → k < read → k < length rows → length (prefix op ty rows k) ≡ len
 length-prefix op ty len read k rows are lt within =
-    length-combination op ty len (take (k + 1) rows) (simp length-take (omega arith)) (AreAlike-take ty len read (k + 1) rows are (omega arith))
+    length-combination op ty len (take (k + 1) rows) are.whole (simp length-take (omega arith)) (AreAlike-take ty len read (k + 1) rows are (omega arith)).long
 
 -- the first row alone
 prefix-first : (op : Op) (ty : Datatype) (rows : List (List ℕ)) → 0 < length rows → prefix op ty rows 0 ≡ row_of rows 0

@@ -89,3 +89,10 @@ length-combined op ty left right whole =
     length-flat_map ty (zipped op ty (elements ty (length left / width ty) left) (elements ty (length left / width ty) right))
     ∙ (ap (λ k. k * width ty) (length-zipped op ty (length left / width ty) left right)
     ∙ omega (arith, div-add-mod' (length left) (width ty)))
+
+-- and so is one of more rows, where all have one length
+pub length-combination : (op : Op) (ty : Datatype) (len : ℕ) (rows : List (List ℕ)) → len % width ty ≡ 0 → 0 < length rows → ((i : ℕ) → i < length rows → length (row_of rows i) ≡ len) → length (combination op ty rows) ≡ len
+length-combination op ty len [] whole some long = absurd (omega arith)
+length-combination op ty len (row ∷ []) whole some long = long 0 (omega arith)
+length-combination op ty len (row ∷ next ∷ rows) whole some long =
+    length-combined op ty row (combination op ty (next ∷ rows)) (ap (λ k. k % width ty) (long 0 (omega arith)) ∙ whole) ∙ long 0 (omega arith)

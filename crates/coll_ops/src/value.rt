@@ -32,7 +32,7 @@ pub fn plain_value(
     let root = usize::from(sig.root);
     match sig.kind {
         Kind::Barrier => Ok(Vec::new(alloc)),
-        Kind::Bcast => copied(alloc, part(&given[root], 0, block)),
+        Kind::Bcast => Ok(Vec::from_slice(alloc, part(&given[root], 0, block))?),
         Kind::Gather => {
             if r == sig.root {
                 joined(alloc, given, 0, block)
@@ -40,7 +40,7 @@ pub fn plain_value(
                 Ok(Vec::new(alloc))
             }
         }
-        Kind::Scatter => copied(alloc, part(&given[root], own, block)),
+        Kind::Scatter => Ok(Vec::from_slice(alloc, part(&given[root], own, block))?),
         Kind::Allgather => joined(alloc, given, 0, block),
         Kind::Alltoall => joined(alloc, given, own, block),
         Kind::Reduce => {
@@ -75,8 +75,8 @@ fn combined(alloc: Global, sig: Signature, rows: &[Vec<u8>], at: usize) -> Resul
     let Some(op) = sig.op else { unreachable!() };
     let block = sig.block_len();
     let last = rows.len() - 1;
-    let mut sum = copied(alloc, part(&rows[last], at, block))?;
-    let mut next = copied(alloc, sum.as_slice())?;
+    let mut sum = Vec::from_slice(alloc, part(&rows[last], at, block))?;
+    let mut next = vec![in alloc; 0; block]?;
     for i in (0..last).rev() {
         combine(
             op,
@@ -98,9 +98,7 @@ fn joined(alloc: Global, rows: &[Vec<u8>], at: usize, len: usize) -> Result<Vec<
 {
     let mut bytes = Vec::new(alloc);
     for row in rows {
-        if bytes.extend_from_slice(part(row, at, len)).is_err() {
-            return Err(Refusal::NoMemory);
-        }
+        bytes.extend_from_slice(part(row, at, len))?;
     }
     Ok(bytes)
 }
@@ -111,16 +109,6 @@ fn part(row: &Vec<u8>, at: usize, len: usize) -> &[u8]
     ensures { result.now ≡ part at len row.now.items }
 {
     &row.as_slice()[at..at + len]
-}
-
-pub(crate) fn copied(alloc: Global, row: &[u8]) -> Result<Vec<u8>, Refusal>
-    ensures ok { IfOk result (λ bytes. bytes.items ≡ row.now) }
-    ensures refusal { IsOkUnless result Refusal.NoMemory }
-{
-    match Vec::from_slice(alloc, row) {
-        Ok(bytes) => Ok(bytes),
-        Err(_) => Err(Refusal::NoMemory),
-    }
 }
 
 #[cfg(test)]

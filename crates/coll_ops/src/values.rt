@@ -1,4 +1,4 @@
-ghost use Rattle.std.specs.Prelude.{◌≡◌, ℕ, ◌+◌, ◌-◌, ◌<◌, ◌%◌, ◌++◌, ◌∷◌, [], length, slice_index, map, take, unwrap_or, None, IfOk, OnOk, IsTrue, IsOkUnless};
+ghost use Rattle.std.specs.Prelude.{◌≡◌, ℕ, ◌+◌, ◌-◌, ◌<◌, ◌%◌, length, slice_index, map, take, unwrap_or, None, IfOk, IsTrue, IsOkUnless};
 ghost use Rattle.std.specs.List.{range_with_len};
 ghost use Rattle.coll_kinds.specs.Checks.{broken, allowed, reduces};
 ghost use Rattle.coll_kinds.specs.Elements.{width};
@@ -8,7 +8,7 @@ ghost use Rattle.coll_ops.specs.Contributions.{rows_of, AreGiven};
 ghost use Rattle.coll_ops.specs.Values.{row_of, value};
 
 use crate::rows::combine;
-use crate::value::{copied, plain_value};
+use crate::value::plain_value;
 use coll_kinds::{Datatype, Kind, Op, Refusal, Signature};
 use std::alloc::Global;
 
@@ -49,7 +49,7 @@ fn each_value(
 {
     let mut values = Vec::new(alloc);
     for r in 0..n {
-        push(plain_value(alloc, sig, n, given, r)?, &mut values)?;
+        values.push(plain_value(alloc, sig, n, given, r)?)?;
     }
     Ok(values)
 }
@@ -61,7 +61,7 @@ fn copies(alloc: Global, row: &Vec<u8>, n: u8) -> Result<Vec<Vec<u8>>, Refusal>
 {
     let mut rows = Vec::new(alloc);
     for _member in 0..n {
-        push(copied(alloc, row)?, &mut rows)?;
+        rows.push(Vec::from_slice(alloc, row)?)?;
     }
     Ok(rows)
 }
@@ -79,7 +79,7 @@ fn prefixes(alloc: Global, sig: Signature, rows: &[Vec<u8>]) -> Result<Vec<Vec<u
     let mut sums: Vec<Vec<u8>> = Vec::new(alloc);
     for row in rows {
         let sum = next_prefix(alloc, op, sig.ty, &sums, row.as_slice())?;
-        push(sum, &mut sums)?;
+        sums.push(sum)?;
     }
     Ok(sums)
 }
@@ -102,7 +102,7 @@ fn next_prefix(
     ensures bytes { (i : ℕ) → slice_index row.now i < 256 }
     ensures refusal { IsOkUnless result Refusal.NoMemory }
 {
-    let mut sum = copied(alloc, row)?;
+    let mut sum = Vec::from_slice(alloc, row)?;
     if let Some(prefix) = sums.last() {
         combine(op, ty, prefix.as_slice(), row, sum.as_mut_slice());
     }
@@ -125,20 +125,8 @@ fn exclusive_prefixes(
         return Ok(Vec::new(alloc));
     }
     let mut sums = prefixes(alloc, sig, &rows[..rows.len() - 1])?;
-    match sums.insert(0, Vec::new(alloc)) {
-        Ok(()) => Ok(sums),
-        Err(_) => Err(Refusal::NoMemory),
-    }
-}
-
-fn push<T: Drop>(item: T, items: &mut Vec<T>) -> Result<(), Refusal>
-    ensures ok { OnOk result (items.new.items ≡ items.old.items ++ item ∷ []) }
-    ensures refusal { IsOkUnless result Refusal.NoMemory }
-{
-    match items.push(item) {
-        Ok(()) => Ok(()),
-        Err(_) => Err(Refusal::NoMemory),
-    }
+    sums.insert(0, Vec::new(alloc))?;
+    Ok(sums)
 }
 
 #[cfg(test)]
@@ -179,9 +167,9 @@ mod tests {
         for i in 0..n {
             let mut row = Vec::new(alloc);
             for j in 0..sig.given_len(n, i) {
-                push(i.wrapping_mul(3).wrapping_add((j % 7) as u8) % 4, &mut row)?;
+                row.push(i.wrapping_mul(3).wrapping_add((j % 7) as u8) % 4)?;
             }
-            push(row, &mut rows)?;
+            rows.push(row)?;
         }
         Ok(rows)
     }

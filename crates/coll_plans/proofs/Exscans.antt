@@ -26,14 +26,13 @@ use Rattle.coll_sched.proofs.Builders.{Has, round_held, input_held}
 use Rattle.coll_trees.specs.Columns.{Column, rounds_of}
 use Rattle.coll_trees.specs.Depths.{depth, front, behind, nothing}
 use Rattle.coll_trees.specs.Trees.{IsNarrowFor}
-use Rattle.coll_trees.proofs.Checked.{checked, operation_allowed, block_whole}
+use Rattle.coll_trees.proofs.Checked.{checked, operation_allowed, block_whole, IsRow-block}
 use Rattle.coll_trees.proofs.Columns.{IsColumn, IsLocalColumn, round-column, length-rounds, lawful_family, narrow_family, few_exchanges}
 use Rattle.coll_trees.proofs.Depths.{depth_reaches}
-use Rattle.coll_trees.proofs.RowBytes.{associates}
-use Rattle.coll_trees.proofs.Spans.{span, Associates, span_join}
+use Rattle.coll_trees.proofs.Spans.{span, Associates, associates, span_join}
 use Rattle.coll_plans.specs.Scans.{third, shift, collect, join_both, doubling, exscan_family}
 use Rattle.coll_plans.proofs.LocalRounds.{AreLocal, local_column, is_local_column}
-use Rattle.coll_plans.proofs.Ranges.{length-doubling, doubling-shifts, doubling-joins, doubling_columns, doubling_costs, range_heard, range_holds, came, shift_kept, step_kept, span_first}
+use Rattle.coll_plans.proofs.Ranges.{length-doubling, shift_at, join_at, doubling_columns, doubling_costs, range_heard, range_holds, came, shift_kept, step_kept, span_first}
 
 -- the second round of a step, by whether it is the first step and whether the member has received
 abbrev collect_by : Op → Datatype → ℕ → Bool → Action
@@ -125,14 +124,10 @@ module _ (sig : Signature) (n : ℕ) (kind : sig.kind ≡ Exscan) (top : n ≤ 6
   exscan_length r = length-rounds columns r ∙ length-doubling b n (join_both op sig.ty b) 0 (depth n)
 
   moved : (i r : ℕ) → i < depth n → actions_at (exscan_family sig n) (i + i) r ≡ shift b n (2 ^ i) r
-  moved i r h =
-      round-column columns (i + i) r
-      ∙ ap (λ (c : Column). c r) (doubling-shifts b n (join_both op sig.ty b) 0 (depth n) i h ∙ ap (λ e. shift b n (2 ^ e)) (let z : 0 + i ≡ i = omega arith in z))
+  moved i r h = round-column columns (i + i) r ∙ shift_at b n (join_both op sig.ty b) (depth n) i r h
 
   then_joined : (i r : ℕ) → i < depth n → actions_at (exscan_family sig n) (suc (i + i)) r ≡ join_both op sig.ty b (2 ^ i) r
-  then_joined i r h =
-      round-column columns (suc (i + i)) r
-      ∙ ap (λ (c : Column). c r) (doubling-joins b n (join_both op sig.ty b) 0 (depth n) i h ∙ ap (λ e. join_both op sig.ty b (2 ^ e)) (let z : 0 + i ≡ i = omega arith in z))
+  then_joined i r h = round-column columns (suc (i + i)) r ∙ join_at b n (join_both op sig.ty b) (depth n) i r h
 
   joined : (i r : ℕ) → i < depth n → 2 ^ i ≤ r → actions_at (exscan_family sig n) (suc (i + i)) r ≡ collect op sig.ty b (2 ^ i) ∷ Combine op sig.ty (behind b) (front b) (front b) ∷ []
   joined i r low near = then_joined i r low ∙ join-some op sig.ty b (2 ^ i) r near
@@ -160,7 +155,7 @@ module _ (sig : Signature) (n : ℕ) (kind : sig.kind ≡ Exscan) (top : n ≤ 6
     laid r h = are.long r h ∙ sym (takes r)
 
     rows : (p : ℕ) → p < n → IsRow sig.ty (row_of given p) × (length (row_of given p) ≡ b)
-    rows p h = (record { whole = ap (λ k. k % width sig.ty) (laid p h) ∙ block_whole sig; bytes = bytes p h }, laid p h)
+    rows p h = (IsRow-block sig (row_of given p) (laid p h) (bytes p h), laid p h)
 
     assoc : Associates op sig.ty
     assoc = associates op sig.ty may

@@ -130,19 +130,26 @@ module _ (b n : ℕ) (joins : ℕ → Column) where
   length-doubling k zero = refl
   length-doubling k (suc c) = let e : length (doubling b n joins (suc k) c) ≡ c + c = length-doubling (suc k) c in omega arith
 
-  pub doubling-shifts : (k c i : ℕ) → i < c → column_of (doubling b n joins k c) (i + i) ≡ shift b n (2 ^ (k + i))
+  doubling-shifts : (k c i : ℕ) → i < c → column_of (doubling b n joins k c) (i + i) ≡ shift b n (2 ^ (k + i))
   doubling-shifts k zero i h = absurd (omega arith)
   doubling-shifts k (suc c) zero h = ap (λ e. shift b n (2 ^ e)) (let z : k ≡ k + 0 = omega arith in z)
   doubling-shifts k (suc c) (suc i) h =
       ap (column_of (doubling b n joins k (suc c))) (let e : suc i + suc i ≡ suc (suc (i + i)) = omega arith in e)
       ∙ (doubling-shifts (suc k) c i (omega arith) ∙ ap (λ e. shift b n (2 ^ e)) (let z : suc k + i ≡ k + suc i = omega arith in z))
 
-  pub doubling-joins : (k c i : ℕ) → i < c → column_of (doubling b n joins k c) (suc (i + i)) ≡ joins (2 ^ (k + i))
+  doubling-joins : (k c i : ℕ) → i < c → column_of (doubling b n joins k c) (suc (i + i)) ≡ joins (2 ^ (k + i))
   doubling-joins k zero i h = absurd (omega arith)
   doubling-joins k (suc c) zero h = ap (λ e. joins (2 ^ e)) (let z : k ≡ k + 0 = omega arith in z)
   doubling-joins k (suc c) (suc i) h =
       ap (column_of (doubling b n joins k (suc c))) (let e : suc (suc i + suc i) ≡ suc (suc (suc (i + i))) = omega arith in e)
       ∙ (doubling-joins (suc k) c i (omega arith) ∙ ap (λ e. joins (2 ^ e)) (let z : suc k + i ≡ k + suc i = omega arith in z))
+
+  -- step i begins with the shift at distance 2 ^ i, and then what came joins
+  pub shift_at : (c i r : ℕ) → i < c → column_of (doubling b n joins 0 c) (i + i) r ≡ shift b n (2 ^ i) r
+  shift_at c i r h = ap (λ (column : Column). column r) (doubling-shifts 0 c i h ∙ ap (λ e. shift b n (2 ^ e)) (let z : 0 + i ≡ i = omega arith in z))
+
+  pub join_at : (c i r : ℕ) → i < c → column_of (doubling b n joins 0 c) (suc (i + i)) r ≡ joins (2 ^ i) r
+  join_at c i r h = ap (λ (column : Column). column r) (doubling-joins 0 c i h ∙ ap (λ e. joins (2 ^ e)) (let z : 0 + i ≡ i = omega arith in z))
 
   pub doubling_columns : (size : ℕ) → b + b ≤ size → ((s : ℕ) → IsColumn n size (joins s)) → (k c : ℕ) → AllByRecursion (IsColumn n size) (doubling b n joins k c)
   doubling_columns size h each k zero = tt

@@ -25,14 +25,13 @@ use Rattle.coll_sched.proofs.Builders.{Has, input_held}
 use Rattle.coll_trees.specs.Columns.{Column, rounds_of}
 use Rattle.coll_trees.specs.Depths.{depth, front, behind}
 use Rattle.coll_trees.specs.Trees.{IsNarrowFor}
-use Rattle.coll_trees.proofs.Checked.{checked, operation_allowed, block_whole}
+use Rattle.coll_trees.proofs.Checked.{checked, operation_allowed, block_whole, IsRow-block}
 use Rattle.coll_trees.proofs.Columns.{IsColumn, IsLocalColumn, round-column, length-rounds, lawful_family, narrow_family, few_exchanges}
 use Rattle.coll_trees.proofs.Depths.{depth_reaches}
-use Rattle.coll_trees.proofs.RowBytes.{associates}
-use Rattle.coll_trees.proofs.Spans.{span}
+use Rattle.coll_trees.proofs.Spans.{span, associates}
 use Rattle.coll_plans.specs.Scans.{shift, join, doubling, scan_family}
 use Rattle.coll_plans.proofs.LocalRounds.{AreLocal, local_column, is_local_column}
-use Rattle.coll_plans.proofs.Ranges.{length-doubling, doubling-shifts, doubling-joins, doubling_columns, doubling_costs, range_heard, range_holds, span_first}
+use Rattle.coll_plans.proofs.Ranges.{length-doubling, shift_at, join_at, doubling_columns, doubling_costs, range_heard, range_holds, span_first}
 
 -- the second round of a step, by whether the member has received
 abbrev join_by : Op → Datatype → ℕ → Bool → List Action
@@ -79,14 +78,10 @@ module _ (sig : Signature) (n : ℕ) (kind : sig.kind ≡ Scan) (top : n ≤ 64)
   scan_length r = length-rounds columns r ∙ length-doubling b n (join op sig.ty b) 0 (depth n)
 
   moved : (i r : ℕ) → i < depth n → actions_at (scan_family sig n) (i + i) r ≡ shift b n (2 ^ i) r
-  moved i r h =
-      round-column columns (i + i) r
-      ∙ ap (λ (c : Column). c r) (doubling-shifts b n (join op sig.ty b) 0 (depth n) i h ∙ ap (λ e. shift b n (2 ^ e)) (let z : 0 + i ≡ i = omega arith in z))
+  moved i r h = round-column columns (i + i) r ∙ shift_at b n (join op sig.ty b) (depth n) i r h
 
   then_joined : (i r : ℕ) → i < depth n → actions_at (scan_family sig n) (suc (i + i)) r ≡ join op sig.ty b (2 ^ i) r
-  then_joined i r h =
-      round-column columns (suc (i + i)) r
-      ∙ ap (λ (c : Column). c r) (doubling-joins b n (join op sig.ty b) 0 (depth n) i h ∙ ap (λ e. join op sig.ty b (2 ^ e)) (let z : 0 + i ≡ i = omega arith in z))
+  then_joined i r h = round-column columns (suc (i + i)) r ∙ join_at b n (join op sig.ty b) (depth n) i r h
 
   takes : (r : ℕ) → b ≡ given_len sig n r
   takes r = sym (ap (λ k. given_by k sig.root n r b) kind)
@@ -96,7 +91,7 @@ module _ (sig : Signature) (n : ℕ) (kind : sig.kind ≡ Scan) (top : n ≤ 64)
     laid r h = are.long r h ∙ sym (takes r)
 
     rows : (p : ℕ) → p < n → IsRow sig.ty (row_of given p) × (length (row_of given p) ≡ b)
-    rows p h = (record { whole = ap (λ k. k % width sig.ty) (laid p h) ∙ block_whole sig; bytes = bytes p h }, laid p h)
+    rows p h = (IsRow-block sig (row_of given p) (laid p h) (bytes p h), laid p h)
 
     holds : (r : ℕ) → r < n → read_of (lock_step (scan_family sig n) (row_of given) (depth n + depth n) r) (front b) ≡ span op sig.ty (row_of given) (suc r - min (2 ^ depth n) (suc r)) (min (2 ^ depth n) (suc r))
     holds r h =

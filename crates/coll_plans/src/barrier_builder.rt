@@ -1,4 +1,4 @@
-ghost use Rattle.std.specs.Prelude.{◌≡◌, ◌++◌, ◌<◌, ◌≤◌, IfOk, OnOk, IsOkUnless};
+ghost use Rattle.std.specs.Prelude.{◌≡◌, ◌<◌, ◌≤◌, IfOk, IsOkUnless};
 ghost use Rattle.coll_kinds.specs.declared.kind.Kind.TheVariants.{Barrier};
 ghost use Rattle.coll_trees.specs.Columns.{rounds_of};
 ghost use Rattle.coll_trees.specs.Depths.{depth};
@@ -40,10 +40,7 @@ fn meetings(alloc: Global, n: u8, r: u8) -> Result<Vec<Round>, Refusal>
     let steps = depth_of(n);
     for step in 0..steps {
         let round = meeting(alloc, n, r, 2u8.pow(u32::from(step)))?;
-        match rounds.push(round) {
-            Ok(()) => {}
-            Err(_) => return Err(Refusal::NoMemory),
-        }
+        rounds.push(round)?;
     }
     Ok(rounds)
 }

@@ -72,10 +72,8 @@ pub(crate) fn one_round(alloc: Global, round: Round) -> Result<Vec<Round>, Refus
     ensures refusal { IsOkUnless result Refusal.NoMemory }
 {
     let mut rounds = Vec::new(alloc);
-    match rounds.push(round) {
-        Ok(()) => Ok(rounds),
-        Err(_) => Err(Refusal::NoMemory),
-    }
+    rounds.push(round)?;
+    Ok(rounds)
 }
 
 /// The schedule of parts that are one.

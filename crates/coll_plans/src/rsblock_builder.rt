@@ -61,10 +61,7 @@ fn push_combines(
 {
     for done in 1..n {
         let round = combine_at(alloc, op, ty, blocks, n - 1 - done)?;
-        match rounds.push(round) {
-            Ok(()) => {}
-            Err(_) => return Err(Refusal::NoMemory),
-        }
+        rounds.push(round)?;
     }
     Ok(())
 }

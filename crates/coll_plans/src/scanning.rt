@@ -1,4 +1,4 @@
-ghost use Rattle.std.specs.Prelude.{◌≡◌, ◌∷◌, ◌++◌, [], ◌<◌, ◌≤◌, ◌^◌, IfOk, OnOk, IsOkUnless};
+ghost use Rattle.std.specs.Prelude.{◌≡◌, ◌<◌, ◌≤◌, ◌^◌, IfOk, IsOkUnless};
 ghost use Rattle.coll_trees.specs.Columns.{rounds_of};
 ghost use Rattle.coll_trees.specs.Depths.{depth, front, behind};
 
@@ -37,9 +37,9 @@ impl Scanning {
         for step in 0..steps {
             let distance = 2u8.pow(u32::from(step));
             let shift = self.shift(alloc, r, distance)?;
-            push_round(&mut rounds, shift)?;
+            rounds.push(shift)?;
             let join = self.join(alloc, r, distance)?;
-            push_round(&mut rounds, join)?;
+            rounds.push(join)?;
         }
         Ok(rounds)
     }
@@ -136,16 +136,5 @@ impl Scanning {
             at: self.len + self.len,
             len: self.len,
         }
-    }
-}
-
-// Puts a round at the end.
-fn push_round(rounds: &mut Vec<Round>, round: Round) -> Result<(), Refusal>
-    ensures ok { OnOk result (rounds.new.items ≡ rounds.old.items ++ round ∷ []) }
-    ensures refusal { IsOkUnless result Refusal.NoMemory }
-{
-    match rounds.push(round) {
-        Ok(()) => Ok(()),
-        Err(_) => Err(Refusal::NoMemory),
     }
 }

@@ -5,6 +5,10 @@ use Rattle.std.proofs.lemmas.Bool.{cases_lt}
 use Rattle.coll_sched.specs.declared.region.Region.{Region}
 use Rattle.coll_sched.specs.Regions.{read_of, written, Apart}
 
+-- apart is symmetric
+pub flip : (g h : Region) → Apart g h → Apart h g
+flip g h a k x y z w = a k z w x y
+
 pub length_read : (buf : List ℕ) (g : Region) → g.at + g.len ≤ length buf → length (read_of buf g) ≡ g.len
 length_read buf g h = simp (length-take, length-drop) (omega arith)
 

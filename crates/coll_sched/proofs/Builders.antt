@@ -8,10 +8,10 @@ use Rattle.coll_sched.specs.declared.action.Action.{Action}
 use Rattle.coll_sched.specs.declared.action.Action.TheVariants.{Send, Copy, Combine, Recv}
 use Rattle.coll_kinds.specs.Elements.{width}
 use Rattle.coll_ops.specs.Combinations.{combined}
-use Rattle.coll_sched.specs.Regions.{read_of, written, Inside, Apart}
+use Rattle.coll_sched.specs.Regions.{read_of, written, Inside}
 use Rattle.coll_sched.specs.Actions.{wrote, wrote_all, writes, AllApart, Fits, Follows, EachFollows}
 use Rattle.coll_sched.specs.Families.{Family, actions_at, messages, lock_step, read_at, IsLawful, out_link, in_link, IsRecvOf, Receives}
-use Rattle.coll_sched.proofs.Buffers.{length_read}
+use Rattle.coll_sched.proofs.Buffers.{flip, length_read}
 use Rattle.coll_ops.proofs.RowLists.{length-combined}
 use Rattle.coll_sched.proofs.Each.{all_map}
 use Rattle.coll_sched.proofs.Rounds.{round_at, GivenFits, message_fits, length_lock_step, MessageFits, length_wrote, reads_kept}
@@ -111,9 +111,6 @@ taken msgs mine (Send to from) = []
 taken msgs mine (Copy from into) = read_of mine from
 taken msgs mine (Combine op ty left right into) = combined op ty (read_of mine left) (read_of mine right)
 taken msgs mine (Recv of into) = msgs of
-
-flip : (g h : Region) → Apart g h → Apart h g
-flip g h a k x y z w = a k z w x y
 
 module _ (size : ℕ) (msgs : ℕ → List ℕ) (mine : List ℕ) (own : length mine ≡ size) where
   held_now : (a : Action) (g : Region) (buf : List ℕ) → Fits size a → MessageFits msgs a → length buf ≡ size → writes a ≡ g ∷ [] → read_of (wrote msgs mine a buf) g ≡ taken msgs mine a

@@ -45,28 +45,25 @@ total_next weight (x ∷ xs) zero a e = let h : weight x ≡ weight a = ap weigh
 total_next weight (x ∷ xs) (suc i) a e = let h : total weight (take (suc i) xs) ≡ total weight (take i xs) + weight a = total_next weight xs i a e in omega arith
 
 -- no earlier Send of the round goes to the same member, no earlier Recv is of the same
-outs_before : (b : Action) (r : ℕ) (g : Region) → Follows b (Send r g) → outs r b ≡ 0
-outs_before (Send to from) r g h = cond-false (eqb to r) 1 0 (ne_eqb to r h.other_peer)
-outs_before (Copy from into) r g h = refl
-outs_before (Combine op ty x y into) r g h = refl
-outs_before (Recv of into) r g h = refl
+outs_before : (r : ℕ) (g : Region) (b : Action) → Follows b (Send r g) → outs r b ≡ 0
+outs_before r g (Send to from) h = cond-false (eqb to r) 1 0 (ne_eqb to r h.other_peer)
+outs_before r g (Copy from into) h = refl
+outs_before r g (Combine op ty x y into) h = refl
+outs_before r g (Recv of into) h = refl
 
-pub ins_before : (b : Action) (q : ℕ) (g : Region) → Follows b (Recv q g) → ins q b ≡ 0
-ins_before (Send to from) q g h = refl
-ins_before (Copy from into) q g h = refl
-ins_before (Combine op ty x y into) q g h = refl
-ins_before (Recv of into) q g h = cond-false (eqb of q) 1 0 (ne_eqb of q h.other_peer)
+pub ins_before : (q : ℕ) (g : Region) (b : Action) → Follows b (Recv q g) → ins q b ≡ 0
+ins_before q g (Send to from) h = refl
+ins_before q g (Copy from into) h = refl
+ins_before q g (Combine op ty x y into) h = refl
+ins_before q g (Recv of into) h = cond-false (eqb of q) 1 0 (ne_eqb of q h.other_peer)
 
-total_zero : (weight : Action → ℕ) (xs : List Action) → AllByRecursion (λ b. weight b ≡ 0) xs → total weight xs ≡ 0
-total_zero weight [] h = refl
-total_zero weight (x ∷ xs) h = let e : weight x ≡ 0 = h.0 in let k : total weight xs ≡ 0 = total_zero weight xs h.1 in omega arith
-
-each_before : (r : ℕ) (g : Region) (xs : List Action) → AllByRecursion (λ b. Follows b (Send r g)) xs → total (outs r) xs ≡ 0
-each_before r g [] h = refl
-each_before r g (x ∷ xs) h = let e : outs r x ≡ 0 = outs_before x r g h.0 in let k : total (outs r) xs ≡ 0 = each_before r g xs h.1 in omega arith
+-- weights of 0 add up to 0
+pub total_zero : (weight : Action → ℕ) (P : Action → Type 0) → ((b : Action) → P b → weight b ≡ 0) → (xs : List Action) → AllByRecursion P xs → total weight xs ≡ 0
+total_zero weight P none [] h = refl
+total_zero weight P none (x ∷ xs) h = let e : weight x ≡ 0 = none x h.0 in let k : total weight xs ≡ 0 = total_zero weight P none xs h.1 in omega arith
 
 pub no_send_before : (xs : List Action) (i r : ℕ) (g : Region) → EachFollows xs → slice_get xs i ≡ Some (Send r g) → total (outs r) (take i xs) ≡ 0
-no_send_before xs i r g h e = each_before r g (take i xs) (before_at xs i (Send r g) h e)
+no_send_before xs i r g h e = total_zero (outs r) (λ b. Follows b (Send r g)) (outs_before r g) (take i xs) (before_at xs i (Send r g) h e)
 
 pub receives_next : (xs : List Action) (i : ℕ) (a : Action) (q : ℕ) → slice_get xs i ≡ Some a → Receives (take (suc i) xs) q → Receives (take i xs) q ⊎ IsRecvOf a q
 receives_next [] i a q e h = absurd (none-some a e)
@@ -335,9 +332,8 @@ balanced_receive f w r p of into bytes buf next stands b q s j = go (put_mail_ca
         omega arith
 
 -- a round sends once to a member
-later_outs : (to r : ℕ) (g : Region) (xs : List Action) → to ≡ r → AllByRecursion (Follows (Send to g)) xs → total (outs r) xs ≡ 0
-later_outs to r g [] e h = refl
-later_outs to r g (x ∷ xs) e h = let k : outs r x ≡ 0 = one x h.0 in let l : total (outs r) xs ≡ 0 = later_outs to r g xs e h.1 in omega arith
+pub later_outs : (to r : ℕ) (g : Region) (xs : List Action) → to ≡ r → AllByRecursion (Follows (Send to g)) xs → total (outs r) xs ≡ 0
+later_outs to r g xs e h = total_zero (outs r) (Follows (Send to g)) one xs h
   where
     one : (b : Action) → Follows (Send to g) b → outs r b ≡ 0
     one (Send q k) f = cond-false (eqb q r) 1 0 (ne_eqb q r (λ m. f.other_peer (e ∙ sym m)))
@@ -370,6 +366,10 @@ total_done weight (Some p) g j xs = go (place j p.round)
     go (less h) = let e : total weight (done_by (Some p) g j xs) ≡ total weight xs = ap (total weight) (done_less p g j xs h) in omega arith
     go (same h) = let e : total weight (done_by (Some p) g j xs) ≡ total weight (take p.index xs) = ap (total weight) (done_same p g j xs h) in let k : total weight (take p.index xs) ≤ total weight xs = total_take weight xs p.index in omega arith
     go (more h) = let e : total weight (done_by (Some p) g j xs) ≡ 0 = ap (total weight) (done_more p g j xs h) in omega arith
+
+pub none_standing : (o : Option (List ℕ)) → standing o ≡ 0 → o ≡ None
+none_standing None h = refl
+none_standing (Some bytes) h = absurd (omega arith)
 
 -- a message that stands is that of a Send done and of a Recv not done
 pub standing_counts : (f : Family) (w : World) (q r j : ℕ) (bytes : List ℕ) → EachFollows (actions_at f j q) → Balanced f w → w.mail q r j ≡ Some bytes → (total (outs r) (done_at f w j q) ≡ 1) × (total (ins q) (done_at f w j r) ≡ 0)

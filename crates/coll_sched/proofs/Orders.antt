@@ -13,7 +13,7 @@ use Rattle.coll_sched.specs.Actions.{writes, Fits, AllApart, Follows, EachFollow
 use Rattle.coll_sched.specs.Schedules.{has_peer, exchanges}
 use Rattle.coll_sched.specs.Families.{Family, actions_at, lock_step, messages, members, is_exchange}
 use Rattle.coll_sched.specs.Orders.{Reordered, same, swap, under, both, Commutes, BoundsMembers}
-use Rattle.coll_sched.proofs.Buffers.{length_read, written_swap}
+use Rattle.coll_sched.proofs.Buffers.{flip, length_read, written_swap}
 use Rattle.coll_ops.proofs.RowLists.{length-combined}
 use Rattle.coll_sched.proofs.Each.{all_map}
 use Rattle.coll_sched.proofs.Rounds.{MessageFits, length_wrote, message_fits, length_lock_step, round_at}
@@ -27,10 +27,6 @@ record Writing (size : ℕ) (msgs : ℕ → List ℕ) (mine : List ℕ) (a : Act
   region_is : writes a ≡ into ∷ []
   does : (buf : List ℕ) → wrote msgs mine a buf ≡ written buf into bytes
 
-flip : (g h : Region) → Apart g h → Apart h g
-flip g h a k x y z w = a k z w x y
-
--- apart is symmetric
 all_unit : (hs : List Region) → AllByRecursion (λ h. AllByRecursion (λ g. Apart h g) []) hs
 all_unit [] = tt
 all_unit (h ∷ hs) = (tt, all_unit hs)

@@ -13,15 +13,11 @@ use Rattle.coll_sched.specs.Tracks.{outs, ins, total, done_by, done_at, standing
 use Rattle.coll_sched.specs.Heart.{IsQuiet, Finishes}
 use Rattle.coll_sched.proofs.Each.{all_at}
 use Rattle.coll_sched.proofs.Rounds.{round_at, before_at, in_link_at}
-use Rattle.coll_sched.proofs.Counts.{ins_before, done_less, done_same}
+use Rattle.coll_sched.proofs.Counts.{ins_before, total_zero, done_less, done_same}
 use Rattle.coll_sched.proofs.Track.{tracks}
 
-none_of_before : (q : ℕ) (g : Region) (xs : List Action) → AllByRecursion (λ b. Follows b (Recv q g)) xs → total (ins q) xs ≡ 0
-none_of_before q g [] h = refl
-none_of_before q g (x ∷ xs) h = let e : ins q x ≡ 0 = ins_before x q g h.0 in let k : total (ins q) xs ≡ 0 = none_of_before q g xs h.1 in omega arith
-
 no_recv_before : (xs : List Action) (i q : ℕ) (g : Region) → EachFollows xs → slice_get xs i ≡ Some (Recv q g) → total (ins q) (take i xs) ≡ 0
-no_recv_before xs i q g h e = none_of_before q g (take i xs) (before_at xs i (Recv q g) h e)
+no_recv_before xs i q g h e = total_zero (ins q) (λ b. Follows b (Recv q g)) (ins_before q g) (take i xs) (before_at xs i (Recv q g) h e)
 
 -- no Send follows a Recv
 outs_late : (q r : ℕ) (g : Region) (b : Action) → Follows (Recv q g) b → outs r b ≡ 0
@@ -30,16 +26,12 @@ outs_late q r g (Copy from into) h = refl
 outs_late q r g (Combine op ty x y into) h = refl
 outs_late q r g (Recv of into) h = refl
 
-outs_all_late : (q r : ℕ) (g : Region) (xs : List Action) → AllByRecursion (Follows (Recv q g)) xs → total (outs r) xs ≡ 0
-outs_all_late q r g [] h = refl
-outs_all_late q r g (x ∷ xs) h = let e : outs r x ≡ 0 = outs_late q r g x h.0 in let k : total (outs r) xs ≡ 0 = outs_all_late q r g xs h.1 in omega arith
-
 all_sent : (xs : List Action) (i q r : ℕ) (g : Region) → EachFollows xs → slice_get xs i ≡ Some (Recv q g) → total (outs r) (take i xs) ≡ total (outs r) xs
 all_sent [] i q r g h e = absurd (none-some _ e)
 all_sent (x ∷ xs) zero q r g h e =
     let same : x ≡ Recv q g = same_Some x (Recv q g) e in
     let head : outs r x ≡ 0 = ap (outs r) same in
-    let rest : total (outs r) xs ≡ 0 = outs_all_late q r g xs (subst (λ (y : Action). AllByRecursion (Follows y) xs) same h.0) in
+    let rest : total (outs r) xs ≡ 0 = total_zero (outs r) (Follows (Recv q g)) (outs_late q r g) xs (subst (λ (y : Action). AllByRecursion (Follows y) xs) same h.0) in
     omega arith
 all_sent (x ∷ xs) (suc i) q r g h e = let k : total (outs r) (take i xs) ≡ total (outs r) xs = all_sent xs i q r g h.1 e in omega arith
 

@@ -1,5 +1,5 @@
 -- a round in steps: its prefix, what it reads, and on what it rests
-use Rattle.std.proofs.Common.{◌≡◌, ℕ, zero, suc, ◌%◌, ◌<◌, ◌≤◌, inl, inr, true, false, cond, eqb, List, [], ◌∷◌, take, length, replicate, slice_get, unwrap_or, Option, Some, None, refl, sym, ap, subst, ◌∙◌, arith, eq-eqb, ne_eqb}
+use Rattle.std.proofs.Common.{◌≡◌, ℕ, zero, suc, ◌%◌, ◌<◌, ◌≤◌, inl, inr, true, false, cond, eqb, List, [], ◌∷◌, take, length, replicate, slice_get, unwrap_or, Option, Some, None, refl, sym, ap, ◌∙◌, arith, eq-eqb, ne_eqb}
 use Rattle.std.proofs.lemmas.Option.{none-some, same_Some, slice_get_past}
 use Rattle.std.proofs.lemmas.List.{length-replicate, take_all}
 use Rattle.std.proofs.lemmas.Bool.{cond-true, cond-false}
@@ -135,17 +135,6 @@ out_link_inside size r (Recv of into ∷ xs) h = out_link_inside size r xs h.1
 length_read_at : (buf : List ℕ) (size k : ℕ) (o : Option Region) → length buf ≡ size → LinkInside size o → len_of o ≡ Some k → length (read_at buf o) ≡ k
 length_read_at buf size k None e inside h = absurd (none-some k h)
 length_read_at buf size k (Some g) e inside h = length_read buf g (omega arith) ∙ same_Some g.len k h
-
-pub receives_at : (xs : List Action) (i p : ℕ) (g : Region) → slice_get xs i ≡ Some (Recv p g) → Receives xs p
-receives_at [] i p g e = absurd (none-some _ e)
-receives_at (x ∷ xs) zero p g e = inl (subst (λ (y : Action). IsRecvOf y p) (sym (same_Some x (Recv p g) e)) refl)
-receives_at (x ∷ xs) (suc i) p g e = inr (receives_at xs i p g e)
-
-pub receives_take : (xs : List Action) (i p : ℕ) → Receives (take i xs) p → Receives xs p
-receives_take xs zero p h = absurd h
-receives_take [] (suc i) p h = absurd h
-receives_take (x ∷ xs) (suc i) p (inl h) = inl h
-receives_take (x ∷ xs) (suc i) p (inr h) = inr (receives_take xs i p h)
 
 -- contributions of the right lengths
 abbrev pub GivenFits : ℕ → Family → (ℕ → List ℕ) → Type 0

@@ -11,11 +11,11 @@ use Rattle.coll_sched.specs.Regions.{AreBytes, read_of, written}
 use Rattle.coll_sched.specs.Actions.{wrote, IsLocal}
 use Rattle.coll_sched.specs.Families.{Family, read_at, actions_at, sent, laid_in, lock_step, messages, result_at, IsRecvOf, Receives, Heard, IsLawful}
 use Rattle.coll_sched.specs.Worlds.{Progress, World, empty, put, put_mail, filled, joined, acted, turned, left, IsNext, Step, join, send, compute, receive, turn, leave, Reached, begun, went}
-use Rattle.coll_sched.specs.Tracks.{moment, standing, OnTrack, IsLetter, Tracks}
+use Rattle.coll_sched.specs.Tracks.{moment, OnTrack, IsLetter, Tracks}
 use Rattle.coll_sched.specs.Heart.{Holds, Heart}
 use Rattle.coll_sched.proofs.Rounds.{round_at, MessageFits, message_fits, length_lock_step, length_moment, GivenFits, out_link_at, reads_at_moment, moment_next, moment_end, moment_past, lock_step_agrees, moment_agrees}
 use Rattle.coll_sched.proofs.Each.{all_at}
-use Rattle.coll_sched.proofs.Counts.{no_letter, standing_counts, put_same, put_other, put_cases, put_mail_cases, at_key, receives_next, balanced_join, balanced_turn, balanced_leave, balanced_compute, balanced_send, balanced_receive}
+use Rattle.coll_sched.proofs.Counts.{no_letter, none_standing, standing_counts, put_same, put_other, put_cases, put_mail_cases, at_key, receives_next, balanced_join, balanced_turn, balanced_leave, balanced_compute, balanced_send, balanced_receive}
 
 abbrev Given : Type 0
 Given = ℕ → Option (List ℕ)
@@ -275,10 +275,6 @@ holds n f lawful w t = record {
   standing_is = λ q r j bytes low e. standing_counts f w q r j bytes ((round_at (f q) (lawful.schedules q low) j).follows) t.balanced e;
 }
   where
-    none_standing : (o : Option (List ℕ)) → standing o ≡ 0 → o ≡ None
-    none_standing None h = refl
-    none_standing (Some bytes) h = absurd (omega arith)
-
     fits : (r : ℕ) (p : Progress) (of : ℕ) (into : Region) (bytes : List ℕ) → IsNext f w r p (Recv of into) → w.mail of r p.round ≡ Some bytes → length bytes ≡ into.len
     fits r p of into bytes next e =
         ap length (t.letters of r p.round bytes e).is

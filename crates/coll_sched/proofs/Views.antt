@@ -11,7 +11,7 @@ use Rattle.coll_sched.specs.Families.{Family, actions_at, in_link, out_link, len
 use Rattle.coll_sched.specs.Worlds.{Progress, World, put, turned, Reached, begun, went, Step, join, send, compute, receive, turn, leave}
 use Rattle.coll_sched.specs.Tracks.{outs, ins, total, done_by, done_at, standing, Tracks}
 use Rattle.coll_sched.specs.Views.{Agrees, skipped, Skips, Empties}
-use Rattle.coll_sched.proofs.Counts.{put_same, put_other, balanced_same}
+use Rattle.coll_sched.proofs.Counts.{put_same, put_other, balanced_same, later_outs, none_standing, total_zero}
 use Rattle.coll_sched.proofs.Track.{track_extends, letter_extends, tracks_turn, tracks}
 use Rattle.coll_sched.proofs.Rounds.{round_at}
 
@@ -52,30 +52,15 @@ abbrev one_if : Option Region → ℕ
 one_if None = 0
 one_if (Some g) = 1
 
--- a later Send of the round goes elsewhere
-other_outs : (r : ℕ) (g : Region) (b : Action) → Follows (Send r g) b → outs r b ≡ 0
-other_outs r g (Send to from) h = cond-false (eqb to r) 1 0 (ne_eqb to r (λ e. h.other_peer (sym e)))
-other_outs r g (Copy from into) h = refl
-other_outs r g (Combine op ty x y into) h = refl
-other_outs r g (Recv of into) h = refl
-
-other_ins : (q : ℕ) (g : Region) (b : Action) → Follows (Recv q g) b → ins q b ≡ 0
-other_ins q g (Send to from) h = refl
-other_ins q g (Copy from into) h = refl
-other_ins q g (Combine op ty x y into) h = refl
-other_ins q g (Recv of into) h = cond-false (eqb of q) 1 0 (ne_eqb of q (λ e. h.other_peer (sym e)))
-
-rest_outs : (to r : ℕ) (g : Region) (xs : List Action) → to ≡ r → AllByRecursion (Follows (Send to g)) xs → total (outs r) xs ≡ 0
-rest_outs to r g [] e h = refl
-rest_outs to r g (x ∷ xs) e h =
-    let k : outs r x ≡ 0 = other_outs r g x (subst (λ m. Follows (Send m g) x) e h.0) in
-    let l : total (outs r) xs ≡ 0 = rest_outs to r g xs e h.1 in omega arith
-
-rest_ins : (of q : ℕ) (g : Region) (xs : List Action) → of ≡ q → AllByRecursion (Follows (Recv of g)) xs → total (ins q) xs ≡ 0
-rest_ins of q g [] e h = refl
-rest_ins of q g (x ∷ xs) e h =
-    let k : ins q x ≡ 0 = other_ins q g x (subst (λ m. Follows (Recv m g) x) e h.0) in
-    let l : total (ins q) xs ≡ 0 = rest_ins of q g xs e h.1 in omega arith
+-- a round receives once of a member
+later_ins : (of q : ℕ) (g : Region) (xs : List Action) → of ≡ q → AllByRecursion (Follows (Recv of g)) xs → total (ins q) xs ≡ 0
+later_ins of q g xs e h = total_zero (ins q) (Follows (Recv of g)) one xs h
+  where
+    one : (b : Action) → Follows (Recv of g) b → ins q b ≡ 0
+    one (Send to from) f = refl
+    one (Copy from into) f = refl
+    one (Combine op ty x y into) f = refl
+    one (Recv p k) f = cond-false (eqb p q) 1 0 (ne_eqb p q (λ m. f.other_peer (e ∙ sym m)))
 
 count_out : (r : ℕ) (xs : List Action) → EachFollows xs → total (outs r) xs ≡ one_if (out_link r xs)
 count_out r [] h = refl
@@ -84,7 +69,7 @@ count_out r (Send to from ∷ xs) h = go (count_out r xs h.1) (cases_eq to r)
     go : total (outs r) xs ≡ one_if (out_link r xs) → (to ≡ r) ⊎ (to ≡ r → ⊥) → total (outs r) (Send to from ∷ xs) ≡ one_if (out_link r (Send to from ∷ xs))
     go more (inl e) =
         let k : outs r (Send to from) ≡ 1 = cond-true (eqb to r) 1 0 (eq-eqb to r e) in
-        let l : total (outs r) xs ≡ 0 = rest_outs to r from xs e h.0 in
+        let l : total (outs r) xs ≡ 0 = later_outs to r from xs e h.0 in
         let s : total (outs r) (Send to from ∷ xs) ≡ 1 = omega arith in
         s ∙ sym (ap one_if (cond-true (eqb to r) (Some from) (out_link r xs) (eq-eqb to r e)))
     go more (inr d) =
@@ -102,7 +87,7 @@ count_in q (Recv of into ∷ xs) h = go (count_in q xs h.1) (cases_eq of q)
     go : total (ins q) xs ≡ one_if (in_link q xs) → (of ≡ q) ⊎ (of ≡ q → ⊥) → total (ins q) (Recv of into ∷ xs) ≡ one_if (in_link q (Recv of into ∷ xs))
     go more (inl e) =
         let k : ins q (Recv of into) ≡ 1 = cond-true (eqb of q) 1 0 (eq-eqb of q e) in
-        let l : total (ins q) xs ≡ 0 = rest_ins of q into xs e h.0 in
+        let l : total (ins q) xs ≡ 0 = later_ins of q into xs e h.0 in
         let s : total (ins q) (Recv of into ∷ xs) ≡ 1 = omega arith in
         s ∙ sym (ap one_if (cond-true (eqb of q) (Some into) (in_link q xs) (eq-eqb of q e)))
     go more (inr d) =
@@ -119,27 +104,24 @@ same_count None (Some g) h = absurd (none-some g.len h)
 same_count (Some g) None h = absurd (none-some g.len (sym h))
 same_count (Some g) (Some k) h = refl
 
-none_standing : (o : Option (List ℕ)) → standing o ≡ 0 → o ≡ None
-none_standing None h = refl
-none_standing (Some bytes) h = absurd (omega arith)
+-- who has joined and left has done all actions
+done_all : (n : ℕ) (f : Family) (w : World) → ((r : ℕ) → r < n → (w.given r ≢ None) × (w.progress r ≡ None)) → (j s : ℕ) → s < n → done_at f w j s ≡ actions_at f j s
+done_all n f w gone j s low = ap (λ o. done_by o (w.given s) j (actions_at f j s)) (gone s low).1 ∙ gave (w.given s) (gone s low).0
+  where
+    gave : (o : Option (List ℕ)) → o ≢ None → done_by None o j (actions_at f j s) ≡ actions_at f j s
+    gave None h = absurd (h refl)
+    gave (Some bytes) h = refl
 
 -- between two members
 among : (n : ℕ) (f : Family) → IsLawful n f → (w : World) → Tracks n f w → ((r : ℕ) → r < n → (w.given r ≢ None) × (w.progress r ≡ None)) → (q r j : ℕ) → q < n → r < n → w.mail q r j ≡ None
 among n f lawful w t gone q r j hq hr =
     let b : standing (w.mail q r j) + total (ins q) (done_at f w j r) ≡ total (outs r) (done_at f w j q) = t.balanced q r j in
-    let e1 : total (ins q) (done_at f w j r) ≡ total (ins q) (actions_at f j r) = ap (total (ins q)) (all_done r hr) in
-    let e2 : total (outs r) (done_at f w j q) ≡ total (outs r) (actions_at f j q) = ap (total (outs r)) (all_done q hq) in
+    let e1 : total (ins q) (done_at f w j r) ≡ total (ins q) (actions_at f j r) = ap (total (ins q)) (done_all n f w gone j r hr) in
+    let e2 : total (outs r) (done_at f w j q) ≡ total (outs r) (actions_at f j q) = ap (total (outs r)) (done_all n f w gone j q hq) in
     let e3 : total (ins q) (actions_at f j r) ≡ one_if (in_link q (actions_at f j r)) = count_in q (actions_at f j r) ((round_at (f r) (lawful.schedules r hr) j).follows) in
     let e4 : total (outs r) (actions_at f j q) ≡ one_if (out_link r (actions_at f j q)) = count_out r (actions_at f j q) ((round_at (f q) (lawful.schedules q hq) j).follows) in
     let e5 : one_if (in_link q (actions_at f j r)) ≡ one_if (out_link r (actions_at f j q)) = same_count (in_link q (actions_at f j r)) (out_link r (actions_at f j q)) (lawful.aligned j r q hr hq) in
     none_standing (w.mail q r j) (omega arith)
-  where
-    done : (s : ℕ) (o : Option (List ℕ)) → o ≢ None → done_by None o j (actions_at f j s) ≡ actions_at f j s
-    done s None h = absurd (h refl)
-    done s (Some bytes) h = refl
-
-    all_done : (s : ℕ) → s < n → done_at f w j s ≡ actions_at f j s
-    all_done s h = ap (λ o. done_by o (w.given s) j (actions_at f j s)) (gone s h).1 ∙ done s (w.given s) (gone s h).0
 
 -- only members join
 pub joined_member : (n : ℕ) (f : Family) {w : World} → Reached n f w → (r : ℕ) → w.given r ≢ None → r < n
@@ -159,17 +141,11 @@ joined_member n f (went before step) r h = go step (λ k. joined_member n f befo
     go (leave s p e i) old k = old k
 
 -- nothing is sent to a number that is no member
-outs_among : (n r : ℕ) (a : Action) → n ≤ r → IsAmong n a → outs r a ≡ 0
-outs_among n r (Send to from) high h = cond-false (eqb to r) 1 0 (ne_eqb to r (omega arith))
-outs_among n r (Copy from into) high h = refl
-outs_among n r (Combine op ty x y into) high h = refl
-outs_among n r (Recv of into) high h = refl
-
-no_outs : (n r : ℕ) (xs : List Action) → n ≤ r → AllByRecursion (IsAmong n) xs → total (outs r) xs ≡ 0
-no_outs n r [] high h = refl
-no_outs n r (x ∷ xs) high h =
-    let e : outs r x ≡ 0 = outs_among n r x high h.0 in
-    let k : total (outs r) xs ≡ 0 = no_outs n r xs high h.1 in omega arith
+outs_among : (n r : ℕ) → n ≤ r → (a : Action) → IsAmong n a → outs r a ≡ 0
+outs_among n r high (Send to from) h = cond-false (eqb to r) 1 0 (ne_eqb to r (omega arith))
+outs_among n r high (Copy from into) h = refl
+outs_among n r high (Combine op ty x y into) h = refl
+outs_among n r high (Recv of into) h = refl
 
 -- who isn't a member has done nothing
 stranger : (n : ℕ) (f : Family) (w : World) → Reached n f w → Tracks n f w → (j q : ℕ) → n ≤ q → done_at f w j q ≡ []
@@ -191,14 +167,7 @@ empties n f lawful w before gone q r j = go (cases_lt q n) (cases_lt r n)
         let b : standing (w.mail q r j) + total (ins q) (done_at f w j r) ≡ total (outs r) (done_at f w j q) = t.balanced q r j in
         none_standing (w.mail q r j) (omega arith)
 
-    gave : (s : ℕ) (o : Option (List ℕ)) → o ≢ None → done_by None o j (actions_at f j s) ≡ actions_at f j s
-    gave s None h = absurd (h refl)
-    gave s (Some bytes) h = refl
-
-    whole : (s : ℕ) → s < n → done_at f w j s ≡ actions_at f j s
-    whole s low = ap (λ o. done_by o (w.given s) j (actions_at f j s)) (gone s low).1 ∙ gave s (w.given s) (gone s low).0
-
     go : (q < n) ⊎ (n ≤ q) → (r < n) ⊎ (n ≤ r) → w.mail q r j ≡ None
     go (inl x) (inl y) = among n f lawful w t gone q r j x y
     go (inr x) y = sent_none (ap (total (outs r)) (stranger n f w before t j q x))
-    go (inl x) (inr y) = sent_none (ap (total (outs r)) (whole q x) ∙ no_outs n r (actions_at f j q) y (lawful.peers j q x))
+    go (inl x) (inr y) = sent_none (ap (total (outs r)) (done_all n f w gone j q x) ∙ total_zero (outs r) (IsAmong n) (outs_among n r y) (actions_at f j q) (lawful.peers j q x))

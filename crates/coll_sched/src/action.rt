@@ -1,4 +1,4 @@
-ghost use Rattle.std.specs.Prelude.{◌≡◌, ◌↔◌, ◌∷◌, [], length, IsTrue, All, IfOk, IsOkUnless, OnOk, OnErr, vec_len};
+ghost use Rattle.std.specs.Prelude.{◌≡◌, ◌↔◌, ◌∷◌, [], length, IsTrue, All, IfOk, IsOkUnless, OnOk, OnErr};
 
 use crate::region::Region;
 use coll_kinds::{Datatype, Op, Refusal};
@@ -77,7 +77,7 @@ impl Action {
                 right,
                 into,
             } => {
-                let mut out = vec![in alloc; 0; into.len as usize].map_err(|_| Refusal::NoMemory)?;
+                let mut out = vec![in alloc; 0; into.len as usize]?;
                 combine(op, ty, left.read(buf), right.read(buf), &mut out);
                 into.write(&out, buf);
                 Ok(())
@@ -96,11 +96,7 @@ impl Action {
         let Action::Send { from, .. } = self else {
             unreachable!()
         };
-        let mut message = vec![in alloc].map_err(|_| Refusal::NoMemory)?;
-        message
-            .extend_from_slice(from.read(buf))
-            .map_err(|_| Refusal::NoMemory)?;
-        Ok(message)
+        Ok(Vec::from_slice(alloc, from.read(buf))?)
     }
 
     /// Writes the message of a Recv, which has its region's length, into `buf`. It takes no memory.

@@ -24,7 +24,6 @@ impl Model for Round {
 }
 
 impl Round {
-    ghost use Rattle.coll_sched.specs.Actions.{Follows};
     ghost use Rattle.coll_sched.specs.Schedules.{IsRound, has_peer};
 
     /// A round without actions; it takes no memory.
@@ -42,10 +41,8 @@ impl Round {
         ensures err { OnErr result (self.new ≡ self.old) }
         ensures refusal { IsOkUnless result Refusal.NoMemory }
     {
-        match self.actions.push(action) {
-            Ok(()) => Ok(()),
-            Err(_) => Err(Refusal::NoMemory),
-        }
+        self.actions.push(action)?;
+        Ok(())
     }
 
     /// The actions, in order.

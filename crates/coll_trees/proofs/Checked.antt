@@ -1,6 +1,6 @@
 -- what a checked signature is known to keep
-use Rattle.std.proofs.Common.{◌≡◌, ℕ, zero, suc, ◌%◌, ◌<◌, ◌≤◌, ◌⊎◌, inl, inr, Bool, true, false, cond, eqb, ltb, leb, Option, Some, None, IsTrue, refl, sym, ap, ◌∙◌, arith, unwrap_or, ltb-true, leb-true}
-use Rattle.std.proofs.lemmas.Bool.{cases_lt, cond-true, and_parts, false≢true}
+use Rattle.std.proofs.Common.{◌≡◌, ℕ, ◌%◌, ◌<◌, Bool, true, false, cond, eqb, ltb, List, length, Option, Some, None, IsTrue, refl, sym, ap, ◌∙◌, unwrap_or, ltb-true}
+use Rattle.std.proofs.lemmas.Bool.{cond-true, false≢true}
 use Rattle.std.proofs.lemmas.Option.{none-some}
 use Rattle.std.proofs.Math.Nat.{mul-mod_left}
 use Rattle.coll_kinds.specs.declared.signature.Signature.{Signature}
@@ -10,8 +10,10 @@ use Rattle.coll_kinds.specs.declared.datatype.Datatype.{Datatype}
 use Rattle.coll_kinds.specs.declared.refusal.SignatureFault.{SignatureFault}
 use Rattle.coll_kinds.specs.declared.refusal.SignatureFault.TheVariants.{Root, Operation, Count, Size}
 use Rattle.coll_kinds.specs.Elements.{width}
-use Rattle.coll_kinds.specs.Lengths.{block_len, given_len, got_len}
-use Rattle.coll_kinds.specs.Checks.{allowed, reduces, has_root, has_operation, root_fits, operation_fits, count_fits, sizes_fit, size_fits, broken}
+use Rattle.coll_kinds.specs.Lengths.{block_len}
+use Rattle.coll_kinds.specs.Checks.{allowed, reduces, has_root, has_operation, root_fits, operation_fits, count_fits, sizes_fit, broken}
+use Rattle.coll_ops.specs.Laws.{IsRow}
+use Rattle.coll_sched.specs.Regions.{AreBytes}
 
 passes : (b : Bool) (x : Option SignatureFault) (y : SignatureFault) → cond b x (Some y) ≡ None → (b ≡ true) × (x ≡ None)
 passes true x y h = (refl, h)
@@ -48,18 +50,6 @@ operation_allowed sig n c h = reduces_allowed sig.op sig.ty (sym (cond-true (has
 pub block_whole : (sig : Signature) → block_len sig % width sig.ty ≡ 0
 block_whole sig = mul-mod_left sig.count (width sig.ty)
 
-sizes_at : (sig : Signature) (n k r : ℕ) → sizes_fit sig n k ≡ true → r < k → size_fits sig n r ≡ true
-sizes_at sig n zero r h low = absurd (omega arith)
-sizes_at sig n (suc k) r h low =
-    let parts = and_parts (sizes_fit sig n k) (size_fits sig n k) h in
-    go (λ x. sizes_at sig n k r parts.0 x) parts.1 (cases_lt r k)
-  where
-    go : (r < k → size_fits sig n r ≡ true) → size_fits sig n k ≡ true → (r < k) ⊎ (k ≤ r) → size_fits sig n r ≡ true
-    go more last (inl x) = more x
-    go more last (inr x) = ap (size_fits sig n) (let z : r ≡ k = omega arith in z) ∙ last
-
--- what a member gives or gets has at most 16 MiB
-pub lengths_low : (sig : Signature) (n r : ℕ) → IsChecked sig n → r < n → (given_len sig n r ≤ 16777216) × (got_len sig n r ≤ 16777216)
-lengths_low sig n r c low =
-    let parts = and_parts (leb (given_len sig n r) 16777216) (leb (got_len sig n r) 16777216) (sizes_at sig n n r c.sizes_are low) in
-    (leb-true (given_len sig n r) 16777216 parts.0, leb-true (got_len sig n r) 16777216 parts.1)
+-- so a row of a block's bytes is one of the type
+pub IsRow-block : (sig : Signature) (row : List ℕ) → length row ≡ block_len sig → AreBytes row → IsRow sig.ty row
+IsRow-block sig row long bytes = record { whole = ap (λ k. k % width sig.ty) long ∙ block_whole sig; bytes = bytes }

@@ -15,9 +15,8 @@ use Rattle.coll_trees.specs.Depths.{depth, front}
 use Rattle.coll_trees.specs.Folding.{move_at, combine_at, folding}
 use Rattle.coll_trees.proofs.Columns.{column_of, column-left, column-right}
 use Rattle.coll_trees.proofs.Depths.{depth_reaches}
-use Rattle.coll_trees.proofs.Spans.{span, span_all}
+use Rattle.coll_trees.proofs.Spans.{span, span_all, associates}
 use Rattle.coll_trees.proofs.Folds.{length-folding, folding-moves, folding-combines, fold_hears, fold_holds}
-use Rattle.coll_trees.proofs.RowBytes.{associates}
 
 -- a family that begins with the tree to member 0 in buffers of two blocks
 module _ (op : Op) (ty : Datatype) (b n : ℕ) (f : Family) (rest : List Column) (is : (j r : ℕ) → actions_at f j r ≡ column_of (folding op ty b n 0 (depth n) ++ rest) j r) where

@@ -6,7 +6,6 @@ pub mod Spans
 pub mod Folds
 pub mod Checked
 pub mod Bcasts
-pub mod RowBytes
 pub mod Firsts
 pub mod Allreduces
 pub mod Hops

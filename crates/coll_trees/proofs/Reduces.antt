@@ -1,12 +1,11 @@
 -- the family of reduce
-use Rattle.std.proofs.Common.{◌≡◌, ℕ, suc, ◌+◌, ◌%◌, ◌<◌, ◌≤◌, ◌⊎◌, inl, inr, cond, eqb, true, false, eq-eqb, ne_eqb, eqb-true, ltb, List, [], ◌∷◌, ◌++◌, length, Some, None, IsTrue, refl, sym, ap, subst, ◌∙◌, arith, unwrap_or, ltb-true, length-append}
+use Rattle.std.proofs.Common.{◌≡◌, ℕ, suc, ◌+◌, ◌<◌, ◌≤◌, ◌⊎◌, inl, inr, cond, eqb, true, false, eq-eqb, ne_eqb, eqb-true, ltb, List, [], ◌∷◌, ◌++◌, length, Some, None, IsTrue, refl, sym, ap, subst, ◌∙◌, arith, unwrap_or, ltb-true, length-append}
 use Rattle.std.proofs.lemmas.Bool.{and_parts, or_cases, cases_eq, cond-true, cond-false, cond_both}
 use Rattle.std.specs.List.{AllByRecursion}
 use Rattle.coll_kinds.specs.declared.signature.Signature.{Signature}
 use Rattle.coll_kinds.specs.declared.kind.Kind.TheVariants.{Reduce}
 use Rattle.coll_kinds.specs.declared.operation.Op.{Op}
 use Rattle.coll_kinds.specs.declared.operation.Op.TheVariants.{Sum}
-use Rattle.coll_kinds.specs.Elements.{width}
 use Rattle.coll_kinds.specs.Lengths.{block_len, given_by, given_len, got_by, got_len}
 use Rattle.coll_kinds.specs.Needs.{needs_of, needs}
 use Rattle.coll_kinds.specs.Checks.{allowed, has_root, has_operation, broken}
@@ -28,7 +27,7 @@ use Rattle.coll_trees.specs.Columns.{Column, rounds_of}
 use Rattle.coll_trees.specs.Depths.{depth, front, nothing}
 use Rattle.coll_trees.specs.Folding.{folding, last_hop}
 use Rattle.coll_trees.specs.Trees.{reduce_family, IsNarrowFor}
-use Rattle.coll_trees.proofs.Checked.{checked, root_low, operation_allowed, block_whole}
+use Rattle.coll_trees.proofs.Checked.{checked, root_low, operation_allowed, block_whole, IsRow-block}
 use Rattle.coll_trees.proofs.Columns.{IsColumn, column_of, all_append, round-column, rounds-append, length-rounds, lawful_family, narrow_family, few_exchanges, costs_append, free, exchange}
 use Rattle.coll_trees.proofs.Folds.{folding_columns, folding_costs, length-folding}
 use Rattle.coll_trees.proofs.Firsts.{later, first_hears, first_holds}
@@ -72,7 +71,7 @@ module _ (sig : Signature) (n : ℕ) (kind : sig.kind ≡ Reduce) (low : sig.roo
     laid r h = are.long r h ∙ sym (takes r)
 
     rows : (p : ℕ) → p < n → IsRow sig.ty (row_of given p) × (length (row_of given p) ≡ block_len sig)
-    rows p h = (record { whole = ap (λ k. k % width sig.ty) (laid p h) ∙ block_whole sig; bytes = bytes p h }, laid p h)
+    rows p h = (IsRow-block sig (row_of given p) (laid p h) (bytes p h), laid p h)
 
     folded : read_of (lock_step (reduce_family sig n) (row_of given) (depth n + depth n) 0) (front (block_len sig)) ≡ combination (unwrap_or sig.op Sum) sig.ty given
     folded =

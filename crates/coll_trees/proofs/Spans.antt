@@ -1,11 +1,14 @@
 -- combinations of ranges of neighbours
-use Rattle.std.proofs.Common.{◌≡◌, ℕ, zero, suc, ◌+◌, ◌<◌, ◌≤◌, List, [], ◌∷◌, length, refl, sym, ap, ◌∙◌, arith}
+use Rattle.std.proofs.Common.{◌≡◌, ℕ, zero, suc, ◌+◌, ◌<◌, ◌≤◌, List, [], ◌∷◌, length, IsTrue, refl, sym, ap, ◌∙◌, arith}
 use Rattle.coll_kinds.specs.declared.operation.Op.{Op}
 use Rattle.coll_kinds.specs.declared.datatype.Datatype.{Datatype}
+use Rattle.coll_kinds.specs.Checks.{allowed}
 use Rattle.coll_ops.specs.Combinations.{combined, combination}
 use Rattle.coll_ops.specs.Values.{row_of}
 use Rattle.coll_ops.specs.Laws.{IsRow}
 use Rattle.coll_ops.proofs.RowLists.{length-combined}
+use Rattle.coll_ops.proofs.RowBytes.{IsRow-combined}
+use Rattle.coll_ops.proofs.Associating.{combinations_associate}
 
 -- the combination of the rows of c members from r on
 abbrev pub span : Op → Datatype → (ℕ → List ℕ) → ℕ → ℕ → List ℕ
@@ -17,6 +20,10 @@ span op ty given r (suc (suc c)) = combined op ty (given r) (span op ty given (s
 pub record Associates (op : Op) (ty : Datatype) : Type 0 where
   pub is_row : (a b : List ℕ) → IsRow ty a → IsRow ty b → length a ≡ length b → IsRow ty (combined op ty a b)
   pub law : (a b c : List ℕ) → IsRow ty a → IsRow ty b → IsRow ty c → length a ≡ length b → length b ≡ length c → combined op ty (combined op ty a b) c ≡ combined op ty a (combined op ty b c)
+
+-- every allowed operation keeps it
+pub associates : (op : Op) (ty : Datatype) → IsTrue (allowed op ty) → Associates op ty
+associates op ty may = record { is_row = λ a b is k e. IsRow-combined op ty a b is; law = combinations_associate op ty may }
 
 module _ (op : Op) (ty : Datatype) (b n : ℕ) (assoc : Associates op ty) (given : ℕ → List ℕ) (rows : (p : ℕ) → p < n → IsRow ty (given p) × (length (given p) ≡ b)) where
   -- a span is a row of their length

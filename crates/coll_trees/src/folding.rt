@@ -4,7 +4,7 @@ ghost use Rattle.coll_trees.specs.Depths.{depth, front, behind};
 
 use crate::depth::depth_of;
 use crate::role::Role;
-use crate::rounds::{one_action, push_round};
+use crate::rounds::one_action;
 use coll_kinds::{Datatype, Op, Refusal};
 use coll_sched::{Action, Region, Round};
 use std::alloc::Global;
@@ -36,9 +36,9 @@ impl Folding {
             let distance = 2u8.pow(u32::from(step));
             let part = Role::new(self.n, r, distance);
             let moves = self.moves(alloc, r, distance, part)?;
-            push_round(rounds, moves)?;
+            rounds.push(moves)?;
             let combines = self.combines(alloc, part)?;
-            push_round(rounds, combines)?;
+            rounds.push(combines)?;
         }
         Ok(())
     }

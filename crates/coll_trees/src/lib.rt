@@ -26,6 +26,3 @@ pub use allreduce_builder::allreduce;
 pub use bcast_builder::bcast;
 pub use depth::depth_of;
 pub use reduce_builder::reduce;
-
-#[cfg(test)]
-mod tests;

@@ -6,7 +6,7 @@ ghost use Rattle.coll_trees.specs.Folding.{last_hop};
 ghost use Rattle.coll_trees.specs.Trees.{reduce_family, IsNarrowFor};
 
 use crate::folding::Folding;
-use crate::rounds::{block_if, one_action, push_round, schedule};
+use crate::rounds::{block_if, one_action, schedule};
 use coll_kinds::{Refusal, Signature};
 use coll_sched::{Action, Region, Round, Schedule};
 use std::alloc::Global;
@@ -34,7 +34,7 @@ pub fn reduce(alloc: Global, sig: Signature, n: u8, r: u8) -> Result<Schedule, R
     let mut rounds = Vec::new(alloc);
     up.push_rounds(alloc, r, &mut rounds)?;
     let hop = to_root(alloc, len, sig.root, r)?;
-    push_round(&mut rounds, hop)?;
+    rounds.push(hop)?;
     let block = Region { at: 0, len };
     let output = block_if(r == sig.root, len);
     Ok(schedule(len + len, block, output, rounds))

@@ -1,4 +1,4 @@
-ghost use Rattle.std.specs.Prelude.{◌≡◌, ◌++◌, ◌∷◌, [], cond, IfOk, OnOk, IsOkUnless};
+ghost use Rattle.std.specs.Prelude.{◌≡◌, ◌∷◌, [], cond, IfOk, IsOkUnless};
 ghost use Rattle.coll_sched.specs.Schedules.{IsSchedule};
 ghost use Rattle.coll_trees.specs.Depths.{front, nothing};
 
@@ -14,17 +14,6 @@ pub(crate) fn one_action(alloc: Global, action: Action) -> Result<Round, Refusal
     let mut round = Round::new(alloc);
     round.push(action)?;
     Ok(round)
-}
-
-/// Puts a round at the end.
-pub(crate) fn push_round(rounds: &mut Vec<Round>, round: Round) -> Result<(), Refusal>
-    ensures ok { OnOk result (rounds.new.items ≡ rounds.old.items ++ round ∷ []) }
-    ensures refusal { IsOkUnless result Refusal.NoMemory }
-{
-    match rounds.push(round) {
-        Ok(()) => Ok(()),
-        Err(_) => Err(Refusal::NoMemory),
-    }
 }
 
 /// The schedule of parts that are one.

@@ -1,9 +1,9 @@
 ghost use Rattle.std.specs.Prelude.{◌≡◌, ◌+◌, ◌++◌, ◌<◌, ◌≤◌, IfOk, OnOk, IsOkUnless};
 ghost use Rattle.coll_trees.specs.Columns.{rounds_of};
-ghost use Rattle.coll_trees.specs.Depths.{depth, front};
+ghost use Rattle.coll_trees.specs.Depths.{depth};
 
 use crate::depth::depth_of;
-use crate::rounds::{one_action, push_round};
+use crate::rounds::one_action;
 use crate::way::Way;
 use coll_kinds::Refusal;
 use coll_sched::{Action, Region, Round};
@@ -35,7 +35,7 @@ impl Spreading {
         let steps = depth_of(self.n);
         for step in 0..steps {
             let round = self.hop(alloc, number, 2u8.pow(u32::from(step)))?;
-            push_round(rounds, round)?;
+            rounds.push(round)?;
         }
         Ok(())
     }

@@ -6,13 +6,6 @@ use coll_sched::{Action, Schedule};
 use std::alloc::Global;
 use std::process::Abort;
 
-pub(super) fn push<T: Drop>(list: &mut Vec<T>, item: T) -> Result<(), Refusal> {
-    match list.push(item) {
-        Ok(()) => Ok(()),
-        Err(_) => Err(Refusal::NoMemory),
-    }
-}
-
 // The buffer before the first round.
 fn laid_in(
     rt: &impl Abort,
@@ -22,7 +15,7 @@ fn laid_in(
 ) -> Result<Vec<u8>, Refusal> {
     let mut buf = Vec::new(alloc);
     for _ in 0..schedule.size() {
-        push(&mut buf, 0)?;
+        buf.push(0)?;
     }
     let input = schedule.input();
     assert!(rt; buf.len() < 1000000);
@@ -69,8 +62,7 @@ fn next_buffer(
     assert!(rt; me < plans.len());
     assert!(rt; me < bufs.len());
     let mut buf = Vec::new(alloc);
-    buf.extend_from_slice(&bufs[me])
-        .map_err(|_| Refusal::NoMemory)?;
+    buf.extend_from_slice(&bufs[me])?;
     let rounds = plans[me].schedule().rounds();
     assert!(rt; j < rounds.len());
     for action in rounds[j].actions() {
@@ -104,17 +96,14 @@ pub(super) fn run(
     let mut bufs = Vec::new(alloc);
     for r in 0..plans.len() {
         assert!(rt; r < given.len());
-        push(
-            &mut bufs,
-            laid_in(rt, alloc, plans[r].schedule(), &given[r])?,
-        )?;
+        bufs.push(laid_in(rt, alloc, plans[r].schedule(), &given[r])?)?;
     }
     assert!(rt; 0 < plans.len());
     assert!(rt; plans.len() <= 64);
     for j in 0..plans[0].schedule().rounds().len() {
         let mut next = Vec::new(alloc);
         for r in 0..plans.len() as u8 {
-            push(&mut next, next_buffer(rt, alloc, plans, &bufs, j, r)?)?;
+            next.push(next_buffer(rt, alloc, plans, &bufs, j, r)?)?;
         }
         bufs = next;
     }

@@ -1,6 +1,6 @@
 ghost use Rattle.std.specs.Prelude.{◌≤◌};
 
-use super::lock_step::{push, run};
+use super::lock_step::run;
 use crate::{Plan, plan};
 use coll_kinds::{Datatype, Kind, Mode, Op, Refusal, Signature, SignatureFault};
 use coll_ops::plain_value;
@@ -74,8 +74,8 @@ fn most_exchanges(kind: Kind, n: u8) -> usize {
 fn contribution(alloc: Global, len: usize, r: u8) -> Result<Vec<u8>, Refusal> {
     let mut bytes = Vec::new(alloc);
     for i in 0..len {
-        let place = (i % 32) as u8 * 5 + (r % 64) * 3 % 97;
-        push(&mut bytes, if place % 5 < 2 { 0 } else { place })?;
+        let place = (i % 37) as u8 * 4 + (r % 64) * 3 % 97;
+        bytes.push(if place % 5 < 2 { 0 } else { place })?;
     }
     Ok(bytes)
 }
@@ -105,8 +105,8 @@ fn compare(rt: &impl Abort, alloc: Global, sig: Signature, n: u8) -> Result<(), 
     let mut plans = Vec::new(alloc);
     let mut given = Vec::new(alloc);
     for r in 0..n {
-        push(&mut plans, plan(alloc, sig, n, r)?)?;
-        push(&mut given, contribution(alloc, sig.given_len(n, r), r)?)?;
+        plans.push(plan(alloc, sig, n, r)?)?;
+        given.push(contribution(alloc, sig.given_len(n, r), r)?)?;
     }
     let bufs = run(rt, alloc, &plans, &given)?;
     for r in 0..n {
@@ -128,7 +128,7 @@ fn compare(rt: &impl Abort, alloc: Global, sig: Signature, n: u8) -> Result<(), 
     Ok(())
 }
 
-// Every operation where the kind has one, else one type; of many members one count.
+// Every operation where the kind has one, else one type.
 fn compare_kind(
     rt: &impl Abort,
     alloc: Global,
@@ -137,11 +137,13 @@ fn compare_kind(
     root: u8,
 ) -> Result<(), Refusal> {
     for (op, ty) in OPERATIONS {
+        let ty = if kind.has_operation() {
+            ty
+        } else {
+            Datatype::U64
+        };
         for count in [3, 1, 0] {
             compare(rt, alloc, signature(kind, root, op, ty, count), n)?;
-            if n > 32 {
-                break;
-            }
         }
         if !kind.has_operation() {
             break;

@@ -1,4 +1,4 @@
-use Rattle.std.proofs.Common.{◌≡◌, ◌++◌, arith, ap, sym, ◌∙◌, take}
+use Rattle.std.proofs.Common.{◌++◌, arith, ap, sym, ◌∙◌, take}
 use Rattle.std.specs.List.{flat_map}
 use Rattle.coll_ops.specs.Contributions.{rows_of}
 use Rattle.coll_ops.specs.Values.{part}
@@ -10,9 +10,7 @@ part-requires c = part-fits c.args.rows.now c.args.at c.args.len c.loop-row.row-
 
 pub loop-row-preserved : goal.loop-row-preserved
 loop-row-preserved c =
-    let grown : c.extend_from_slice.new.self.items ≡ c.loop-row.bytes.items ++ c.part.result.now =
-    rw c.if-is_err.ensures.negation at c.extend_from_slice.ensures.items in
-    grown
+    c.in_ok-extend_from_slice.ensures.items
     ∙ (ap (λ front. front ++ c.part.result.now) c.loop-row.invariant
     ∙ (ap (λ row. flat_map (part c.args.at c.args.len) (take c.loop-row.row-index (rows_of c.args.rows.now)) ++ row) c.part.ensures
     ∙ sym (flat_map-parts_more c.args.rows.now c.args.at c.args.len c.loop-row.row-index c.row-item.result (omega arith) c.row-item.is)))

@@ -10,34 +10,34 @@ use Rattle.coll_ops.specs.Combinations.{combination}
 use Rattle.coll_ops.specs.Contributions.{rows_of}
 use Rattle.coll_ops.specs.Values.{part, row_of, all_rows}
 use Rattle.coll_ops.proofs.Blocks.{combination-parts}
-use Rattle.coll_ops.proofs.Given.{IfOk-map, value-kind, length-given, if-same, if-equal, root-row, blocks-around, part-whole, map-part_whole, flat_map-part_whole, rows_of-take, row_of-take, length-take-lt}
+use Rattle.coll_ops.proofs.Given.{IfOk-map, value-kind, length-given, if-equal, root-row, blocks-around, part-whole, map-part_whole, flat_map-part_whole, rows_of-take, row_of-take, length-take-lt}
 use Rattle.coll_ops.proofs.value.plain_value.Goals as goal
 
 pub part-requires : goal.part-requires
 part-requires c =
     let row = root-row c.args.sig Bcast c.args.n c.args.given.now c.from-root.result c.index-given-root.result c.in-Bcast.is refl c.requires.checked c.requires.given c.from-root.ensures c.index-given-root.is in
-    let long : length c.index-given-root.result.items ≡ block_len c.args.sig = row.0 ∙ if-same c.args.sig.root (block_len c.args.sig) 0 in
+    let long : length c.index-given-root.result.items ≡ block_len c.args.sig = row.0 ∙ if-equal c.args.sig.root c.args.sig.root (block_len c.args.sig) 0 refl in
     omega (arith, long, c.block_len-block.ensures)
 
-pub returns-in-Bcast-clause-ok : goal.returns-in-Bcast-clause-ok
-returns-in-Bcast-clause-ok c =
+pub returns-in_ok-from_slice-in-Bcast-clause-ok : goal.returns-in_ok-from_slice-in-Bcast-clause-ok
+returns-in_ok-from_slice-in-Bcast-clause-ok c =
     let row = root-row c.args.sig Bcast c.args.n c.args.given.now c.from-root.result c.index-given-root.result c.in-Bcast.is refl c.requires.checked c.requires.given c.from-root.ensures c.index-given-root.is in
-    let long : length c.index-given-root.result.items ≡ c.block_len-block.result = row.0 ∙ (if-same c.args.sig.root (block_len c.args.sig) 0 ∙ sym c.block_len-block.ensures) in
-    IfOk-map _ _ (λ bytes is. is ∙ (c.part.ensures ∙ (part-whole c.block_len-block.result c.index-given-root.result.items long ∙ (row.1 ∙ sym (value-kind c.args.sig Bcast (rows_of c.args.given.now) c.args.r c.in-Bcast.is))))) c.copied.result c.copied.ensures.ok
+    let long : length c.index-given-root.result.items ≡ c.block_len-block.result = row.0 ∙ (if-equal c.args.sig.root c.args.sig.root (block_len c.args.sig) 0 refl ∙ sym c.block_len-block.ensures) in
+    c.in_ok-from_slice-in-Bcast.ensures.items ∙ (c.part.ensures ∙ (part-whole c.block_len-block.result c.index-given-root.result.items long ∙ (row.1 ∙ sym (value-kind c.args.sig Bcast (rows_of c.args.given.now) c.args.r c.in-Bcast.is))))
 
 pub part-requires-in-Scatter : goal.part-requires-in-Scatter
 part-requires-in-Scatter c =
     let row = root-row c.args.sig Scatter c.args.n c.args.given.now c.from-root.result c.index-given-root-in-Scatter.result c.in-Scatter.is refl c.requires.checked c.requires.given c.from-root.ensures c.index-given-root-in-Scatter.is in
-    let long : length c.index-given-root-in-Scatter.result.items ≡ c.args.n * block_len c.args.sig = row.0 ∙ if-same c.args.sig.root (c.args.n * block_len c.args.sig) 0 in
+    let long : length c.index-given-root-in-Scatter.result.items ≡ c.args.n * block_len c.args.sig = row.0 ∙ if-equal c.args.sig.root c.args.sig.root (c.args.n * block_len c.args.sig) 0 refl in
     let member : suc c.args.r ≤ c.args.n = c.requires.member in
     rw (c.from.ensures, c.block_len-block.ensures) (omega (arith, long, mul-le-mul_right (block_len c.args.sig) member))
 
-pub returns-in-Scatter-clause-ok : goal.returns-in-Scatter-clause-ok
-returns-in-Scatter-clause-ok c =
+pub returns-in_ok-from_slice-in-Scatter-clause-ok : goal.returns-in_ok-from_slice-in-Scatter-clause-ok
+returns-in_ok-from_slice-in-Scatter-clause-ok c =
     let row = root-row c.args.sig Scatter c.args.n c.args.given.now c.from-root.result c.index-given-root-in-Scatter.result c.in-Scatter.is refl c.requires.checked c.requires.given c.from-root.ensures c.index-given-root-in-Scatter.is in
     let block_is : part (c.from.result * c.block_len-block.result) c.block_len-block.result c.index-given-root-in-Scatter.result.items ≡ part (c.args.r * block_len c.args.sig) (block_len c.args.sig) (row_of (rows_of c.args.given.now) c.args.sig.root) =
     rw (c.from.ensures, c.block_len-block.ensures, row.1) refl in
-    IfOk-map _ _ (λ bytes is. is ∙ (c.part-in-Scatter.ensures ∙ (block_is ∙ sym (value-kind c.args.sig Scatter (rows_of c.args.given.now) c.args.r c.in-Scatter.is)))) c.copied-in-Scatter.result c.copied-in-Scatter.ensures.ok
+    c.in_ok-from_slice-in-Scatter.ensures.items ∙ (c.part-in-Scatter.ensures ∙ (block_is ∙ sym (value-kind c.args.sig Scatter (rows_of c.args.given.now) c.args.r c.in-Scatter.is)))
 
 pub returns-then-r-sig-clause-ok : goal.returns-then-r-sig-clause-ok
 returns-then-r-sig-clause-ok c =

@@ -19,15 +19,15 @@ prefixes-requires-clause-long c = λ i within.
     ap (λ front. length (row_of front i)) front
     ∙ (ap length (row_of-take rows k i at) ∙ c.requires.long i (omega (arith, length-take-lt rows k i at, length-rows_of c.args.rows.now)))
 
-pub returns-in-Ok-clause-ok : goal.returns-in-Ok-clause-ok
-returns-in-Ok-clause-ok c =
+pub returns-clause-ok : goal.returns-clause-ok
+returns-clause-ok c =
     let rows : List (List ℕ) = rows_of c.args.rows.now in
     let op = unwrap_or c.args.sig.op Sum in
     let k : ℕ = length c.args.rows.now - 1 in
     let some : 0 < length c.args.rows.now = search rules in
     let count : length (take k c.args.rows.now) ≡ k = simp length-take (omega arith) in
     let whole : suc k ≡ length c.args.rows.now = omega arith in
-    ap rows_of c.in-Ok.ensures.items
+    ap rows_of c.in_ok-insert.ensures.items
     ∙ (ap (λ first. first ∷ rows_of c.in_ok-sums.sums.items) c.new-2.ensures.items
     ∙ (ap (λ rest. [] ∷ rest) (c.in_ok-sums.ensures.ok
     ∙ (ap (λ front. map (prefix op c.args.sig.ty front) (range_with_len 0 (length (take k c.args.rows.now)))) (rows_of-take c.args.rows.now k)

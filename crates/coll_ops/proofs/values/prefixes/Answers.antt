@@ -48,6 +48,6 @@ loop-row-preserved c =
     prefix-made c.in-Some.op c.args.sig.ty (block_len c.args.sig) n rows c.deref.result.now c.as_slice.result.now c.in_ok-sum.sum.items (search rules) are (omega (arith, c.loop-row-test.true, length-rows_of c.args.rows.now)) is row c.next_prefix.ensures.bytes
     c.in_ok-sum.ensures.first c.in_ok-sum.ensures.next in
     record {
-      sums_are = rw c.in_ok-push.ensures.ok (rows_of-more (prefix c.in-Some.op c.args.sig.ty rows) c.loop-row.sums.items n c.in_ok-sum.sum c.loop-row.invariant.sums_are sum);
+      sums_are = rw c.in_ok-push.ensures.items (rows_of-more (prefix c.in-Some.op c.args.sig.ty rows) c.loop-row.sums.items n c.in_ok-sum.sum c.loop-row.invariant.sums_are sum);
       bytes = below_more (λ k. AreBytes (row_of rows k)) n c.loop-row.invariant.bytes (subst AreBytes row c.next_prefix.ensures.bytes);
     }

@@ -18,4 +18,4 @@ loop-step-preserved c =
     let e : c.pow.result ≡ 2 ^ c.loop-step.step = c.pow.ensures ∙ ap (λ k. 2 ^ k) c.from.ensures in
     one_step (λ k m. rounds_of (meetings c.args.n k m) c.args.r) (λ k. meeting c.args.n (2 ^ k) c.args.r ∷ [])
     (λ k m. refl) c.loop-step.step c.depth_of-steps.result c.loop-step.rounds.items c.push.new.self.items (rounds_of (meetings c.args.n 0 c.depth_of-steps.result) c.args.r) c.loop-step-test.true c.loop-step.invariant
-    (c.in-Ok.ensures.items ∙ ap (λ x. c.loop-step.rounds.items ++ x ∷ []) (c.in_ok-round.ensures.ok ∙ ap (λ s. meeting c.args.n s c.args.r) e))
+    (c.in_ok-push.ensures.items ∙ ap (λ x. c.loop-step.rounds.items ++ x ∷ []) (c.in_ok-round.ensures.ok ∙ ap (λ s. meeting c.args.n s c.args.r) e))

@@ -10,8 +10,8 @@ use Rattle.coll_trees.proofs.reduce_builder.reduce.Goals as goal
 pub schedule-requires : goal.schedule-requires
 schedule-requires c =
     subst IsSchedule
-    (sym (reduce_parts c.args.sig c.args.n c.args.r c.block_len-len.result c.in-Some.op c.block_if-output.result c.push_round.new.rounds.items c.block_len-len.ensures c.in-Some.is c.block_if-output.ensures
-    (c.in_ok-push_round.ensures.ok
+    (sym (reduce_parts c.args.sig c.args.n c.args.r c.block_len-len.result c.in-Some.op c.block_if-output.result c.push.new.self.items c.block_len-len.ensures c.in-Some.is c.block_if-output.ensures
+    (c.in_ok-push.ensures.items
     ∙ (ap (λ x. c.push_rounds.new.rounds.items ++ x ∷ []) c.in_ok-hop.ensures.ok
     ∙ ap (λ xs. xs ++ last_hop c.block_len-len.result c.args.sig.root c.args.r ∷ [])
     (c.in_ok-push_rounds.ensures.ok ∙ ap (λ xs. xs ++ rounds_of (folding c.in-Some.op c.args.sig.ty c.block_len-len.result c.args.n 0 (depth c.args.n)) c.args.r) c.new-rounds.ensures.items)))))
@@ -20,8 +20,8 @@ schedule-requires c =
 pub returns-clause-schedule : goal.returns-clause-schedule
 returns-clause-schedule c =
     c.schedule.ensures
-    ∙ reduce_parts c.args.sig c.args.n c.args.r c.block_len-len.result c.in-Some.op c.block_if-output.result c.push_round.new.rounds.items c.block_len-len.ensures c.in-Some.is c.block_if-output.ensures
-    (c.in_ok-push_round.ensures.ok
+    ∙ reduce_parts c.args.sig c.args.n c.args.r c.block_len-len.result c.in-Some.op c.block_if-output.result c.push.new.self.items c.block_len-len.ensures c.in-Some.is c.block_if-output.ensures
+    (c.in_ok-push.ensures.items
     ∙ (ap (λ x. c.push_rounds.new.rounds.items ++ x ∷ []) c.in_ok-hop.ensures.ok
     ∙ ap (λ xs. xs ++ last_hop c.block_len-len.result c.args.sig.root c.args.r ∷ [])
     (c.in_ok-push_rounds.ensures.ok ∙ ap (λ xs. xs ++ rounds_of (folding c.in-Some.op c.args.sig.ty c.block_len-len.result c.args.n 0 (depth c.args.n)) c.args.r) c.new-rounds.ensures.items)))
@@ -32,8 +32,8 @@ returns-in_err-push_rounds-clause-family c = reduce_serves c.args.sig c.args.n c
 pub returns-in_err-hop-clause-family : goal.returns-in_err-hop-clause-family
 returns-in_err-hop-clause-family c = reduce_serves c.args.sig c.args.n c.requires.checked c.requires.kind c.requires.few
 
-pub returns-in_err-push_round-clause-family : goal.returns-in_err-push_round-clause-family
-returns-in_err-push_round-clause-family c = reduce_serves c.args.sig c.args.n c.requires.checked c.requires.kind c.requires.few
+pub returns-in_err-push-clause-family : goal.returns-in_err-push-clause-family
+returns-in_err-push-clause-family c = reduce_serves c.args.sig c.args.n c.requires.checked c.requires.kind c.requires.few
 
 pub returns-clause-family : goal.returns-clause-family
 returns-clause-family c = reduce_serves c.args.sig c.args.n c.requires.checked c.requires.kind c.requires.few

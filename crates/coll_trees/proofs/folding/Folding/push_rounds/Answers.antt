@@ -27,9 +27,9 @@ loop-step-preserved c =
     c.in_ok-combines.ensures.ok ∙ ap (combines c.args.self.op c.args.self.ty c.args.self.len) part in
     one_step (λ k m. rounds_of (folding c.args.self.op c.args.self.ty c.args.self.len c.args.self.n k m) c.args.r)
     (λ k. move_at c.args.self.len c.args.self.n (2 ^ k) c.args.r ∷ combine_at c.args.self.op c.args.self.ty c.args.self.len c.args.self.n (2 ^ k) c.args.r ∷ [])
-    (λ k m. refl) c.loop-step.step c.depth_of-steps.result c.loop-step.rounds.items c.push_round-in-loop-step.new.rounds.items _ c.loop-step-test.true c.loop-step.invariant
-    (c.in_ok-push_round-2.ensures.ok
-    ∙ (ap (λ xs. xs ++ c.in_ok-combines.combines ∷ []) c.in_ok-push_round.ensures.ok
+    (λ k m. refl) c.loop-step.step c.depth_of-steps.result c.loop-step.rounds.items c.push-in-loop-step.new.self.items _ c.loop-step-test.true c.loop-step.invariant
+    (c.in_ok-push-2.ensures.items
+    ∙ (ap (λ xs. xs ++ c.in_ok-combines.combines ∷ []) c.in_ok-push.ensures.items
     ∙ (append_assoc c.loop-step.rounds.items (c.in_ok-moves.moves ∷ []) (c.in_ok-combines.combines ∷ [])
     ∙ (ap (λ x. c.loop-step.rounds.items ++ x ∷ c.in_ok-combines.combines ∷ []) first
     ∙ ap (λ x. c.loop-step.rounds.items ++ move_at c.args.self.len c.args.self.n (2 ^ c.loop-step.step) c.args.r ∷ x ∷ []) second))))
