@@ -10,7 +10,7 @@ import subprocess
 import sys
 import time
 
-PROGRAM = os.path.join(os.path.dirname(__file__), "..", "crates", "coll_job", "out", "coll_job")
+PROGRAM = os.path.join(os.path.dirname(__file__), "..", "crates", "colljob", "out", "colljob")
 
 
 def many_posts():
@@ -40,31 +40,28 @@ def many_communicators():
     return "\n".join(lines) + "\n"
 
 
+def one_post_each(ranks, collective, elements):
+    """Each rank posts the same collective, with so many elements of its own."""
+    lines = [f"ranks {ranks}"]
+    for rank in range(ranks):
+        values = " ".join(str((i + rank) % 10) for i in range(elements))
+        lines += [f"rank {rank}", f"post 0 {collective} : {values}"]
+    return "\n".join(lines) + "\n"
+
+
 def wide_posts():
     """One allreduce of 65,500 elements over 8 ranks; 65,536 would pass the limit of a text."""
-    lines = ["ranks 8"]
-    for rank in range(8):
-        lines.append(f"rank {rank}")
-        lines.append("post 0 allreduce sum i8 65500 : " + " ".join(str((i + rank) % 10) for i in range(65500)))
-    return "\n".join(lines) + "\n"
+    return one_post_each(8, "allreduce sum i8 65500", 65500)
 
 
 def one_allgather():
     """An allgather of 8,000 elements over 64 ranks: 64 rows of 512,000 elements come out."""
-    lines = ["ranks 64"]
-    for rank in range(64):
-        lines.append(f"rank {rank}")
-        lines.append("post 0 allgather u8 8000 : " + " ".join(str((i + rank) % 10) for i in range(8000)))
-    return "\n".join(lines) + "\n"
+    return one_post_each(64, "allgather u8 8000", 8000)
 
 
 def one_rsblock():
     """A reduce-scatter of 510 elements a block over 32 ranks."""
-    lines = ["ranks 32"]
-    for rank in range(32):
-        lines.append(f"rank {rank}")
-        lines.append("post 0 rsblock sum i64 510 : " + " ".join(str((i + rank) % 10) for i in range(32 * 510)))
-    return "\n".join(lines) + "\n"
+    return one_post_each(32, "rsblock sum i64 510", 32 * 510)
 
 
 TEXTS = [
