@@ -4,8 +4,8 @@ use Rattle.std.specs.Prelude.{IfSome}
 use Rattle.std.specs.Io.KnownBytes.{Appends}
 use Rattle.std.proofs.lemmas.Bool.{cases_lt}
 use Rattle.std.proofs.lemmas.List.{take_all, length-take}
-use Rattle.coll_script.specs.declared.fault.Fault.{Fault}
-use Rattle.coll_script.specs.Steps.{◌>>=◌}
+use Rattle.coll_text.specs.declared.fault.Fault.{Fault}
+use Rattle.coll_text.specs.Steps.{◌>>=◌}
 use Rattle.coll_script.specs.Jobs.{Job}
 use Rattle.coll_script.specs.Meaning.{meaning, job_lines}
 use Rattle.coll_script.proofs.Reading.{job_of-long}

@@ -5,16 +5,17 @@ ghost use Rattle.std.specs.Io.KnownBytes.{ReadConsumes};
 use std::io;
 use std::io::Read;
 
-/// A reader that counts how often it is read.
+/// A reader that counts how often it is read. Its reader is reached by [`Counted::read`] alone, so no read
+/// of it goes uncounted.
 #[derive(Drop)]
-pub(crate) struct Counted<'r, R> {
+pub struct Counted<'r, R> {
     reader: &'r mut R,
     reads: u32,
 }
 
 impl<'r, R: Read> Counted<'r, R> {
     /// A reader whose reads are counted from here on.
-    pub(crate) fn new(reader: &'r mut R) -> Counted<'r, R>
+    pub fn new(reader: &'r mut R) -> Counted<'r, R>
         ensures same_reference { result.reader.ghost_name ≡ reader.entry.ghost_name }
         ensures reader { result.reader.now ≡ reader.old }
         ensures reads { result.reads ≡ 0 }
@@ -22,8 +23,15 @@ impl<'r, R: Read> Counted<'r, R> {
         Counted { reader, reads: 0 }
     }
 
-    /// Reads once.
-    pub(crate) fn read(&mut self, buf: &mut [u8]) -> io::Result<usize>
+    /// How often it has been read.
+    pub fn reads(&self) -> u32
+        ensures { result ≡ self.now.reads }
+    {
+        self.reads
+    }
+
+    /// Reads once. Answers the reader's error.
+    pub fn read(&mut self, buf: &mut [u8]) -> io::Result<usize>
         requires { self.old.reads < 4294967295 }
         ensures same_reference { self.new.reader.ghost_name ≡ self.old.reader.ghost_name }
         ensures bound { ReadsAtMost result buf.new }

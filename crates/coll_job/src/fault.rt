@@ -2,28 +2,36 @@ ghost use Rattle.std.specs.Prelude.{◌≡◌};
 
 use coll_kinds::Refusal;
 use coll_script::{Fault, ScriptFault};
-use std::error::Error;
+use std::io;
 use std::io::Write;
-use std::{fmt, io};
+use thiserror::Error;
 
 /// Why the program ends without its answer. It prints as the line that a user is told.
-#[derive(Clone, Copy, Debug, PartialEq, Eq)]
+#[derive(Clone, Copy, Debug, PartialEq, Eq, Error)]
 pub enum JobFault {
     /// The reader gave an error.
+    #[error("read fault")]
     Read,
     /// The writer gave an error, or took no byte.
+    #[error("write fault")]
     Write,
     /// The text has a fault.
+    #[error("{0}")]
     Text(Fault),
     /// Nothing can go on any more.
+    #[error("stalled")]
     Stalled,
     /// Another refusal of the engine.
+    #[error("refused {} {}", .0.number(), .0)]
     Refused(Refusal),
     /// Memory was refused.
+    #[error("no memory")]
     Memory,
     /// A thread couldn't be started.
+    #[error("no thread")]
     NoThread,
     /// The report doesn't agree with the outcomes.
+    #[error("torn")]
     Torn,
 }
 
@@ -49,26 +57,6 @@ impl JobFault {
         writeln!(out, "{self}")
     }
 }
-
-impl fmt::Display for JobFault {
-    fn fmt<W: fmt::Write>(&self, f: &mut fmt::Formatter<W>) -> fmt::Result {
-        match self {
-            JobFault::Read => write!(f, "read fault"),
-            JobFault::Write => write!(f, "write fault"),
-            JobFault::Text(fault) => write!(f, "{fault}"),
-            JobFault::Stalled => write!(f, "stalled"),
-            JobFault::Refused(why) => {
-                let number = why.number();
-                write!(f, "refused {number} {why}")
-            }
-            JobFault::Memory => write!(f, "no memory"),
-            JobFault::NoThread => write!(f, "no thread"),
-            JobFault::Torn => write!(f, "torn"),
-        }
-    }
-}
-
-impl Error for JobFault {}
 
 impl From<ScriptFault> for JobFault {
     ghost use Rattle.std.specs.Prelude.{◌≡◌};

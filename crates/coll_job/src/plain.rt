@@ -17,20 +17,10 @@ const READ_LIMIT: usize = 1_048_577;
 /// The most bytes of one read.
 const PIECE: usize = 8192;
 
-/// Reads a text up to its end, or up to and including the first byte past what a text may have. Makes at
-/// most 1,048,577 reads. Any error of the reader is [`JobFault::Read`], also one that might pass if the
-/// read were made again; want of memory is [`JobFault::Memory`].
-pub fn read_text<R: Read>(alloc: Global, reader: &mut R) -> Result<Vec<u8>, JobFault>
-    ensures text { IfOk result (λ text. IfSome (R.remaining reader.old) (λ input. text.items ≡ take READ_LIMIT input)) }
-    ensures left { IfOk result (λ text. Consumes (R.remaining reader.old) (R.remaining reader.new) text.items) }
-    ensures faults { IfErr result IsReadFault }
-{
-    let mut counted = Counted::new(reader);
-    read_counted(alloc, &mut counted)
-}
-
-/// The same through a reader that counts: only [`Counted::read`] reads it, each time once.
-fn read_counted<R: Read>(alloc: Global, reader: &mut Counted<'_, R>) -> Result<Vec<u8>, JobFault>
+/// Reads a text up to its end, or up to and including the first byte past what a text may have. Any error
+/// of the reader is [`JobFault::Read`], also one that might pass if the read were made again; want of memory
+/// is [`JobFault::Memory`].
+pub fn read_text<R: Read>(alloc: Global, reader: &mut Counted<'_, R>) -> Result<Vec<u8>, JobFault>
     requires unread { reader.old.reads ≡ 0 }
     ensures text { IfOk result (λ text. IfSome (R.remaining reader.old.reader.now) (λ input. text.items ≡ take READ_LIMIT input)) }
     ensures left { IfOk result (λ text. Consumes (R.remaining reader.old.reader.now) (R.remaining reader.new.reader.now) text.items) }
@@ -79,18 +69,21 @@ fn read_piece<R: Read>(
     }
 }
 
-/// Reads a job text and writes its output lines, the value of every post. At a fault nothing is written,
-/// but at a write fault. Makes at most 1,048,577 reads.
+/// Reads a job text and writes its output lines, the value of every post and start. At a fault nothing is
+/// written, but at a write fault.
 pub fn plain_job<R: Read, W: Write>(
     alloc: Global,
-    reader: &mut R,
+    reader: &mut Counted<'_, R>,
     writer: &mut W,
 ) -> Result<(), JobFault>
+    requires unread { reader.old.reads ≡ 0 }
     // What was written is the meaning of what was read, and nothing else.
-    ensures ok { OnOk result (IfSome (R.remaining reader.old) (λ input. WritesMeaning input (W.contents writer.old) (W.contents writer.new))) }
+    ensures ok { OnOk result (IfSome (R.remaining reader.old.reader.now) (λ input. WritesMeaning input (W.contents writer.old) (W.contents writer.new))) }
     // The fault of a text is the one that its definition gives.
-    ensures faults { IfErr result (IsPlainFault (R.remaining reader.old)) }
+    ensures faults { IfErr result (IsPlainFault (R.remaining reader.old.reader.now)) }
     ensures unwritten { IfErr result (λ fault. fault ≢ JobFault.Write → Keeps (W.contents writer.old) (W.contents writer.new)) }
+    ensures reads { reader.new.reads ≤ READ_LIMIT }
+    ensures same_reference { reader.new.reader.ghost_name ≡ reader.old.reader.ghost_name }
 {
     let text = read_text(alloc, reader)?;
     let lines = answer(alloc, &text)?;

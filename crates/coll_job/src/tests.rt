@@ -1,3 +1,4 @@
+use crate::counted::Counted;
 use crate::fault::JobFault;
 use crate::plain::{plain_job, read_text};
 use coll_kinds::{Refusal, SignatureFault};
@@ -16,7 +17,7 @@ const COMMENTS: &str = "# x\nranks 1\n\nrank 0\npost 0 bcast 0 i8 2 : -1 007\n";
 fn shown(alloc: Global, text: &str) -> Result<String, Fail> {
     let mut reader = Cursor::new(text.as_bytes());
     let mut out = Vec::new(alloc);
-    if let Err(fault) = plain_job(alloc, &mut reader, &mut out) {
+    if let Err(fault) = plain_job(alloc, &mut Counted::new(&mut reader), &mut out) {
         let status = fault.status();
         write!(out, "{status}: ")?;
         fault.print(&mut out)?;
@@ -179,7 +180,10 @@ fn kinds_and_commands(rt: HostRuntime) -> Result<(), Fail> {
 
 #[test]
 fn a_text_is_read_whole(rt: HostRuntime) -> Result<(), Fail> {
-    let text = read_text(rt.alloc(), &mut Cursor::new(COMMENTS.as_bytes()))?;
+    let text = read_text(
+        rt.alloc(),
+        &mut Counted::new(&mut Cursor::new(COMMENTS.as_bytes())),
+    )?;
     assert_eq!(rt; text.as_slice(), COMMENTS.as_bytes());
     Ok(())
 }
@@ -224,12 +228,14 @@ impl Read for Endless {
 #[test]
 fn reads_are_counted(rt: HostRuntime) -> Result<(), Fail> {
     let mut reader = Endless(0);
-    let text = read_text(rt.alloc(), &mut reader)?;
+    let mut counted = Counted::new(&mut reader);
+    let text = read_text(rt.alloc(), &mut counted)?;
     assert_eq!(rt; text.len(), 1_048_577);
+    assert_eq!(rt; counted.reads(), 1_048_577);
     assert_eq!(rt; reader.0, 1_048_577);
     let mut out = Vec::new(rt.alloc());
     let mut reader = Endless(0);
-    let fault = plain_job(rt.alloc(), &mut reader, &mut out);
+    let fault = plain_job(rt.alloc(), &mut Counted::new(&mut reader), &mut out);
     assert_eq!(rt;
         fault,
         Err(JobFault::Text(Fault {
@@ -258,17 +264,17 @@ impl Write for Full {
 #[test]
 fn failing_ends(rt: HostRuntime) -> Result<(), Fail> {
     let alloc = rt.alloc();
-    let read = read_text(alloc, &mut Failing(0));
+    let read = read_text(alloc, &mut Counted::new(&mut Failing(0)));
     assert!(rt; matches!(read, Err(JobFault::Read)));
     let mut out = Vec::new(alloc);
     assert_eq!(rt;
-        plain_job(alloc, &mut Failing(0), &mut out),
+        plain_job(alloc, &mut Counted::new(&mut Failing(0)), &mut out),
         Err(JobFault::Read)
     );
     assert!(rt; out.is_empty());
     let mut reader = Cursor::new(SUM_OF_THREE.as_bytes());
     assert_eq!(rt;
-        plain_job(alloc, &mut reader, &mut Full),
+        plain_job(alloc, &mut Counted::new(&mut reader), &mut Full),
         Err(JobFault::Write)
     );
     Ok(())

@@ -5,10 +5,10 @@ use Rattle.std.specs.List.{list_all, AllByRecursion}
 use Rattle.std.specs.Option.{option_map}
 use Rattle.std.proofs.lemmas.List.{length-map}
 use Rattle.std.proofs.lemmas.Option.{slice_get-map}
-use Rattle.coll_script.specs.declared.cause.Cause.TheVariants.{PlaceMismatch, PlaceMissing, StartMissing}
-use Rattle.coll_script.specs.Histories.{Request, Section, History}
-use Rattle.coll_script.specs.Groups.{member_of, IsGroup}
-use Rattle.coll_script.specs.Sound.{IsRequestOn, IsRequest, IsHistory}
+use Rattle.coll_text.specs.declared.cause.Cause.TheVariants.{PlaceMismatch, PlaceMissing, StartMissing}
+use Rattle.coll_text.specs.Histories.{Request, Section, History}
+use Rattle.coll_text.specs.Groups.{member_of, IsGroup}
+use Rattle.coll_text.specs.Sound.{IsRequestOn, IsRequest, IsHistory}
 use Rattle.coll_script.specs.Postings.{requests_of, postings_from}
 use Rattle.coll_script.specs.Matching.{mismatch, have_places, have_starts}
 use Rattle.coll_script.specs.Jobs.{Job, job_from, matched, matched_job, completed_by, completed}

@@ -1,23 +1,11 @@
-pub mod Lists
-pub mod Texts
-pub mod Marks
-pub mod Members
-pub mod Named
-pub mod Values
-pub mod Gifts
-pub mod Sounds
-pub mod Changes
-pub mod Replicates
-pub mod Telling
-pub mod Judging
 pub mod Reading
-pub mod SamenessLemmas
-pub mod Slots
-pub mod Loops
-pub mod Posted
-pub mod Matched
-pub mod Matches
-pub mod Ending
-pub mod Valued
-pub mod Printing
-pub mod Printed
+mod SamenessLemmas
+mod Slots
+mod Loops
+mod Posted
+mod Matched
+mod Matches
+mod Ending
+mod Valued
+mod Printing
+mod Printed

@@ -1,13 +1,10 @@
 -- What loops over a list keep, element by element.
-use Rattle.std.proofs.Common.{◌≡◌, ℕ, zero, suc, ◌+◌, ◌-◌, ◌<◌, ◌≤◌, Bool, true, false, ◌&&◌, List, [], ◌∷◌, ◌++◌, map, take, drop, length, get_or, refl, ap, sym, ◌∙◌, append_assoc, add-one, arith}
+use Rattle.std.proofs.Common.{◌≡◌, ℕ, zero, suc, ◌+◌, ◌-◌, ◌<◌, Bool, true, false, ◌&&◌, List, [], ◌∷◌, ◌++◌, map, take, drop, length, get_or, refl, ap, sym, ◌∙◌, append_assoc, add-one, arith}
 use Rattle.std.specs.Prelude.{flat_map}
 use Rattle.std.specs.List.{list_all, range_with_len, enumerate_from}
 use Rattle.std.proofs.Math.Seq.{drop-cons}
-use Rattle.std.proofs.lemmas.List.{append-nil, drop_all}
 use Rattle.std.proofs.lemmas.List.Concat.{flat_map-cons}
-
-pub drop-more : {X : Type 0} (xs : List X) (k : ℕ) (x : X) → k < length xs → x ≡ get_or xs k x → drop k xs ≡ x ∷ drop (k + 1) xs
-drop-more xs k x lt is = rw (add-one, drop-cons xs k x lt, ← is) refl
+use Rattle.coll_text.proofs.Lists.{drop-more}
 
 pub drop-at : {X : Type 0} (xs : List X) (k : ℕ) (d : X) → k < length xs → drop k xs ≡ get_or xs k d ∷ drop (k + 1) xs
 drop-at xs k d lt = rw (add-one, drop-cons xs k d lt) refl
@@ -19,9 +16,6 @@ pub map-more : {X Y : Type 0} (f : X → Y) (xs : List X) (k : ℕ) (x : X) (out
 map-more {X} {Y} f xs k x out total y front made so_far =
     append_assoc out (y ∷ []) (map f (drop (k + 1) xs)) ∙ ap (λ (z : Y). out ++ z ∷ map f (drop (k + 1) xs)) made ∙ ap (λ (rest : List X). out ++ map f rest) (sym front) ∙ so_far
 
-pub map-done : {X Y : Type 0} (f : X → Y) (xs : List X) (k : ℕ) (out total : List Y) → length xs ≤ k → out ++ map f (drop k xs) ≡ total → out ≡ total
-map-done {X} {Y} f xs k out total le so_far = sym (append-nil out) ∙ ap (λ (rest : List X). out ++ map f rest) (sym (drop_all k xs le)) ∙ so_far
-
 -- the same over the numbers below an end
 pub map_range-more : {Y : Type 0} (f : ℕ → Y) (end k : ℕ) (out total : List Y) (y : Y) → k < end → y ≡ f k → out ++ map f (range_with_len k (end - k)) ≡ total
     → (out ++ y ∷ []) ++ map f (range_with_len (k + 1) (end - (k + 1))) ≡ total
@@ -29,11 +23,6 @@ map_range-more {Y} f end k out total y lt made so_far =
     let left : end - k ≡ suc (end - (k + 1)) = omega arith in
     append_assoc out (y ∷ []) (map f (range_with_len (k + 1) (end - (k + 1)))) ∙ ap (λ (z : Y). out ++ z ∷ map f (range_with_len (k + 1) (end - (k + 1)))) made
     ∙ ap (λ m. out ++ map f (range_with_len k m)) (sym left) ∙ so_far
-
-pub map_range-done : {Y : Type 0} (f : ℕ → Y) (end k : ℕ) (out total : List Y) → end ≤ k → out ++ map f (range_with_len k (end - k)) ≡ total → out ≡ total
-map_range-done {Y} f end k out total le so_far =
-    let none : end - k ≡ 0 = omega arith in
-    sym (append-nil out) ∙ ap (λ m. out ++ map f (range_with_len k m)) (sym none) ∙ so_far
 
 -- ---- whether all pass
 
@@ -45,9 +34,6 @@ pub list_all-stops : {X : Type 0} (p : X → Bool) (xs : List X) (k : ℕ) (x : 
 list_all-stops {X} p xs k x total lt is fails so_far =
     sym (ap (λ (b : Bool). b && list_all p (drop (k + 1) xs)) fails) ∙ ap (list_all p) (sym (drop-more xs k x lt is)) ∙ so_far
 
-pub list_all-done : {X : Type 0} (p : X → Bool) (xs : List X) (k : ℕ) (total : Bool) → length xs ≤ k → list_all p (drop k xs) ≡ total → true ≡ total
-list_all-done {X} p xs k total le so_far = ap (list_all p) (sym (drop_all k xs le)) ∙ so_far
-
 -- ---- text that grows by what is printed of the next element
 
 pub text-more : {X : Type 0} (f : ℕ × X → List ℕ) (xs : List X) (i : ℕ) (x : X) (out total : List ℕ) → drop i xs ≡ x ∷ drop (i + 1) xs → out ++ flat_map f (enumerate_from i (drop i xs)) ≡ total
@@ -56,9 +42,6 @@ text-more {X} f xs i x out total front so_far =
     let others = flat_map f (enumerate_from (i + 1) (drop (i + 1) xs)) in
     append_assoc out (f (i, x)) others ∙ ap (λ (rest : List ℕ). out ++ rest) (sym (flat_map-cons f (i, x) (enumerate_from (i + 1) (drop (i + 1) xs))))
     ∙ ap (λ (rest : List X). out ++ flat_map f (enumerate_from i rest)) (sym front) ∙ so_far
-
-pub text-done : {X : Type 0} (f : ℕ × X → List ℕ) (xs : List X) (i : ℕ) (out total : List ℕ) → length xs ≤ i → out ++ flat_map f (enumerate_from i (drop i xs)) ≡ total → out ≡ total
-text-done {X} f xs i out total le so_far = sym (append-nil out) ∙ ap (λ (rest : List X). out ++ flat_map f (enumerate_from i rest)) (sym (drop_all i xs le)) ∙ so_far
 
 pub take-next : {X : Type 0} (xs : List X) (k : ℕ) (x : X) → drop k xs ≡ x ∷ drop (k + 1) xs → take (k + 1) xs ≡ take k xs ++ x ∷ []
 take-next {X} xs k x front = rw (add-one) (next xs k (front ∙ ap (λ m. x ∷ drop m xs) (add-one k)))

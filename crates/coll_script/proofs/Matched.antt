@@ -4,20 +4,21 @@ use Rattle.std.specs.Prelude.{slice_get, unwrap_or, flat_map, Vec, vec_len}
 use Rattle.std.specs.Global.{Global}
 use denote.Ref.{Bor}
 use Rattle.std.proofs.lemmas.Bool.Decides.{nat_tests}
-use Rattle.coll_script.specs.declared.request.Request as rust
-use Rattle.coll_script.specs.Views.{request_view, section_view, history_of}
+use Rattle.coll_text.specs.declared.request.Request as rust
+use Rattle.coll_text.specs.Views.{request_view, section_view, history_of}
+use Rattle.coll_text.proofs.Lists.{drop-more, slice_get-view, slice_get-push_other}
 use Rattle.coll_script.specs.PostingViews.{requests_view, list_view, lists_view}
 use Rattle.std.proofs.lemmas.Bool.{cases_eq, cases_lt}
 use Rattle.std.proofs.lemmas.List.{get_or-map, length-map, length-set, length-append, length-drop, drop_all}
 use Rattle.std.proofs.lemmas.List.Concat.{flat_map-cons}
-use Rattle.std.proofs.lemmas.Option.{slice_get-get_or, slice_get_past}
-use Rattle.coll_script.specs.declared.draft.Draft as rust_draft
-use Rattle.coll_script.specs.Histories.{Request, Section}
+use Rattle.std.proofs.lemmas.Option.{slice_get_past}
+use Rattle.coll_text.specs.declared.draft.Draft as rust_draft
+use Rattle.coll_text.specs.Histories.{Request, Section}
 use Rattle.coll_script.specs.Jobs.{job_from}
-use Rattle.coll_script.specs.Matching.{earlier, earliest, agrees, differing_from, lower, least, started_alike, first_list, IsKept}
-use Rattle.coll_script.proofs.Loops.{drop-more}
+use Rattle.coll_script.specs.Matching.{earlier, earliest, agrees, differing_from, lower, least, started_alike, first_list}
+use Rattle.coll_script.specs.Keeping.{IsKept}
 use Rattle.coll_script.proofs.Posted.{map-map}
-use Rattle.coll_script.proofs.Slots.{slice_get-set_same, slice_get-set_other, slice_get-push_same, slice_get-push_other}
+use Rattle.coll_script.proofs.Slots.{slice_get-set_same, slice_get-set_other, slice_get-push_same}
 
 -- ---- views of lists
 
@@ -25,11 +26,6 @@ pub drop-view : {X Y : Type 0} (v : X → Y) (xs : List X) (k : ℕ) (x : X) →
 drop-view v xs k x lt is =
     let within : k < length (map v xs) = rw length-map lt in
     drop-more (map v xs) k (v x) within (ap v is ∙ sym (get_or-map v xs k x (v x) lt))
-
-pub slice_get-view : {X Y : Type 0} (v : X → Y) (xs : List X) (k : ℕ) (x : X) → k < length xs → x ≡ get_or xs k x → slice_get (map v xs) k ≡ Some (v x)
-slice_get-view v xs k x lt is =
-    let within : k < length (map v xs) = rw length-map lt in
-    slice_get-get_or (map v xs) k (v x) within ∙ ap Some (sym (ap v is ∙ sym (get_or-map v xs k x (v x) lt)))
 
 pub at-view : {X Y : Type 0} (v : X → Y) (xs : List X) (k : ℕ) (x : X) → k < length xs → x ≡ get_or xs k x → (k < length (map v xs)) × (v x ≡ get_or (map v xs) k (v x))
 at-view v xs k x lt is = (rw length-map lt, ap v is ∙ sym (get_or-map v xs k x (v x) lt))

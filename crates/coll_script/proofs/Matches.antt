@@ -10,10 +10,11 @@ use Rattle.std.proofs.lemmas.Option.{slice_get-map, slice_get-get_or, unwrap_or-
 use Rattle.coll_kinds.specs.declared.signature.Signature.{Signature}
 use Rattle.coll_kinds.specs.Lengths.{given_len}
 use Rattle.coll_kinds.specs.Checks.{broken}
-use Rattle.coll_script.specs.declared.fault.Fault.{Fault}
-use Rattle.coll_script.specs.Histories.{Request}
-use Rattle.coll_script.specs.Groups.{IsGroup}
-use Rattle.coll_script.specs.Sound.{IsRequestOn, IsRequest}
+use Rattle.coll_text.specs.declared.fault.Fault.{Fault}
+use Rattle.coll_text.specs.Histories.{Request}
+use Rattle.coll_text.specs.Groups.{IsGroup}
+use Rattle.coll_text.specs.Sound.{IsRequestOn, IsRequest}
+use Rattle.coll_text.proofs.Lists.{AllByRecursion-at}
 use Rattle.coll_script.specs.Postings.{is_on, posted_on, requests_of, postings, postings_from}
 use Rattle.coll_script.specs.Matching.{earliest, agrees, differing_from, differing, lower, least, mismatch, first_list, have_places, started_alike, have_starts}
 use Rattle.coll_script.specs.Jobs.{Job, matched, matched_job}
@@ -89,11 +90,6 @@ agrees-same : (o : Option Request) (sig other : Signature) → agrees o sig ≡ 
 agrees-same None sig other one two = absurd cc
 agrees-same (Some first) sig other one two = sym ((same_signature-Decides first.sig sig).0 one) ∙ (same_signature-Decides first.sig other).0 two
 
-pub AllByRecursion-get : {X : Type 0} (P : X → Type 0) (xs : List X) (i : ℕ) (x : X) → AllByRecursion P xs → slice_get xs i ≡ Some x → P x
-AllByRecursion-get P [] i x all e = absurd cc
-AllByRecursion-get P (y ∷ xs) zero x all e = subst P (same_Some y x e) all.0
-AllByRecursion-get P (y ∷ xs) (suc i) x all e = AllByRecursion-get P xs i x all.1 e
-
 pub slice_get-list_at : (lists : List (List Request)) (m : ℕ) → m < length lists → slice_get lists m ≡ Some (list_at lists m)
 slice_get-list_at lists m lt = slice_get-get_or lists m [] lt ∙ ap Some (sym (unwrap_or-slice_get lists m []))
 
@@ -101,8 +97,8 @@ slice_get-list_at lists m lt = slice_get-get_or lists m [] lt ∙ ap Some (sym (
 sig-same : (lists : List (List Request)) (m k : ℕ) (first p : Request) → differing lists ≡ [] → m < length lists → slice_get (first_list lists) k ≡ Some first → slice_get (list_at lists m) k ≡ Some p → p.sig ≡ first.sig
 sig-same lists m k first p none lt one other =
     let each = flat_map-nil (differing_from (λ place. earliest None place lists) 0) lists none in
-    let here = AllByRecursion-get _ lists m (list_at lists m) each (slice_get-list_at lists m lt) in
-    let there = AllByRecursion-get _ lists 0 (first_list lists) each (slice_get-list_at lists 0 (omega arith)) in
+    let here = AllByRecursion-at _ lists m (list_at lists m) each (slice_get-list_at lists m lt) in
+    let there = AllByRecursion-at _ lists 0 (first_list lists) each (slice_get-list_at lists 0 (omega arith)) in
     agrees-same (earliest None (0 + k) lists) p.sig first.sig (agrees-at (λ place. earliest None place lists) 0 k (list_at lists m) p here other) (agrees-at (λ place. earliest None place lists) 0 k (first_list lists) first there one)
 
 starts-same : (first list : List Request) (k : ℕ) (p q : Request) → started_alike first list ≡ true → slice_get first k ≡ Some p → slice_get list k ≡ Some q → length q.starts ≡ length p.starts
@@ -133,7 +129,7 @@ fits-at : (groups : List (List ℕ)) (comm rank : ℕ) (group : List ℕ) (p : R
 fits-at groups comm rank group p here fits same = subst (λ (o : Option (List ℕ)). IfSome o (λ g. IsRequestOn g rank p)) (ap (slice_get groups) same ∙ here) fits
 
 list_all-at : {X : Type 0} (f : X → Bool) (xs : List X) (i : ℕ) (x : X) → list_all f xs ≡ true → slice_get xs i ≡ Some x → f x ≡ true
-list_all-at f xs i x e some = AllByRecursion-get (λ y. f y ≡ true) xs i x (list_all-each f xs e) some
+list_all-at f xs i x e some = AllByRecursion-at (λ y. f y ≡ true) xs i x (list_all-each f xs e) some
 
 -- the posting lists of a communicator whose requests fit
 pub AreMatched-postings : (n lines : ℕ) (groups : List (List ℕ)) (requests : List (List Request)) (comm : ℕ) (group : List ℕ) → slice_get groups comm ≡ Some group → IsGroup n group

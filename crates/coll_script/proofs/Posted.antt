@@ -1,8 +1,7 @@
 -- Lists of references to requests.
-use Rattle.std.proofs.Common.{◌≡◌, ℕ, zero, suc, ◌+◌, ◌<◌, Bool, true, false, cond, List, [], ◌∷◌, ◌++◌, map, drop, length, get_or, refl, ap, sym, ◌∙◌, append_assoc, arith}
+use Rattle.std.proofs.Common.{◌≡◌, ℕ, ◌+◌, Bool, true, false, cond, List, [], ◌∷◌, ◌++◌, map, drop, refl, ap, sym, ◌∙◌, append_assoc}
 use Rattle.std.specs.Prelude.{filter}
-use Rattle.std.specs.List.{AllByRecursion}
-use Rattle.coll_script.specs.Histories.{Request}
+use Rattle.coll_text.specs.Histories.{Request}
 use Rattle.coll_script.specs.Postings.{postings, postings_from}
 
 filter-turn : {X Y : Type 0} (v : X → Y) (x : X) (b : Bool) (xs : List X) (ys : List Y) → map v xs ≡ ys → map v (cond b (x ∷ xs) xs) ≡ cond b (v x ∷ ys) ys
@@ -22,11 +21,6 @@ map-map f g (x ∷ xs) = ap (λ (l : List _). f (g x) ∷ l) (map-map f g xs)
 pub map-push : {X Y : Type 0} (f : X → Y) (xs : List X) (x : X) (y : Y) → f x ≡ y → map f (xs ++ x ∷ []) ≡ map f xs ++ y ∷ []
 map-push f [] x y e = ap (λ (z : _). z ∷ []) e
 map-push f (w ∷ xs) x y e = ap (λ (l : List _). f w ∷ l) (map-push f xs x y e)
-
-pub AllByRecursion-at : {X : Type 0} (P : X → Type 0) (xs : List X) (i : ℕ) (d : X) → AllByRecursion P xs → i < length xs → P (get_or xs i d)
-AllByRecursion-at P [] i d all lt = absurd (omega arith)
-AllByRecursion-at P (x ∷ xs) zero d all lt = all.0
-AllByRecursion-at P (x ∷ xs) (suc i) d all lt = AllByRecursion-at P xs i d all.1 (omega arith)
 
 pub postings_from-more : (requests : List (List Request)) (comm : ℕ) (groups : List (List ℕ)) (group : List ℕ) (out total : List (List (List Request))) (lists : List (List Request)) → drop comm groups ≡ group ∷ drop (comm + 1) groups
     → lists ≡ postings requests comm group → out ++ postings_from requests comm (drop comm groups) ≡ total → (out ++ lists ∷ []) ++ postings_from requests (comm + 1) (drop (comm + 1) groups) ≡ total

@@ -1,9 +1,9 @@
 -- What is printed from the values of a job is its lines.
-use Rattle.std.proofs.Common.{◌≡◌, ℕ, zero, suc, ◌+◌, ◌<◌, ◌≤◌, Bool, true, false, cond, not, eqb, ltb, List, [], ◌∷◌, ◌++◌, map, take, drop, set, length, get_or, Option, Some, None, refl, ap, subst, sym, ◌∙◌, append_assoc, arith, inl, inr}
+use Rattle.std.proofs.Common.{◌≡◌, ℕ, zero, suc, ◌+◌, ◌<◌, ◌≤◌, Bool, true, false, cond, not, eqb, List, [], ◌∷◌, ◌++◌, map, take, drop, set, length, get_or, Option, Some, refl, ap, subst, sym, ◌∙◌, append_assoc, arith, inl, inr}
 use Rattle.std.specs.Prelude.{slice_get, slice_index, unwrap_or, flat_map, IfSome}
 use Rattle.std.specs.List.{range_with_len, enumerate_from, position_or_len, AllByRecursion}
 use Rattle.std.specs.Option.{option_map}
-use Rattle.std.proofs.lemmas.Bool.{cases_eq, eqb-true, eq-eqb, ne_eqb, ltb-true}
+use Rattle.std.proofs.lemmas.Bool.{cases_eq, eqb-true, eq-eqb, ne_eqb}
 use Rattle.std.proofs.lemmas.List.{length-map, length-append, length-take, get_or-set_same, get_or-set_other, take_at}
 use Rattle.std.proofs.lemmas.List.Concat.{flat_map-cons}
 use Rattle.std.proofs.lemmas.List.Sums.{prefix_len_stops}
@@ -12,8 +12,10 @@ use Rattle.std.proofs.lemmas.List.FromFn.{get_or-map-range_with_len, length-map-
 use Rattle.std.proofs.lemmas.Option.{slice_get-map, slice_get-get_or, unwrap_or-slice_get, slice_get_within, same_Some}
 use Rattle.coll_kinds.specs.declared.signature.Signature.{Signature}
 use Rattle.coll_ops.specs.Values.{row_of, value}
-use Rattle.coll_script.specs.Histories.{Request}
-use Rattle.coll_script.specs.Groups.{member_of}
+use Rattle.coll_text.specs.Histories.{Request}
+use Rattle.coll_text.specs.Groups.{member_of}
+use Rattle.coll_text.proofs.Lists.{AllByRecursion-at}
+use Rattle.coll_text.proofs.Members.{member_of-place}
 use Rattle.coll_script.specs.Postings.{is_on, posted_on, requests_of, postings, postings_from}
 use Rattle.coll_script.specs.Matching.{first_list}
 use Rattle.coll_script.specs.Meaning.{outcome_line, given_at, request_lines, lists_of, lines_behind, rank_lines}
@@ -22,7 +24,7 @@ use Rattle.coll_script.specs.Outcomes.{start_values, place_values, values_from, 
 use Rattle.coll_script.specs.Prints.{printed_request, values_at, printed_behind, HasValues, HaveValues}
 use Rattle.coll_script.specs.Scripts.{IsOwned, IsJob}
 use Rattle.coll_script.proofs.Loops.{take-next}
-use Rattle.coll_script.proofs.Matches.{AllByRecursion-get, list_at-postings}
+use Rattle.coll_script.proofs.Matches.{list_at-postings}
 
 -- ---- the lines of a request
 
@@ -65,16 +67,11 @@ not-false false e = absurd cc
 first-passes : (p : ℕ → Bool) (xs : List ℕ) → position_or_len p xs < length xs → p (get_or xs (position_or_len p xs) 0) ≡ true
 first-passes p xs lt = not-false (p (get_or xs (position_or_len p xs) 0)) (prefix_len_stops (λ x. not (p x)) xs 0 lt)
 
-some-cond : (b : Bool) (n m : ℕ) → cond b (Some n) None ≡ Some m → (b ≡ true) × (n ≡ m)
-some-cond true n m e = (refl, same_Some n m e)
-some-cond false n m e = absurd cc
-
 position-at : (rank : ℕ) (group : List ℕ) (m : ℕ) → member_of rank group ≡ Some m → (m < length group) × (slice_index group m ≡ rank)
 position-at rank group m e =
-    let parts = some-cond (ltb (position_or_len (λ r. eqb r rank) group) (length group)) (position_or_len (λ r. eqb r rank) group) m e in
-    let lt = ltb-true (position_or_len (λ r. eqb r rank) group) (length group) parts.0 in
-    let passes = first-passes (λ r. eqb r rank) group lt in
-    (subst (λ k. k < length group) parts.1 lt, eqb-true (get_or group m 0) rank (subst (λ k. eqb (get_or group k 0) rank ≡ true) parts.1 passes))
+    let place = member_of-place rank group m e in
+    let passes = first-passes (λ r. eqb r rank) group (subst (λ k. k < length group) (sym place.0) place.1) in
+    (place.1, eqb-true (get_or group m 0) rank (subst (λ k. eqb (get_or group k 0) rank ≡ true) place.0 passes))
 
 -- ---- the values at a place
 
@@ -112,7 +109,7 @@ IsValued-at job is rank number p e =
     let mine = requests_of job.requests rank in
     let comm = p.comm in
     let place = length (posted_on comm (take number mine)) in
-    let own = AllByRecursion-get (IsOwned job.groups rank) mine number p (is.owned rank) e in
+    let own = AllByRecursion-at (IsOwned job.groups rank) mine number p (is.owned rank) e in
     let group : List ℕ = unwrap_or (slice_get job.groups comm) [] in
     let there : slice_get job.groups comm ≡ Some group = slice_get-get_or job.groups comm [] own.known ∙ ap Some (sym (unwrap_or-slice_get job.groups comm [])) in
     let at = position-at rank group p.member (subst (λ (o : Option (List ℕ)). IfSome o (λ g. member_of rank g ≡ Some p.member)) there own.member) in
@@ -121,7 +118,7 @@ IsValued-at job is rank number p e =
     let below : p.member < length lists = omega (arith, at.0, len) in
     let found : slice_get (postings_from job.requests 0 job.groups) comm ≡ Some lists =
     postings_from-get job.requests 0 job.groups comm ∙ ap (option_map (postings job.requests (0 + comm))) there ∙ ap (λ c. Some (postings job.requests c group)) (let zero_at : 0 + comm ≡ comm = omega arith in zero_at) in
-    let matched : AreMatched (length lists) lists = AllByRecursion-get (λ (l : List (List Request)). AreMatched (length l) l) (postings_from job.requests 0 job.groups) comm lists is.matched found in
+    let matched : AreMatched (length lists) lists = AllByRecursion-at (λ (l : List (List Request)). AreMatched (length l) l) (postings_from job.requests 0 job.groups) comm lists is.matched found in
     let list : list_at lists p.member ≡ posted_on comm mine = list_at-postings job.requests comm group p.member at.0 ∙ ap (λ r. posted_on comm (requests_of job.requests r)) at.1 in
     let here : slice_get (list_at lists p.member) place ≡ Some p = ap (λ (l : List Request). slice_get l place) list ∙ posted-front comm mine number p e refl in
     let within : place < length (first_list lists) = (let lt = slice_get_within (list_at lists p.member) place p here in let same = matched.same_length p.member below in omega (arith, lt, same)) in

@@ -1,15 +1,15 @@
 -- Output as far as it is printed, and what is still to come.
-use Rattle.std.proofs.Common.{◌≡◌, ℕ, suc, ◌+◌, ◌-◌, ◌*◌, ◌/◌, ◌<◌, ◌≤◌, List, [], ◌∷◌, ◌++◌, length, take, drop, refl, ap, sym, ◌∙◌, append_assoc, arith}
+use Rattle.std.proofs.Common.{◌≡◌, ℕ, suc, ◌+◌, ◌-◌, ◌*◌, ◌/◌, ◌<◌, ◌≤◌, List, [], ◌∷◌, ◌++◌, length, drop, ap, sym, ◌∙◌, append_assoc, arith}
 use Rattle.std.specs.Prelude.{flat_map, Result, Ok, Err, OnErr}
 use Rattle.std.specs.List.{range_with_len}
-use Rattle.std.proofs.lemmas.List.{append-nil, take_at, length-drop}
+use Rattle.std.proofs.lemmas.List.{append-nil, length-drop}
 use Rattle.std.proofs.lemmas.List.Concat.{flat_map-cons}
 use Rattle.std.proofs.Math.Nat.{mul-le-mul_right}
 use Rattle.std.specs.Fmt.{signed_decimal}
 use Rattle.coll_kinds.specs.declared.datatype.Datatype.{Datatype}
-use Rattle.coll_kinds.specs.declared.datatype.Datatype.TheVariants.{I8, I16, I32, I64, U8, U16, U32, U64, Byte}
 use Rattle.coll_kinds.specs.Elements.{width, element_at}
 use Rattle.coll_ops.specs.Combinations.{elements}
+use Rattle.coll_text.proofs.Gifts.{width-positive}
 use Rattle.coll_script.specs.Meaning.{element_text}
 use Rattle.coll_script.specs.Growing.{Extends}
 
@@ -19,21 +19,7 @@ Extends-self old = ([], sym (append-nil old))
 pub Extends-more : (old new newer more : List ℕ) → Extends old new → newer ≡ new ++ more → Extends old newer
 Extends-more old new newer more front e = (front.0 ++ more, e ∙ ap (λ (xs : List ℕ). xs ++ more) front.1 ∙ append_assoc old front.0 more)
 
-pub take-Extends : (old new : List ℕ) → Extends old new → take (length old) new ≡ old
-take-Extends old new front = ap (take (length old)) front.1 ∙ take_at old front.0 (length old) refl
-
 -- ---- the elements of a row
-
-pub width-positive : (ty : Datatype) → 0 < width ty
-width-positive I8 = omega arith
-width-positive I16 = omega arith
-width-positive I32 = omega arith
-width-positive I64 = omega arith
-width-positive U8 = omega arith
-width-positive U16 = omega arith
-width-positive U32 = omega arith
-width-positive U64 = omega arith
-width-positive Byte = omega arith
 
 -- an element that is still to come lies in the rest of the row
 pub width-le : (ty : Datatype) (len i rest : ℕ) → i < len / width ty → rest + i * width ty ≡ len → width ty ≤ rest
@@ -57,11 +43,6 @@ elements-more ty end i rest out total lt so_far =
     ap (λ (xs : List ℕ). xs ++ others) (append_assoc out (32 ∷ []) (signed_decimal (element_at ty rest)))
     ∙ append_assoc out (element_text (element_at ty rest)) others ∙ ap (λ (xs : List ℕ). out ++ xs) (sym here) ∙ so_far
 
-pub elements-done : (ty : Datatype) (end i : ℕ) (rest out total : List ℕ) → end ≤ i → out ++ flat_map element_text (elements ty (end - i) rest) ≡ total → out ≡ total
-elements-done ty end i rest out total le so_far =
-    let none : end - i ≡ 0 = omega arith in
-    sym (append-nil out) ∙ ap (λ n. out ++ flat_map element_text (elements ty n rest)) (sym none) ∙ so_far
-
 -- ---- the lines of all ranks
 
 pub ranks-more : (f : ℕ → List ℕ) (n i : ℕ) (out total : List ℕ) → i < n → out ++ flat_map f (range_with_len i (n - i)) ≡ total → (out ++ f i) ++ flat_map f (range_with_len (i + 1) (n - (i + 1))) ≡ total
@@ -71,11 +52,6 @@ ranks-more f n i out total lt so_far =
     let here : flat_map f (range_with_len i (n - i)) ≡ f i ++ others =
     ap (λ m. flat_map f (range_with_len i m)) left ∙ flat_map-cons f i (range_with_len (i + 1) (n - (i + 1))) in
     append_assoc out (f i) others ∙ ap (λ (xs : List ℕ). out ++ xs) (sym here) ∙ so_far
-
-pub ranks-done : (f : ℕ → List ℕ) (n i : ℕ) (out total : List ℕ) → n ≤ i → out ++ flat_map f (range_with_len i (n - i)) ≡ total → out ≡ total
-ranks-done f n i out total le so_far =
-    let none : n - i ≡ 0 = omega arith in
-    sym (append-nil out) ∙ ap (λ m. out ++ flat_map f (range_with_len i m)) (sym none) ∙ so_far
 
 -- ---- exits
 

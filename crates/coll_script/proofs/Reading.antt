@@ -1,14 +1,14 @@
 -- A text's job is what its lines make, and what is judged after them.
 use Rattle.std.proofs.Common.{◌≡◌, ℕ, ◌<◌, ◌≤◌, true, false, ltb, List, length, Result, Err, refl, arith}
 use Rattle.std.proofs.lemmas.Bool.Decides.{nat_tests}
-use Rattle.coll_script.specs.declared.cause.Cause.TheVariants.{TooLong}
-use Rattle.coll_script.specs.declared.fault.Fault.{Fault}
-use Rattle.coll_script.specs.declared.fault.ScriptFault.{ScriptFault}
-use Rattle.coll_script.specs.declared.fault.ScriptFault.TheVariants as script
-use Rattle.coll_script.specs.Steps.{◌>>=◌, FailsText}
-use Rattle.coll_script.specs.Cutting.{lines_of}
-use Rattle.coll_script.specs.Histories.{History, start}
-use Rattle.coll_script.specs.Judging.{judged}
+use Rattle.coll_text.specs.declared.cause.Cause.TheVariants.{TooLong}
+use Rattle.coll_text.specs.declared.fault.Fault.{Fault}
+use Rattle.coll_text.specs.declared.fault.ScriptFault.{ScriptFault}
+use Rattle.coll_text.specs.declared.fault.ScriptFault.TheVariants as script
+use Rattle.coll_text.specs.Steps.{◌>>=◌, FailsText}
+use Rattle.coll_text.specs.Cutting.{lines_of}
+use Rattle.coll_text.specs.Histories.{History, start}
+use Rattle.coll_text.specs.Judging.{judged}
 use Rattle.coll_script.specs.Jobs.{completed, job_of}
 
 pub job_of-long : (text : List ℕ) → 1048576 < length text → job_of text ≡ Err (record { line = 1; cause = TooLong })

@@ -19,9 +19,3 @@ slice_get-push_same [] zero y e = refl
 slice_get-push_same [] (suc i) y e = absurd (omega arith)
 slice_get-push_same (x ∷ xs) zero y e = absurd (omega arith)
 slice_get-push_same (x ∷ xs) (suc i) y e = slice_get-push_same xs i y (omega arith)
-
-pub slice_get-push_other : {X : Type 0} (xs : List X) (i : ℕ) (y : X) → (i ≡ length xs → ⊥) → slice_get (xs ++ y ∷ []) i ≡ slice_get xs i
-slice_get-push_other [] zero y ne = absurd (ne refl)
-slice_get-push_other [] (suc i) y ne = refl
-slice_get-push_other (x ∷ xs) zero y ne = refl
-slice_get-push_other (x ∷ xs) (suc i) y ne = slice_get-push_other xs i y (λ e. ne (ap suc e))

@@ -6,21 +6,22 @@ use Rattle.std.specs.List.{AllByRecursion}
 use Rattle.std.specs.Option.{option_map}
 use denote.Ref.{Bor}
 use Rattle.std.proofs.lemmas.List.{length-map}
-use Rattle.std.proofs.lemmas.Option.{slice_get-map, slice_get_within, slice_get-get_or, unwrap_or-slice_get, same_Some}
+use Rattle.std.proofs.lemmas.Option.{slice_get-map, slice_get_within, unwrap_or-slice_get, same_Some}
 use Rattle.coll_kinds.specs.declared.signature.Signature.{Signature}
 use Rattle.coll_kinds.specs.Lengths.{given_len}
 use Rattle.coll_kinds.specs.Checks.{broken}
 use Rattle.coll_ops.specs.Contributions.{AreGiven}
 use Rattle.coll_ops.specs.Values.{row_of}
-use Rattle.coll_script.specs.declared.request.Request as rust
-use Rattle.coll_script.specs.Histories.{Request}
-use Rattle.coll_script.specs.Views.{request_view, rows_view}
+use Rattle.coll_text.specs.declared.request.Request as rust
+use Rattle.coll_text.specs.Histories.{Request}
+use Rattle.coll_text.specs.Views.{request_view, rows_view}
+use Rattle.coll_text.proofs.Lists.{slice_get-view, AllByRecursion-read}
 use Rattle.coll_script.specs.Matching.{first_list}
 use Rattle.coll_script.specs.Meaning.{given_by, given_at}
 use Rattle.coll_script.specs.Outcomes.{place_values, values_from, list_at, HaveStart, AreMatched}
 use Rattle.coll_script.specs.PostingViews.{list_view, lists_view}
-use Rattle.coll_script.proofs.Posted.{AllByRecursion-at}
-use Rattle.coll_script.proofs.Matched.{slice_get-view, length-list_view}
+use Rattle.coll_script.proofs.Matches.{slice_get-list_at}
+use Rattle.coll_script.proofs.Matched.{length-list_view}
 
 pub length-lists_view : (lists : List (Vec (Bor rust.Request) Global)) → length (lists_view lists) ≡ length lists
 length-lists_view lists = length-map lists _
@@ -50,9 +51,6 @@ request-at list place p q e is = same_Some p (request_view q.now) (sym e ∙ sli
 
 -- ---- lists that are matched
 
-slice_get-list_at : (lists : List (List Request)) (i : ℕ) → i < length lists → slice_get lists i ≡ Some (list_at lists i)
-slice_get-list_at lists i lt = slice_get-get_or lists i [] lt ∙ ap Some (sym (unwrap_or-slice_get lists i []))
-
 pub HaveStart-matched : (n place start : ℕ) (lists : List (List Request)) (first : Request) → AreMatched n lists → slice_get (first_list lists) place ≡ Some first → start < length first.starts → HaveStart lists place start
 HaveStart-matched n place start lists first is e lt m below =
     let each = is.each in
@@ -73,7 +71,7 @@ broken-matched n place lists first is e =
 
 given-length : (n i start : ℕ) (sig : Signature) (p : Request) → start < length p.starts → AllByRecursion (λ given. length given ≡ given_len p.sig n i) p.starts → p.sig ≡ sig → length (given_by start (Some p)) ≡ given_len sig n i
 given-length n i start sig p lt all same =
-    ap length (unwrap_or-slice_get p.starts start []) ∙ AllByRecursion-at (λ (given : List ℕ). length given ≡ given_len p.sig n i) p.starts start [] all lt ∙ ap (λ (s : Signature). given_len s n i) same
+    ap length (unwrap_or-slice_get p.starts start []) ∙ AllByRecursion-read (λ (given : List ℕ). length given ≡ given_len p.sig n i) p.starts start [] all lt ∙ ap (λ (s : Signature). given_len s n i) same
 
 pub AreGiven-matched : (n place start : ℕ) (lists : List (List Request)) (first : Request) → AreMatched n lists → slice_get (first_list lists) place ≡ Some first → start < length first.starts
     → AreGiven first.sig n (given_at lists place start)

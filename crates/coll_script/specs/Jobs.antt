@@ -1,13 +1,13 @@
 -- The job that a text describes.
 use Rattle.std.specs.Prelude.{ℕ, nat_lt, List, length, map, Option, Some, None, Result, Ok, Err, if◌then◌else◌}
 use Rattle.std.specs.List.{list_all}
-use Rattle.coll_script.specs.declared.cause.Cause.{Cause}
-use Rattle.coll_script.specs.declared.cause.Cause.TheVariants.{TooLong, MissingRanks, PlaceMismatch, PlaceMissing, StartMissing}
-use Rattle.coll_script.specs.declared.fault.Fault.{Fault}
-use Rattle.coll_script.specs.Steps.{◌>>=◌}
-use Rattle.coll_script.specs.Cutting.{lines_of}
-use Rattle.coll_script.specs.Histories.{Request, History, start}
-use Rattle.coll_script.specs.Judging.{judged}
+use Rattle.coll_text.specs.declared.cause.Cause.{Cause}
+use Rattle.coll_text.specs.declared.cause.Cause.TheVariants.{TooLong, MissingRanks, PlaceMismatch, PlaceMissing, StartMissing}
+use Rattle.coll_text.specs.declared.fault.Fault.{Fault}
+use Rattle.coll_text.specs.Steps.{◌>>=◌}
+use Rattle.coll_text.specs.Cutting.{lines_of}
+use Rattle.coll_text.specs.Histories.{Request, History, start}
+use Rattle.coll_text.specs.Judging.{judged}
 use Rattle.coll_script.specs.Postings.{postings_from}
 use Rattle.coll_script.specs.Matching.{mismatch, have_places, have_starts}
 

@@ -1,27 +1,15 @@
-pub mod Cutting
-pub mod Steps
-pub mod Faults
-pub mod Words
-pub mod Signatures
-pub mod Groups
-pub mod Histories
-pub mod Communicators
-pub mod Posts
-pub mod Requests
-pub mod Lines
-pub mod Judging
-pub mod Views
-pub mod Sound
-pub mod Sayings
+-- the meaning of a text
 pub mod Postings
-pub mod PostingViews
 pub mod Sameness
 pub mod Matching
 pub mod Jobs
 pub mod Meaning
+pub mod Rows
+-- a script, and what holds of every one
+pub mod PostingViews
+pub mod Scripts
+-- what functions of this crate promise one another, on the way to the meaning
+pub mod Keeping
 pub mod Outcomes
 pub mod Prints
-pub mod Scripts
 pub mod Growing
-pub mod ReadingRows
-pub mod Rows

@@ -1,9 +1,9 @@
 -- Requests at one place of a communicator belong together, so they must have the same signature and mode.
-use Rattle.std.specs.Prelude.{◌≡◌, ℕ, ◌+◌, ◌<◌, ◌==◌, nat_lt, Bool, true, false, ◌&&◌, List, [], ◌∷◌, length, flat_map, Option, Some, None, slice_get, unwrap_or, if◌then◌else◌}
+use Rattle.std.specs.Prelude.{ℕ, ◌+◌, ◌==◌, nat_lt, Bool, true, false, ◌&&◌, List, [], ◌∷◌, length, flat_map, Option, Some, None, slice_get, unwrap_or, if◌then◌else◌}
 use Rattle.std.specs.List.{list_all}
 use Rattle.coll_kinds.specs.declared.signature.Signature.{Signature}
 use Rattle.coll_script.specs.Sameness.{same_signature}
-use Rattle.coll_script.specs.Histories.{Request}
+use Rattle.coll_text.specs.Histories.{Request}
 
 -- of two requests, where there are any, the one of the earlier line
 abbrev pub earlier : Option Request → Option Request → Option Request
@@ -60,9 +60,3 @@ started_alike (p ∷ first) (q ∷ list) = length q.starts == length p.starts &&
 
 abbrev pub have_starts : List (List Request) → Bool
 have_starts lists = list_all (started_alike (first_list lists)) lists
-
--- a list of earliest requests after one more request at a place
-pub record IsKept (place : ℕ) (p : Request) (old new : List Request) : Type 0 where
-  pub within : place < length new
-  pub there : slice_get new place ≡ earlier (slice_get old place) (Some p)
-  pub others : (k : ℕ) → (k ≡ place → ⊥) → slice_get new k ≡ slice_get old k

@@ -6,9 +6,9 @@ use Rattle.coll_kinds.specs.declared.datatype.Datatype.{Datatype}
 use Rattle.coll_kinds.specs.Elements.{width}
 use Rattle.coll_ops.specs.Combinations.{elements}
 use Rattle.coll_ops.specs.Values.{value}
-use Rattle.coll_script.specs.declared.fault.Fault.{Fault}
-use Rattle.coll_script.specs.Steps.{◌>>=◌}
-use Rattle.coll_script.specs.Histories.{Request}
+use Rattle.coll_text.specs.declared.fault.Fault.{Fault}
+use Rattle.coll_text.specs.Steps.{◌>>=◌}
+use Rattle.coll_text.specs.Histories.{Request}
 use Rattle.coll_script.specs.Postings.{posted_on, requests_of, postings}
 use Rattle.coll_script.specs.Jobs.{Job, job_of}
 

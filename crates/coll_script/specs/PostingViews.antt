@@ -2,10 +2,10 @@
 use Rattle.std.specs.Prelude.{List, map, Vec}
 use Rattle.std.specs.Global.{Global}
 use denote.Ref.{Bor}
-use Rattle.coll_script.specs.declared.request.Request as rust_request
-use Rattle.coll_script.specs.declared.section.Section as rust_section
-use Rattle.coll_script.specs.Histories.{Request}
-use Rattle.coll_script.specs.Views.{request_view}
+use Rattle.coll_text.specs.declared.request.Request as rust_request
+use Rattle.coll_text.specs.declared.section.Section as rust_section
+use Rattle.coll_text.specs.Histories.{Request}
+use Rattle.coll_text.specs.Views.{request_view}
 
 abbrev pub requests_view : List rust_section.Section → List (List Request)
 requests_view sections = map (λ s. map request_view s.requests.items) sections

@@ -2,15 +2,15 @@
 use Rattle.std.specs.Prelude.{◌≡◌, ℕ, List, [], ◌∷◌, ◌++◌, Result, Ok, Err, codes, map, flat_map, refl}
 use Rattle.std.specs.Fmt.{digits}
 use Rattle.std.specs.Int.{int_wrap}
-use Rattle.coll_script.specs.declared.cause.Cause.{Cause}
-use Rattle.coll_script.specs.declared.cause.Cause.TheVariants.{MissingRanks, PlaceMismatch, PlaceMissing, StartMissing}
-use Rattle.coll_script.specs.declared.fault.Fault.{Fault}
-use Rattle.coll_script.specs.Signatures.{type_and_count_at, fields_at, signature_at}
-use Rattle.coll_script.specs.Communicators.{group_at, communicator_at}
-use Rattle.coll_script.specs.Posts.{given_at, usable_at, post_at, init_at}
-use Rattle.coll_script.specs.Requests.{one_at, startable_at, start_at}
-use Rattle.coll_script.specs.Lines.{ranks_at, comm_at, section_at, said_by}
-use Rattle.coll_script.specs.Judging.{judged_line}
+use Rattle.coll_text.specs.declared.cause.Cause.{Cause}
+use Rattle.coll_text.specs.declared.cause.Cause.TheVariants.{MissingRanks, PlaceMismatch, PlaceMissing, StartMissing}
+use Rattle.coll_text.specs.declared.fault.Fault.{Fault}
+use Rattle.coll_text.specs.Signatures.{type_and_count_at, fields_at, signature_at}
+use Rattle.coll_text.specs.Communicators.{group_at, communicator_at}
+use Rattle.coll_text.specs.Posts.{given_at, usable_at, post_at, init_at}
+use Rattle.coll_text.specs.Requests.{one_at, startable_at, start_at}
+use Rattle.coll_text.specs.Lines.{ranks_at, comm_at, section_at, said_by}
+use Rattle.coll_text.specs.Judging.{judged_line}
 use Rattle.coll_script.specs.Jobs.{job_of}
 use Rattle.coll_script.specs.Meaning.{meaning}
 

@@ -1,20 +1,20 @@
 //! The values of a job, computed directly from what all members give.
 
-ghost use Rattle.std.specs.Prelude.{◌≡◌, ◌≤◌, ◌++◌, ◌∷◌, [], length, map, slice_get, Some, None, IfOk, OnOk, IsOkUnless};
+ghost use Rattle.std.specs.Prelude.{◌≡◌, ◌≤◌, length, map, slice_get, Some, None, IfOk, IsOkUnless};
 ghost use Rattle.std.specs.List.{AllByRecursion, range_with_len};
 ghost use Rattle.coll_kinds.specs.Checks.{broken};
 ghost use Rattle.coll_ops.specs.Contributions.{AreGiven};
 ghost use Rattle.coll_ops.specs.Values.{value};
-ghost use Rattle.coll_script.specs.Views.{request_view, rows_view};
+ghost use Rattle.coll_text.specs.Views.{request_view, rows_view};
 ghost use Rattle.coll_script.specs.Matching.{first_list};
 ghost use Rattle.coll_script.specs.Meaning.{given_at};
 ghost use Rattle.coll_script.specs.PostingViews.{lists_view, all_lists_view};
 ghost use Rattle.coll_script.specs.Outcomes.{place_values, group_values, place_view, group_view, values_view, HaveStart, AreMatched};
 
 use crate::postings::Postings;
-use crate::request::Request;
 use coll_kinds::{Refusal, Signature};
 use coll_ops::plain_values;
+use coll_text::Request;
 use std::alloc::Global;
 
 /// A row of bytes for each member of a communicator.
@@ -33,8 +33,7 @@ fn given_at(
 {
     let mut rows = Vec::new(alloc);
     for list in lists {
-        let row = copied(alloc, &list[place].starts[start])?;
-        push(row, &mut rows)?;
+        rows.push(Vec::from_slice(alloc, &list[place].starts[start])?)?;
     }
     Ok(rows)
 }
@@ -72,10 +71,7 @@ fn place_values(
 {
     let mut starts = Vec::new(alloc);
     for start in 0..request.starts.len() {
-        push(
-            start_values(alloc, request.sig, lists, place, start)?,
-            &mut starts,
-        )?;
+        starts.push(start_values(alloc, request.sig, lists, place, start)?)?;
     }
     Ok(starts)
 }
@@ -91,7 +87,7 @@ fn group_values(alloc: Global, lists: &[Vec<&Request>]) -> Result<Vec<Vec<Rows>>
         return Ok(places);
     }
     for (place, request) in lists[0].iter().enumerate() {
-        push(place_values(alloc, lists, place, *request)?, &mut places)?;
+        places.push(place_values(alloc, lists, place, *request)?)?;
     }
     Ok(places)
 }
@@ -105,27 +101,7 @@ pub(crate) fn all_values(alloc: Global, all: &[Postings]) -> Result<Vec<Vec<Vec<
 {
     let mut groups = Vec::new(alloc);
     for lists in all {
-        push(group_values(alloc, lists)?, &mut groups)?;
+        groups.push(group_values(alloc, lists)?)?;
     }
     Ok(groups)
-}
-
-fn copied(alloc: Global, row: &[u8]) -> Result<Vec<u8>, Refusal>
-    ensures ok { IfOk result (λ bytes. bytes.items ≡ row.now) }
-    ensures refusal { IsOkUnless result Refusal.NoMemory }
-{
-    match Vec::from_slice(alloc, row) {
-        Ok(bytes) => Ok(bytes),
-        Err(_) => Err(Refusal::NoMemory),
-    }
-}
-
-fn push<T: Drop>(item: T, items: &mut Vec<T>) -> Result<(), Refusal>
-    ensures ok { OnOk result (items.new.items ≡ items.old.items ++ item ∷ []) }
-    ensures refusal { IsOkUnless result Refusal.NoMemory }
-{
-    match items.push(item) {
-        Ok(()) => Ok(()),
-        Err(_) => Err(Refusal::NoMemory),
-    }
 }

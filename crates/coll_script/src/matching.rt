@@ -3,14 +3,14 @@
 ghost use Rattle.std.specs.Prelude.{◌≡◌, ◌≤◌, ℕ, length, flat_map, slice_get, None, IfOk, OnOk, if◌then◌else◌};
 ghost use Rattle.coll_script.specs.Matching.{earlier, earliest, agrees, differing_from, lower, least, mismatch, have_places, started_alike, have_starts};
 ghost use Rattle.std.specs.List.{list_all};
-ghost use Rattle.coll_script.specs.Views.{request_view};
-ghost use Rattle.coll_script.specs.Matching.{IsKept};
+ghost use Rattle.coll_text.specs.Views.{request_view};
+ghost use Rattle.coll_script.specs.Keeping.{IsKept};
 ghost use Rattle.coll_script.specs.PostingViews.{list_view, lists_view, all_lists_view};
 
 use crate::postings::Postings;
-use crate::request::Request;
 use crate::sameness::is_same;
 use coll_kinds::Signature;
+use coll_text::Request;
 use std::alloc::{AllocError, Global};
 
 /// The first line whose signature or mode differs from that of the earliest line at its communicator and

@@ -26,9 +26,7 @@ pub fn print_outcome(
     ensures refusal { IsOkUnless result Refusal.NoMemory }
 {
     let old = out.len();
-    let Ok(head) = outcome_head(alloc, rank, req, start) else {
-        return Err(Refusal::NoMemory);
-    };
+    let head = outcome_head(alloc, rank, req, start)?;
     let printed = print_line(head.as_bytes(), sig.ty, bytes, out);
     if printed.is_err() {
         out.truncate(old);
@@ -49,9 +47,10 @@ fn print_line(head: &[u8], ty: Datatype, row: &[u8], out: &mut Vec<u8>) -> Resul
     ensures err { OnErr result (Extends out.old.items out.new.items) }
     ensures refusal { IsOkUnless result Refusal.NoMemory }
 {
-    append(head, out)?;
+    out.extend_from_slice(head)?;
     print_elements(ty, row, out)?;
-    append(b"\n", out)
+    out.extend_from_slice(b"\n")?;
+    Ok(())
 }
 
 fn print_elements(ty: Datatype, row: &[u8], out: &mut Vec<u8>) -> Result<(), Refusal>
@@ -62,20 +61,9 @@ fn print_elements(ty: Datatype, row: &[u8], out: &mut Vec<u8>) -> Result<(), Ref
     let width = ty.width();
     let mut rest = row;
     for _ in 0..row.len() / width {
-        append(b" ", out)?;
+        out.extend_from_slice(b" ")?;
         print_element(rest, ty, out)?;
         rest = rest.split_at(width).1;
     }
     Ok(())
-}
-
-fn append(bytes: &[u8], out: &mut Vec<u8>) -> Result<(), Refusal>
-    ensures ok { OnOk result (out.new.items ≡ out.old.items ++ bytes.now) }
-    ensures err { OnErr result (out.new.items ≡ out.old.items) }
-    ensures refusal { IsOkUnless result Refusal.NoMemory }
-{
-    match out.extend_from_slice(bytes) {
-        Ok(()) => Ok(()),
-        Err(_) => Err(Refusal::NoMemory),
-    }
 }

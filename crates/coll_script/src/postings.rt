@@ -2,12 +2,11 @@
 
 ghost use Rattle.std.specs.Prelude.{◌≡◌, ◌<◌, ◌≤◌, ℕ, length, map, slice_index, IfOk};
 ghost use Rattle.std.specs.List.{AllByRecursion};
-ghost use Rattle.coll_script.specs.Views.{request_view, rows_view};
+ghost use Rattle.coll_text.specs.Views.{request_view, rows_view};
 ghost use Rattle.coll_script.specs.Postings.{posted_on, postings, postings_from};
 ghost use Rattle.coll_script.specs.PostingViews.{requests_view, list_view, lists_view, all_lists_view};
 
-use crate::request::Request;
-use crate::section::Section;
+use coll_text::{Request, Section};
 use std::alloc::{AllocError, Global};
 
 /// A list for each member of a communicator, in member order: its requests there, in the order of their

@@ -2,18 +2,15 @@
 
 ghost use Rattle.std.specs.Prelude.{◌≡◌, ◌<◌, ◌≤◌, ◌++◌, length, [], map, OnOk, IsOkUnless};
 ghost use Rattle.std.specs.List.{AllByRecursion};
-ghost use Rattle.coll_script.specs.Views.{request_view};
+ghost use Rattle.coll_text.specs.Views.{request_view};
 ghost use Rattle.coll_script.specs.Outcomes.{place_view, values_view};
 ghost use Rattle.coll_script.specs.Prints.{printed_request, printed_behind, HaveValues};
 
 use crate::evaluation::Rows;
 use crate::outcome::print_outcome;
-use crate::request::Request;
 use coll_kinds::Refusal;
+use coll_text::{MAX_GROUPS, Request};
 use std::alloc::Global;
-
-/// The most communicators of a job.
-const MAX_GROUPS: usize = 16;
 
 /// Appends the lines of a rank, of the values by communicator, place, start and member. A request's place
 /// is the number of the rank's requests on the same communicator before it. Linear in the output.

@@ -1,19 +1,16 @@
 ghost use Rattle.std.specs.Prelude.{◌≡◌, ◌≤◌, length, IfOk, IsOkUnless};
-ghost use Rattle.coll_script.specs.Steps.{GivesText};
-ghost use Rattle.coll_script.specs.Sound.{IsHistory};
-ghost use Rattle.coll_script.specs.Views.{history_of};
+ghost use Rattle.coll_text.specs.Steps.{GivesText};
+ghost use Rattle.coll_text.specs.Sound.{IsHistory};
+ghost use Rattle.coll_text.specs.Views.{history_of};
 ghost use Rattle.coll_script.specs.Jobs.{job_of, job_from, matched_job, completed};
 ghost use Rattle.coll_script.specs.Meaning.{job_lines};
 
-use crate::cause::Cause;
-use crate::draft::{Draft, MAX_TEXT};
 use crate::evaluation::all_values;
-use crate::fault::{Fault, ScriptFault};
 use crate::matching::{all_have_places, all_have_starts, mismatch};
 use crate::postings::all_postings;
 use crate::rank_lines::print_rank;
-use crate::section::Section;
 use coll_kinds::Refusal;
+use coll_text::{Cause, Draft, Fault, MAX_TEXT, ScriptFault, Section};
 use std::alloc::Global;
 use std::marker::Model;
 
@@ -29,7 +26,7 @@ impl Model for Script {
 
     ghost Value = { Job };
 
-    ghost use Rattle.coll_script.specs.Views.{rows_view};
+    ghost use Rattle.coll_text.specs.Views.{rows_view};
     ghost use Rattle.coll_script.specs.PostingViews.{requests_view};
     ghost use Rattle.coll_script.specs.Scripts.{IsJob};
 
@@ -61,9 +58,7 @@ impl Script {
         ensures ok { IfOk result (λ out. out.items ≡ job_lines self.now) }
         ensures refusal { IsOkUnless result Refusal.NoMemory }
     {
-        let Ok(all) = all_postings(alloc, &self.sections, &self.groups) else {
-            return Err(Refusal::NoMemory);
-        };
+        let all = all_postings(alloc, &self.sections, &self.groups)?;
         let values = all_values(alloc, &all)?;
         let mut out = Vec::new(alloc);
         for (rank, section) in self.sections.iter().enumerate() {
@@ -100,13 +95,8 @@ fn check(alloc: Global, draft: &Draft) -> Result<(), ScriptFault>
     requires { IsHistory (history_of draft.now) }
     ensures { GivesText (λ _. job_from (history_of draft.now)) result (matched_job draft.now.lines (job_from (history_of draft.now))) }
 {
-    let Ok(all) = all_postings(alloc, &draft.sections, &draft.groups) else {
-        return Err(ScriptFault::NoMemory);
-    };
-    let Ok(mismatch) = mismatch(alloc, &all) else {
-        return Err(ScriptFault::NoMemory);
-    };
-    if let Some(line) = mismatch {
+    let all = all_postings(alloc, &draft.sections, &draft.groups)?;
+    if let Some(line) = mismatch(alloc, &all)? {
         return Err(fault(line, Cause::PlaceMismatch));
     }
     if !all_have_places(&all) {

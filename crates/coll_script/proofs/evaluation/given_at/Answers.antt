@@ -1,14 +1,15 @@
 use Rattle.std.proofs.Common.{◌≡◌, ◌<◌, List, Bor, Vec, length, Option, Some, [], ap, subst, sym, ◌∙◌, refl, arith}
 use Rattle.std.specs.Prelude.{slice_get, unwrap_or, ℕ}
 use Rattle.std.specs.Global.{Global}
-use Rattle.coll_script.specs.declared.request.Request as rust
-use Rattle.coll_script.specs.Histories.{Request}
-use Rattle.coll_script.specs.Views.{rows_view}
+use Rattle.coll_text.specs.declared.request.Request as rust
+use Rattle.coll_text.specs.Histories.{Request}
+use Rattle.coll_text.specs.Views.{rows_view}
+use Rattle.coll_text.proofs.Lists.{slice_get-view}
 use Rattle.coll_script.specs.Meaning.{given_by}
 use Rattle.coll_script.specs.PostingViews.{list_view, lists_view}
 use Rattle.coll_script.proofs.Loops.{map-more}
 use Rattle.coll_script.proofs.Posted.{map-push}
-use Rattle.coll_script.proofs.Matched.{drop-view, slice_get-view}
+use Rattle.coll_script.proofs.Matched.{drop-view}
 use Rattle.coll_script.proofs.Valued.{length-rows_view, have_start-at, place-within, request-at}
 use Rattle.coll_script.proofs.evaluation.given_at.Goals as goal
 
@@ -32,10 +33,10 @@ loop-list-preserved c =
     let same = request-at c.list-item.result.items c.args.place found.0 c.index.result.now found.1 c.index.ensures in
     let lt : c.args.start < length (rows_view c.index.result.now.now.starts.items) = subst (λ (p : Request). c.args.start < length p.starts) same found.2 in
     let len = length-rows_view c.index.result.now.now.starts.items in
-    let row : c.in_ok-row.row.items ≡ given_by c.args.start (slice_get (list_view c.list-item.result.items) c.args.place) =
-    c.in_ok-row.ensures.ok ∙ c.deref.ensures.value
+    let row : c.in_ok-from_slice.field-0.items ≡ given_by c.args.start (slice_get (list_view c.list-item.result.items) c.args.place) =
+    c.in_ok-from_slice.ensures.items ∙ c.deref.ensures.value
     ∙ ap (λ (o : Option (List ℕ)). unwrap_or o []) (sym (slice_get-view (λ (v : Vec ℕ Global). v.items) c.index.result.now.now.starts.items c.args.start c.index-in-loop-list.result.now (omega (arith, lt, len)) c.index-in-loop-list.ensures))
     ∙ ap (λ (p : Request). given_by c.args.start (Some p)) (sym same) ∙ ap (given_by c.args.start) (sym found.1) in
-    rw (c.in_ok-push.ensures.ok, map-push (λ (v : Vec ℕ Global). v.items) c.loop-list.rows.items c.in_ok-row.row c.in_ok-row.row.items refl)
-    (map-more (λ (list : List Request). given_by c.args.start (slice_get list c.args.place)) (lists_view c.args.lists.now) c.loop-list.list-index (list_view c.list-item.result.items) (rows_view c.loop-list.rows.items) _ c.in_ok-row.row.items
+    rw (c.in_ok-push.ensures.items, map-push (λ (v : Vec ℕ Global). v.items) c.loop-list.rows.items c.in_ok-from_slice.field-0 c.in_ok-from_slice.field-0.items refl)
+    (map-more (λ (list : List Request). given_by c.args.start (slice_get list c.args.place)) (lists_view c.args.lists.now) c.loop-list.list-index (list_view c.list-item.result.items) (rows_view c.loop-list.rows.items) _ c.in_ok-from_slice.field-0.items
     (drop-view (λ (l : Vec (Bor rust.Request) Global). list_view l.items) c.args.lists.now c.loop-list.list-index c.list-item.result c.loop-list-test.true c.list-item.is) row c.loop-list.invariant)

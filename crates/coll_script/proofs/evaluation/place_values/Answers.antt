@@ -3,7 +3,7 @@ use Rattle.std.specs.Prelude.{ℕ}
 use Rattle.std.specs.List.{range_with_len}
 use Rattle.std.specs.Global.{Global}
 use Rattle.coll_ops.specs.Values.{value}
-use Rattle.coll_script.specs.Views.{rows_view, request_view}
+use Rattle.coll_text.specs.Views.{rows_view, request_view}
 use Rattle.coll_script.specs.Meaning.{given_at}
 use Rattle.coll_script.specs.Outcomes.{start_values, place_view}
 use Rattle.coll_script.specs.PostingViews.{lists_view}
@@ -31,6 +31,6 @@ loop-start-preserved c =
     let lists = lists_view c.args.lists.now in
     let made : rows_view c.in_ok-start_values.field-0.items ≡ start_values lists c.args.place p c.loop-start.start =
     c.in_ok-start_values.ensures.ok ∙ ap (λ n. map (value p.sig (given_at lists c.args.place c.loop-start.start)) (range_with_len 0 n)) (sym (length-lists_view c.args.lists.now)) in
-    rw (c.in_ok-push.ensures.ok, map-push (λ (rows : Vec (Vec ℕ Global) Global). rows_view rows.items) c.loop-start.starts.items c.in_ok-start_values.field-0 (rows_view c.in_ok-start_values.field-0.items) refl)
+    rw (c.in_ok-push.ensures.items, map-push (λ (rows : Vec (Vec ℕ Global) Global). rows_view rows.items) c.loop-start.starts.items c.in_ok-start_values.field-0 (rows_view c.in_ok-start_values.field-0.items) refl)
     (map_range-more (start_values lists c.args.place p) (length c.args.request.now.starts.items) c.loop-start.start (place_view c.loop-start.starts.items) _ (rows_view c.in_ok-start_values.field-0.items)
     (omega (arith, c.loop-start-test.true, c.len-start-end.ensures, c.args.request.now.starts.ok)) made c.loop-start.invariant)

@@ -1,7 +1,7 @@
 use Rattle.std.proofs.Common.{Bor, Bool, cond, ap, ◌∙◌}
 use Rattle.std.specs.Prelude.{slice_get}
-use Rattle.coll_script.specs.declared.request.Request as rust
-use Rattle.coll_script.specs.Views.{request_view}
+use Rattle.coll_text.specs.declared.request.Request as rust
+use Rattle.coll_text.specs.Views.{request_view}
 use Rattle.coll_script.specs.Matching.{lower}
 use Rattle.coll_script.specs.PostingViews.{list_view}
 use Rattle.coll_script.proofs.Matched.{drop-view, differing-more}

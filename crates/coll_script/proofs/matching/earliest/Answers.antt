@@ -1,7 +1,7 @@
 use Rattle.std.proofs.Common.{Vec, List, Bor, ap, ◌∙◌}
 use Rattle.std.specs.Prelude.{slice_get}
 use Rattle.std.specs.Global.{Global}
-use Rattle.coll_script.specs.declared.request.Request as rust
+use Rattle.coll_text.specs.declared.request.Request as rust
 use Rattle.coll_script.specs.Matching.{earlier}
 use Rattle.coll_script.specs.PostingViews.{list_view, lists_view}
 use Rattle.coll_script.proofs.Matched.{drop-view, earliest-more}

@@ -1,7 +1,7 @@
 use Rattle.std.proofs.Common.{List, Vec, Bor, ap, ◌∙◌, sym, arith}
 use Rattle.std.specs.Global.{Global}
-use Rattle.coll_script.specs.declared.request.Request as rust
-use Rattle.coll_script.specs.Histories.{Request}
+use Rattle.coll_text.specs.declared.request.Request as rust
+use Rattle.coll_text.specs.Histories.{Request}
 use Rattle.coll_script.specs.Matching.{first_list, started_alike}
 use Rattle.coll_script.specs.PostingViews.{list_view, lists_view}
 use Rattle.coll_script.proofs.Loops.{list_all-more, list_all-stops}

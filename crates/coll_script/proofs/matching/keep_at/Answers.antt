@@ -1,11 +1,12 @@
 use Rattle.std.proofs.Common.{◌≡◌, ◌<◌, ◌++◌, ◌∷◌, [], refl, length, Bor, ltb, true, false, sym, ap, ◌∙◌, subst, arith}
 use Rattle.std.proofs.lemmas.Bool.Decides.{nat_tests}
-use Rattle.coll_script.specs.declared.request.Request as rust
-use Rattle.coll_script.specs.Views.{request_view}
-use Rattle.coll_script.specs.Matching.{IsKept}
+use Rattle.coll_text.specs.declared.request.Request as rust
+use Rattle.coll_text.specs.Views.{request_view}
+use Rattle.coll_text.proofs.Lists.{slice_get-view}
+use Rattle.coll_script.specs.Keeping.{IsKept}
 use Rattle.coll_script.specs.PostingViews.{list_view}
 use Rattle.coll_script.proofs.Posted.{map-push}
-use Rattle.coll_script.proofs.Matched.{slice_get-view, length-list_view, map-set, IsKept-push, IsKept-set, IsKept-stays, below}
+use Rattle.coll_script.proofs.Matched.{length-list_view, map-set, IsKept-push, IsKept-set, IsKept-stays, below}
 use Rattle.coll_script.proofs.matching.keep_at.Goals as goal
 
 pub returns-in_ok-push : goal.returns-in_ok-push

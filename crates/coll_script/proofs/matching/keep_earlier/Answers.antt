@@ -1,8 +1,9 @@
 use Rattle.std.proofs.Common.{Bor, arith}
-use Rattle.coll_script.specs.declared.request.Request as rust
-use Rattle.coll_script.specs.Views.{request_view}
+use Rattle.coll_text.specs.declared.request.Request as rust
+use Rattle.coll_text.specs.Views.{request_view}
+use Rattle.coll_text.proofs.Lists.{slice_get-view}
 use Rattle.coll_script.specs.PostingViews.{list_view}
-use Rattle.coll_script.proofs.Matched.{slice_get-view, length-list_view, KeepsUpTo-more, KeepsUpTo-all}
+use Rattle.coll_script.proofs.Matched.{length-list_view, KeepsUpTo-more, KeepsUpTo-all}
 use Rattle.coll_script.proofs.matching.keep_earlier.Goals as goal
 
 pub loop-place-preserved : goal.loop-place-preserved

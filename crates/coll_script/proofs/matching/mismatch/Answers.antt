@@ -1,8 +1,8 @@
 use Rattle.std.proofs.Common.{Vec, List, Bor, ℕ, Option, ap, ◌∙◌}
 use Rattle.std.specs.Prelude.{slice_get, None, flat_map}
 use Rattle.std.specs.Global.{Global}
-use Rattle.coll_script.specs.declared.request.Request as rust
-use Rattle.coll_script.specs.Histories.{Request}
+use Rattle.coll_text.specs.declared.request.Request as rust
+use Rattle.coll_text.specs.Histories.{Request}
 use Rattle.coll_script.specs.Matching.{earliest, differing_from, differing, least}
 use Rattle.coll_script.specs.PostingViews.{list_view, lists_view, all_lists_view}
 use Rattle.coll_script.proofs.Matched.{drop-view, least-more}

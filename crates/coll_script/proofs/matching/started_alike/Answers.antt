@@ -1,7 +1,7 @@
 use Rattle.std.proofs.Common.{◌≡◌, Bool, true, false, ◌&&◌, eqb, length, Bor, get_or, ap, ◌∙◌, sym, drop, ◌+◌, arith}
 use Rattle.std.proofs.lemmas.Bool.{eq-eqb}
-use Rattle.coll_script.specs.declared.request.Request as rust
-use Rattle.coll_script.specs.Views.{request_view}
+use Rattle.coll_text.specs.declared.request.Request as rust
+use Rattle.coll_text.specs.Views.{request_view}
 use Rattle.coll_script.specs.Matching.{started_alike}
 use Rattle.coll_script.specs.PostingViews.{list_view}
 use Rattle.coll_script.proofs.Matched.{drop-view, length-list_view, started-more, started-done, eqb-ne, length-starts}

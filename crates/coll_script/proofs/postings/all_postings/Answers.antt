@@ -1,18 +1,19 @@
 use Rattle.std.proofs.Common.{◌≡◌, ℕ, ◌<◌, length, List, Bor, Vec, ap, sym, subst, ◌∙◌, refl}
 use Rattle.std.specs.Prelude.{slice_index}
 use Rattle.std.specs.Global.{Global}
-use Rattle.coll_script.specs.declared.request.Request as rust
-use Rattle.coll_script.specs.Views.{rows_view}
+use Rattle.coll_text.specs.declared.request.Request as rust
+use Rattle.coll_text.specs.Views.{rows_view}
+use Rattle.coll_text.proofs.Lists.{AllByRecursion-read}
 use Rattle.coll_script.specs.Postings.{postings}
 use Rattle.coll_script.specs.PostingViews.{requests_view, lists_view, all_lists_view}
-use Rattle.coll_script.proofs.Posted.{map-push, AllByRecursion-at, postings_from-more}
+use Rattle.coll_script.proofs.Posted.{map-push, postings_from-more}
 use Rattle.coll_script.proofs.Matched.{drop-view, at-view}
 use Rattle.coll_script.proofs.postings.all_postings.Goals as goal
 
 pub postings-requires : goal.postings-requires
 postings-requires c =
     let here = at-view (λ (row : Vec ℕ Global). row.items) c.args.groups.now c.loop-comm.comm c.index-groups-comm.result c.loop-comm-test.true c.index-groups-comm.is in
-    let all = AllByRecursion-at (λ (group : List ℕ). (m : ℕ) → m < length group → slice_index group m < length c.args.sections.now) (rows_view c.args.groups.now) c.loop-comm.comm c.index-groups-comm.result.items c.requires.members here.0 in
+    let all = AllByRecursion-read (λ (group : List ℕ). (m : ℕ) → m < length group → slice_index group m < length c.args.sections.now) (rows_view c.args.groups.now) c.loop-comm.comm c.index-groups-comm.result.items c.requires.members here.0 in
     subst (λ (group : List ℕ). (m : ℕ) → m < length group → slice_index group m < length c.args.sections.now) (sym here.1 ∙ sym c.deref.ensures.value) all
 
 pub loop-comm-preserved : goal.loop-comm-preserved

@@ -1,5 +1,5 @@
 use Rattle.std.proofs.Common.{◌≡◌, ◌++◌, drop}
-use Rattle.coll_script.specs.Views.{rows_view}
+use Rattle.coll_text.specs.Views.{rows_view}
 use Rattle.coll_script.specs.Postings.{postings_from}
 use Rattle.coll_script.specs.PostingViews.{requests_view, all_lists_view}
 use Rattle.coll_script.proofs.postings.all_postings.Given as goal

@@ -3,8 +3,8 @@ use Rattle.std.specs.Prelude.{filter}
 use Rattle.std.proofs.lemmas.Iterator.{YieldsList-from_slice}
 use Rattle.std.proofs.lemmas.Iterator.Consumers.{map_from_collect, YieldsList-from_filter, YieldsList-at}
 use Rattle.coll_ops.proofs.Given.{IfOk-map}
-use Rattle.coll_script.specs.declared.request.Request as rust
-use Rattle.coll_script.specs.Views.{request_view}
+use Rattle.coll_text.specs.declared.request.Request as rust
+use Rattle.coll_text.specs.Views.{request_view}
 use Rattle.coll_script.specs.Postings.{is_on}
 use Rattle.coll_script.proofs.Posted.{filter-map, map-map}
 use Rattle.coll_script.proofs.postings.posted_on.Goals as goal

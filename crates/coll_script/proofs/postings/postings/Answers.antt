@@ -1,15 +1,15 @@
 use Rattle.std.proofs.Common.{◌≡◌, ℕ, [], get_or, length, map, List, Bor, Vec, Option, ◌<◌, refl, ap, subst, sym, ◌∙◌}
 use Rattle.std.specs.Prelude.{unwrap_or}
 use Rattle.std.specs.Global.{Global}
-use Rattle.coll_script.specs.declared.request.Request as rust
-use Rattle.coll_script.specs.declared.section.Section as rust_section
-use Rattle.coll_script.specs.Histories.{Request}
-use Rattle.coll_script.specs.Views.{request_view}
+use Rattle.coll_text.specs.declared.request.Request as rust
+use Rattle.coll_text.specs.declared.section.Section as rust_section
+use Rattle.coll_text.specs.Histories.{Request}
+use Rattle.coll_text.specs.Views.{request_view}
+use Rattle.coll_text.proofs.Lists.{slice_get-view}
 use Rattle.coll_script.specs.Postings.{posted_on, requests_of}
 use Rattle.coll_script.specs.PostingViews.{requests_view, lists_view, list_view}
 use Rattle.coll_script.proofs.Loops.{map-more, drop-at}
 use Rattle.coll_script.proofs.Posted.{map-push}
-use Rattle.coll_script.proofs.Matched.{slice_get-view}
 use Rattle.coll_script.proofs.postings.postings.Goals as goal
 
 pub loop-rank-preserved : goal.loop-rank-preserved

@@ -1,6 +1,6 @@
 use Rattle.std.proofs.Common.{not, List, Ok, ap, subst, ◌∙◌, arith}
-use Rattle.coll_script.specs.Histories.{Request}
-use Rattle.coll_script.specs.Views.{history_of, rows_view}
+use Rattle.coll_text.specs.Histories.{Request}
+use Rattle.coll_text.specs.Views.{history_of, rows_view}
 use Rattle.coll_script.specs.Scripts.{IsJob}
 use Rattle.coll_script.proofs.Ending.{IsJob-history, completed-known}
 use Rattle.coll_script.proofs.Matched.{requests_view-history}

@@ -2,10 +2,11 @@ use Rattle.std.proofs.Common.{◌≡◌, ◌++◌, ℕ, [], List, Vec, Bor, Opti
 use Rattle.std.specs.Prelude.{unwrap_or}
 use Rattle.std.specs.Global.{Global}
 use Rattle.std.proofs.lemmas.List.{length-map}
-use Rattle.coll_script.specs.declared.request.Request as rust
-use Rattle.coll_script.specs.declared.section.Section as rust_section
-use Rattle.coll_script.specs.Histories.{Request}
-use Rattle.coll_script.specs.Views.{request_view, rows_view}
+use Rattle.coll_text.specs.declared.request.Request as rust
+use Rattle.coll_text.specs.declared.section.Section as rust_section
+use Rattle.coll_text.specs.Histories.{Request}
+use Rattle.coll_text.specs.Views.{request_view, rows_view}
+use Rattle.coll_text.proofs.Lists.{slice_get-view}
 use Rattle.coll_script.specs.Postings.{requests_of, postings_from}
 use Rattle.coll_script.specs.PostingViews.{requests_view, all_lists_view}
 use Rattle.coll_script.specs.Jobs.{Job}
@@ -13,7 +14,6 @@ use Rattle.coll_script.specs.Outcomes.{group_values, values_view}
 use Rattle.coll_script.specs.Prints.{printed_behind, HaveValues}
 use Rattle.coll_script.specs.Meaning.{rank_lines}
 use Rattle.coll_script.specs.Scripts.{IsJob}
-use Rattle.coll_script.proofs.Matched.{slice_get-view}
 use Rattle.coll_script.proofs.Printing.{ranks-more}
 use Rattle.coll_script.proofs.Printed.{values_of, length-values_of, printed-rank_lines, HaveValues-rank}
 use Rattle.coll_script.proofs.script.Script.plain_lines.Goals as goal
@@ -28,8 +28,8 @@ print_rank-requires-clause-groups c =
     ∙ ap (λ (s : List rust_section.Section). requests_of (requests_view s) c.loop-rank.rank) c.deref-section-items.ensures.value
     ∙ ap (λ (j : Job). requests_of j.requests c.loop-rank.rank) c.self.view_is in
     let is : IsJob job = subst IsJob c.self.view_is c.self.invariant in
-    let all : all_lists_view c.in-Ok.all.items ≡ postings_from job.requests 0 job.groups =
-    c.in-Ok.ensures ∙ ap (λ (s : List rust_section.Section). postings_from (requests_view s) 0 (rows_view c.deref-2.result.now)) c.deref.ensures.value
+    let all : all_lists_view c.in_ok-all.all.items ≡ postings_from job.requests 0 job.groups =
+    c.in_ok-all.ensures ∙ ap (λ (s : List rust_section.Section). postings_from (requests_view s) 0 (rows_view c.deref-2.result.now)) c.deref.ensures.value
     ∙ ap (λ (groups : List (Vec ℕ Global)). postings_from (requests_view c.self.inside.sections.items) 0 (rows_view groups)) c.deref-2.ensures.value
     ∙ ap (λ (j : Job). postings_from j.requests 0 j.groups) c.self.view_is in
     let values : values_view c.deref-in-loop-rank-2.result.now ≡ values_of job =
@@ -64,8 +64,8 @@ print_rank-requires-clause-values c =
     ∙ ap (λ (s : List rust_section.Section). requests_of (requests_view s) c.loop-rank.rank) c.deref-section-items.ensures.value
     ∙ ap (λ (j : Job). requests_of j.requests c.loop-rank.rank) c.self.view_is in
     let is : IsJob job = subst IsJob c.self.view_is c.self.invariant in
-    let all : all_lists_view c.in-Ok.all.items ≡ postings_from job.requests 0 job.groups =
-    c.in-Ok.ensures ∙ ap (λ (s : List rust_section.Section). postings_from (requests_view s) 0 (rows_view c.deref-2.result.now)) c.deref.ensures.value
+    let all : all_lists_view c.in_ok-all.all.items ≡ postings_from job.requests 0 job.groups =
+    c.in_ok-all.ensures ∙ ap (λ (s : List rust_section.Section). postings_from (requests_view s) 0 (rows_view c.deref-2.result.now)) c.deref.ensures.value
     ∙ ap (λ (groups : List (Vec ℕ Global)). postings_from (requests_view c.self.inside.sections.items) 0 (rows_view groups)) c.deref-2.ensures.value
     ∙ ap (λ (j : Job). postings_from j.requests 0 j.groups) c.self.view_is in
     let values : values_view c.deref-in-loop-rank-2.result.now ≡ values_of job =
@@ -82,8 +82,8 @@ loop-rank-preserved c =
     ∙ ap (λ (s : List rust_section.Section). requests_of (requests_view s) c.loop-rank.rank) c.deref-section-items.ensures.value
     ∙ ap (λ (j : Job). requests_of j.requests c.loop-rank.rank) c.self.view_is in
     let is : IsJob job = subst IsJob c.self.view_is c.self.invariant in
-    let all : all_lists_view c.in-Ok.all.items ≡ postings_from job.requests 0 job.groups =
-    c.in-Ok.ensures ∙ ap (λ (s : List rust_section.Section). postings_from (requests_view s) 0 (rows_view c.deref-2.result.now)) c.deref.ensures.value
+    let all : all_lists_view c.in_ok-all.all.items ≡ postings_from job.requests 0 job.groups =
+    c.in_ok-all.ensures ∙ ap (λ (s : List rust_section.Section). postings_from (requests_view s) 0 (rows_view c.deref-2.result.now)) c.deref.ensures.value
     ∙ ap (λ (groups : List (Vec ℕ Global)). postings_from (requests_view c.self.inside.sections.items) 0 (rows_view groups)) c.deref-2.ensures.value
     ∙ ap (λ (j : Job). postings_from j.requests 0 j.groups) c.self.view_is in
     let values : values_view c.deref-in-loop-rank-2.result.now ≡ values_of job =

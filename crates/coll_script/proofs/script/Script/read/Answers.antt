@@ -1,9 +1,9 @@
 use Rattle.std.proofs.Common.{Result, subst, sym, arith}
 use Rattle.std.proofs.lemmas.Result.{err_from_is_err_and}
-use Rattle.coll_script.specs.declared.fault.Fault.{Fault}
-use Rattle.coll_script.specs.Steps.{GivesText}
+use Rattle.coll_text.specs.declared.fault.Fault.{Fault}
+use Rattle.coll_text.specs.Steps.{GivesText}
 use Rattle.coll_script.specs.Jobs.{Job}
-use Rattle.coll_script.proofs.Judging.{length-lines_of}
+use Rattle.coll_text.proofs.Judging.{length-lines_of}
 use Rattle.coll_script.proofs.Reading.{job_of-long, job_of-judged, FailsText-job_of}
 use Rattle.coll_script.proofs.script.Script.read.Goals as goal
 

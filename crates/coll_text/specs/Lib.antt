@@ -1,0 +1,16 @@
+pub mod Cutting
+pub mod Steps
+pub mod Faults
+pub mod Words
+pub mod Signatures
+pub mod Groups
+pub mod Histories
+pub mod Communicators
+pub mod Posts
+pub mod Requests
+pub mod Lines
+pub mod Judging
+pub mod Views
+pub mod Sound
+pub mod Sayings
+pub mod ReadingRows
