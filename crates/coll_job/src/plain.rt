@@ -2,17 +2,19 @@
 
 ghost use Rattle.std.specs.Prelude.{◌≡◌, ◌≢◌, ◌<◌, ◌≤◌, ◌+◌, ◌++◌, length, take, vec_len, IfOk, IfErr, OnOk, IsOkUnless, IfSome, Ok};
 ghost use Rattle.std.specs.Io.KnownBytes.{Appends, Consumes, Keeps, IsAtEnd};
+ghost use Rattle.coll_kinds.specs.Limits.{max_text};
 ghost use Rattle.coll_job.specs.Plain.{IsReadFault, IsPlainFault, WritesMeaning, IsAnswerFault};
 ghost use Rattle.coll_script.specs.Meaning.{meaning};
 
 use crate::counted::Counted;
 use crate::fault::JobFault;
+use coll_kinds::MAX_TEXT;
 use coll_script::Script;
 use std::alloc::Global;
 use std::io::{Read, Write};
 
 /// The most bytes that are read of a text: one more than it may have.
-const READ_LIMIT: usize = 1_048_577;
+const READ_LIMIT: usize = MAX_TEXT + 1;
 
 /// The most bytes of one read.
 const PIECE: usize = 8192;
@@ -22,10 +24,12 @@ const PIECE: usize = 8192;
 /// is [`JobFault::Memory`].
 pub fn read_text<R: Read>(alloc: Global, reader: &mut Counted<'_, R>) -> Result<Vec<u8>, JobFault>
     requires unread { reader.old.reads ≡ 0 }
-    ensures text { IfOk result (λ text. IfSome (R.remaining reader.old.reader.now) (λ input. text.items ≡ take READ_LIMIT input)) }
+    ensures text { IfOk result (λ text. IfSome (R.remaining reader.old.reader.now) (λ input. text.items ≡ take (max_text + 1) input)) }
     ensures left { IfOk result (λ text. Consumes (R.remaining reader.old.reader.now) (R.remaining reader.new.reader.now) text.items) }
     ensures faults { IfErr result IsReadFault }
-    ensures reads { reader.new.reads ≤ READ_LIMIT }
+    ensures reads { reader.new.reads ≤ max_text + 1 }
+    // Each read but the last gave a byte.
+    ensures few { IfOk result (λ text. reader.new.reads ≤ length text.items + 1) }
     ensures same_reference { reader.new.reader.ghost_name ≡ reader.old.reader.ghost_name }
 {
     let mut text = Vec::new(alloc);
@@ -49,7 +53,7 @@ fn read_piece<R: Read>(
 ) -> Result<usize, JobFault>
     requires some { 0 < room }
     requires buffer { 0 < length piece.old }
-    requires few { reader.old.reads < READ_LIMIT }
+    requires few { reader.old.reads < max_text + 1 }
     ensures bound { IfOk result (λ n. n ≤ room) }
     ensures text { IfOk result (λ n. text.new.items ≡ text.old.items ++ take n piece.new) }
     ensures len { IfOk result (λ n. vec_len text.new ≡ vec_len text.old + n) }
@@ -82,7 +86,10 @@ pub fn plain_job<R: Read, W: Write>(
     // The fault of a text is the one that its definition gives.
     ensures faults { IfErr result (IsPlainFault (R.remaining reader.old.reader.now)) }
     ensures unwritten { IfErr result (λ fault. fault ≢ JobFault.Write → Keeps (W.contents writer.old) (W.contents writer.new)) }
-    ensures reads { reader.new.reads ≤ READ_LIMIT }
+    ensures reads { reader.new.reads ≤ max_text + 1 }
+    // What was read, and no byte more, is taken from the reader.
+    ensures left { OnOk result (IfSome (R.remaining reader.old.reader.now) (λ input.
+        Consumes (R.remaining reader.old.reader.now) (R.remaining reader.new.reader.now) (take (max_text + 1) input))) }
     ensures same_reference { reader.new.reader.ghost_name ≡ reader.old.reader.ghost_name }
 {
     let text = read_text(alloc, reader)?;

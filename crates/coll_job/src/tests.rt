@@ -261,6 +261,20 @@ impl Write for Full {
     }
 }
 
+/// Takes every byte, and fails when it has to give them on.
+#[derive(Drop)]
+struct Unflushed;
+
+impl Write for Unflushed {
+    fn write(&mut self, buf: &[u8]) -> io::Result<usize> {
+        Ok(buf.len())
+    }
+
+    fn flush(&mut self) -> io::Result<()> {
+        Err(io::Error::from(io::ErrorKind::StorageFull))
+    }
+}
+
 #[test]
 fn failing_ends(rt: HostRuntime) -> Result<(), Fail> {
     let alloc = rt.alloc();
@@ -275,6 +289,11 @@ fn failing_ends(rt: HostRuntime) -> Result<(), Fail> {
     let mut reader = Cursor::new(SUM_OF_THREE.as_bytes());
     assert_eq!(rt;
         plain_job(alloc, &mut Counted::new(&mut reader), &mut Full),
+        Err(JobFault::Write)
+    );
+    let mut reader = Cursor::new(SUM_OF_THREE.as_bytes());
+    assert_eq!(rt;
+        plain_job(alloc, &mut Counted::new(&mut reader), &mut Unflushed),
         Err(JobFault::Write)
     );
     Ok(())
@@ -305,5 +324,77 @@ fn lines_and_statuses(rt: HostRuntime) -> Result<(), Fail> {
         fault.print(&mut out)?;
         assert_eq!(rt; out.as_slice(), want.as_bytes());
     }
+    Ok(())
+}
+
+#[test]
+fn causes_are_told_by_their_names(rt: HostRuntime) -> Result<(), Fail> {
+    for (cause, want) in [
+        (Cause::TooLong, "text too long"),
+        (Cause::MissingRanks, "missing ranks"),
+        (Cause::UnknownCommand, "unknown command"),
+        (Cause::OutOfPlace, "out of place"),
+        (Cause::BadWords, "bad words"),
+        (Cause::BadNumber, "bad number"),
+        (Cause::BadRank, "bad rank"),
+        (Cause::BadCommunicator, "bad communicator"),
+        (Cause::BadSignature, "bad signature"),
+        (Cause::WrongValueCount, "wrong value count"),
+        (Cause::BadValue, "bad value"),
+        (Cause::UnknownRequest, "unknown request"),
+        (Cause::NamedTwice, "named twice"),
+        (Cause::NotStartable, "not startable"),
+        (Cause::TooManyRequests, "too many requests"),
+        (Cause::PlaceMismatch, "place mismatch"),
+        (Cause::PlaceMissing, "place missing"),
+        (Cause::StartMissing, "start missing"),
+    ] {
+        let text = format!(in rt.alloc(); "{}", Fault { line: 12, cause })?;
+        assert_eq!(rt;
+            text.as_str(),
+            format!(in rt.alloc(); "line 12: {want}")?.as_str()
+        );
+    }
+    Ok(())
+}
+
+/// 64 ranks get 65,536 bytes of rank 0, which also starts a request of its own 2,000 times, and post 62 barriers each.
+fn large_text(alloc: Global) -> Result<String, Fail> {
+    let mut text = String::new(alloc);
+    text.push_str("ranks 64\ncomm 0\nrank 0\npost 0 bcast 0 u8 65536 :")?;
+    for _ in 0..65_536u32 {
+        text.push_str(" 7")?;
+    }
+    text.push_str("\ninit 1 allreduce sum i8 1\n")?;
+    for _ in 0..2_000u32 {
+        text.push_str("start 1 : -1\nwait 1\n")?;
+    }
+    for rank in 0..64u8 {
+        text.push_str(format!(in alloc; "rank {rank}\n")?.as_str())?;
+        if rank > 0 {
+            text.push_str("post 0 bcast 0 u8 65536\n")?;
+        }
+        for _ in 0..62u8 {
+            text.push_str("post 0 barrier\n")?;
+        }
+    }
+    Ok(text)
+}
+
+#[test]
+fn a_large_job(rt: HostRuntime) -> Result<(), Fail> {
+    let alloc = rt.alloc();
+    let text = large_text(alloc)?;
+    let mut out = Vec::new(alloc);
+    plain_job(
+        alloc,
+        &mut Counted::new(&mut Cursor::new(text.as_bytes())),
+        &mut out,
+    )?;
+    let lines = out.iter().filter(|byte| **byte == b'\n').count();
+    let spaces = out.iter().filter(|byte| **byte == b' ').count();
+    assert_eq!(rt; lines, 64 + 2_000 + 64 * 62);
+    assert_eq!(rt; spaces, 6 * lines + 64 * 65_536 + 2_000);
+    assert!(rt; out.ends_with(b"rank 63 req 62 start 0 :\n"));
     Ok(())
 }

@@ -1,5 +1,5 @@
 -- Which rule a signature breaks for n members: the first, in the order root, operation, count, size.
-use Rattle.std.specs.Prelude.{ℕ, zero, suc, ◌==◌, Bool, true, false, ◌&&◌, ◌||◌, nat_lt, nat_le, Option, Some, None, is_none, if◌then◌else◌}
+use Rattle.std.specs.Prelude.{◌≡◌, ◌<◌, ◌≤◌, ℕ, zero, suc, ◌==◌, Bool, true, false, ◌&&◌, ◌||◌, nat_lt, nat_le, Option, Some, None, is_none, if◌then◌else◌}
 use Rattle.coll_kinds.specs.declared.datatype.Datatype.{Datatype}
 use Rattle.coll_kinds.specs.declared.operation.Op.{Op}
 use Rattle.coll_kinds.specs.declared.operation.Op.TheVariants.{Max, Min, Sum, Prod, Land, Lor, Lxor, Band, Bor, Bxor, LastNz}
@@ -9,7 +9,8 @@ use Rattle.coll_kinds.specs.declared.signature.Signature.{Signature}
 use Rattle.coll_kinds.specs.declared.refusal.SignatureFault.{SignatureFault}
 use Rattle.coll_kinds.specs.declared.refusal.SignatureFault.TheVariants.{Root, Operation, Count, Size}
 use Rattle.coll_kinds.specs.Elements.{is_integer}
-use Rattle.coll_kinds.specs.Lengths.{given_len, got_len}
+use Rattle.coll_kinds.specs.Limits.{max_count, max_len, max_lent}
+use Rattle.coll_kinds.specs.Lengths.{given_len, got_len, lent}
 
 abbrev pub has_root : Kind → Bool
 has_root Barrier = false
@@ -82,11 +83,11 @@ operation_fits sig = if has_operation sig.kind then reduces sig.op sig.ty else i
 
 -- a barrier has no elements
 abbrev pub count_fits : Signature → Bool
-count_fits sig = if is_barrier sig.kind then sig.count == 0 else nat_le sig.count 65536
+count_fits sig = if is_barrier sig.kind then sig.count == 0 else nat_le sig.count max_count
 
 -- what member r of n gives and gets is at most 16 MiB each
 abbrev pub size_fits : Signature → ℕ → ℕ → Bool
-size_fits sig n r = nat_le (given_len sig n r) 16777216 && nat_le (got_len sig n r) 16777216
+size_fits sig n r = nat_le (given_len sig n r) max_len && nat_le (got_len sig n r) max_len
 
 -- that of each member below k
 abbrev pub sizes_fit : Signature → ℕ → ℕ → Bool
@@ -101,3 +102,9 @@ broken sig n =
     (if count_fits sig then (if sizes_fit sig n n then None else Some Size) else Some Count)
     else Some Operation)
     else Some Root
+
+-- what a member gives to a collective that breaks no rule, and gets from it, is within the limits
+abbrev pub AreLengthsSmall : Type 0
+AreLengthsSmall =
+    (sig : Signature) (n r : ℕ) → broken sig n ≡ None → r < n
+    → (given_len sig n r ≤ max_len) × (got_len sig n r ≤ max_len) × (lent sig n r ≤ max_lent)

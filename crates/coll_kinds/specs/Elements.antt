@@ -1,10 +1,14 @@
 -- Elements of the integer types (MPI 4.1, 3.2.2): a whole number in its type's range, and its bytes, little-endian in
 -- two's complement.
-use Rattle.std.specs.Prelude.{ℕ, ◌*◌, ◌-◌, ◌^◌, Bool, true, false, ◌&&◌, ℤ, pos, negsuc, nat_lt, List, IsTrue, if◌then◌else◌}
+use Rattle.std.specs.Prelude.{ℕ, ◌<◌, ◌*◌, ◌-◌, ◌^◌, Bool, true, false, ◌&&◌, ℤ, pos, negsuc, nat_lt, List, IsTrue, slice_index, if◌then◌else◌}
 use Rattle.std.specs.Int.{Width, w8, w16, w32, w64, cast_unsigned, cast_signed}
 use Rattle.byteorder.specs.Endian.{little_number, little_bytes}
 use Rattle.coll_kinds.specs.declared.datatype.Datatype.{Datatype}
 use Rattle.coll_kinds.specs.declared.datatype.Datatype.TheVariants.{I8, I16, I32, I64, U8, U16, U32, U64, Byte}
+
+-- the numbers are bytes
+abbrev pub AreBytes : List ℕ → Type 0
+AreBytes numbers = (i : ℕ) → slice_index numbers i < 256
 
 -- the bytes of one element
 abbrev pub width : Datatype → ℕ

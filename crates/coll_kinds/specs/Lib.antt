@@ -1,7 +1,12 @@
+pub mod Limits
+pub mod Puts
 pub mod Elements
+pub mod Words
 pub mod Texts
 pub mod Lengths
 pub mod Needs
 pub mod Checks
+pub mod Sameness
+pub mod Groups
 pub mod Refusals
 pub mod Rows

@@ -1,5 +1,7 @@
 ghost use Rattle.std.specs.Prelude.{◌≡◌};
 
+use std::fmt;
+
 /// The type of an element: a whole number, kept little-endian in two's complement
 /// (MPI 4.1, 3.2.2).
 #[derive(Clone, Copy, Debug, PartialEq, Eq)]
@@ -26,6 +28,20 @@ pub enum Datatype {
 
 impl Datatype {
     ghost use Rattle.coll_kinds.specs.Elements.{width, is_signed, is_integer, limit};
+    ghost use Rattle.coll_kinds.specs.Words.{datatype_of, datatype_word};
+
+    /// All types, in the order of their table.
+    pub const ALL: [Datatype; 9] = [
+        Datatype::I8,
+        Datatype::I16,
+        Datatype::I32,
+        Datatype::I64,
+        Datatype::U8,
+        Datatype::U16,
+        Datatype::U32,
+        Datatype::U64,
+        Datatype::Byte,
+    ];
 
     /// The bytes of one element.
     pub fn width(self) -> usize
@@ -71,5 +87,38 @@ impl Datatype {
             Datatype::U32 => 1 << 32,
             Datatype::U64 => 1 << 64,
         }
+    }
+
+    /// Its word in a job text and in messages.
+    pub fn word(self) -> &'static str
+        ensures { result.now ≡ datatype_word self }
+    {
+        match self {
+            Datatype::I8 => "i8",
+            Datatype::I16 => "i16",
+            Datatype::I32 => "i32",
+            Datatype::I64 => "i64",
+            Datatype::U8 => "u8",
+            Datatype::U16 => "u16",
+            Datatype::U32 => "u32",
+            Datatype::U64 => "u64",
+            Datatype::Byte => "byte",
+        }
+    }
+
+    /// The type that has that word.
+    pub fn from_word(word: &[u8]) -> Option<Datatype>
+        ensures { result ≡ datatype_of word.now }
+    {
+        Datatype::ALL
+            .iter()
+            .copied()
+            .find(|ty| word == ty.word().as_bytes())
+    }
+}
+
+impl fmt::Display for Datatype {
+    fn fmt<W: fmt::Write>(&self, f: &mut fmt::Formatter<W>) -> fmt::Result {
+        f.write_str(self.word())
     }
 }

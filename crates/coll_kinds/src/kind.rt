@@ -1,5 +1,7 @@
 ghost use Rattle.std.specs.Prelude.{◌≡◌};
 
+use std::fmt;
+
 /// A collective operation (MPI 4.1, 6.12).
 #[derive(Clone, Copy, Debug, PartialEq, Eq)]
 pub enum Kind {
@@ -31,6 +33,22 @@ pub enum Kind {
 
 impl Kind {
     ghost use Rattle.coll_kinds.specs.Checks.{has_root, has_operation};
+    ghost use Rattle.coll_kinds.specs.Words.{kind_of, kind_word};
+
+    /// All kinds, in the order of their table.
+    pub const ALL: [Kind; 11] = [
+        Kind::Barrier,
+        Kind::Bcast,
+        Kind::Gather,
+        Kind::Scatter,
+        Kind::Allgather,
+        Kind::Alltoall,
+        Kind::Reduce,
+        Kind::Allreduce,
+        Kind::Rsblock,
+        Kind::Scan,
+        Kind::Exscan,
+    ];
 
     /// Whether one member is the root.
     pub fn has_root(self) -> bool
@@ -50,6 +68,41 @@ impl Kind {
             self,
             Kind::Reduce | Kind::Allreduce | Kind::Rsblock | Kind::Scan | Kind::Exscan
         )
+    }
+
+    /// Its word in a job text and in messages.
+    pub fn word(self) -> &'static str
+        ensures { result.now ≡ kind_word self }
+    {
+        match self {
+            Kind::Barrier => "barrier",
+            Kind::Bcast => "bcast",
+            Kind::Gather => "gather",
+            Kind::Scatter => "scatter",
+            Kind::Allgather => "allgather",
+            Kind::Alltoall => "alltoall",
+            Kind::Reduce => "reduce",
+            Kind::Allreduce => "allreduce",
+            Kind::Rsblock => "rsblock",
+            Kind::Scan => "scan",
+            Kind::Exscan => "exscan",
+        }
+    }
+
+    /// The kind that has that word.
+    pub fn from_word(word: &[u8]) -> Option<Kind>
+        ensures { result ≡ kind_of word.now }
+    {
+        Kind::ALL
+            .iter()
+            .copied()
+            .find(|kind| word == kind.word().as_bytes())
+    }
+}
+
+impl fmt::Display for Kind {
+    fn fmt<W: fmt::Write>(&self, f: &mut fmt::Formatter<W>) -> fmt::Result {
+        f.write_str(self.word())
     }
 }
 

@@ -8,22 +8,37 @@
 //! | `operation` | `Op`, the reduction operations |
 //! | `kind` | `Kind`, the collectives, and `Mode`, once or persistent |
 //! | `signature` | `Signature`, with its check, lengths and needs |
+//! | `same_signature` | whether two signatures are the same |
+//! | `laws` | what holds of every signature |
+//! | `limits` | the greatest numbers that the engine takes |
+//! | `group` | the member number of a rank |
+//! | `ticket` | `Ticket`, by which a caller names a request |
 //! | `refusal` | `Refusal`, `Refused` and what they carry |
 //! | `number`, `element` | the decimal text of a number and of an element |
 #![tactic(auto)]
 
 mod datatype;
 mod element;
+mod group;
 mod kind;
+pub mod laws;
+mod limits;
 mod number;
 mod operation;
 mod refusal;
+mod same_signature;
 mod signature;
+mod ticket;
 
 pub use datatype::Datatype;
 pub use element::{print_element, read_element};
+pub use group::member_of;
 pub use kind::{Kind, Mode};
+pub use limits::{
+    MAX_COMMUNICATORS, MAX_COUNT, MAX_LEN, MAX_LENT, MAX_RANKS, MAX_REQUESTS, MAX_TEXT,
+};
 pub use number::read_number;
 pub use operation::Op;
 pub use refusal::{ConfigField, Refusal, Refused, SignatureFault};
 pub use signature::Signature;
+pub use ticket::Ticket;

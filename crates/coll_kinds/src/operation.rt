@@ -1,6 +1,7 @@
 ghost use Rattle.std.specs.Prelude.{◌≡◌};
 
 use crate::datatype::Datatype;
+use std::fmt;
 
 /// A reduction operation on two elements (MPI 4.1, 6.9.2).
 #[derive(Clone, Copy, Debug, PartialEq, Eq)]
@@ -32,11 +33,62 @@ pub enum Op {
 
 impl Op {
     ghost use Rattle.coll_kinds.specs.Checks.{allowed};
+    ghost use Rattle.coll_kinds.specs.Words.{operation_of, operation_word};
+
+    /// All operations, in the order of their table.
+    pub const ALL: [Op; 11] = [
+        Op::Max,
+        Op::Min,
+        Op::Sum,
+        Op::Prod,
+        Op::Land,
+        Op::Lor,
+        Op::Lxor,
+        Op::Band,
+        Op::Bor,
+        Op::Bxor,
+        Op::LastNz,
+    ];
 
     /// Whether the operation may be used on elements of that type (MPI 4.1, 6.9.2).
     pub fn is_allowed_on(self, ty: Datatype) -> bool
         ensures { result ≡ allowed self ty }
     {
         ty.is_integer() || matches!(self, Op::Band | Op::Bor | Op::Bxor)
+    }
+
+    /// Its word in a job text and in messages.
+    pub fn word(self) -> &'static str
+        ensures { result.now ≡ operation_word self }
+    {
+        match self {
+            Op::Max => "max",
+            Op::Min => "min",
+            Op::Sum => "sum",
+            Op::Prod => "prod",
+            Op::Land => "land",
+            Op::Lor => "lor",
+            Op::Lxor => "lxor",
+            Op::Band => "band",
+            Op::Bor => "bor",
+            Op::Bxor => "bxor",
+            Op::LastNz => "lastnz",
+        }
+    }
+
+    /// The operation that has that word.
+    pub fn from_word(word: &[u8]) -> Option<Op>
+        ensures { result ≡ operation_of word.now }
+    {
+        Op::ALL
+            .iter()
+            .copied()
+            .find(|op| word == op.word().as_bytes())
+    }
+}
+
+impl fmt::Display for Op {
+    fn fmt<W: fmt::Write>(&self, f: &mut fmt::Formatter<W>) -> fmt::Result {
+        f.write_str(self.word())
     }
 }

@@ -1,15 +1,12 @@
-ghost use Rattle.std.specs.Prelude.{◌≡◌, ◌<◌, MatchOption, IsOk, IsErrOf};
+ghost use Rattle.std.specs.Prelude.{◌≡◌, ◌<◌, ◌↔◌, IsTrue, MatchOption, IsOk, IsErrOf};
 
 use crate::datatype::Datatype;
 use crate::kind::{Kind, Mode};
+use crate::limits::{MAX_COUNT, MAX_LEN};
 use crate::operation::Op;
 use crate::refusal::{Refusal, SignatureFault};
-
-/// The most elements in a block.
-const MAX_COUNT: u32 = 65_536;
-
-/// The most bytes that one member gives or gets: 16 MiB.
-const MAX_LEN: usize = 16_777_216;
+use crate::same_signature::same_signature;
+use std::fmt;
 
 /// What all members of a communicator have to agree on at one place of their posting lists.
 #[derive(Clone, Copy, Debug, PartialEq, Eq)]
@@ -28,6 +25,7 @@ pub struct Signature {
 impl Signature {
     ghost use Rattle.coll_kinds.specs.Lengths.{block_len, given_len, got_len, lent};
     ghost use Rattle.coll_kinds.specs.Needs.{needs};
+    ghost use Rattle.coll_kinds.specs.Sameness.{same_signature};
     ghost use Rattle.coll_kinds.specs.Checks.{broken, root_fits, operation_fits, count_fits, size_fits, sizes_fit};
 
     /// Tests the signature for `n` members. Of the rules that it breaks, the first is told, in the
@@ -50,6 +48,14 @@ impl Signature {
             return Err(refused(SignatureFault::Size));
         }
         Ok(())
+    }
+
+    /// Whether two signatures are the same, the mode included.
+    pub fn is_same(self, other: Signature) -> bool
+        ensures computed { result ≡ same_signature self other }
+        ensures decides { IsTrue result ↔ (self ≡ other) }
+    {
+        same_signature(self, other)
     }
 
     /// The bytes of one block: the count times the element's width.
@@ -180,9 +186,31 @@ fn refused(cause: SignatureFault) -> Refusal
     Refusal::BadSignature { cause }
 }
 
+/// The words of a job text: the kind, then, where it has them, the root, the operation, the type and the count. A
+/// persistent one has `persistent` before them.
+impl fmt::Display for Signature {
+    fn fmt<W: fmt::Write>(&self, f: &mut fmt::Formatter<W>) -> fmt::Result {
+        if let Mode::Persistent = self.mode {
+            f.write_str("persistent ")?;
+        }
+        write!(f, "{}", self.kind)?;
+        if let Kind::Barrier = self.kind {
+            return Ok(());
+        }
+        if self.kind.has_root() {
+            write!(f, " {}", self.root)?;
+        }
+        if let Some(op) = self.op {
+            write!(f, " {op}")?;
+        }
+        write!(f, " {} {}", self.ty, self.count)
+    }
+}
+
 #[cfg(test)]
 mod tests {
     use super::*;
+    use std::test::Fail;
 
     fn allreduce(count: u32) -> Signature {
         Signature {
@@ -235,6 +263,37 @@ mod tests {
         ] {
             assert_eq!(rt; sig.check(3), want, "at {sig:?}");
         }
+    }
+
+    #[test]
+    fn prints_the_words_of_a_job_text(rt: HostRuntime) -> Result<(), Fail> {
+        let sum = allreduce(3);
+        let reduce = Signature {
+            kind: Kind::Reduce,
+            root: 2,
+            ..sum
+        };
+        let bcast = Signature {
+            kind: Kind::Bcast,
+            mode: Mode::Persistent,
+            op: None,
+            ..reduce
+        };
+        let barrier = Signature {
+            kind: Kind::Barrier,
+            root: 0,
+            count: 0,
+            ..bcast
+        };
+        for (sig, words) in [
+            (sum, "allreduce sum i32 3"),
+            (reduce, "reduce 2 sum i32 3"),
+            (bcast, "persistent bcast 2 i32 3"),
+            (barrier, "persistent barrier"),
+        ] {
+            assert_eq!(rt; format!(in rt.alloc(); "{sig}")?.as_str(), words);
+        }
+        Ok(())
     }
 
     // The root of a gather of 65,536 elements of eight bytes gets 16 MiB of 32 members.

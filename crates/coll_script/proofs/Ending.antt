@@ -7,7 +7,7 @@ use Rattle.std.proofs.lemmas.List.{length-map}
 use Rattle.std.proofs.lemmas.Option.{slice_get-map}
 use Rattle.coll_text.specs.declared.cause.Cause.TheVariants.{PlaceMismatch, PlaceMissing, StartMissing}
 use Rattle.coll_text.specs.Histories.{Request, Section, History}
-use Rattle.coll_text.specs.Groups.{member_of, IsGroup}
+use Rattle.coll_kinds.specs.Groups.{member_of, IsGroup}
 use Rattle.coll_text.specs.Sound.{IsRequestOn, IsRequest, IsHistory}
 use Rattle.coll_script.specs.Postings.{requests_of, postings_from}
 use Rattle.coll_script.specs.Matching.{mismatch, have_places, have_starts}

@@ -1,5 +1,4 @@
 pub mod Reading
-mod SamenessLemmas
 mod Slots
 mod Loops
 mod Posted

@@ -12,14 +12,14 @@ use Rattle.coll_kinds.specs.Lengths.{given_len}
 use Rattle.coll_kinds.specs.Checks.{broken}
 use Rattle.coll_text.specs.declared.fault.Fault.{Fault}
 use Rattle.coll_text.specs.Histories.{Request}
-use Rattle.coll_text.specs.Groups.{IsGroup}
+use Rattle.coll_kinds.specs.Groups.{IsGroup}
 use Rattle.coll_text.specs.Sound.{IsRequestOn, IsRequest}
 use Rattle.coll_text.proofs.Lists.{AllByRecursion-at}
 use Rattle.coll_script.specs.Postings.{is_on, posted_on, requests_of, postings, postings_from}
 use Rattle.coll_script.specs.Matching.{earliest, agrees, differing_from, differing, lower, least, mismatch, first_list, have_places, started_alike, have_starts}
 use Rattle.coll_script.specs.Jobs.{Job, matched, matched_job}
 use Rattle.coll_script.specs.Outcomes.{list_at, AreMatched}
-use Rattle.coll_script.proofs.SamenessLemmas.{same_signature-Decides}
+use Rattle.coll_kinds.proofs.Sameness.{same_signature-Decides}
 
 -- ---- nothing is found
 

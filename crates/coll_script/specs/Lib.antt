@@ -1,6 +1,5 @@
 -- the meaning of a text
 pub mod Postings
-pub mod Sameness
 pub mod Matching
 pub mod Jobs
 pub mod Meaning

@@ -2,7 +2,7 @@
 use Rattle.std.specs.Prelude.{ℕ, ◌+◌, ◌==◌, nat_lt, Bool, true, false, ◌&&◌, List, [], ◌∷◌, length, flat_map, Option, Some, None, slice_get, unwrap_or, if◌then◌else◌}
 use Rattle.std.specs.List.{list_all}
 use Rattle.coll_kinds.specs.declared.signature.Signature.{Signature}
-use Rattle.coll_script.specs.Sameness.{same_signature}
+use Rattle.coll_kinds.specs.Sameness.{same_signature}
 use Rattle.coll_text.specs.Histories.{Request}
 
 -- of two requests, where there are any, the one of the earlier line

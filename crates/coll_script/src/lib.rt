@@ -8,7 +8,7 @@
 //! | Module | Has |
 //! |---|---|
 //! | `postings` | the posting lists of communicators |
-//! | `sameness`, `matching` | whether the requests at each place belong together |
+//! | `matching` | whether the requests at each place belong together |
 //! | `script` | `Script`, the job of a text |
 //! | `evaluation` | the values of a job |
 //! | `outcome`, `rank_lines` | the lines of an outcome, a request and a rank |
@@ -19,7 +19,6 @@ mod matching;
 mod outcome;
 mod postings;
 mod rank_lines;
-mod sameness;
 mod script;
 
 pub use coll_text::{Cause, Fault, ScriptFault};

@@ -8,7 +8,6 @@ ghost use Rattle.coll_script.specs.Keeping.{IsKept};
 ghost use Rattle.coll_script.specs.PostingViews.{list_view, lists_view, all_lists_view};
 
 use crate::postings::Postings;
-use crate::sameness::is_same;
 use coll_kinds::Signature;
 use coll_text::Request;
 use std::alloc::{AllocError, Global};
@@ -93,7 +92,7 @@ fn agrees(firsts: &[&Request], place: usize, sig: Signature) -> bool
     ensures { result ≡ agrees (slice_get (list_view firsts.now) place) sig }
 {
     match firsts.get(place) {
-        Some(first) => is_same(first.sig, sig),
+        Some(first) => first.sig.is_same(sig),
         None => false,
     }
 }

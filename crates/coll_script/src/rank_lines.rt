@@ -1,5 +1,6 @@
 //! The lines of the requests, from their values.
 
+ghost use Rattle.coll_kinds.specs.Limits.{max_communicators};
 ghost use Rattle.std.specs.Prelude.{◌≡◌, ◌<◌, ◌≤◌, ◌++◌, length, [], map, OnOk, IsOkUnless};
 ghost use Rattle.std.specs.List.{AllByRecursion};
 ghost use Rattle.coll_text.specs.Views.{request_view};
@@ -8,8 +9,8 @@ ghost use Rattle.coll_script.specs.Prints.{printed_request, printed_behind, Have
 
 use crate::evaluation::Rows;
 use crate::outcome::print_outcome;
-use coll_kinds::Refusal;
-use coll_text::{MAX_GROUPS, Request};
+use coll_kinds::{MAX_COMMUNICATORS, Refusal};
+use coll_text::Request;
 use std::alloc::Global;
 
 /// Appends the lines of a rank, of the values by communicator, place, start and member. A request's place
@@ -21,13 +22,13 @@ pub(crate) fn print_rank(
     values: &[Vec<Vec<Rows>>],
     out: &mut Vec<u8>,
 ) -> Result<(), Refusal>
-    requires groups { length values.now ≤ MAX_GROUPS }
+    requires groups { length values.now ≤ max_communicators }
     requires few { length requests.now ≤ 4096 }
     requires values { HaveValues (values_view values.now) (map request_view requests.now) }
     ensures ok { OnOk result (out.new.items ≡ out.old.items ++ printed_behind (values_view values.now) rank [] (map request_view requests.now)) }
     ensures refusal { IsOkUnless result Refusal.NoMemory }
 {
-    let mut places = [0; MAX_GROUPS];
+    let mut places = [0; MAX_COMMUNICATORS];
     for (number, request) in requests.iter().enumerate() {
         let comm = usize::from(request.comm);
         let place: usize = places[comm];

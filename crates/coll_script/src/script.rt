@@ -1,4 +1,5 @@
-ghost use Rattle.std.specs.Prelude.{◌≡◌, ◌≤◌, length, IfOk, IsOkUnless};
+ghost use Rattle.std.specs.Prelude.{◌≡◌, ◌<◌, ◌≤◌, length, Err, IfOk, IsOkUnless};
+ghost use Rattle.coll_kinds.specs.Limits.{max_text};
 ghost use Rattle.coll_text.specs.Steps.{GivesText};
 ghost use Rattle.coll_text.specs.Sound.{IsHistory};
 ghost use Rattle.coll_text.specs.Views.{history_of};
@@ -9,8 +10,8 @@ use crate::evaluation::all_values;
 use crate::matching::{all_have_places, all_have_starts, mismatch};
 use crate::postings::all_postings;
 use crate::rank_lines::print_rank;
-use coll_kinds::Refusal;
-use coll_text::{Cause, Draft, Fault, MAX_TEXT, ScriptFault, Section};
+use coll_kinds::{MAX_TEXT, Refusal};
+use coll_text::{Cause, Draft, Fault, ScriptFault, Section};
 use std::alloc::Global;
 use std::marker::Model;
 
@@ -41,7 +42,9 @@ impl Script {
     ///
     /// A fault is [`ScriptFault::Text`], or [`ScriptFault::NoMemory`] where memory was refused.
     pub fn read(alloc: Global, text: &[u8]) -> Result<Script, ScriptFault>
-        ensures { GivesText (λ script. script) result (job_of text.now) }
+        ensures read { GivesText (λ script. script) result (job_of text.now) }
+        // It is told so whatever the memory is.
+        ensures long { max_text < length text.now → result ≡ Err (ScriptFault.Text (record { line = 1; cause = Cause.TooLong })) }
     {
         if text.len() > MAX_TEXT {
             return Err(fault(1, Cause::TooLong));

@@ -7,7 +7,7 @@ use Rattle.std.proofs.lemmas.Bool.{cases_eq, cases_lt, eq-eqb, ne_eqb, or_right}
 use Rattle.std.proofs.lemmas.List.{get_or-set_same, get_or-set_other, get_or-replicate, length-replicate, length-append}
 use Rattle.std.proofs.lemmas.List.Folds.{list_any-append, sum_by-replicate}
 use Rattle.std.proofs.lemmas.List.Sums.{sum_by-set, count_by-le-length}
-use Rattle.coll_text.specs.Communicators.{is_among}
+use Rattle.coll_kinds.specs.Groups.{is_among}
 
 pub record AreMarks (marks : List Bool) (numbers : List ℕ) : Type 0 where
   pub each : (k : ℕ) → get_or marks k false ≡ is_among k numbers

@@ -4,7 +4,7 @@ use Rattle.coll_text.specs.declared.cause.Cause.{Cause}
 use Rattle.coll_text.specs.declared.cause.Cause.TheVariants.{NamedTwice}
 use Rattle.coll_text.specs.Steps.{texts}
 use Rattle.coll_text.specs.Histories.{Request}
-use Rattle.coll_text.specs.Communicators.{is_among}
+use Rattle.coll_kinds.specs.Groups.{is_among}
 use Rattle.coll_text.specs.Requests.{request_of, requests_at}
 use Rattle.coll_text.proofs.Texts.{drop-texts}
 

@@ -5,7 +5,7 @@ use Rattle.std.specs.List.{AllByRecursion, range_with_len}
 use Rattle.std.proofs.lemmas.List.{length-append, length-replicate}
 use Rattle.std.proofs.lemmas.Option.{get_or_from_slice_get}
 use Rattle.coll_kinds.specs.Lengths.{given_len}
-use Rattle.coll_text.specs.Groups.{IsGroup}
+use Rattle.coll_kinds.specs.Groups.{IsGroup}
 use Rattle.coll_text.specs.Histories.{Request, Section, History, start}
 use Rattle.coll_text.specs.Sound.{IsRequestOn, IsRequest, IsHistory}
 use Rattle.coll_text.specs.Requests.{no_section, section_of, size_of}
@@ -14,7 +14,7 @@ use Rattle.coll_text.specs.Lines.{Act, Said}
 use Rattle.coll_text.specs.Sayings.{IsActFor, IsSaid}
 use Rattle.coll_text.specs.Judging.{changed_at, started, freed, waited_for, all_waited_for, acted, made, told}
 use Rattle.coll_text.proofs.Lists.{AllByRecursion-weaker, AllByRecursion-push, slice_get-push_other}
-use Rattle.coll_text.proofs.Members.{IsGroup-range}
+use Rattle.coll_kinds.proofs.Members.{IsGroup-range}
 use Rattle.coll_text.proofs.Changes.{length-changed_at, IfSome-weaker, AllByRecursion-changed_at, IfSome-changed_at}
 
 -- ---- a request

@@ -1,17 +1,12 @@
 -- The words that speak of communicators: the members of a new one, and the one that a request is on.
-use Rattle.std.specs.Prelude.{ℕ, ◌==◌, nat_lt, Bool, not, List, [], ◌∷◌, ◌++◌, length, Result, Ok, ok_or, slice_get}
-use Rattle.std.specs.List.{list_any}
+use Rattle.std.specs.Prelude.{ℕ, ◌==◌, nat_lt, not, List, [], ◌∷◌, ◌++◌, length, Result, Ok, ok_or, slice_get}
 use Rattle.coll_kinds.specs.Texts.{number_of}
 use Rattle.coll_text.specs.declared.cause.Cause.{Cause}
 use Rattle.coll_text.specs.declared.cause.Cause.TheVariants.{BadWords, BadNumber, BadRank, BadCommunicator}
 use Rattle.coll_text.specs.Steps.{◌>>=◌, demand}
 use Rattle.coll_text.specs.Words.{next_word, number_within}
-use Rattle.coll_text.specs.Groups.{member_of}
+use Rattle.coll_kinds.specs.Groups.{member_of, is_among}
 use Rattle.coll_text.specs.declared.communicators.Membership.{Membership}
-
--- the number is one of these
-abbrev pub is_among : ℕ → List ℕ → Bool
-is_among number numbers = list_any (λ other. other == number) numbers
 
 -- R ..: further members, behind those that stand before; they are ranks below n, and none may stand twice
 abbrev pub members_at : ℕ → List ℕ → List (List ℕ) → Result (List ℕ) Cause

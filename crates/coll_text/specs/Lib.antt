@@ -3,7 +3,6 @@ pub mod Steps
 pub mod Faults
 pub mod Words
 pub mod Signatures
-pub mod Groups
 pub mod Histories
 pub mod Communicators
 pub mod Posts

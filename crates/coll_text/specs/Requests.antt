@@ -7,7 +7,7 @@ use Rattle.coll_text.specs.declared.cause.Cause.{Cause}
 use Rattle.coll_text.specs.declared.cause.Cause.TheVariants.{BadWords, BadNumber, UnknownRequest, NamedTwice, NotStartable}
 use Rattle.coll_text.specs.Steps.{◌>>=◌, demand}
 use Rattle.coll_text.specs.Words.{next_word, end_of_line}
-use Rattle.coll_text.specs.Communicators.{is_among}
+use Rattle.coll_kinds.specs.Groups.{is_among}
 use Rattle.coll_text.specs.Posts.{given_at}
 use Rattle.coll_text.specs.Histories.{Request, Section, History}
 

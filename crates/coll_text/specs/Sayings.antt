@@ -6,7 +6,7 @@ use Rattle.coll_text.specs.declared.said.Act as rust_act
 use Rattle.coll_text.specs.declared.said.Act.TheVariants as act
 use Rattle.coll_text.specs.declared.said.Said as rust_said
 use Rattle.coll_text.specs.declared.said.Said.TheVariants as said
-use Rattle.coll_text.specs.Groups.{IsGroup}
+use Rattle.coll_kinds.specs.Groups.{IsGroup}
 use Rattle.coll_text.specs.Histories.{Request, History}
 use Rattle.coll_text.specs.Sound.{IsRequest}
 use Rattle.coll_text.specs.Views.{request_view}

@@ -12,7 +12,8 @@ use Rattle.coll_kinds.specs.Checks.{has_root, has_operation, is_barrier}
 use Rattle.coll_text.specs.declared.cause.Cause.{Cause}
 use Rattle.coll_text.specs.declared.cause.Cause.TheVariants.{BadSignature}
 use Rattle.coll_text.specs.Steps.{◌>>=◌}
-use Rattle.coll_text.specs.Words.{next_word, number_within, kind_of, operation_of, datatype_of}
+use Rattle.coll_text.specs.Words.{next_word, number_within}
+use Rattle.coll_kinds.specs.Words.{kind_of, operation_of, datatype_of}
 
 -- TYPE COUNT
 unfoldable pub type_and_count_at : List (List ℕ) → Result ((Datatype × ℕ) × List (List ℕ)) Cause

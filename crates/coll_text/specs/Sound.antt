@@ -3,7 +3,7 @@ use Rattle.std.specs.Prelude.{◌≡◌, ℕ, ◌<◌, ◌≤◌, List, length, 
 use Rattle.std.specs.List.{AllByRecursion}
 use Rattle.coll_kinds.specs.Lengths.{given_len}
 use Rattle.coll_kinds.specs.Checks.{broken}
-use Rattle.coll_text.specs.Groups.{member_of, IsGroup}
+use Rattle.coll_kinds.specs.Groups.{member_of, IsGroup}
 use Rattle.coll_text.specs.Histories.{Request, History}
 
 -- a request of a rank on the communicator of this group: the signature passes its check, and each start gives as many bytes

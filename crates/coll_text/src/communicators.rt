@@ -2,7 +2,7 @@
 
 ghost use Rattle.std.specs.Prelude.{◌≡◌, ◌<◌, ◌≤◌, [], length, IfOk, OnOk, IfSome, Some, ok_or, slice_get};
 ghost use Rattle.coll_text.specs.Steps.{texts, Answers, Gives};
-ghost use Rattle.coll_text.specs.Groups.{IsGroup, member_of};
+ghost use Rattle.coll_kinds.specs.Groups.{IsGroup, member_of};
 ghost use Rattle.coll_text.specs.Sound.{IsHistory};
 ghost use Rattle.coll_text.specs.Views.{rows_view, history_of};
 ghost use Rattle.coll_text.specs.Communicators.{members_at, group_at, communicator_at};
@@ -11,14 +11,8 @@ use crate::cause::Cause;
 use crate::draft::Draft;
 use crate::fault::LineFault;
 use crate::words::{Words, next_word, number_within};
-use coll_kinds::read_number;
+use coll_kinds::{MAX_COMMUNICATORS, MAX_RANKS, member_of, read_number};
 use std::alloc::Global;
-
-/// The most communicators of a job, with that of all ranks.
-pub const MAX_GROUPS: usize = 16;
-
-/// The most ranks of a job.
-const MAX_RANKS: usize = 64;
 
 /// A rank as a member of a communicator.
 #[derive(Clone, Copy, Debug)]
@@ -43,7 +37,7 @@ pub(crate) fn group_at(
     ensures group { IfOk result (λ group. IsGroup n group.items) }
     ensures room { OnOk result (length groups.now < 16) }
 {
-    if groups.len() >= MAX_GROUPS {
+    if groups.len() >= MAX_COMMUNICATORS {
         return Err(LineFault::Broken(Cause::BadCommunicator));
     }
     if words.is_empty() {
@@ -113,11 +107,4 @@ fn group_of(draft: &Draft, comm: u128) -> Result<&[u8], Cause>
         return Err(Cause::BadCommunicator);
     }
     Ok(&draft.groups[comm as usize])
-}
-
-/// The number that a rank has among the members.
-fn member_of(rank: u8, group: &[u8]) -> Option<usize>
-    ensures { result ≡ member_of rank group.now }
-{
-    group.iter().position(|r| *r == rank)
 }

@@ -1,3 +1,4 @@
+ghost use Rattle.coll_kinds.specs.Limits.{max_requests, max_text};
 ghost use Rattle.std.specs.Prelude.{◌≡◌, ◌+◌, ◌<◌, ◌≤◌, length, replicate, Ok, IfOk, OnOk, IsOkUnless, MatchResult};
 ghost use Rattle.std.specs.List.{range_with_len};
 ghost use Rattle.coll_text.specs.Steps.{Fails, FailsText};
@@ -13,13 +14,9 @@ ghost use Rattle.coll_text.specs.Judging.{noted, told, judged_line, judged};
 use crate::cutting::{lines, words};
 use crate::fault::{LineFault, ScriptFault};
 use crate::lines::said_by;
-use crate::request::MAX_REQUESTS;
 use crate::said::{Act, Said};
 use crate::section::Section;
 use std::alloc::{AllocError, Global};
-
-/// The most bytes of a text.
-pub const MAX_TEXT: usize = 1_048_576;
 
 /// The most lines of a text: one more than its bytes.
 pub(crate) const MAX_LINES: u32 = 1_048_577;
@@ -42,12 +39,12 @@ pub struct Draft {
 }
 
 impl Draft {
-    /// The job that a text of at most [`MAX_TEXT`] bytes tells, or its first fault of a line. Linear in
+    /// The job that a text of at most [`coll_kinds::MAX_TEXT`] bytes tells, or its first fault of a line. Linear in
     /// the text. What is judged after the last line is left to the caller.
     ///
     /// A fault is [`ScriptFault::Text`], or [`ScriptFault::NoMemory`] where memory was refused.
     pub fn read(alloc: Global, text: &[u8]) -> Result<Draft, ScriptFault>
-        requires { length text.now ≤ MAX_TEXT }
+        requires { length text.now ≤ max_text }
         ensures read { MatchResult result
             (λ draft. (judged start (lines_of text.now) ≡ Ok (history_of draft)) × IsHistory (history_of draft))
             (λ fault. FailsText fault (judged start (lines_of text.now))) }
@@ -143,7 +140,7 @@ impl Draft {
     fn act(&mut self, line: u32, rank: u8, act: Act) -> Result<(), LineFault>
         requires rank { rank < length self.old.sections.items }
         requires act { IsActIn (section_of (history_of self.old) rank).requests (act_view act) }
-        requires few { self.old.total ≤ MAX_REQUESTS }
+        requires few { self.old.total ≤ max_requests }
         ensures acted { OnOk result (history_of self.new ≡ noted line (In rank (act_view act)) (history_of self.old)) }
         ensures memory { IsOkUnless result LineFault.NoMemory }
     {

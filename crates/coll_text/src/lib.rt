@@ -32,8 +32,7 @@ mod verb;
 mod words;
 
 pub use cause::Cause;
-pub use communicators::MAX_GROUPS;
-pub use draft::{Draft, MAX_TEXT};
+pub use draft::Draft;
 pub use fault::{Fault, ScriptFault};
 pub use request::Request;
 pub use section::Section;

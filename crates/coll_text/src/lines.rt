@@ -1,5 +1,6 @@
 //! What a line says.
 
+ghost use Rattle.coll_kinds.specs.Limits.{max_requests};
 ghost use Rattle.std.specs.Prelude.{◌≡◌, ℕ, ◌<◌, ◌≤◌, IfOk, Some, None, length, map, slice_get};
 ghost use Rattle.coll_text.specs.Steps.{texts, Gives};
 ghost use Rattle.coll_text.specs.Histories.{History};
@@ -14,7 +15,7 @@ use crate::communicators::group_at;
 use crate::draft::{Draft, MAX_LINES};
 use crate::fault::LineFault;
 use crate::posts::{init_at, post_at};
-use crate::request::{MAX_REQUESTS, Request};
+use crate::request::Request;
 use crate::requests::{free_at, one_at, requests_at, some_at, start_at};
 use crate::said::{Act, Said};
 use crate::section::Section;
@@ -150,7 +151,7 @@ fn act_at(
     requires few_lines { draft.now.lines < MAX_LINES }
     requires rank { slice_get (history_of draft.now).sections rank ≡ Some (section_view section.now) }
     requires section { section_of (history_of draft.now) rank ≡ section_view section.now }
-    requires few { length section.now.requests.items ≤ MAX_REQUESTS }
+    requires few { length section.now.requests.items ≤ max_requests }
     ensures given { Gives act_view result (act_at verb (history_of draft.now) rank (texts words.now)) }
     ensures known { IfOk result (λ act. IsActIn (section_view section.now).requests (act_view act)) }
     ensures sound { IfOk result (λ act. IsActFor (history_of draft.now) rank (act_view act)) }
@@ -179,7 +180,7 @@ fn act_at(
 
 /// A wait for one request.
 fn wait_at(alloc: Global, requests: &[Request], words: Words) -> Result<Act, LineFault>
-    requires { length requests.now ≤ MAX_REQUESTS }
+    requires { length requests.now ≤ max_requests }
     ensures given { Gives act_view result (wait_at (map request_view requests.now) (texts words.now)) }
     ensures known { IfOk result (λ act. IsActIn (map request_view requests.now) (act_view act)) }
     ensures sound { (h : History) → (rank : ℕ) → IfOk result (λ act. IsActFor h rank (act_view act)) }
@@ -192,7 +193,7 @@ fn wait_at(alloc: Global, requests: &[Request], words: Words) -> Result<Act, Lin
 
 /// A wait for all requests, or for those that are named.
 fn wait_all_at(alloc: Global, requests: &[Request], words: Words) -> Result<Act, LineFault>
-    requires { length requests.now ≤ MAX_REQUESTS }
+    requires { length requests.now ≤ max_requests }
     ensures given { Gives act_view result (wait_all_at (map request_view requests.now) (texts words.now)) }
     ensures known { IfOk result (λ act. IsActIn (map request_view requests.now) (act_view act)) }
     ensures sound { (h : History) → (rank : ℕ) → IfOk result (λ act. IsActFor h rank (act_view act)) }

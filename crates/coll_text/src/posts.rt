@@ -1,5 +1,6 @@
 //! The words of a new request, and those of the values that a request is started with.
 
+ghost use Rattle.coll_kinds.specs.Limits.{max_requests};
 ghost use Rattle.std.specs.Prelude.{◌≡◌, ◌+◌, ◌*◌, ◌/◌, ◌<◌, length, IfOk, OnOk, None, is_none};
 ghost use Rattle.coll_kinds.specs.Elements.{width};
 ghost use Rattle.coll_kinds.specs.Lengths.{given_len};
@@ -13,10 +14,10 @@ use crate::cause::Cause;
 use crate::communicators::communicator_at;
 use crate::draft::{Draft, MAX_LINES};
 use crate::fault::LineFault;
-use crate::request::{MAX_REQUESTS, Request};
+use crate::request::Request;
 use crate::signatures::signature_at;
 use crate::words::{Words, end_of_line};
-use coll_kinds::{Datatype, Mode, Signature, read_element};
+use coll_kinds::{Datatype, MAX_REQUESTS, Mode, Signature, read_element};
 use std::alloc::Global;
 
 /// The once request that the words behind `post` make for `rank`. Linear in the line.
@@ -32,7 +33,7 @@ pub(crate) fn post_at(
     ensures given { Gives request_view result (post_at (history_of draft.now) rank (texts words.now)) }
     ensures request { IfOk result (λ p.
         IsRequest (draft.now.lines + 1) (rows_view draft.now.groups.items) rank (request_view p)) }
-    ensures room { OnOk result (draft.now.total < MAX_REQUESTS) }
+    ensures room { OnOk result (draft.now.total < max_requests) }
 {
     let (at, words) = communicator_at(draft, rank, words)?;
     let (sig, words) = usable_at(Mode::Once, at.size, words)?;
@@ -64,7 +65,7 @@ pub(crate) fn init_at(
     ensures given { Gives request_view result (init_at (history_of draft.now) rank (texts words.now)) }
     ensures request { IfOk result (λ p.
         IsRequest (draft.now.lines + 1) (rows_view draft.now.groups.items) rank (request_view p)) }
-    ensures room { OnOk result (draft.now.total < MAX_REQUESTS) }
+    ensures room { OnOk result (draft.now.total < max_requests) }
 {
     let (at, words) = communicator_at(draft, rank, words)?;
     let (sig, words) = usable_at(Mode::Persistent, at.size, words)?;
@@ -84,7 +85,7 @@ pub(crate) fn init_at(
 /// Asks that there is room for one more request.
 fn room(draft: &Draft) -> Result<(), Cause>
     ensures given { Answers (λ _. tt) result (room (history_of draft.now)) }
-    ensures room { OnOk result (draft.now.total < MAX_REQUESTS) }
+    ensures room { OnOk result (draft.now.total < max_requests) }
 {
     if draft.total < MAX_REQUESTS as u32 {
         Ok(())

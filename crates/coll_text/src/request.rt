@@ -5,9 +5,6 @@ ghost use Rattle.coll_text.specs.Judging.{started};
 use crate::fault::LineFault;
 use coll_kinds::Signature;
 
-/// The most requests of a job.
-pub(crate) const MAX_REQUESTS: usize = 4096;
-
 /// A request of a rank.
 #[derive(Debug, Drop)]
 pub struct Request {

@@ -1,5 +1,6 @@
 //! The words that name requests of the open section.
 
+ghost use Rattle.coll_kinds.specs.Limits.{max_requests};
 ghost use Rattle.std.specs.Prelude.{◌≡◌, ◌+◌, ◌<◌, ◌≤◌, [], length, map, IfOk, OnOk, IfSome, Some, ok_or, slice_get};
 ghost use Rattle.std.specs.List.{AllByRecursion};
 ghost use Rattle.coll_kinds.specs.Lengths.{given_len};
@@ -12,15 +13,15 @@ use crate::cause::Cause;
 use crate::draft::Draft;
 use crate::fault::LineFault;
 use crate::posts::given_at;
-use crate::request::{MAX_REQUESTS, Request};
+use crate::request::Request;
 use crate::section::Section;
 use crate::words::{Words, end_of_line, next_word};
-use coll_kinds::{Mode, read_number};
+use coll_kinds::{MAX_REQUESTS, Mode, read_number};
 use std::alloc::Global;
 
 /// The request that a word names, and its number. Constant time.
 fn request_of<'r>(requests: &'r [Request], word: &[u8]) -> Result<(u32, &'r Request), Cause>
-    requires { length requests.now ≤ MAX_REQUESTS }
+    requires { length requests.now ≤ max_requests }
     ensures given { Answers (λ p. (p.0, request_view p.1.now)) result
         (request_of (map request_view requests.now) word.now) }
     ensures found { IfOk result (λ p. slice_get (map request_view requests.now) p.0 ≡ Some (request_view p.1.now)) }
@@ -36,7 +37,7 @@ fn request_of<'r>(requests: &'r [Request], word: &[u8]) -> Result<(u32, &'r Requ
 /// The one request that the words name. Linear in the line.
 #[tactic(auto, unfolding(crate::specs::Requests::one_at))]
 pub(crate) fn one_at(requests: &[Request], words: Words) -> Result<u32, Cause>
-    requires { length requests.now ≤ MAX_REQUESTS }
+    requires { length requests.now ≤ max_requests }
     ensures given { Answers (λ q. q) result (one_at (map request_view requests.now) (texts words.now)) }
     ensures known { IfOk result (λ q. q < length requests.now) }
 {
@@ -53,7 +54,7 @@ pub(crate) fn some_at(
     requests: &[Request],
     words: Words,
 ) -> Result<Vec<u32>, LineFault>
-    requires { length requests.now ≤ MAX_REQUESTS }
+    requires { length requests.now ≤ max_requests }
     ensures { Gives (λ qs. qs.items) result (some_at (map request_view requests.now) (texts words.now)) }
 {
     if words.is_empty() {
@@ -68,7 +69,7 @@ pub(crate) fn requests_at(
     requests: &[Request],
     words: Words,
 ) -> Result<Vec<u32>, LineFault>
-    requires { length requests.now ≤ MAX_REQUESTS }
+    requires { length requests.now ≤ max_requests }
     ensures given { Gives (λ qs. qs.items) result (requests_at (map request_view requests.now) [] (texts words.now)) }
     ensures known { IfOk result (λ qs. AllByRecursion (λ q. q < length requests.now) qs.items) }
 {
@@ -112,7 +113,7 @@ pub(crate) fn start_at(
 /// The request that the words free. Linear in the line.
 #[tactic(auto, unfolding(crate::specs::Requests::free_at))]
 pub(crate) fn free_at(section: &Section, words: Words) -> Result<u32, Cause>
-    requires { length section.now.requests.items ≤ MAX_REQUESTS }
+    requires { length section.now.requests.items ≤ max_requests }
     ensures given { Answers (λ q. q) result (free_at (section_view section.now) (texts words.now)) }
     ensures known { IfOk result (λ q. q < length section.now.requests.items) }
 {
@@ -128,7 +129,7 @@ fn startable_at<'r, 'w, 'a>(
     section: &'r Section,
     words: Words<'w, 'a>,
 ) -> Result<(u32, &'r Request, Words<'w, 'a>), Cause>
-    requires { length section.now.requests.items ≤ MAX_REQUESTS }
+    requires { length section.now.requests.items ≤ max_requests }
     ensures given { Answers (λ next. ((next.0, request_view next.1.now), texts next.2.now)) result
         (startable_at (section_view section.now) (texts words.now)) }
     ensures found { IfOk result (λ next.

@@ -6,7 +6,7 @@ ghost use Rattle.coll_text.specs.Signatures.{type_and_count_at, root_at, operati
 ghost use Rattle.coll_kinds.specs.Checks.{is_barrier};
 
 use crate::cause::Cause;
-use crate::words::{Words, datatype_of, kind_of, next_word, number_within, operation_of};
+use crate::words::{Words, next_word, number_within};
 use coll_kinds::{Datatype, Kind, Mode, Op, Signature};
 
 /// The number above the greatest root that has room in a signature.
@@ -25,7 +25,7 @@ pub(crate) fn signature_at<'w, 'a>(
     ensures { Answers (λ next. (next.0, texts next.1.now)) result (signature_at mode (texts words.now)) }
 {
     let (word, words) = next_word(words)?;
-    let kind = kind_of(word).ok_or(Cause::BadSignature)?;
+    let kind = Kind::from_word(word).ok_or(Cause::BadSignature)?;
     if is_barrier(kind) {
         return Ok((barrier_signature(mode), words));
     }
@@ -97,7 +97,7 @@ fn operation_at<'w, 'a>(
         return Ok((None, words));
     }
     let (word, words) = next_word(words)?;
-    let op = operation_of(word).ok_or(Cause::BadSignature)?;
+    let op = Op::from_word(word).ok_or(Cause::BadSignature)?;
     Ok((Some(op), words))
 }
 
@@ -106,7 +106,7 @@ fn type_and_count_at<'w, 'a>(words: Words<'w, 'a>) -> Result<(Datatype, u32, Wor
     ensures { Answers (λ next. ((next.0, next.1), texts next.2.now)) result (type_and_count_at (texts words.now)) }
 {
     let (word, words) = next_word(words)?;
-    let ty = datatype_of(word).ok_or(Cause::BadSignature)?;
+    let ty = Datatype::from_word(word).ok_or(Cause::BadSignature)?;
     let (word, words) = next_word(words)?;
     let count = number_within(0, COUNT_LIMIT, word).ok_or(Cause::BadSignature)?;
     Ok((ty, count, words))

@@ -1,6 +1,6 @@
 use Rattle.std.proofs.Common.{◌≡◌, length, Some, ap, arith}
 use Rattle.std.specs.Prelude.{slice_get}
-use Rattle.coll_text.specs.Groups.{IsGroup}
+use Rattle.coll_kinds.specs.Groups.{IsGroup}
 use Rattle.coll_text.specs.Views.{history_of}
 use Rattle.coll_text.proofs.Lists.{AllByRecursion-at, slice_get-view}
 use Rattle.coll_text.proofs.communicators.group_of.Goals as goal

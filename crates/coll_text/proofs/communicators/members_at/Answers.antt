@@ -1,8 +1,9 @@
 use Rattle.std.proofs.Common.{◌≡◌, ◌<◌, false, true, [], ◌∷◌, length, None, refl, sym, ◌∙◌, arith, rules}
 use Rattle.std.proofs.lemmas.List.{length-set, length-append}
-use Rattle.coll_text.specs.Communicators.{is_among}
+use Rattle.coll_kinds.specs.Groups.{is_among}
 use Rattle.coll_text.proofs.Marks.{AreMarks-none, AreMarks-push, AreMarks-few}
-use Rattle.coll_text.proofs.Members.{IsGroup-none, IsGroup-push, members_at-more, members_at-stops, members_at-twice}
+use Rattle.coll_kinds.proofs.Members.{IsGroup-none, IsGroup-push}
+use Rattle.coll_text.proofs.Members.{members_at-more, members_at-stops, members_at-twice}
 use Rattle.coll_text.proofs.communicators.members_at.Goals as goal
 
 pub loop-word-init : goal.loop-word-init

@@ -1,6 +1,6 @@
 use Rattle.std.proofs.Common.{◌≡◌, [], length, drop}
 use Rattle.coll_text.specs.Steps.{texts}
-use Rattle.coll_text.specs.Groups.{IsGroup}
+use Rattle.coll_kinds.specs.Groups.{IsGroup}
 use Rattle.coll_text.specs.Communicators.{members_at}
 use Rattle.coll_text.proofs.Marks.{AreMarks}
 use Rattle.coll_text.proofs.communicators.members_at.Given as goal

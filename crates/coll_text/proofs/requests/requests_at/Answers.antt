@@ -2,7 +2,7 @@ use Rattle.std.proofs.Common.{◌≡◌, ◌<◌, false, true, length, map, refl
 use Rattle.std.proofs.lemmas.List.{length-set}
 use Rattle.std.proofs.lemmas.Result.{err_from_is_err_and}
 use Rattle.coll_text.specs.Views.{request_view}
-use Rattle.coll_text.specs.Communicators.{is_among}
+use Rattle.coll_kinds.specs.Groups.{is_among}
 use Rattle.coll_text.proofs.Lists.{AllByRecursion-push}
 use Rattle.coll_text.proofs.Marks.{AreMarks-none, AreMarks-push}
 use Rattle.coll_text.proofs.Named.{requests_at-more, requests_at-stops, requests_at-twice}

@@ -1,12 +1,15 @@
 //! Whether two signatures are the same.
 
 ghost use Rattle.std.specs.Prelude.{◌≡◌};
-ghost use Rattle.coll_script.specs.Sameness.{kind_number, mode_number, operation_number, datatype_number, same_signature};
+ghost use Rattle.coll_kinds.specs.Sameness.{kind_number, mode_number, operation_number, datatype_number, same_signature};
 
-use coll_kinds::{Datatype, Kind, Mode, Op, Signature};
+use crate::datatype::Datatype;
+use crate::kind::{Kind, Mode};
+use crate::operation::Op;
+use crate::signature::Signature;
 
 /// Whether two signatures are the same, the mode included.
-pub(crate) fn is_same(one: Signature, other: Signature) -> bool
+pub(crate) fn same_signature(one: Signature, other: Signature) -> bool
     ensures { result ≡ same_signature one other }
 {
     kind_number(one.kind) == kind_number(other.kind)

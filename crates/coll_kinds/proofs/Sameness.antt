@@ -12,7 +12,7 @@ use Rattle.coll_kinds.specs.declared.kind.Kind.TheVariants.{Barrier, Bcast, Gath
 use Rattle.coll_kinds.specs.declared.kind.Mode.{Mode}
 use Rattle.coll_kinds.specs.declared.kind.Mode.TheVariants.{Once, Persistent}
 use Rattle.coll_kinds.specs.declared.signature.Signature.{Signature}
-use Rattle.coll_script.specs.Sameness.{kind_number, mode_number, operation_number, datatype_number, same_signature}
+use Rattle.coll_kinds.specs.Sameness.{kind_number, mode_number, operation_number, datatype_number, same_signature}
 
 -- each number gives its word back
 abbrev kind_at : ℕ → Kind
