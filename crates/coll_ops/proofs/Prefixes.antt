@@ -7,13 +7,13 @@ use Rattle.std.proofs.lemmas.List.{take-take}
 use Rattle.std.proofs.lemmas.List.FromFn.{length-map-range_with_len, get_or-map-range_with_len, map-range_with_len_more}
 use Rattle.coll_kinds.specs.declared.operation.Op.{Op}
 use Rattle.coll_kinds.specs.declared.datatype.Datatype.{Datatype}
-use Rattle.coll_kinds.specs.Elements.{width}
+use Rattle.coll_kinds.specs.Elements.{width, AreBytes}
 use Rattle.coll_kinds.specs.Checks.{allowed}
 use Rattle.coll_ops.specs.Combinations.{combined, combination}
 use Rattle.coll_ops.specs.Laws.{IsRow}
 use Rattle.coll_ops.specs.Values.{row_of}
 use Rattle.coll_ops.specs.Contributions.{rows_of}
-use Rattle.coll_ops.proofs.RowBytes.{AreBytes, IsRow-combined}
+use Rattle.coll_ops.proofs.RowBytes.{IsRow-combined}
 use Rattle.coll_ops.proofs.RowLists.{length-combination, length-rows_of}
 use Rattle.coll_ops.proofs.Given.{row_of-take}
 use Rattle.coll_ops.proofs.Associating.{combinations_associate}

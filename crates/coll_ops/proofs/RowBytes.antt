@@ -1,20 +1,15 @@
 -- Rows that were written hold bytes.
 use Rattle.std.proofs.Common.{ℕ, zero, suc, ◌-◌, ◌/◌, ◌%◌, ◌^◌, ◌<◌, ◌≤◌, ◌⊎◌, inl, inr, List, [], ◌∷◌, ◌++◌, ℤ, length, get_or, flat_map, ap, sym, subst, ◌∙◌, arith, mod-lt}
-use Rattle.std.specs.Prelude.{slice_index}
 use Rattle.std.specs.Int.{byte_at, bytes_low_first}
 use Rattle.std.proofs.lemmas.Bool.{cases_lt}
 use Rattle.std.proofs.Math.ListN.{get_or-append}
 use Rattle.std.proofs.Math.Seq.{get_or-append_right}
 use Rattle.coll_kinds.specs.declared.operation.Op.{Op}
 use Rattle.coll_kinds.specs.declared.datatype.Datatype.{Datatype}
-use Rattle.coll_kinds.specs.Elements.{width, element_bytes}
+use Rattle.coll_kinds.specs.Elements.{AreBytes, width, element_bytes}
 use Rattle.coll_ops.specs.Combinations.{elements, zipped, combined}
 use Rattle.coll_ops.specs.Laws.{IsRow}
 use Rattle.coll_ops.proofs.RowLists.{length-combined}
-
--- a row of bytes
-abbrev pub AreBytes : List ℕ → Type 0
-AreBytes row = (i : ℕ) → slice_index row i < 256
 
 AreBytes-append : (xs ys : List ℕ) → AreBytes xs → AreBytes ys → AreBytes (xs ++ ys)
 AreBytes-append xs ys x_are y_are i = at (cases_lt i (length xs))

@@ -3,17 +3,19 @@
 //!
 //! | Module | Has |
 //! |---|---|
+//! | `elements` | two elements, combined on their bits |
 //! | `rows` | `combine`, two rows place by place |
 //! | `value` | `plain_value`, a collective's value at a member |
 //! | `values` | `plain_values`, the values of all members |
 //! | `laws` | associativity, and that a value reads the needed members alone |
 #![tactic(auto)]
 
+mod elements;
 pub mod laws;
 mod rows;
 mod value;
 mod values;
 
-pub use rows::combine;
+pub use rows::{combine, combine_into};
 pub use value::plain_value;
 pub use values::plain_values;

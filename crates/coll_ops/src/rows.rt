@@ -1,16 +1,97 @@
-ghost use Rattle.std.specs.Prelude.{◌≡◌, ◌<◌, ◌≤◌, ◌%◌, ◌^◌, ◌*◌, ◌-◌, ◌++◌, length, drop, int_lt, IsTrue};
-ghost use Rattle.std.specs.Int.{cast_unsigned};
-ghost use Rattle.coll_kinds.specs.Elements.{width, word, element_of, element_at, element_bytes};
+//! Two rows of elements, combined place by place (MPI 4.1, 6.9.1).
+//!
+//! The operation and the type are matched once, outside the loop: each arm names them anew, so that the loop, which is
+//! inlined there, is compiled for that operation and that width alone, as vector code.
+
+ghost use Rattle.std.specs.Prelude.{◌≡◌, ◌%◌, length, IsTrue};
+ghost use Rattle.coll_kinds.specs.Elements.{width};
 ghost use Rattle.coll_kinds.specs.Checks.{allowed};
-ghost use Rattle.coll_ops.specs.Operations.{applied};
 ghost use Rattle.coll_ops.specs.Combinations.{combined};
 
-use byteorder::{ByteOrder, LittleEndian};
+use crate::elements::{combine_elements, combine_elements_into};
 use coll_kinds::{Datatype, Op};
 
-/// Writes the combination of two rows into `out`, element by element, `left` being the first
-/// operand (MPI 4.1, 6.9.1). It takes no memory, and its cost is linear in the rows.
+/// Calls a function with each operation by its name.
+macro_rules! by_operation {
+    ($op:expr, $call:ident($($argument:expr),*)) => {
+        match $op {
+            Op::Max => $call(Op::Max, $($argument),*),
+            Op::Min => $call(Op::Min, $($argument),*),
+            Op::Sum => $call(Op::Sum, $($argument),*),
+            Op::Prod => $call(Op::Prod, $($argument),*),
+            Op::Land => $call(Op::Land, $($argument),*),
+            Op::Lor => $call(Op::Lor, $($argument),*),
+            Op::Lxor => $call(Op::Lxor, $($argument),*),
+            Op::Band => $call(Op::Band, $($argument),*),
+            Op::Bor => $call(Op::Bor, $($argument),*),
+            Op::Bxor => $call(Op::Bxor, $($argument),*),
+            Op::LastNz => $call(Op::LastNz, $($argument),*),
+        }
+    };
+}
+
+/// Calls a function for an operation with each type by its name.
+macro_rules! by_type {
+    ($op:expr, $ty:expr, $call:ident($($argument:expr),*)) => {
+        match $ty {
+            Datatype::I8 => $call($op, Datatype::I8, $($argument),*),
+            Datatype::I16 => $call($op, Datatype::I16, $($argument),*),
+            Datatype::I32 => $call($op, Datatype::I32, $($argument),*),
+            Datatype::I64 => $call($op, Datatype::I64, $($argument),*),
+            Datatype::U8 => $call($op, Datatype::U8, $($argument),*),
+            Datatype::U16 => $call($op, Datatype::U16, $($argument),*),
+            Datatype::U32 => $call($op, Datatype::U32, $($argument),*),
+            Datatype::U64 => $call($op, Datatype::U64, $($argument),*),
+            Datatype::Byte => $call($op, Datatype::Byte, $($argument),*),
+        }
+    };
+}
+
+/// Writes the combination of two rows into `out`, element by element, `left` being the first operand (MPI 4.1, 6.9.1).
+/// It takes no memory, and its cost is linear in the rows.
 pub fn combine(op: Op, ty: Datatype, left: &[u8], right: &[u8], out: &mut [u8])
+    requires allowed { IsTrue (allowed op ty) }
+    requires whole { length left.now % width ty ≡ 0 }
+    requires same { length right.now ≡ length left.now }
+    requires room { length out.old ≡ length left.now }
+    ensures { out.new ≡ combined op ty left.now right.now }
+{
+    by_operation!(op, combine_by(ty, left, right, out))
+}
+
+/// Writes the combination of two rows over the first of them. It takes no memory, and its cost is linear in the rows.
+pub fn combine_into(op: Op, ty: Datatype, left: &mut [u8], right: &[u8])
+    requires allowed { IsTrue (allowed op ty) }
+    requires whole { length left.old % width ty ≡ 0 }
+    requires same { length right.now ≡ length left.old }
+    ensures { left.new ≡ combined op ty left.old right.now }
+{
+    by_operation!(op, combine_into_by(ty, left, right))
+}
+
+#[inline(always)]
+fn combine_by(op: Op, ty: Datatype, left: &[u8], right: &[u8], out: &mut [u8])
+    requires allowed { IsTrue (allowed op ty) }
+    requires whole { length left.now % width ty ≡ 0 }
+    requires same { length right.now ≡ length left.now }
+    requires room { length out.old ≡ length left.now }
+    ensures { out.new ≡ combined op ty left.now right.now }
+{
+    by_type!(op, ty, combine_places(left, right, out))
+}
+
+#[inline(always)]
+fn combine_into_by(op: Op, ty: Datatype, left: &mut [u8], right: &[u8])
+    requires allowed { IsTrue (allowed op ty) }
+    requires whole { length left.old % width ty ≡ 0 }
+    requires same { length right.now ≡ length left.old }
+    ensures { left.new ≡ combined op ty left.old right.now }
+{
+    by_type!(op, ty, combine_places_into(left, right))
+}
+
+#[inline(always)]
+fn combine_places(op: Op, ty: Datatype, left: &[u8], right: &[u8], out: &mut [u8])
     requires allowed { IsTrue (allowed op ty) }
     requires whole { length left.now % width ty ≡ 0 }
     requires same { length right.now ≡ length left.now }
@@ -24,65 +105,16 @@ pub fn combine(op: Op, ty: Datatype, left: &[u8], right: &[u8], out: &mut [u8])
     }
 }
 
-/// Combines the elements in the first bytes of `left` and `right`.
-fn combine_elements(op: Op, ty: Datatype, left: &[u8], right: &[u8], out: &mut [u8])
+#[inline(always)]
+fn combine_places_into(op: Op, ty: Datatype, left: &mut [u8], right: &[u8])
     requires allowed { IsTrue (allowed op ty) }
-    requires left { width ty ≤ length left.now }
-    requires right { width ty ≤ length right.now }
-    requires room { width ty ≤ length out.old }
-    ensures { out.new ≡
-        element_bytes ty (applied op ty (element_at ty left.now) (element_at ty right.now))
-        ++ drop (width ty) out.old }
+    requires whole { length left.old % width ty ≡ 0 }
+    requires same { length right.now ≡ length left.old }
+    ensures { left.new ≡ combined op ty left.old right.now }
 {
     let width = ty.width();
-    let a = LittleEndian::read_uint(left, width);
-    let b = LittleEndian::read_uint(right, width);
-    LittleEndian::write_uint(out, apply_to_bits(op, ty, a, b), width);
-}
-
-/// The operation on the bits of two elements, whatever their type's width and sign.
-fn apply_to_bits(op: Op, ty: Datatype, a: u64, b: u64) -> u64
-    requires allowed { IsTrue (allowed op ty) }
-    requires left { a < 256 ^ width ty }
-    requires right { b < 256 ^ width ty }
-    ensures value { result ≡ cast_unsigned (word ty) (applied op ty (element_of ty a) (element_of ty b)) }
-    ensures fits { result < 256 ^ width ty }
-{
-    match op {
-        Op::Max => if is_less(ty, b, a) { a } else { b },
-        Op::Min => if is_less(ty, b, a) { b } else { a },
-        Op::Sum => a.wrapping_add(b) & mask(ty),
-        Op::Prod => a.wrapping_mul(b) & mask(ty),
-        Op::Land => u64::from(a != 0 && b != 0),
-        Op::Lor => u64::from(a != 0 || b != 0),
-        Op::Lxor => u64::from((a != 0) != (b != 0)),
-        Op::Band => a & b,
-        Op::Bor => a | b,
-        Op::Bxor => a ^ b,
-        Op::LastNz => if b == 0 { a } else { b },
+    for place in 0..left.len() / width {
+        let at = place * width;
+        combine_elements_into(op, ty, &mut left[at..], &right[at..]);
     }
-}
-
-/// Whether the element of the bits `a` is less than that of `b`. In two's complement the bits of a
-/// negative number are those from the type's limit on.
-fn is_less(ty: Datatype, a: u64, b: u64) -> bool
-    requires left { a < 256 ^ width ty }
-    requires right { b < 256 ^ width ty }
-    ensures { result ≡ int_lt (element_of ty a) (element_of ty b) }
-{
-    let limit = ty.limit();
-    let a_is_negative = u128::from(a) >= limit;
-    let b_is_negative = u128::from(b) >= limit;
-    if a_is_negative == b_is_negative {
-        a < b
-    } else {
-        a_is_negative
-    }
-}
-
-/// All bits of an element set.
-fn mask(ty: Datatype) -> u64
-    ensures { result ≡ 2 ^ (8 * width ty) - 1 }
-{
-    u64::MAX >> (64 - 8 * ty.width())
 }
