@@ -5,6 +5,7 @@ use Rattle.std.proofs.lemmas.List.{ext_get_or, get_or_default, length-map}
 use Rattle.std.proofs.lemmas.List.FromFn.{get_or-map-range_with_len, length-range_with_len}
 use Rattle.std.proofs.lemmas.List.Sums.{sum_by-le, sum_by-set}
 use Rattle.std.specs.List.{range_with_len}
+use Rattle.coll_kinds.specs.Limits.{max_lent}
 use Rattle.coll_arena.specs.Changes.{retired, reweighed, taken}
 use Rattle.coll_arena.specs.Slots.{Slots, count, home, lent, lent_by, weight_of}
 use Rattle.coll_arena.specs.Sound.{IsSound}
@@ -35,9 +36,9 @@ module _ {R : Type 0} where
   -- the sum fits
   pub lent-fits : (a : Slots R) → IsSound a → sum a.weights < 2 ^ 64
   lent-fits a s =
-      let most : sum a.weights ≤ length a.weights * 33554432 =
-      sum_by-le (λ x. x) 33554432 a.weights
-      (λ k d low. subst (λ z. z ≤ 33554432) (get_or_default a.weights k 0 d low) (s.slots k (subst (λ z. k < z) s.weights_len low)).light) in
+      let most : sum a.weights ≤ length a.weights * max_lent =
+      sum_by-le (λ x. x) max_lent a.weights
+      (λ k d low. subst (λ z. z ≤ max_lent) (get_or_default a.weights k 0 d low) (s.slots k (subst (λ z. k < z) s.weights_len low)).light) in
       omega (arith, s.weights_len, s.count_fits)
 
   -- the sum after each call
@@ -60,3 +61,7 @@ module _ {R : Type 0} where
 
   pub lent-same : (a b : Slots R) → IsSound a → IsSound b → b.weights ≡ a.weights → lent b ≡ lent a
   lent-same a b s t same = lent-sum b t ∙ ap sum same ∙ sym (lent-sum a s)
+
+  -- the kept number fits
+  pub kept-fits : (a : Slots R) → IsSound a → lent a < 2 ^ 64
+  kept-fits a s = subst (λ z. z < 2 ^ 64) (sym (lent-sum a s)) (lent-fits a s)

@@ -1,7 +1,8 @@
 pub mod Calls
+pub mod Homes
 pub mod Lents
 pub mod Lookups
 pub mod Opening
 pub mod Sounds
-pub mod Viewed
+pub mod Totals
 pub mod Walking

@@ -1,55 +1,25 @@
 -- Every call keeps what holds of an arena.
-use Rattle.std.proofs.Common.{◌≡◌, ◌≢◌, ℕ, zero, suc, ◌+◌, ◌<◌, ◌≤◌, true, cond, List, [], ◌∷◌, length, eqb, ltb, sym, refl, ap, subst, ◌∙◌, inl, inr, Option, Some, None, is_some, lt-ltb, le-ltb, eqb-true, ltb-true, eq-eqb, ne_eqb, arith}
-use Rattle.std.proofs.lemmas.Bool.{and_parts, cases_eq, cases_lt}
+use Rattle.std.proofs.Common.{◌≡◌, ◌≢◌, ℕ, ◌+◌, ◌<◌, ◌≤◌, true, cond, length, eqb, ltb, sym, refl, ap, subst, ◌∙◌, inl, inr, Option, Some, None, is_some, lt-ltb, le-ltb, eqb-true, ltb-true, eq-eqb, ne_eqb, arith}
+use Rattle.std.proofs.lemmas.Bool.{and_parts, cases_eq}
 use Rattle.std.proofs.lemmas.List.{get_or-set_other, get_or-set_same, length-set}
-use Rattle.std.specs.List.{concat}
 use Rattle.coll_lists.specs.Keeping.{KeepsTheRest}
-use Rattle.coll_lists.specs.Layouts.{IsLawful, Layout, list_of, sequence, times}
+use Rattle.coll_lists.specs.Layouts.{IsLawful, Layout, list_of, sequence}
 use Rattle.coll_lists.specs.Moves.{moved_back, moved_front}
 use Rattle.coll_lists.specs.Neighbours.{first_in}
 use Rattle.coll_lists.proofs.Keeping.{KeepsTheRest-back, KeepsTheRest-front}
-use Rattle.coll_lists.proofs.Lawful.{list_of-first}
-use Rattle.coll_lists.proofs.Occurrences.{Moved-back, Moved-front, times-append, times-same}
-use Rattle.coll_arena.specs.Changes.{retired, reweighed, rewritten, shifted, shifted_front, taken}
+use Rattle.coll_lists.proofs.Occurrences.{Moved-back, Moved-front}
+use Rattle.coll_lists.proofs.Walking.{first_stands, stands}
+use Rattle.coll_kinds.specs.Limits.{max_lent}
+use Rattle.coll_arena.specs.ListNames.{list_count}
+use Rattle.coll_arena.specs.Changes.{replaced, retired, reweighed, rewritten, shifted, shifted_front, taken}
 use Rattle.coll_arena.specs.Slots.{Slots, count, generation_of, home, is_live, names, record_in, weight_of}
 use Rattle.coll_arena.specs.Sound.{IsSound, IsSoundSlot}
-use Rattle.coll_arena.specs.declared.ticket.Ticket.{Ticket}
-
--- a node of one list stands in all, as often at least
-pub times-sequence : (x : ℕ) (L : Layout) (l : ℕ) → times x (sequence L l) ≤ times x (concat L)
-times-sequence x [] l = omega arith
-times-sequence x (s ∷ rest) zero = omega (arith, times-append x s (concat rest))
-times-sequence x (s ∷ rest) (suc l) = omega (arith, times-append x s (concat rest), times-sequence x rest l)
-
--- and where it stands on two, twice
-pub times-sequences : (x : ℕ) (L : Layout) (k l : ℕ) → k < l → times x (sequence L k) + times x (sequence L l) ≤ times x (concat L)
-times-sequences x [] k l low = omega arith
-times-sequences x (s ∷ rest) zero (suc l) low = omega (arith, times-append x s (concat rest), times-sequence x rest l)
-times-sequences x (s ∷ rest) (suc k) (suc l) low = omega (arith, times-append x s (concat rest), times-sequences x rest k l (omega arith))
-times-sequences x (s ∷ rest) k zero low = absurd (omega (arith, low))
-
--- in a lawful layout a node that stands on a list is below the count, and that is its list
-pub stands : (n : ℕ) (L : Layout) → IsLawful n L → (x l : ℕ) → l < length L → 0 < times x (sequence L l) → (x < n) × (list_of L x ≡ l)
-stands n L lawful x l low some =
-    elim (cases_lt x n) [
-      | inl x_low ↦
-          let once : times x (concat L) ≡ 1 = lawful x ∙ ap (λ b. cond b 1 0) (lt-ltb x n x_low) in
-          (x_low, list_of-first x L l low some (λ k k_low. omega (arith, once, times-sequences x L k l k_low)))
-      | inr high ↦
-          let never : times x (concat L) ≡ 0 = lawful x ∙ ap (λ b. cond b 1 0) (le-ltb x n high) in
-          absurd (omega (arith, never, some, times-sequence x L l))
-    ]
-
-pub first_stands : (s : List ℕ) (x : ℕ) → first_in s ≡ Some x → 0 < times x s
-first_stands [] x e = cc
-first_stands (y ∷ rest) x e =
-    let is : y ≡ x = cc in
-    subst (λ z. 0 < z) (sym (times-same x y rest is)) (omega arith)
+use Rattle.coll_kinds.specs.declared.ticket.Ticket.{Ticket}
 
 -- the first slot of Free is a slot, and lies there
 pub free_first : {R : Type 0} (a : Slots R) → IsSound a → (slot : ℕ) → first_in (sequence a.lists 0) ≡ Some slot → (slot < count a) × (home a slot ≡ 0)
 free_first a s slot first =
-    stands (count a) a.lists s.lawful slot 0 (omega (arith, s.lists_len)) (first_stands (sequence a.lists 0) slot first)
+    stands (count a) a.lists s.lawful slot 0 (omega (arith, s.lists_is)) (first_stands (sequence a.lists 0) slot first)
 
 -- a named slot
 pub record Named {R : Type 0} (a : Slots R) (t : Ticket) : Type 0 where
@@ -88,6 +58,7 @@ pub record Differs {R : Type 0} (a b : Slots R) (slot : ℕ) : Type 0 where
   pub weights_is : length b.weights ≡ length a.weights
   pub records_is : length b.records ≡ length a.records
   pub lists_is : length b.lists ≡ length a.lists
+  pub comms_is : b.comms ≡ a.comms
   pub wear_is : b.wear ≡ a.wear
   pub lawful : IsLawful (count a) b.lists
   pub generation : (other : ℕ) → other ≢ slot → generation_of b other ≡ generation_of a other
@@ -101,7 +72,7 @@ IsSound-differs a b slot s d at =
     record {
       weights_len = d.weights_is ∙ s.weights_len ∙ sym d.count_is;
       records_len = d.records_is ∙ s.records_len ∙ sym d.count_is;
-      lists_len = omega (arith, d.lists_is, s.lists_len);
+      lists_is = d.lists_is ∙ s.lists_is ∙ ap list_count (sym d.comms_is);
       lists_fit = omega (arith, d.lists_is, s.lists_fit);
       count_fits = omega (arith, d.count_is, s.count_fits);
       wear_fits = omega (arith, d.wear_is, s.wear_fits);
@@ -123,6 +94,7 @@ Differs-taken a slot rec weight list s low list_low =
       weights_is = length-set a.weights slot _;
       records_is = length-set a.records slot _;
       lists_is = (Moved-back slot list a.lists list_low).lists;
+      comms_is = refl;
       wear_is = refl;
       lawful = keeps.lawful (count a) low s.lawful;
       generation = λ other ne. get_or-set_other a.generations slot other _ 0 ne;
@@ -131,7 +103,7 @@ Differs-taken a slot rec weight list s low list_low =
       list = λ other ne. keeps.others other ne;
     }
 
-pub IsSound-taken : {R : Type 0} (a : Slots R) (slot : ℕ) (rec : R) (weight list : ℕ) → IsSound a → slot < count a → home a slot ≡ 0 → weight ≤ 33554432 → 2 ≤ list → list < length a.lists → IsSound (taken a slot rec weight list)
+pub IsSound-taken : {R : Type 0} (a : Slots R) (slot : ℕ) (rec : R) (weight list : ℕ) → IsSound a → slot < count a → home a slot ≡ 0 → weight ≤ max_lent → 2 ≤ list → list < length a.lists → IsSound (taken a slot rec weight list)
 IsSound-taken a slot rec weight list s low free light live list_low =
     let was : IsSoundSlot a.wear (generation_of a slot) (weight_of a slot) (record_in a slot) (home a slot) = s.slots slot low in
     let young : generation_of a slot < a.wear = was.free free in
@@ -159,6 +131,7 @@ IsSound-rewritten a slot rec s low live =
       weights_is = refl;
       records_is = length-set a.records slot _;
       lists_is = refl;
+      comms_is = refl;
       wear_is = refl;
       lawful = s.lawful;
       generation = λ other ne. refl;
@@ -175,7 +148,7 @@ IsSound-rewritten a slot rec s low live =
       light = was.light;
     })
 
-pub IsSound-reweighed : {R : Type 0} (a : Slots R) (slot weight : ℕ) → IsSound a → slot < count a → 1 < home a slot → weight ≤ 33554432 → IsSound (reweighed a slot weight)
+pub IsSound-reweighed : {R : Type 0} (a : Slots R) (slot weight : ℕ) → IsSound a → slot < count a → 1 < home a slot → weight ≤ max_lent → IsSound (reweighed a slot weight)
 IsSound-reweighed a slot weight s low live light =
     let was : IsSoundSlot a.wear (generation_of a slot) (weight_of a slot) (record_in a slot) (home a slot) = s.slots slot low in
     let weighs : weight_of (reweighed a slot weight) slot ≡ weight = get_or-set_same a.weights slot weight 0 (omega (arith, s.weights_len)) in
@@ -185,6 +158,7 @@ IsSound-reweighed a slot weight s low live light =
       weights_is = length-set a.weights slot _;
       records_is = refl;
       lists_is = refl;
+      comms_is = refl;
       wear_is = refl;
       lawful = s.lawful;
       generation = λ other ne. refl;
@@ -211,6 +185,7 @@ IsSound-moved a slot list lists s low live live_list lists_is keeps =
       weights_is = refl;
       records_is = refl;
       lists_is = lists_is;
+      comms_is = refl;
       wear_is = refl;
       lawful = keeps.lawful (count a) low s.lawful;
       generation = λ other ne. refl;
@@ -235,6 +210,10 @@ pub IsSound-shifted_front : {R : Type 0} (a : Slots R) (slot list : ℕ) → IsS
 IsSound-shifted_front a slot list s low live live_list list_low =
     IsSound-moved a slot list (moved_front slot list a.lists) s low live live_list (Moved-front slot list a.lists list_low).lists (KeepsTheRest-front slot list a.lists list_low)
 
+pub IsSound-replaced : {R : Type 0} (a : Slots R) (slot : ℕ) (rec : R) (list : ℕ) → IsSound a → slot < count a → 1 < home a slot → 2 ≤ list → list < length a.lists → IsSound (replaced a slot rec list)
+IsSound-replaced a slot rec list s low live live_list list_low =
+    IsSound-shifted (rewritten a slot rec) slot list (IsSound-rewritten a slot rec s low live) low live live_list list_low
+
 -- the list that a slot retires to
 abbrev pub rest_of : {R : Type 0} → Slots R → ℕ → ℕ
 rest_of a slot = cond (eqb (generation_of a slot) a.wear) 1 0
@@ -242,8 +221,8 @@ rest_of a slot = cond (eqb (generation_of a slot) a.wear) 1 0
 pub rest_of-low : {R : Type 0} (a : Slots R) (slot : ℕ) → IsSound a → rest_of a slot < length a.lists
 rest_of-low a slot s =
     elim (cases_eq (generation_of a slot) a.wear) [
-      | inl e ↦ rw (eq-eqb _ _ e) (omega (arith, s.lists_len))
-      | inr ne ↦ rw (ne_eqb _ _ ne) (omega (arith, s.lists_len))
+      | inl e ↦ rw (eq-eqb _ _ e) (omega (arith, s.lists_is))
+      | inr ne ↦ rw (ne_eqb _ _ ne) (omega (arith, s.lists_is))
     ]
 
 pub IsSound-retired : {R : Type 0} (a : Slots R) (slot : ℕ) → IsSound a → slot < count a → IsSound (retired a slot)
@@ -260,6 +239,7 @@ IsSound-retired a slot s low =
       weights_is = length-set a.weights slot _;
       records_is = length-set a.records slot _;
       lists_is = (Moved-back slot (rest_of a slot) a.lists list_low).lists;
+      comms_is = refl;
       wear_is = refl;
       lawful = keeps.lawful (count a) low s.lawful;
       generation = λ other ne. refl;

@@ -1,4 +1,5 @@
 pub mod Changes
+pub mod Homes
 pub mod Lends
 pub mod ListNames
 pub mod Lookups
@@ -6,5 +7,5 @@ pub mod Rows
 pub mod Slots
 pub mod Sound
 pub mod TicketLists
+pub mod Totals
 pub mod Views
-pub mod Walks

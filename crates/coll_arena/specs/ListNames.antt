@@ -12,3 +12,7 @@ number_of Running = 3
 number_of (Idle comm) = 4 + 3 * comm
 number_of (Queue comm) = 5 + 3 * comm
 number_of (Done comm) = 6 + 3 * comm
+
+-- how many lists an arena has
+abbrev pub list_count : ℕ → ℕ
+list_count comms = 4 + 3 * comms

@@ -3,25 +3,35 @@ use Rattle.std.specs.Prelude.{ℕ, Bool, List, map, length, Option, None, refl, 
 use Rattle.std.specs.List.{range_with_len}
 use Rattle.std.specs.Coded.{Coded, code_by, coded×, coded_ℕ, coded_list, coded_option}
 use Rattle.coll_lists.specs.Layouts.{Layout, list_of, sequence}
-use Rattle.coll_arena.specs.declared.ticket.Ticket.{Ticket}
+use Rattle.coll_kinds.specs.declared.ticket.Ticket.{Ticket}
 
--- for each slot the generation last given, the weight and the record, where it has one; the lists of slots; and the
--- generation at which a slot is worn
+-- for each slot the generation last given, the weight and the record, where it has one; the lists of slots; how many
+-- communicators have lists; and the generation at which a slot is worn
 pub record Slots (R : Type 0) : Type 0 where
   pub generations : List ℕ
   pub weights : List ℕ
   pub records : List (Option R)
   pub lists : Layout
+  pub comms : ℕ
   pub wear : ℕ
 
 -- slots are stored as the tuple of their fields
 abbrev pub slots_code : {R : Type 0} → Coded R → Coded (Slots R)
 slots_code {R} code =
     code_by
-    (List ℕ × (List ℕ × (List (Option R) × (Layout × ℕ))))
-    (coded× (coded_list coded_ℕ) (coded× (coded_list coded_ℕ) (coded× (coded_list (coded_option code)) (coded× (coded_list (coded_list coded_ℕ)) coded_ℕ))))
-    (λ a. (a.generations, (a.weights, (a.records, (a.lists, a.wear)))))
-    (λ p. record { generations = p.0; weights = p.1.0; records = p.1.1.0; lists = p.1.1.1.0; wear = p.1.1.1.1 })
+    (List ℕ × (List ℕ × (List (Option R) × (Layout × (ℕ × ℕ)))))
+    (coded× (coded_list coded_ℕ)
+    (coded× (coded_list coded_ℕ)
+    (coded× (coded_list (coded_option code)) (coded× (coded_list (coded_list coded_ℕ)) (coded× coded_ℕ coded_ℕ)))))
+    (λ a. (a.generations, (a.weights, (a.records, (a.lists, (a.comms, a.wear))))))
+    (λ p. record {
+      generations = p.0;
+      weights = p.1.0;
+      records = p.1.1.0;
+      lists = p.1.1.1.0;
+      comms = p.1.1.1.1.0;
+      wear = p.1.1.1.1.1;
+    })
     (λ _. refl)
 
 module _ {R : Type 0} where

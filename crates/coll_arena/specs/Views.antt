@@ -1,15 +1,15 @@
 -- What the fields of an arena show.
-use Rattle.std.specs.Prelude.{ℕ, List, map}
+use Rattle.std.specs.Prelude.{ℕ, List, Option}
 use Rattle.coll_lists.specs.Layouts.{Layout}
 use Rattle.coll_arena.specs.Slots.{Slots}
-use Rattle.coll_arena.specs.declared.slot.Slot.{Slot}
 
--- one column for each field of the slots
-abbrev pub view_of : {R : Type 0} → List (Slot R) → Layout → ℕ → Slots R
-view_of slots links wear = record {
-  generations = map (λ s. s.generation) slots;
-  weights = map (λ s. s.weight) slots;
-  records = map (λ s. s.request) slots;
+-- the columns as they stand
+abbrev pub view_of : {R : Type 0} → List ℕ → List ℕ → List (Option R) → Layout → ℕ → ℕ → Slots R
+view_of generations weights records links comms wear = record {
+  generations = generations;
+  weights = weights;
+  records = records;
   lists = links;
+  comms = comms;
   wear = wear;
 }

@@ -1,6 +1,12 @@
 //! Laws of arenas. A call does nothing; its contract is the law.
 
+ghost use Rattle.std.specs.Prelude.{ℕ, ◌<◌, Some, length};
+ghost use Rattle.coll_arena.specs.Changes.{rewritten};
+ghost use Rattle.coll_arena.specs.Homes.{StandsAtHome};
+ghost use Rattle.coll_arena.specs.Lookups.{PutsSlot};
+ghost use Rattle.coll_arena.specs.Slots.{count, generation_of, home, weight_of};
 ghost use Rattle.coll_arena.specs.Sound.{IsSound};
+ghost use Rattle.coll_arena.specs.Totals.{ChangesTotal};
 
 use crate::arena::Arena;
 
@@ -10,4 +16,25 @@ pub fn is_sound<R: Drop>(arena: &Arena<R>)
     ensures { IsSound arena.now }
 {
     arena.check();
+}
+
+/// A slot stands in a list's sequence exactly where that list is its home; from list 2 on its ticket is live.
+pub fn stands_at_home<R: Drop>(arena: &Arena<R>)
+    ensures { (slot list : ℕ) → list < length arena.now.lists → StandsAtHome arena.now slot list }
+{
+    arena.check();
+}
+
+/// A record that was written through `get_mut` changes the look-ups of that slot's record alone.
+pub fn writing_puts<R: Drop>(arena: &Arena<R>)
+    ensures { (slot : ℕ) (written : R) → slot < count arena.now → PutsSlot arena.now (rewritten arena.now slot written) slot (generation_of arena.now slot) (weight_of arena.now slot) (Some written) (home arena.now slot) }
+{
+    arena.check();
+}
+
+/// A sum over all slots of what their records count for: a change of one slot changes one term of it.
+pub fn changes_one_term<R: Drop>(arena: &Arena<R>)
+    ensures { ChangesTotal R }
+{
+    let _arena = arena;
 }

@@ -2,10 +2,8 @@
 //!
 //! | Module | Has |
 //! |---|---|
-//! | `ticket` | `Ticket`, by which a caller names a request |
 //! | `list_name` | `ListName`, the lists and their numbers |
-//! | `slot` | a slot's generation, weight and record |
-//! | `tickets` | `Tickets`, a walk over a list's tickets |
+//! | `tickets` | `Tickets`, a walk over a list's tickets in either direction |
 //! | `arena` | `Arena`, the slots on their lists |
 //! | `laws` | what holds of every arena |
 #![tactic(auto)]
@@ -13,13 +11,11 @@
 mod arena;
 pub mod laws;
 mod list_name;
-mod slot;
-mod ticket;
 mod tickets;
 
-pub use arena::{Arena, MAX_WEIGHT};
+pub use arena::Arena;
+pub use coll_kinds::Ticket;
 pub use list_name::ListName;
-pub use ticket::Ticket;
 pub use tickets::Tickets;
 
 #[cfg(test)]

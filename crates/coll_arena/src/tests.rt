@@ -1,25 +1,38 @@
-ghost use Rattle.std.specs.Prelude.{◌≡◌, ◌<◌, ◌≤◌, length};
-ghost use Rattle.coll_arena.specs.ListNames.{number_of};
+ghost use Rattle.std.specs.Prelude.{◌≡◌, ◌<◌, ◌≤◌, IfOk, OnOk, OnErr, Some, is_ok};
+ghost use Rattle.std.specs.Option.{ForSome};
+ghost use Rattle.coll_kinds.specs.Limits.{max_lent};
+ghost use Rattle.coll_arena.specs.Changes.{rewritten};
+ghost use Rattle.coll_arena.specs.ListNames.{list_count, number_of};
+ghost use Rattle.coll_arena.specs.Slots.{names, record_in};
 
 use crate::arena::Arena;
 use crate::list_name::ListName;
-use crate::ticket::Ticket;
-use coll_kinds::Refusal;
+use coll_kinds::{Refusal, Ticket};
 use std::alloc::{AllocError, Global};
 use std::test::Fail;
 
 /// The slots of a list, in its order.
 fn slots_of(alloc: Global, arena: &Arena<u32>, list: ListName) -> Result<Vec<u32>, AllocError>
-    requires { number_of list < length arena.now.lists }
+    requires { number_of list < list_count arena.now.comms }
 {
     arena.list(list).map(|ticket| ticket.slot).collect(alloc)
 }
 
+/// The same, from the last to the first.
+fn slots_back_of(alloc: Global, arena: &Arena<u32>, list: ListName) -> Result<Vec<u32>, AllocError>
+    requires { number_of list < list_count arena.now.comms }
+{
+    arena
+        .list_back(list)
+        .map(|ticket| ticket.slot)
+        .collect(alloc)
+}
+
 /// A request with that record and weight on Done of communicator 0.
 fn done(arena: &mut Arena<u32>, record_is: u32, weight: u32) -> Result<Ticket, Refusal>
-    requires light { weight ≤ 33554432 }
-    requires list_in { 6 < length arena.old.lists }
-    ensures { length arena.new.lists ≡ length arena.old.lists }
+    requires light { weight ≤ max_lent }
+    requires comm_in { 0 < arena.old.comms }
+    ensures { arena.new.comms ≡ arena.old.comms }
 {
     arena
         .take(record_is, weight, ListName::Done(0))
@@ -148,5 +161,81 @@ fn a_live_request_changes(rt: HostRuntime) -> Result<(), Fail> {
         slots_of(alloc, &arena, ListName::Done(0))?.as_slice(),
         [2, 1, 0].as_slice()
     );
+    assert_eq!(rt;
+        slots_back_of(alloc, &arena, ListName::Done(0))?.as_slice(),
+        [0, 1, 2].as_slice()
+    );
+    Ok(())
+}
+
+#[test]
+fn a_request_is_asked_for(rt: HostRuntime) -> Result<(), Fail> {
+    let alloc = rt.alloc();
+    let mut arena: Arena<u32> = Arena::open(alloc, 1, 1, 1)?;
+    assert!(rt; arena.has_free());
+    assert_eq!(rt; arena.first(ListName::Done(0)), None);
+    assert_eq!(rt; arena.ticket_at(0), None);
+    let ticket = done(&mut arena, 10, 8)?;
+    assert!(rt; !arena.has_free());
+    assert_eq!(rt; arena.first(ListName::Done(0)), Some(ticket));
+    assert_eq!(rt;
+        (arena.ticket_at(0), arena.ticket_at(1)),
+        (Some(ticket), None)
+    );
+    assert_eq!(rt;
+        (arena.len(ListName::Done(0)), arena.len(ListName::Free)),
+        (1, 0)
+    );
+    assert!(rt; arena.is_on(ticket, ListName::Done(0)));
+    assert!(rt; !arena.is_on(ticket, ListName::Queue(0)));
+    Ok(())
+}
+
+#[test]
+fn a_record_is_replaced(rt: HostRuntime) -> Result<(), Fail> {
+    let alloc = rt.alloc();
+    let mut arena: Arena<u32> = Arena::open(alloc, 3, 1, 1)?;
+    let tickets = [done(&mut arena, 10, 8)?, done(&mut arena, 11, 24)?];
+    let earlier = arena
+        .replace(tickets[0], 20, ListName::Ready)
+        .map_err(|refused| refused.why)?;
+    assert_eq!(rt; (earlier, *arena.get(tickets[0])?), (10, 20));
+    assert!(rt; arena.is_on(tickets[0], ListName::Ready));
+    assert_eq!(rt; arena.lent(), 32);
+    assert_eq!(rt; arena.retire(tickets[0])?, 20);
+    let late = arena
+        .replace(tickets[0], 21, ListName::Ready)
+        .map_err(|refused| (refused.why, refused.back));
+    assert_eq!(rt; late, Err((Refusal::Stale, 21)));
+    Ok(())
+}
+
+/// A record of two fields.
+#[derive(Clone, Copy)]
+struct Counted {
+    steps: u32,
+    bytes: u32,
+}
+
+/// One field of a record changes, by a write through `get_mut`; the other fields stay, and so does all else.
+fn set_steps(arena: &mut Arena<Counted>, ticket: Ticket, steps: u32) -> Result<(), Refusal>
+    ensures live { is_ok result ≡ names arena.old ticket }
+    ensures err { OnErr result (arena.new ≡ arena.old) }
+    ensures written { OnOk result (ForSome (record_in arena.old ticket.slot) (λ counted. arena.new ≡ rewritten arena.old ticket.slot (record { steps = steps; bytes = counted.bytes }))) }
+{
+    arena.get_mut(ticket)?.steps = steps;
+    Ok(())
+}
+
+#[test]
+fn one_field_changes(rt: HostRuntime) -> Result<(), Fail> {
+    let mut arena: Arena<Counted> = Arena::open(rt.alloc(), 1, 1, 1)?;
+    let counted = Counted { steps: 1, bytes: 2 };
+    let ticket = arena
+        .take(counted, 0, ListName::Ready)
+        .map_err(|refused| refused.why)?;
+    set_steps(&mut arena, ticket, 3)?;
+    let counted = arena.get(ticket)?;
+    assert_eq!(rt; (counted.steps, counted.bytes), (3, 2));
     Ok(())
 }

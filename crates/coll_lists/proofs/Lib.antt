@@ -1,6 +1,7 @@
 pub mod Changing
 pub mod Keeping
 pub mod Lawful
+pub mod Linking
 pub mod Moving
 pub mod Occurrences
 pub mod Opening
@@ -8,4 +9,5 @@ pub mod Reading
 pub mod Rings
 pub mod Showing
 pub mod Values
+pub mod Walking
 pub mod WellLinked

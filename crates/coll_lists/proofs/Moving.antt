@@ -2,7 +2,8 @@
 use Rattle.std.proofs.Common.{◌≡◌, ◌≢◌, ℕ, ◌+◌, ◌<◌, List, [], ◌∷◌, ◌++◌, length, sym, ap, subst, ◌∙◌, inl, inr, set, slice_index, arith}
 use Rattle.std.proofs.lemmas.Bool.{cases_eq}
 use Rattle.std.proofs.lemmas.List.{length-set}
-use Rattle.coll_lists.specs.Columns.{Joined, Shows, next_unlinked, prev_unlinked, next_linked, prev_linked, len_entered}
+use Rattle.coll_lists.specs.Columns.{Joined, Shows, len_entered}
+use Rattle.coll_lists.proofs.Linking.{next_unlinked, prev_unlinked, next_linked, prev_linked}
 use Rattle.coll_lists.specs.Layouts.{Layout, sequence}
 use Rattle.coll_lists.specs.Moves.{taken_out, moved_back, moved_front}
 use Rattle.coll_lists.proofs.Occurrences.{Moved-back, Moved-front, sequence-moved_back, sequence-moved_front, Avoids-from_times, times-taken_out}

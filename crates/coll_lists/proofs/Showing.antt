@@ -2,7 +2,8 @@
 use Rattle.std.proofs.Common.{◌≡◌, ◌≢◌, ℕ, suc, ◌+◌, ◌-◌, ◌<◌, ◌≤◌, ◌&&◌, cond, List, length, eqb, ltb, sym, refl, ap, subst, ◌∙◌, inl, inr, eq-eqb, ne_eqb, lt-ltb, le-ltb, set, slice_index, arith, add-one, ◌^◌}
 use Rattle.std.proofs.lemmas.Bool.{cases_eq}
 use Rattle.std.proofs.lemmas.List.{get_or-set_same, get_or-set_other, length-set}
-use Rattle.coll_lists.specs.Columns.{Joined, Shows, next_unlinked, prev_unlinked, next_linked, prev_linked, len_entered}
+use Rattle.coll_lists.specs.Columns.{Joined, Shows, len_entered}
+use Rattle.coll_lists.proofs.Linking.{next_unlinked, prev_unlinked, next_linked, prev_linked}
 use Rattle.coll_lists.specs.Layouts.{Layout, sequence, times}
 use Rattle.coll_lists.specs.Moves.{taken_out}
 use Rattle.coll_lists.proofs.Occurrences.{Moved, Avoids-from_times, times-taken_out, times-taken_out-other, length-taken_out}

@@ -46,6 +46,11 @@ IsLawful-shown next prev list len L s x =
 pub size-shown : (next prev list len : List ℕ) (L : Layout) → Shows next prev list len L → size L ≡ length list
 size-shown next prev list len L s = size-lawful (length list) L (IsLawful-shown next prev list len L s)
 
+-- the same under the names of the code: K is what the columns show, L what clauses see
+pub lawful-seen : (next prev list len : List ℕ) (K L : Layout) → Shows next prev list len K → K ≡ L → IsLawful (size L) L
+lawful-seen next prev list len K L s e =
+    subst (λ z. IsLawful (size z) z) e (subst (λ n. IsLawful n K) (sym (size-shown next prev list len K s)) (IsLawful-shown next prev list len K s))
+
 pub list_of-shown : (next prev list len : List ℕ) (L : Layout) → Shows next prev list len L → (x : ℕ) → x < length list → list_of L x ≡ slice_index list x
 list_of-shown next prev list len L s x low =
     let once : times x (sequence L (slice_index list x)) ≡ 1 = times-here next prev list len L s x low in

@@ -1,14 +1,14 @@
 -- Lists that columns show read alike forwards and backwards.
 use Rattle.std.proofs.Common.{◌≡◌, ℕ, ◌+◌, ◌<◌, ◌≤◌, List, [], ◌∷◌, ◌++◌, length, reverse, Option, sym, refl, ap, subst, ◌∙◌, inl, inr, slice_index, arith, add_comm}
-use Rattle.std.proofs.lemmas.Bool.{cases_eq, cases_lt}
+use Rattle.std.proofs.lemmas.Bool.{cases_eq}
 use Rattle.std.proofs.lemmas.List.{reverse-append}
 use Rattle.coll_lists.specs.Columns.{Joined, Shows, node_at}
 use Rattle.coll_lists.specs.Layouts.{Layout, sequence, times}
-use Rattle.coll_lists.specs.Neighbours.{after_in, before_in}
-use Rattle.coll_lists.specs.WellLinked.{Follows, IsWellLinked}
+use Rattle.coll_lists.specs.WellLinked.{Follows, IsWellLinked, nodes_of, reads}
+use Rattle.coll_lists.specs.declared.columns.Columns.{Columns}
 use Rattle.coll_lists.proofs.Occurrences.{times-append, times-other, times-same}
-use Rattle.coll_lists.proofs.Showing.{times-elsewhere, times-head, times-here}
-use Rattle.coll_lists.proofs.Values.{Inside, Inside-times, after_in-joined, before_in-joined, first_in-joined, last_in-joined, node_at-high, node_at-low}
+use Rattle.coll_lists.proofs.Showing.{times-head}
+use Rattle.coll_lists.proofs.Values.{Inside, Inside-times, list_of-shown, node_at-high, node_at-low}
 
 -- following the links of joined nodes gives them
 pub Follows-joined : (n p : ℕ → ℕ) (f : ℕ → Option ℕ) (from : ℕ) (s : List ℕ) (to k : ℕ) → k ≤ to → Inside k s → ((y : ℕ) → 0 < times y s → f y ≡ node_at k (n y)) → Joined n p from s to → Follows f (node_at k (n from)) s
@@ -22,9 +22,6 @@ Follows-joined n p f from (y ∷ rest) to k high low is j = (
         | inr ne ↦ subst (λ i. 0 < i) (sym (times-other z y rest ne)) some
       ])) j.2),
 )
-
-pub Follows-start : (f : ℕ → Option ℕ) (a b : Option ℕ) (s : List ℕ) → a ≡ b → Follows f a s → Follows f b s
-Follows-start f a b s e follows = subst (λ z. Follows f z s) e follows
 
 -- joined nodes the other way round
 pub Joined-push : (n p : ℕ → ℕ) (from : ℕ) (s : List ℕ) (y to : ℕ) → Joined n p from s y → n y ≡ to → p to ≡ y → Joined n p from (s ++ y ∷ []) to
@@ -46,32 +43,17 @@ times-reverse x (y ∷ rest) =
       | inr ne ↦ ap (λ z. times x rest + z) (times-other x y [] ne) ∙ omega arith ∙ sym (times-other x y rest ne)
     ]
 
-pub IsWellLinked-shown : (next prev list len : List ℕ) (L : Layout) → Shows next prev list len L → (l : ℕ) → l < length L → IsWellLinked L l
-IsWellLinked-shown next prev list len L s l low =
-    let l_low : l < length len = subst (λ z. l < z) s.lists_len low in
-    let ring : Joined (slice_index next) (slice_index prev) (length list + l) (sequence L l) (length list + l) = s.joined l l_low in
-    let none : (x : ℕ) → length list ≤ x → times x (sequence L l) ≡ 0 = λ x high. times-head next prev list len L s x l high l_low in
-    let inside : Inside (length list) (sequence L l) = Inside-times (length list) (sequence L l) none in
-    let once : (y : ℕ) → 0 < times y (sequence L l) → times y (sequence L l) ≡ 1 = λ y some.
-    elim (cases_lt y (length list)) [
-      | inl y_low ↦
-          elim (cases_eq (slice_index list y) l) [
-            | inl e ↦ ap (λ z. times y (sequence L z)) (sym e) ∙ times-here next prev list len L s y y_low
-            | inr ne ↦ absurd (omega (arith, some, times-elsewhere next prev list len L s y l y_low l_low ne))
-          ]
-      | inr y_high ↦ absurd (omega (arith, some, none y y_high))
-    ] in
+pub IsWellLinked-shown : (c : Columns) (L : Layout) → Shows c.next.items c.prev.items c.list.items c.len.items L → (l : ℕ) → l < length L → IsWellLinked c L l
+IsWellLinked-shown c L s l low =
+    let l_low : l < length c.len.items = subst (λ z. l < z) s.lists_len low in
+    let ring : Joined (slice_index c.next.items) (slice_index c.prev.items) (length c.list.items + l) (sequence L l) (length c.list.items + l) = s.joined l l_low in
+    let none : (x : ℕ) → length c.list.items ≤ x → times x (sequence L l) ≡ 0 = λ x high. times-head c.next.items c.prev.items c.list.items c.len.items L s x l high l_low in
     record {
-      forwards = Follows-start _ _ _ (sequence L l)
-          (first_in-joined (slice_index next) (slice_index prev) (length list + l) (sequence L l) (length list + l) (length list) (omega arith) inside ring)
-          (Follows-joined (slice_index next) (slice_index prev) (λ node. after_in node (sequence L l)) (length list + l) (sequence L l) (length list + l) (length list) (omega arith) inside
-          (λ y some. sym (after_in-joined (slice_index next) (slice_index prev) y (length list + l) (sequence L l) (length list + l) (length list) (omega arith) inside some ring))
-          ring);
-      backwards = Follows-start _ _ _ (reverse (sequence L l))
-          (last_in-joined (slice_index next) (slice_index prev) (length list + l) (sequence L l) (length list + l) (length list) (omega arith) inside ring)
-          (Follows-joined (slice_index prev) (slice_index next) (λ node. before_in node (sequence L l)) (length list + l) (reverse (sequence L l)) (length list + l) (length list) (omega arith)
-          (Inside-times (length list) (reverse (sequence L l)) (λ x high. times-reverse x (sequence L l) ∙ none x high))
-          (λ y some. sym (before_in-joined (slice_index next) (slice_index prev) y (length list + l) (sequence L l) (length list + l) (length list) (omega arith) inside
-          (once y (subst (λ z. 0 < z) (times-reverse y (sequence L l)) some)) ring))
-          (Joined-reverse (slice_index next) (slice_index prev) (length list + l) (sequence L l) (length list + l) ring));
+      forwards = Follows-joined (slice_index c.next.items) (slice_index c.prev.items) (reads (nodes_of c) c.next.items) (length c.list.items + l) (sequence L l) (length c.list.items + l) (length c.list.items) (omega arith)
+          (Inside-times (length c.list.items) (sequence L l) none) (λ y some. refl) ring;
+      backwards = Follows-joined (slice_index c.prev.items) (slice_index c.next.items) (reads (nodes_of c) c.prev.items) (length c.list.items + l) (reverse (sequence L l)) (length c.list.items + l) (length c.list.items) (omega arith)
+          (Inside-times (length c.list.items) (reverse (sequence L l)) (λ x high. times-reverse x (sequence L l) ∙ none x high)) (λ y some. refl)
+          (Joined-reverse (slice_index c.next.items) (slice_index c.prev.items) (length c.list.items + l) (sequence L l) (length c.list.items + l) ring);
+      counted = s.counted l l_low;
+      listed = λ node node_low. sym (list_of-shown c.next.items c.prev.items c.list.items c.len.items L s node node_low);
     }

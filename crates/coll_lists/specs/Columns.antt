@@ -29,23 +29,11 @@ opening_next nodes at = if nat_lt at nodes then at + 1 else (if at == nodes then
 abbrev pub opening_prev : ℕ → ℕ → ℕ
 opening_prev nodes at = if at == 0 then nodes else (if nat_lt nodes at then at else at - 1)
 
--- the link columns after x was unlinked
-abbrev pub next_unlinked : List ℕ → List ℕ → ℕ → List ℕ
-next_unlinked next prev x = slice_set next (slice_index prev x) (slice_index next x)
-
-abbrev pub prev_unlinked : List ℕ → List ℕ → ℕ → List ℕ
-prev_unlinked next prev x = slice_set prev (slice_index next x) (slice_index prev x)
-
--- the link columns after x was linked in between two others
-abbrev pub next_linked : List ℕ → ℕ → ℕ → ℕ → List ℕ
-next_linked next l x r = slice_set (slice_set next l x) x r
-
-abbrev pub prev_linked : List ℕ → ℕ → ℕ → ℕ → List ℕ
-prev_linked prev l x r = slice_set (slice_set prev x l) r x
-
 -- the lengths after x went to list l
 abbrev pub len_entered : List ℕ → ℕ → ℕ → List ℕ
-len_entered len from l = slice_set (slice_set len from (slice_index len from - 1)) l (slice_index (slice_set len from (slice_index len from - 1)) l + 1)
+len_entered len from l =
+    slice_set (slice_set len from (slice_index len from - 1)) l
+    (slice_index (slice_set len from (slice_index len from - 1)) l + 1)
 
 -- the columns show this layout
 pub record Shows (next prev list len : List ℕ) (lists : Layout) : Type 0 where
@@ -56,6 +44,12 @@ pub record Shows (next prev list len : List ℕ) (lists : Layout) : Type 0 where
   pub within : (node : ℕ) → node < length list → slice_index list node < length len
   pub next_in : (i : ℕ) → i < length next → slice_index next i < length next
   pub prev_in : (i : ℕ) → i < length prev → slice_index prev i < length prev
-  pub joined : (l : ℕ) → l < length len → Joined (slice_index next) (slice_index prev) (length list + l) (sequence lists l) (length list + l)
-  pub placed : (node l : ℕ) → l < length len → times node (sequence lists l) ≡ (if nat_lt node (length list) && (slice_index list node == l) then 1 else 0)
+  pub joined :
+      (l : ℕ) →
+      l < length len →
+      Joined (slice_index next) (slice_index prev) (length list + l) (sequence lists l) (length list + l)
+  pub placed :
+      (node l : ℕ) →
+      l < length len →
+      times node (sequence lists l) ≡ (if nat_lt node (length list) && (slice_index list node == l) then 1 else 0)
   pub counted : (l : ℕ) → l < length len → slice_index len l ≡ length (sequence lists l)

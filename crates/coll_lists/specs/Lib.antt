@@ -4,4 +4,5 @@ pub mod Layouts
 pub mod Moves
 pub mod Neighbours
 pub mod Rows
+pub mod Walks
 pub mod WellLinked

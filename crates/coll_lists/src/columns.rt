@@ -1,5 +1,5 @@
 ghost use Rattle.std.specs.Prelude.{◌≡◌, ℕ, ◌+◌, ◌-◌, ◌^◌, ◌<◌, IfOk, length, replicate, slice_index, slice_set};
-ghost use Rattle.coll_lists.specs.Columns.{len_entered, next_linked, next_unlinked, node_at, opening_next, opening_prev, prev_linked, prev_unlinked};
+ghost use Rattle.coll_lists.specs.Columns.{len_entered, node_at, opening_next, opening_prev};
 
 use std::alloc::{AllocError, Global};
 
@@ -8,7 +8,7 @@ use std::alloc::{AllocError, Global};
 /// The nodes come first. Behind them stands one head for each list, which is linked before the list's first
 /// node and behind its last one, so that unlinking and linking know no special case.
 #[derive(Debug, Drop)]
-pub(crate) struct Columns {
+pub struct Columns {
     pub(crate) next: Vec<u32>,
     pub(crate) prev: Vec<u32>,
     pub(crate) list: Vec<u32>,
@@ -54,40 +54,6 @@ impl Columns {
             list,
             len,
         })
-    }
-
-    /// Joins the neighbours of a node with each other.
-    pub(crate) fn unlink(&mut self, node: u32)
-        requires next_in { node < length self.old.next.items }
-        requires prev_in { node < length self.old.prev.items }
-        requires left_in { slice_index self.old.prev.items node < length self.old.next.items }
-        requires right_in { slice_index self.old.next.items node < length self.old.prev.items }
-        ensures next { self.new.next.items ≡ next_unlinked self.old.next.items self.old.prev.items node }
-        ensures prev { self.new.prev.items ≡ prev_unlinked self.old.next.items self.old.prev.items node }
-        ensures list { self.new.list.items ≡ self.old.list.items }
-        ensures len { self.new.len.items ≡ self.old.len.items }
-    {
-        let left = self.prev[node as usize];
-        let right = self.next[node as usize];
-        self.next[left as usize] = right;
-        self.prev[right as usize] = left;
-    }
-
-    /// Links a node in between two neighbours.
-    pub(crate) fn link(&mut self, left: u32, node: u32, right: u32)
-        requires next_left { left < length self.old.next.items }
-        requires next_in { node < length self.old.next.items }
-        requires prev_in { node < length self.old.prev.items }
-        requires prev_right { right < length self.old.prev.items }
-        ensures next { self.new.next.items ≡ next_linked self.old.next.items left node right }
-        ensures prev { self.new.prev.items ≡ prev_linked self.old.prev.items left node right }
-        ensures list { self.new.list.items ≡ self.old.list.items }
-        ensures len { self.new.len.items ≡ self.old.len.items }
-    {
-        self.next[left as usize] = node;
-        self.next[node as usize] = right;
-        self.prev[node as usize] = left;
-        self.prev[right as usize] = node;
     }
 
     /// Notes that a node has gone to another list.

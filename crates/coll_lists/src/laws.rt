@@ -6,22 +6,23 @@ ghost use Rattle.coll_lists.specs.Layouts.{IsLawful, size};
 ghost use Rattle.coll_lists.specs.Moves.{moved_back, moved_front};
 ghost use Rattle.coll_lists.specs.WellLinked.{IsWellLinked};
 
+use crate::columns::Columns;
 use crate::links::Links;
 
 /// Every node stands exactly once over all lists.
 pub fn is_lawful(links: &Links)
     ensures { IsLawful (size links.now) links.now }
 {
-    links.check();
+    let _columns = links.columns();
 }
 
-/// A list reads alike forwards and backwards: the next nodes from the first one give its sequence, the previous
-/// nodes from the last one give the reverse, and both end.
-pub fn is_well_linked(links: &Links, list: u32)
+/// A list reads alike forwards and backwards: in the columns that the readers read, the next nodes from the first one
+/// give its sequence, the previous nodes from the last one give the reverse, and both end.
+pub fn is_well_linked(links: &Links, list: u32) -> &Columns
     requires { list < length links.now }
-    ensures { IsWellLinked links.now list }
+    ensures { IsWellLinked result.now links.now list }
 {
-    links.check();
+    links.columns()
 }
 
 /// A move to the back leaves every list as it was with that node taken out, save for the node's new place.

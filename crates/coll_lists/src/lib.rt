@@ -4,12 +4,16 @@
 //! | Module | Has |
 //! |---|---|
 //! | `links` | `Links`, the lists |
-//! | `columns` | the index columns under them |
+//! | `nodes` | `Nodes`, a walk over a list's nodes in either direction |
+//! | `columns` | `Columns`, the index columns under them |
 //! | `laws` | laws that hold of every layout and of every move |
 #![tactic(auto)]
 
 mod columns;
 pub mod laws;
 mod links;
+mod nodes;
 
+pub use columns::Columns;
 pub use links::Links;
+pub use nodes::Nodes;

@@ -1,11 +1,14 @@
-ghost use Rattle.std.specs.Prelude.{◌≡◌, ℕ, ◌+◌, ◌-◌, ◌^◌, ◌<◌, List, [], ◌∷◌, IfOk, IfErr, length, replicate};
+ghost use Rattle.std.specs.Prelude.{◌≡◌, ℕ, ◌+◌, ◌-◌, ◌^◌, ◌<◌, List, [], ◌∷◌, IfOk, IfErr, length, replicate, reverse};
 ghost use Rattle.std.specs.List.{range_with_len};
 ghost use Rattle.coll_lists.specs.Layouts.{IsLawful, list_of, sequence, size};
 ghost use Rattle.coll_lists.specs.Moves.{moved_back, moved_front};
 ghost use Rattle.coll_lists.specs.Neighbours.{after_in, before_in, first_in, last_in};
+ghost use Rattle.coll_lists.specs.Walks.{nodes_left};
 ghost use Rattle.coll_lists.specs.WellLinked.{IsWellLinked};
+ghost use Rattle.coll_lists.specs.declared.links.End as End;
 
 use crate::columns::Columns;
+use crate::nodes::Nodes;
 use coll_kinds::Refusal;
 use std::alloc::Global;
 use std::marker::Model;
@@ -18,6 +21,13 @@ use std::marker::Model;
 #[derive(Debug, Drop)]
 pub struct Links {
     columns: Columns,
+}
+
+/// The end of a list that a node moves to.
+#[derive(Clone, Copy)]
+enum End {
+    Front,
+    Back,
 }
 
 impl Model for Links {
@@ -93,17 +103,43 @@ impl Links {
         self.columns.len[list as usize]
     }
 
+    /// The nodes of a list, from its first to its last.
+    pub fn nodes(&self, list: u32) -> Nodes<'_>
+        requires { list < length self.now }
+        ensures { nodes_left result ≡ sequence self.now list }
+    {
+        // Looking at the columns shows that each node stands on one list, which a walk rests on.
+        let _columns = &self.columns;
+        let at = self.first(list);
+        Nodes {
+            links: self,
+            at,
+            backwards: false,
+        }
+    }
+
+    /// The nodes of a list, from its last to its first.
+    pub fn nodes_back(&self, list: u32) -> Nodes<'_>
+        requires { list < length self.now }
+        ensures { nodes_left result ≡ reverse (sequence self.now list) }
+    {
+        // Looking at the columns shows that each node stands on one list, which a walk rests on.
+        let _columns = &self.columns;
+        let at = self.last(list);
+        Nodes {
+            links: self,
+            at,
+            backwards: true,
+        }
+    }
+
     /// Takes a node out of its list and puts it at the back of a list, which may be the same one.
     pub fn move_back(&mut self, node: u32, list: u32)
         requires node_in { node < size self.old }
         requires list_in { list < length self.old }
         ensures { self.new ≡ moved_back node list self.old }
     {
-        self.columns.unlink(node);
-        let head = self.columns.head(list);
-        let last = self.columns.prev[head as usize];
-        self.columns.link(last, node, head);
-        self.columns.enter(node, list);
+        self.move_to(node, list, End::Back);
     }
 
     /// Takes a node out of its list and puts it at the front of a list, which may be the same one.
@@ -112,19 +148,40 @@ impl Links {
         requires list_in { list < length self.old }
         ensures { self.new ≡ moved_front node list self.old }
     {
-        self.columns.unlink(node);
+        self.move_to(node, list, End::Front);
+    }
+
+    /// Joins the neighbours of a node with each other, and then puts it between a list's head and the node there.
+    fn move_to(&mut self, node: u32, list: u32, end: End)
+        requires node_in { node < size self.old }
+        requires list_in { list < length self.old }
+        ensures back { end ≡ End.Back → self.new ≡ moved_back node list self.old }
+        ensures front { end ≡ End.Front → self.new ≡ moved_front node list self.old }
+    {
+        let before = self.columns.prev[node as usize];
+        let behind = self.columns.next[node as usize];
+        self.columns.next[before as usize] = behind;
+        self.columns.prev[behind as usize] = before;
+
         let head = self.columns.head(list);
-        let first = self.columns.next[head as usize];
-        self.columns.link(head, node, first);
+        let left = match end {
+            End::Front => head,
+            End::Back => self.columns.prev[head as usize],
+        };
+        let right = self.columns.next[left as usize];
+        self.columns.next[left as usize] = node;
+        self.columns.next[node as usize] = right;
+        self.columns.prev[node as usize] = left;
+        self.columns.prev[right as usize] = node;
         self.columns.enter(node, list);
     }
 
-    /// What holds of every layout, for the laws.
-    pub(crate) fn check(&self)
+    /// The columns that the readers read, with what holds of every layout.
+    pub(crate) fn columns(&self) -> &Columns
         ensures lawful { IsLawful (size self.now) self.now }
-        ensures well_linked { (list : ℕ) → list < length self.now → IsWellLinked self.now list }
+        ensures well_linked { (list : ℕ) → list < length self.now → IsWellLinked result.now self.now list }
     {
-        let _columns = &self.columns;
+        &self.columns
     }
 }
 
@@ -171,6 +228,10 @@ mod tests {
         ];
         assert_eq!(rt; lists, [1, 0, 1, 0, 1]);
         assert_eq!(rt; [links.len(0), links.len(1), links.len(2)], [2, 3, 0]);
+        let walked: Vec<u32> = links.nodes(1).collect(rt.alloc())?;
+        assert_eq!(rt; walked.as_slice(), [4, 0, 2].as_slice());
+        let walked_back: Vec<u32> = links.nodes_back(1).collect(rt.alloc())?;
+        assert_eq!(rt; walked_back.as_slice(), [2, 0, 4].as_slice());
         Ok(())
     }
 }

@@ -1,14 +1,6 @@
-use Rattle.std.proofs.Common.{arith, subst, sym}
-use Rattle.coll_arena.specs.Sound.{IsSound}
-use Rattle.coll_arena.proofs.Opening.{IsSound-opened}
-use Rattle.coll_arena.proofs.Viewed.{viewed_opened}
+use Rattle.std.proofs.Common.{arith, rules}
+use Rattle.coll_arena.proofs.Opening.{IsKept-made}
 use Rattle.coll_arena.proofs.arena.Arena.open.Goals as goal
 
 pub invariant_of-result : goal.invariant_of-result
-invariant_of-result g c =
-    subst (λ z. IsSound z) (sym (viewed_opened c.in_ok-made.made.items c.in_ok-links.links c.args.slots _ c.args.wear c.in_ok-made.ensures c.in_ok-links.ensures.made))
-    (IsSound-opened c.args.slots _ c.args.wear c.requires.worn (omega arith) (omega arith) c.requires.room)
-
-pub returns-clause-opened : goal.returns-clause-opened
-returns-clause-opened g c =
-    viewed_opened c.in_ok-made.made.items c.in_ok-links.links c.args.slots _ c.args.wear c.in_ok-made.ensures c.in_ok-links.ensures.made
+invariant_of-result g c = IsKept-made _ _ _ _ c.args.slots c.args.comms c.args.wear (search rules) (search rules) c.in_ok-records.ensures c.in_ok-links.ensures.made c.requires.worn (omega arith) c.requires.room
