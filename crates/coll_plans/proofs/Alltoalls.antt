@@ -11,7 +11,8 @@ use Rattle.coll_sched.specs.Families.{result_at, IsLawful}
 use Rattle.coll_trees.proofs.Columns.{lawful_columns}
 use Rattle.coll_plans.specs.declared.pattern.Pattern.TheVariants.{ToAll}
 use Rattle.coll_plans.specs.Exchanges.{exchange}
-use Rattle.coll_plans.specs.Directs.{IsDirectFor, direct_bound, blocks_from, all_blocks, alltoall_by, alltoall_family}
+use Rattle.coll_plans.specs.Directs.{IsDirectFor, blocks_from, all_blocks, alltoall_by, alltoall_family}
+use Rattle.coll_trees.specs.Depths.{direct_bound}
 use Rattle.coll_plans.proofs.Exchanges.{IsRouted, exchange_column}
 use Rattle.coll_plans.proofs.Places.{block_within, places_apart}
 use Rattle.coll_plans.proofs.Arrivals.{got_all, heard_of}

@@ -6,12 +6,12 @@ use Rattle.coll_sched.specs.declared.region.Region.{Region}
 use Rattle.coll_sched.specs.declared.action.Action.{Action}
 use Rattle.coll_sched.specs.Schedules.{has_peer}
 use Rattle.coll_sched.specs.Families.{Family, family_exchanges}
-use Rattle.coll_trees.specs.Columns.{Column}
+use Rattle.coll_trees.specs.Columns.{Column, family_with}
 use Rattle.coll_trees.proofs.Columns.{column_of, round-column, IsLocalColumn, Costs, free, local_round, exchange, few_exchanges, no_exchanges}
 use Rattle.coll_plans.specs.declared.blocks.Blocks.{Blocks}
 use Rattle.coll_plans.specs.declared.pattern.Pattern.{Pattern}
 use Rattle.coll_plans.specs.Exchanges.{exchange as exchange_of}
-use Rattle.coll_plans.specs.Directs.{family_with, direct_bound}
+use Rattle.coll_trees.specs.Depths.{direct_bound}
 use Rattle.coll_plans.proofs.Exchanges.{each_action}
 
 none_has : (xs : List Action) → AllByRecursion (λ a. has_peer a ≡ false) xs → list_any has_peer xs ≡ false

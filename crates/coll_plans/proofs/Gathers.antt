@@ -9,14 +9,14 @@ use Rattle.coll_kinds.specs.Lengths.{block_len, given_by, got_by}
 use Rattle.coll_kinds.specs.Needs.{needs_of}
 use Rattle.coll_ops.specs.Values.{part, row_of, all_rows, value_by}
 use Rattle.coll_ops.proofs.Given.{flat_map-part_whole}
-use Rattle.coll_sched.specs.Regions.{Inside, read_of}
+use Rattle.coll_sched.specs.Regions.{Inside, read_of, front, nothing}
 use Rattle.coll_sched.specs.Families.{lock_step, result_at, Heard, IsLawful}
 use Rattle.coll_sched.proofs.Track.{heard_self}
-use Rattle.coll_trees.specs.Depths.{front, nothing}
 use Rattle.coll_trees.proofs.Columns.{lawful_columns}
 use Rattle.coll_plans.specs.declared.pattern.Pattern.TheVariants.{ToRoot}
 use Rattle.coll_plans.specs.Exchanges.{exchange}
-use Rattle.coll_plans.specs.Directs.{IsDirectFor, direct_bound, one_block, blocks_from, all_blocks, gather_by, gather_family}
+use Rattle.coll_plans.specs.Directs.{IsDirectFor, one_block, blocks_from, all_blocks, gather_by, gather_family}
+use Rattle.coll_trees.specs.Depths.{direct_bound}
 use Rattle.coll_plans.proofs.Exchanges.{IsRouted, exchange_column}
 use Rattle.coll_plans.proofs.Places.{block_within, places_apart}
 use Rattle.coll_plans.proofs.Arrivals.{got_all, heard_of}

@@ -14,4 +14,5 @@ pub mod LocalRounds
 pub mod Ranges
 pub mod Scans
 pub mod Exscans
+mod Counts
 pub mod Plans

@@ -12,7 +12,8 @@ use Rattle.coll_ops.specs.Values.{value_by}
 use Rattle.coll_sched.specs.Schedules.{IsRound}
 use Rattle.coll_sched.specs.Families.{actions_at, out_link, in_link, len_of, Receives, Heard}
 use Rattle.coll_trees.specs.Columns.{Column}
-use Rattle.coll_trees.specs.Depths.{depth, nothing}
+use Rattle.coll_trees.specs.Depths.{depth}
+use Rattle.coll_sched.specs.Regions.{nothing}
 use Rattle.coll_trees.specs.Trees.{IsNarrowFor}
 use Rattle.coll_trees.proofs.Columns.{IsColumn, column_of, round-column, length-rounds, lawful_family, narrow_family, few_exchanges, Costs, free, exchange}
 use Rattle.coll_trees.proofs.Depths.{depth_reaches, depth_short}

@@ -1,28 +1,24 @@
 -- the family of every checked signature serves it, within its kind's bound
-use Rattle.std.proofs.Common.{◌≡◌, ℕ, ◌+◌, ◌<◌, ◌≤◌, ◌⊎◌, inl, inr, true, cond, eqb, [], ◌∷◌, Option, Some, None, MatchOption, Result, Ok, Err, IsOk, IfOk, IsErrOf, IsOkUnless, refl, sym, ap, subst, ◌∙◌, arith, eq-eqb, ne_eqb}
-use Rattle.std.proofs.lemmas.Bool.{cases_eq, cond-true, cond-false, false≢true}
-use Rattle.std.specs.List.{list_any}
+use Rattle.std.proofs.Common.{◌≡◌, ℕ, ◌<◌, ◌≤◌, true, Option, Some, None, MatchOption, Result, Ok, Err, IsOk, IfOk, IsErrOf, IsOkUnless, refl, sym, ap, subst, ◌∙◌}
+use Rattle.std.proofs.lemmas.Bool.{false≢true}
 use Rattle.coll_kinds.specs.declared.kind.Kind.{Kind}
 use Rattle.coll_kinds.specs.declared.kind.Kind.TheVariants.{Barrier, Bcast, Gather, Scatter, Allgather, Alltoall, Reduce, Allreduce, Rsblock, Scan, Exscan}
 use Rattle.coll_kinds.specs.declared.signature.Signature.{Signature}
 use Rattle.coll_kinds.specs.declared.refusal.Refusal.{Refusal}
 use Rattle.coll_kinds.specs.declared.refusal.Refusal.TheVariants.{BadSignature, NoMemory}
 use Rattle.coll_kinds.specs.declared.refusal.SignatureFault.{SignatureFault}
-use Rattle.coll_kinds.specs.Lengths.{block_len}
-use Rattle.coll_kinds.specs.Checks.{has_root, broken}
-use Rattle.coll_sched.specs.Schedules.{Parts, has_peer}
+use Rattle.coll_kinds.specs.Checks.{broken}
+use Rattle.coll_sched.specs.Schedules.{Parts}
 use Rattle.coll_sched.specs.Families.{IsNarrow, family_exchanges}
 use Rattle.coll_sched.specs.Served.{Serves}
-use Rattle.coll_trees.specs.Depths.{depth, front, nothing}
-use Rattle.coll_trees.specs.Folding.{last_hop}
-use Rattle.coll_trees.specs.Trees.{reduce_family, IsNarrowFor}
-use Rattle.coll_trees.proofs.Checked.{checked, root_low}
-use Rattle.coll_trees.proofs.Columns.{few_exchanges, free, local_round}
+use Rattle.coll_trees.specs.Trees.{IsNarrowFor}
+use Rattle.coll_trees.proofs.Depths.{depth-most}
 use Rattle.coll_trees.proofs.Bcasts.{bcast_serves}
 use Rattle.coll_trees.proofs.Reduces.{reduce_serves}
 use Rattle.coll_trees.proofs.Allreduces.{allreduce_serves}
-use Rattle.coll_plans.specs.Directs.{IsDirectFor, direct_bound}
-use Rattle.coll_plans.specs.Plans.{family_by, family, is_direct, most_exchanges, IsPlanned, FamiliesServe, Planned}
+use Rattle.coll_plans.specs.Directs.{IsDirectFor}
+use Rattle.coll_plans.specs.Plans.{family_by, family, is_direct, most_exchanges_by, IsPlanned, FamiliesServe, Planned}
+use Rattle.coll_plans.proofs.Counts.{short_by}
 use Rattle.coll_plans.proofs.Meetings.{barrier_serves}
 use Rattle.coll_plans.proofs.Scans.{scan_serves}
 use Rattle.coll_plans.proofs.Exscans.{exscan_serves}
@@ -33,56 +29,34 @@ use Rattle.coll_plans.proofs.Alltoalls.{alltoall_serves}
 use Rattle.coll_plans.proofs.Rsblocks.{rsblock_serves}
 
 -- a narrow family of the kind, and a direct one
-of_narrow : (sig : Signature) (n : ℕ) (k : Kind) → sig.kind ≡ k → IsNarrowFor sig n (family_by k sig n) (most_exchanges k n) → IsPlanned sig n (family_by sig.kind sig n)
-of_narrow sig n k e h = record {
+of_narrow : (sig : Signature) (n : ℕ) (k : Kind) → n ≤ 64 → sig.kind ≡ k → IsNarrowFor sig n (family_by k sig n) (most_exchanges_by k n) → IsPlanned sig n (family_by sig.kind sig n)
+of_narrow sig n k top e h = record {
   serves = subst (λ x. Serves sig n (family_by x sig n)) (sym e) h.serves;
-  few = subst (λ x. family_exchanges n (family_by x sig n) ≤ most_exchanges x n) (sym e) h.few;
+  few = subst (λ x. family_exchanges n (family_by x sig n) ≤ most_exchanges_by x n) (sym e) h.few;
+  short = short_by sig.kind sig n top (depth-most n);
   narrow = λ d. subst (λ x. IsNarrow n (family_by x sig n)) (sym e) h.narrow;
 }
 
-of_direct : (sig : Signature) (n : ℕ) (k : Kind) → sig.kind ≡ k → is_direct k ≡ true → IsDirectFor sig n (family_by k sig n) (most_exchanges k n) → IsPlanned sig n (family_by sig.kind sig n)
-of_direct sig n k e direct h = record {
+of_direct : (sig : Signature) (n : ℕ) (k : Kind) → n ≤ 64 → sig.kind ≡ k → is_direct k ≡ true → IsDirectFor sig n (family_by k sig n) (most_exchanges_by k n) → IsPlanned sig n (family_by sig.kind sig n)
+of_direct sig n k top e direct h = record {
   serves = subst (λ x. Serves sig n (family_by x sig n)) (sym e) h.serves;
-  few = subst (λ x. family_exchanges n (family_by x sig n) ≤ most_exchanges x n) (sym e) h.few;
+  few = subst (λ x. family_exchanges n (family_by x sig n) ≤ most_exchanges_by x n) (sym e) h.few;
+  short = short_by sig.kind sig n top (depth-most n);
   narrow = λ d. absurd (false≢true (sym d ∙ (ap is_direct e ∙ direct)));
 }
 
--- the one member of a reduce is the root, and has nobody to send to
-lone_hop : (b root r : ℕ) → root < 1 → last_hop b root r ≡ []
-lone_hop b root r low = cond-true (eqb root 0) [] _ (eq-eqb root 0 (omega arith))
-
-lone_reduce : (sig : Signature) → sig.root < 1 → family_exchanges 1 (reduce_family sig 1) ≤ depth 1 + 0
-unfolding depth
-lone_reduce sig low =
-    few_exchanges 1 (block_len sig + block_len sig) (λ r. front (block_len sig)) (λ r. cond (eqb r sig.root) (front (block_len sig)) nothing) (last_hop (block_len sig) sig.root ∷ []) 0
-    (local_round (λ r. ap (list_any has_peer) (lone_hop (block_len sig) sig.root r low)) free)
-
-reduce_few : (sig : Signature) (n : ℕ) → broken sig n ≡ None → sig.kind ≡ Reduce → n ≤ 64 → family_exchanges n (reduce_family sig n) ≤ depth n + direct_bound n
-reduce_few sig n h kind top = go (cases_eq n 1) (root_low sig n (checked sig n h) (ap has_root kind)) (reduce_serves sig n h kind top).few
-  where
-    go : (n ≡ 1) ⊎ (n ≡ 1 → ⊥) → sig.root < n → family_exchanges n (reduce_family sig n) ≤ depth n + 1 → family_exchanges n (reduce_family sig n) ≤ depth n + direct_bound n
-    go (inl e) low few = subst (λ m. family_exchanges m (reduce_family sig m) ≤ depth m + direct_bound m) (sym e) (lone_reduce sig (omega arith))
-    go (inr d) low few = subst (λ m. family_exchanges n (reduce_family sig n) ≤ depth n + m) (sym (cond-false (eqb n 1) 0 1 (ne_eqb n 1 d))) few
-
-reduce_within : (sig : Signature) (n : ℕ) → broken sig n ≡ None → sig.kind ≡ Reduce → n ≤ 64 → IsNarrowFor sig n (reduce_family sig n) (depth n + direct_bound n)
-reduce_within sig n h kind top = record {
-  serves = (reduce_serves sig n h kind top).serves;
-  narrow = (reduce_serves sig n h kind top).narrow;
-  few = reduce_few sig n h kind top;
-}
-
 by_kind : (sig : Signature) (n : ℕ) → broken sig n ≡ None → 0 < n → n ≤ 64 → (k : Kind) → sig.kind ≡ k → IsPlanned sig n (family_by sig.kind sig n)
-by_kind sig n h pos top Barrier e = of_narrow sig n Barrier e (barrier_serves sig n e pos top)
-by_kind sig n h pos top Bcast e = of_narrow sig n Bcast e (bcast_serves sig n h e top)
-by_kind sig n h pos top Gather e = of_direct sig n Gather e refl (gather_serves sig n e)
-by_kind sig n h pos top Scatter e = of_direct sig n Scatter e refl (scatter_serves sig n h e)
-by_kind sig n h pos top Allgather e = of_direct sig n Allgather e refl (allgather_serves sig n e)
-by_kind sig n h pos top Alltoall e = of_direct sig n Alltoall e refl (alltoall_serves sig n e)
-by_kind sig n h pos top Reduce e = of_narrow sig n Reduce e (reduce_within sig n h e top)
-by_kind sig n h pos top Allreduce e = of_narrow sig n Allreduce e (allreduce_serves sig n h e pos top)
-by_kind sig n h pos top Rsblock e = of_direct sig n Rsblock e refl (rsblock_serves sig n h e)
-by_kind sig n h pos top Scan e = of_narrow sig n Scan e (scan_serves sig n h e top)
-by_kind sig n h pos top Exscan e = of_narrow sig n Exscan e (exscan_serves sig n h e top)
+by_kind sig n h pos top Barrier e = of_narrow sig n Barrier top e (barrier_serves sig n e pos top)
+by_kind sig n h pos top Bcast e = of_narrow sig n Bcast top e (bcast_serves sig n h e top)
+by_kind sig n h pos top Gather e = of_direct sig n Gather top e refl (gather_serves sig n e)
+by_kind sig n h pos top Scatter e = of_direct sig n Scatter top e refl (scatter_serves sig n h e)
+by_kind sig n h pos top Allgather e = of_direct sig n Allgather top e refl (allgather_serves sig n e)
+by_kind sig n h pos top Alltoall e = of_direct sig n Alltoall top e refl (alltoall_serves sig n e)
+by_kind sig n h pos top Reduce e = of_narrow sig n Reduce top e (reduce_serves sig n h e top)
+by_kind sig n h pos top Allreduce e = of_narrow sig n Allreduce top e (allreduce_serves sig n h e pos top)
+by_kind sig n h pos top Rsblock e = of_direct sig n Rsblock top e refl (rsblock_serves sig n h e)
+by_kind sig n h pos top Scan e = of_narrow sig n Scan top e (scan_serves sig n h e top)
+by_kind sig n h pos top Exscan e = of_narrow sig n Exscan top e (exscan_serves sig n h e top)
 
 pub all_served : FamiliesServe
 unfolding family

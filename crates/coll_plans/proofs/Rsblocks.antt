@@ -26,7 +26,8 @@ use Rattle.coll_trees.proofs.Checked.{checked, operation_allowed, block_whole}
 use Rattle.coll_trees.proofs.Columns.{column_of, round-column, lawful_columns}
 use Rattle.coll_plans.specs.declared.pattern.Pattern.TheVariants.{ToAll}
 use Rattle.coll_plans.specs.Exchanges.{place, exchange}
-use Rattle.coll_plans.specs.Directs.{IsDirectFor, direct_bound, blocks_from, all_blocks, combines_below, rsblock_by, rsblock_family}
+use Rattle.coll_plans.specs.Directs.{IsDirectFor, blocks_from, all_blocks, combines_below, rsblock_by, rsblock_family}
+use Rattle.coll_trees.specs.Depths.{direct_bound}
 use Rattle.coll_plans.proofs.Exchanges.{exchange_column}
 use Rattle.coll_plans.proofs.Places.{block_within}
 use Rattle.coll_plans.proofs.Arrivals.{got_part, heard_of}

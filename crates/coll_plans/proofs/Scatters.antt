@@ -9,15 +9,15 @@ use Rattle.coll_kinds.specs.Lengths.{block_len, given_by, got_by}
 use Rattle.coll_kinds.specs.Needs.{needs_of}
 use Rattle.coll_kinds.specs.Checks.{has_root, broken}
 use Rattle.coll_ops.specs.Values.{block, row_of, value_by}
-use Rattle.coll_sched.specs.Regions.{Inside, read_of}
+use Rattle.coll_sched.specs.Regions.{Inside, read_of, front, nothing}
 use Rattle.coll_sched.specs.Families.{lock_step, result_at, IsLawful}
 use Rattle.coll_sched.proofs.Rounds.{GivenFits}
-use Rattle.coll_trees.specs.Depths.{front, nothing}
 use Rattle.coll_trees.proofs.Checked.{checked, root_low}
 use Rattle.coll_trees.proofs.Columns.{lawful_columns}
 use Rattle.coll_plans.specs.declared.pattern.Pattern.TheVariants.{FromRoot}
 use Rattle.coll_plans.specs.Exchanges.{exchange}
-use Rattle.coll_plans.specs.Directs.{IsDirectFor, direct_bound, one_block, blocks_from, all_blocks, scatter_by, scatter_family}
+use Rattle.coll_plans.specs.Directs.{IsDirectFor, one_block, blocks_from, all_blocks, scatter_by, scatter_family}
+use Rattle.coll_trees.specs.Depths.{direct_bound}
 use Rattle.coll_plans.proofs.Exchanges.{IsRouted, exchange_column}
 use Rattle.coll_plans.proofs.Places.{block_within}
 use Rattle.coll_plans.proofs.Arrivals.{got_part, heard_of}

@@ -10,8 +10,8 @@ use Rattle.coll_sched.specs.declared.region.Region.{Region}
 use Rattle.coll_sched.specs.declared.action.Action.TheVariants.{Combine}
 use Rattle.coll_sched.specs.Families.{Family, family_exchanges}
 use Rattle.coll_sched.specs.Served.{Serves}
-use Rattle.coll_trees.specs.Columns.{Column, rounds_of}
-use Rattle.coll_trees.specs.Depths.{front, nothing}
+use Rattle.coll_trees.specs.Columns.{Column, family_with}
+use Rattle.coll_sched.specs.Regions.{front, nothing}
 use Rattle.coll_plans.specs.declared.blocks.Blocks.{Blocks}
 use Rattle.coll_plans.specs.declared.pattern.Pattern.TheVariants.{ToAll, ToRoot, FromRoot}
 use Rattle.coll_plans.specs.Exchanges.{place, exchange}
@@ -20,14 +20,6 @@ use Rattle.coll_plans.specs.Exchanges.{place, exchange}
 pub record IsDirectFor (sig : Signature) (n : ℕ) (f : Family) (bound : ℕ) : Type 0 where
   pub serves : Serves sig n f
   pub few : family_exchanges n f ≤ bound
-
--- one exchange; none of a single member
-abbrev pub direct_bound : ℕ → ℕ
-direct_bound n = cond (n == 1) 0 1
-
--- the family with these rounds, where a member's buffer has its own size
-abbrev pub family_with : (ℕ → ℕ) → (ℕ → Region) → (ℕ → Region) → List Column → Family
-family_with size input output columns r = record { size = size r; input = input r; output = output r; rounds = rounds_of columns r }
 
 -- one block of b bytes at the front, the same for all members
 abbrev pub one_block : ℕ → Blocks

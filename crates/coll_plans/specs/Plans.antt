@@ -6,12 +6,13 @@ use Rattle.coll_kinds.specs.declared.signature.Signature.{Signature}
 use Rattle.coll_kinds.specs.Checks.{broken}
 use Rattle.coll_sched.specs.Schedules.{Parts}
 use Rattle.coll_sched.specs.Families.{Family, IsNarrow, family_exchanges}
+use Rattle.coll_sched.specs.Points.{remaining}
 use Rattle.coll_sched.specs.Served.{Serves}
-use Rattle.coll_trees.specs.Depths.{depth}
+use Rattle.coll_trees.specs.Depths.{depth, direct_bound}
 use Rattle.coll_trees.specs.Trees.{bcast_family, reduce_family, allreduce_family}
 use Rattle.coll_plans.specs.Barriers.{barrier_family}
 use Rattle.coll_plans.specs.Scans.{scan_family, exscan_family}
-use Rattle.coll_plans.specs.Directs.{direct_bound, gather_family, scatter_family, allgather_family, alltoall_family, rsblock_family}
+use Rattle.coll_plans.specs.Directs.{gather_family, scatter_family, allgather_family, alltoall_family, rsblock_family}
 
 -- by kind
 abbrev pub family_by : Kind → Signature → ℕ → Family
@@ -46,23 +47,31 @@ is_direct Scan = false
 is_direct Exscan = false
 
 -- the most rounds in which some member sends or receives; a single member never does
-abbrev pub most_exchanges : Kind → ℕ → ℕ
-most_exchanges Barrier n = depth n
-most_exchanges Bcast n = depth n
-most_exchanges Gather n = direct_bound n
-most_exchanges Scatter n = direct_bound n
-most_exchanges Allgather n = direct_bound n
-most_exchanges Alltoall n = direct_bound n
-most_exchanges Reduce n = depth n + direct_bound n
-most_exchanges Allreduce n = depth n + depth n
-most_exchanges Rsblock n = direct_bound n
-most_exchanges Scan n = depth n
-most_exchanges Exscan n = depth n
+abbrev pub most_exchanges_by : Kind → ℕ → ℕ
+most_exchanges_by Barrier n = depth n
+most_exchanges_by Bcast n = depth n
+most_exchanges_by Gather n = direct_bound n
+most_exchanges_by Scatter n = direct_bound n
+most_exchanges_by Allgather n = direct_bound n
+most_exchanges_by Alltoall n = direct_bound n
+most_exchanges_by Reduce n = depth n + direct_bound n
+most_exchanges_by Allreduce n = depth n + depth n
+most_exchanges_by Rsblock n = direct_bound n
+most_exchanges_by Scan n = depth n
+most_exchanges_by Exscan n = depth n
 
--- the family serves the signature within the kind's bound, and is narrow unless it is direct
+abbrev pub most_exchanges : Signature → ℕ → ℕ
+most_exchanges sig n = most_exchanges_by sig.kind n
+
+-- the most actions of one member
+abbrev pub most_actions : ℕ
+most_actions = 256
+
+-- the family serves the signature within its bounds, and is narrow unless it is direct
 pub record IsPlanned (sig : Signature) (n : ℕ) (f : Family) : Type 0 where
   pub serves : Serves sig n f
-  pub few : family_exchanges n f ≤ most_exchanges sig.kind n
+  pub few : family_exchanges n f ≤ most_exchanges sig n
+  pub short : (r : ℕ) → remaining (f r) 0 0 ≤ most_actions
   pub narrow : is_direct sig.kind ≡ false → IsNarrow n f
 
 -- so it is with every checked signature

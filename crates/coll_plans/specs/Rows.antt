@@ -9,7 +9,8 @@ use Rattle.coll_kinds.specs.declared.signature.Signature.{Signature}
 use Rattle.coll_ops.specs.Values.{row_of}
 use Rattle.coll_sched.specs.declared.action.Action.TheVariants.{Send, Copy, Combine, Recv}
 use Rattle.coll_sched.specs.Families.{result_at, family_exchanges}
-use Rattle.coll_trees.specs.Depths.{depth, front, behind, nothing}
+use Rattle.coll_trees.specs.Depths.{depth}
+use Rattle.coll_sched.specs.Regions.{front, behind, nothing}
 use Rattle.coll_plans.specs.Barriers.{meeting}
 use Rattle.coll_plans.specs.Scans.{third, shift, join, join_both, scan_family, exscan_family}
 use Rattle.coll_plans.specs.Plans.{family, most_exchanges}
@@ -77,6 +78,6 @@ scan_is_picked : family (last_nonzero Scan) 3 ≡ scan_family (last_nonzero Scan
 unfolding family
 scan_is_picked = refl
 
-alone : most_exchanges Reduce 1 ≡ 0
+alone : most_exchanges (last_nonzero Reduce) 1 ≡ 0
 unfolding depth
 alone = refl

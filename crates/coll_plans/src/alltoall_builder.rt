@@ -1,11 +1,12 @@
 ghost use Rattle.std.specs.Prelude.{◌≡◌, ◌<◌, ◌≤◌, None, IfOk, IsOkUnless};
 ghost use Rattle.coll_kinds.specs.declared.kind.Kind.TheVariants.{Alltoall};
 ghost use Rattle.coll_kinds.specs.Checks.{broken};
-ghost use Rattle.coll_plans.specs.Directs.{IsDirectFor, direct_bound, alltoall_family};
+ghost use Rattle.coll_plans.specs.Directs.{IsDirectFor, alltoall_family};
+ghost use Rattle.coll_trees.specs.Depths.{direct_bound};
 
 use crate::blocks::Blocks;
 use crate::exchange::Exchange;
-use crate::layout::{all_blocks, all_bytes, block_bytes, one_round, schedule};
+use crate::layout::{all_blocks, all_bytes, block_bytes, first_round};
 use crate::pattern::Pattern;
 use coll_kinds::{Refusal, Signature};
 use coll_sched::Schedule;
@@ -32,8 +33,8 @@ pub fn alltoall(alloc: Global, sig: Signature, n: u8, r: u8) -> Result<Schedule,
         n,
     };
     let round = exchange.round(alloc, r)?;
-    let rounds = one_round(alloc, round)?;
+    let rounds = first_round(alloc, 1, round)?;
     let input = all_blocks(0, n, len);
     let output = all_blocks(half, n, len);
-    Ok(schedule(half + half, input, output, rounds))
+    Ok(Schedule::of_lawful_rounds(half + half, input, output, rounds))
 }

@@ -5,13 +5,10 @@ ghost use Rattle.coll_trees.specs.Depths.{depth};
 ghost use Rattle.coll_trees.specs.Trees.{IsNarrowFor};
 ghost use Rattle.coll_plans.specs.Barriers.{meeting, meetings, barrier_family};
 
-use crate::layout::schedule;
 use coll_kinds::{Refusal, Signature};
 use coll_sched::{Action, Region, Round, Schedule};
 use coll_trees::depth_of;
 use std::alloc::Global;
-
-const NOTHING: Region = Region { at: 0, len: 0 };
 
 /// Member `r`'s schedule of a barrier among `n` members (MPI 4.1, 6.3), by dissemination: empty messages at
 /// distances 1, 2, 4, .. reach all in as many rounds as it takes to double up to `n`. Refuses
@@ -26,7 +23,7 @@ pub fn barrier(alloc: Global, sig: Signature, n: u8, r: u8) -> Result<Schedule, 
 {
     let _ = sig;
     let rounds = meetings(alloc, n, r)?;
-    Ok(schedule(0, NOTHING, NOTHING, rounds))
+    Ok(Schedule::of_lawful_rounds(0, Region::EMPTY, Region::EMPTY, rounds))
 }
 
 // The rounds of member r, one for each step.
@@ -36,8 +33,8 @@ fn meetings(alloc: Global, n: u8, r: u8) -> Result<Vec<Round>, Refusal>
     ensures ok { IfOk result (λ rounds. rounds.items ≡ rounds_of (meetings n 0 (depth n)) r) }
     ensures refusal { IsOkUnless result Refusal.NoMemory }
 {
-    let mut rounds = Vec::new(alloc);
     let steps = depth_of(n);
+    let mut rounds = Vec::with_capacity(alloc, usize::from(steps))?;
     for step in 0..steps {
         let round = meeting(alloc, n, r, 2u8.pow(u32::from(step)))?;
         rounds.push(round)?;
@@ -56,11 +53,11 @@ fn meeting(alloc: Global, n: u8, r: u8, distance: u8) -> Result<Round, Refusal>
     let mut round = Round::new(alloc);
     round.push(Action::Send {
         to: (r + distance) % n,
-        from: NOTHING,
+        from: Region::EMPTY,
     })?;
     round.push(Action::Recv {
         of: (r + (n - distance)) % n,
-        into: NOTHING,
+        into: Region::EMPTY,
     })?;
     Ok(round)
 }

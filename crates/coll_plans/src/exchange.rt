@@ -33,7 +33,7 @@ impl Exchange {
         ensures ok { IfOk result (λ round. round ≡ exchange self.pattern self.from self.into self.n r) }
         ensures refusal { IsOkUnless result Refusal.NoMemory }
     {
-        let mut round = Round::new(alloc);
+        let mut round = Round::with_capacity(alloc, self.pattern.most_actions(self.n, r))?;
         self.push_sends(r, &mut round)?;
         self.push_kept(r, &mut round)?;
         self.push_recvs(r, &mut round)?;

@@ -1,11 +1,12 @@
 ghost use Rattle.std.specs.Prelude.{◌≡◌, ◌==◌, ◌<◌, ◌≤◌, ◌^◌, cond, None, IfOk, IsOkUnless};
 ghost use Rattle.coll_kinds.specs.declared.kind.Kind.TheVariants.{Exscan};
 ghost use Rattle.coll_kinds.specs.Checks.{broken};
-ghost use Rattle.coll_trees.specs.Depths.{depth, nothing};
+ghost use Rattle.coll_trees.specs.Depths.{depth};
+ghost use Rattle.coll_sched.specs.Regions.{nothing};
 ghost use Rattle.coll_trees.specs.Trees.{IsNarrowFor};
 ghost use Rattle.coll_plans.specs.Scans.{third, exscan_family};
 
-use crate::layout::{block_bytes, schedule};
+use crate::layout::block_bytes;
 use crate::scanning::Scanning;
 use coll_kinds::{Refusal, Signature};
 use coll_sched::{Region, Schedule};
@@ -36,7 +37,7 @@ pub fn exscan(alloc: Global, sig: Signature, n: u8, r: u8) -> Result<Schedule, R
     let rounds = scanning.rounds(alloc, r)?;
     let block = Region { at: 0, len };
     let output = output_at(len, r);
-    Ok(schedule(len + len + len, block, output, rounds))
+    Ok(Schedule::of_lawful_rounds(len + len + len, block, output, rounds))
 }
 
 // Where member r has the rows before its own in the end: member 0 has none.
@@ -45,7 +46,7 @@ fn output_at(len: u32, r: u8) -> Region
     ensures { result ≡ cond (r == 0) nothing (third len) }
 {
     if r == 0 {
-        Region { at: 0, len: 0 }
+        Region::EMPTY
     } else {
         Region { at: len + len, len }
     }

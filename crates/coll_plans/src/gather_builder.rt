@@ -1,11 +1,12 @@
 ghost use Rattle.std.specs.Prelude.{◌≡◌, ◌<◌, ◌≤◌, None, IfOk, IsOkUnless};
 ghost use Rattle.coll_kinds.specs.declared.kind.Kind.TheVariants.{Gather};
 ghost use Rattle.coll_kinds.specs.Checks.{broken};
-ghost use Rattle.coll_plans.specs.Directs.{IsDirectFor, direct_bound, gather_family};
+ghost use Rattle.coll_plans.specs.Directs.{IsDirectFor, gather_family};
+ghost use Rattle.coll_trees.specs.Depths.{direct_bound};
 
 use crate::blocks::Blocks;
 use crate::exchange::Exchange;
-use crate::layout::{block_bytes, blocks_if, one_round, schedule, size_at};
+use crate::layout::{block_bytes, blocks_if, first_round, size_at};
 use crate::pattern::Pattern;
 use coll_kinds::{Refusal, Signature};
 use coll_sched::{Region, Schedule};
@@ -31,10 +32,10 @@ pub fn gather(alloc: Global, sig: Signature, n: u8, r: u8) -> Result<Schedule, R
         n,
     };
     let round = exchange.round(alloc, r)?;
-    let rounds = one_round(alloc, round)?;
+    let rounds = first_round(alloc, 1, round)?;
     let is_root = r == sig.root;
     let size = size_at(is_root, n, len);
     let input = Region { at: 0, len };
     let output = blocks_if(is_root, len, n, len);
-    Ok(schedule(size, input, output, rounds))
+    Ok(Schedule::of_lawful_rounds(size, input, output, rounds))
 }

@@ -1,12 +1,11 @@
 ghost use Rattle.std.specs.Prelude.{◌≡◌, ◌+◌, ◌*◌, ◌∷◌, [], ◌≤◌, ◌<◌, ◌^◌, None, cond, IfOk, IsOkUnless};
 ghost use Rattle.coll_kinds.specs.Checks.{broken};
 ghost use Rattle.coll_kinds.specs.Lengths.{block_len};
-ghost use Rattle.coll_sched.specs.Schedules.{IsSchedule};
-ghost use Rattle.coll_trees.specs.Depths.{nothing};
+ghost use Rattle.coll_sched.specs.Regions.{nothing};
 ghost use Rattle.coll_plans.specs.Directs.{all_blocks};
 
 use coll_kinds::{Refusal, Signature};
-use coll_sched::{Region, Round, Schedule};
+use coll_sched::{Region, Round};
 use std::alloc::Global;
 
 /// The bytes of a block of a checked signature, at most 65,536 elements of 8 bytes.
@@ -49,7 +48,7 @@ pub(crate) fn blocks_if(is_there: bool, at: u32, n: u8, len: u32) -> Region
     if is_there {
         all_blocks(at, n, len)
     } else {
-        Region { at: 0, len: 0 }
+        Region::EMPTY
     }
 }
 
@@ -66,23 +65,12 @@ pub(crate) fn size_at(is_root: bool, n: u8, len: u32) -> u32
     }
 }
 
-/// A list of one round.
-pub(crate) fn one_round(alloc: Global, round: Round) -> Result<Vec<Round>, Refusal>
+/// A list of one round, with room for `count` in all.
+pub(crate) fn first_round(alloc: Global, count: usize, round: Round) -> Result<Vec<Round>, Refusal>
     ensures ok { IfOk result (λ rounds. rounds.items ≡ round ∷ []) }
     ensures refusal { IsOkUnless result Refusal.NoMemory }
 {
-    let mut rounds = Vec::new(alloc);
+    let mut rounds = Vec::with_capacity(alloc, count)?;
     rounds.push(round)?;
     Ok(rounds)
-}
-
-/// The schedule of parts that are one.
-pub(crate) fn schedule(size: u32, input: Region, output: Region, rounds: Vec<Round>) -> Schedule
-    requires { IsSchedule (record { size = size; input = input; output = output; rounds = rounds.items }) }
-    ensures { result ≡ record { size = size; input = input; output = output; rounds = rounds.items } }
-{
-    match Schedule::of_rounds(size, input, output, rounds) {
-        Some(schedule) => schedule,
-        None => unreachable!(),
-    }
 }

@@ -31,4 +31,13 @@ impl Pattern {
     {
         q != r && self.carries(q, r)
     }
+
+    /// For how many actions of member `r` of `n` to make room: a hint, on which no promise rests.
+    pub fn most_actions(self, n: u8, r: u8) -> usize {
+        let n = usize::from(n);
+        match self {
+            Pattern::ToAll => 2 * n,
+            Pattern::ToRoot { root } | Pattern::FromRoot { root } => if r == root { n } else { 1 },
+        }
+    }
 }

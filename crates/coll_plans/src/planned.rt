@@ -1,5 +1,6 @@
 ghost use Rattle.std.specs.Prelude.{◌≡◌, ◌<◌, ◌≤◌, None};
 ghost use Rattle.coll_kinds.specs.Checks.{broken};
+ghost use Rattle.coll_kinds.specs.Lengths.{given_len, got_len};
 
 use coll_kinds::Signature;
 use coll_sched::Schedule;
@@ -64,6 +65,20 @@ impl Plan {
         ensures low { result < self.now.n }
     {
         self.member
+    }
+
+    /// The bytes that the member gives.
+    pub fn given_len(&self) -> usize
+        ensures { result ≡ given_len self.now.sig self.now.n self.now.member }
+    {
+        self.sig.given_len(self.n, self.member)
+    }
+
+    /// The bytes that the member gets, which is the length of its schedule's output.
+    pub fn got_len(&self) -> usize
+        ensures { result ≡ got_len self.now.sig self.now.n self.now.member }
+    {
+        self.sig.got_len(self.n, self.member)
     }
 
     /// The member's schedule in the family of the signature, which serves it.

@@ -10,8 +10,8 @@ use coll_trees::{allreduce, bcast, reduce};
 use std::alloc::Global;
 
 /// Member `r`'s plan of a collective among `n` members (MPI 4.1, 6.12). Refuses [`Refusal::BadSignature`]
-/// exactly as [`Signature::check`] does, with its cause, and else [`Refusal::NoMemory`] alone. The cost is at
-/// most quadratic in the actions of one round, of which a direct kind has up to 2 `n`.
+/// exactly as [`Signature::check`] does, with its cause, and else [`Refusal::NoMemory`] alone. The cost is linear in
+/// the schedule's actions, which are at most 3 `n`, and in `n` for the check.
 pub fn plan(alloc: Global, sig: Signature, n: u8, r: u8) -> Result<Plan, Refusal>
     requires member { r < n }
     requires few { n ≤ 64 }

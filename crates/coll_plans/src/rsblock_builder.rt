@@ -2,11 +2,12 @@ ghost use Rattle.std.specs.Prelude.{◌≡◌, ◌++◌, ◌-◌, ◌<◌, ◌�
 ghost use Rattle.coll_kinds.specs.declared.kind.Kind.TheVariants.{Rsblock};
 ghost use Rattle.coll_kinds.specs.Checks.{broken};
 ghost use Rattle.coll_trees.specs.Columns.{rounds_of};
-ghost use Rattle.coll_plans.specs.Directs.{IsDirectFor, direct_bound, combines_below, combine_at, rsblock_family};
+ghost use Rattle.coll_plans.specs.Directs.{IsDirectFor, combines_below, combine_at, rsblock_family};
+ghost use Rattle.coll_trees.specs.Depths.{direct_bound};
 
 use crate::blocks::Blocks;
 use crate::exchange::Exchange;
-use crate::layout::{all_blocks, all_bytes, block_bytes, one_round, schedule};
+use crate::layout::{all_blocks, all_bytes, block_bytes, first_round};
 use crate::pattern::Pattern;
 use coll_kinds::{Datatype, Op, Refusal, Signature};
 use coll_sched::{Action, Region, Round, Schedule};
@@ -36,11 +37,11 @@ pub fn rsblock(alloc: Global, sig: Signature, n: u8, r: u8) -> Result<Schedule, 
         n,
     };
     let round = exchange.round(alloc, r)?;
-    let mut rounds = one_round(alloc, round)?;
+    let mut rounds = first_round(alloc, usize::from(n), round)?;
     push_combines(alloc, op, sig.ty, got, n, &mut rounds)?;
     let input = all_blocks(0, n, len);
     let output = Region { at: half, len };
-    Ok(schedule(half + half, input, output, rounds))
+    Ok(Schedule::of_lawful_rounds(half + half, input, output, rounds))
 }
 
 // Appends the rounds that combine n blocks, from the last one down to the first, which are alike at all members.

@@ -5,7 +5,7 @@ ghost use Rattle.coll_trees.specs.Depths.{depth};
 ghost use Rattle.coll_trees.specs.Trees.{IsNarrowFor};
 ghost use Rattle.coll_plans.specs.Scans.{scan_family};
 
-use crate::layout::{block_bytes, schedule};
+use crate::layout::block_bytes;
 use crate::scanning::Scanning;
 use coll_kinds::{Refusal, Signature};
 use coll_sched::{Region, Schedule};
@@ -34,5 +34,5 @@ pub fn scan(alloc: Global, sig: Signature, n: u8, r: u8) -> Result<Schedule, Ref
     };
     let rounds = scanning.rounds(alloc, r)?;
     let block = Region { at: 0, len };
-    Ok(schedule(len + len, block, block, rounds))
+    Ok(Schedule::of_lawful_rounds(len + len, block, block, rounds))
 }

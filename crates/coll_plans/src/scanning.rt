@@ -1,6 +1,7 @@
 ghost use Rattle.std.specs.Prelude.{◌≡◌, ◌<◌, ◌≤◌, ◌^◌, IfOk, IsOkUnless};
 ghost use Rattle.coll_trees.specs.Columns.{rounds_of};
-ghost use Rattle.coll_trees.specs.Depths.{depth, front, behind};
+ghost use Rattle.coll_trees.specs.Depths.{depth};
+ghost use Rattle.coll_sched.specs.Regions.{front, behind};
 
 use coll_kinds::{Datatype, Op, Refusal};
 use coll_sched::{Action, Region, Round};
@@ -32,8 +33,8 @@ impl Scanning {
         ensures ok { IfOk result (λ rounds. rounds.items ≡ rounds_of (doubling self.len self.n (joins self.exclusive self.op self.ty self.len) 0 (depth self.n)) r) }
         ensures refusal { IsOkUnless result Refusal.NoMemory }
     {
-        let mut rounds = Vec::new(alloc);
         let steps = depth_of(self.n);
+        let mut rounds = Vec::with_capacity(alloc, 2 * usize::from(steps))?;
         for step in 0..steps {
             let distance = 2u8.pow(u32::from(step));
             let shift = self.shift(alloc, r, distance)?;
@@ -55,13 +56,13 @@ impl Scanning {
         if r + distance < self.n {
             round.push(Action::Send {
                 to: r + distance,
-                from: self.front(),
+                from: Region::front(self.len),
             })?;
         }
         if distance <= r {
             round.push(Action::Recv {
                 of: r - distance,
-                into: self.behind(),
+                into: Region::behind(self.len),
             })?;
         }
         Ok(round)
@@ -79,7 +80,7 @@ impl Scanning {
         if self.exclusive {
             round.push(self.collect(distance))?;
         }
-        round.push(self.combine(self.front()))?;
+        round.push(self.combine(Region::front(self.len)))?;
         Ok(round)
     }
 
@@ -89,7 +90,7 @@ impl Scanning {
     {
         if distance == 1 {
             Action::Copy {
-                from: self.behind(),
+                from: Region::behind(self.len),
                 into: self.third(),
             }
         } else {
@@ -104,31 +105,13 @@ impl Scanning {
         Action::Combine {
             op: self.op,
             ty: self.ty,
-            left: self.behind(),
+            left: Region::behind(self.len),
             right: held,
             into: held,
         }
     }
 
-    // Where a member keeps the rows up to its own, where it receives, and where it keeps the rows before its own.
-    fn front(self) -> Region
-        ensures { result ≡ front self.len }
-    {
-        Region {
-            at: 0,
-            len: self.len,
-        }
-    }
-
-    fn behind(self) -> Region
-        ensures { result ≡ behind self.len }
-    {
-        Region {
-            at: self.len,
-            len: self.len,
-        }
-    }
-
+    // Behind what it receives, the rows before its own.
     fn third(self) -> Region
         ensures { result ≡ third self.len }
     {

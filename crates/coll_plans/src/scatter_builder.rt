@@ -1,11 +1,12 @@
 ghost use Rattle.std.specs.Prelude.{◌≡◌, ◌<◌, ◌≤◌, None, IfOk, IsOkUnless};
 ghost use Rattle.coll_kinds.specs.declared.kind.Kind.TheVariants.{Scatter};
 ghost use Rattle.coll_kinds.specs.Checks.{broken};
-ghost use Rattle.coll_plans.specs.Directs.{IsDirectFor, direct_bound, scatter_family};
+ghost use Rattle.coll_plans.specs.Directs.{IsDirectFor, scatter_family};
+ghost use Rattle.coll_trees.specs.Depths.{direct_bound};
 
 use crate::blocks::Blocks;
 use crate::exchange::Exchange;
-use crate::layout::{block_bytes, blocks_if, one_round, schedule, size_at};
+use crate::layout::{block_bytes, blocks_if, first_round, size_at};
 use crate::pattern::Pattern;
 use coll_kinds::{Refusal, Signature};
 use coll_sched::{Region, Schedule};
@@ -31,10 +32,10 @@ pub fn scatter(alloc: Global, sig: Signature, n: u8, r: u8) -> Result<Schedule, 
         n,
     };
     let round = exchange.round(alloc, r)?;
-    let rounds = one_round(alloc, round)?;
+    let rounds = first_round(alloc, 1, round)?;
     let is_root = r == sig.root;
     let size = size_at(is_root, n, len);
     let input = blocks_if(is_root, len, n, len);
     let output = Region { at: 0, len };
-    Ok(schedule(size, input, output, rounds))
+    Ok(Schedule::of_lawful_rounds(size, input, output, rounds))
 }

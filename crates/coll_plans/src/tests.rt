@@ -2,8 +2,6 @@ use crate::{barrier, plan};
 use coll_kinds::{Datatype, Kind, Mode, Op, Signature};
 use coll_sched::{Action, Region};
 
-const NOTHING: Region = Region { at: 0, len: 0 };
-
 const BARRIER: Signature = Signature {
     kind: Kind::Barrier,
     mode: Mode::Once,
@@ -22,8 +20,14 @@ fn barrier_rounds(rt: HostRuntime) {
     assert_eq!(rt; rounds.len(), 2);
     for (i, (to, of)) in [(1, 2), (2, 1)].into_iter().enumerate() {
         assert!(rt; i < rounds.len());
-        let send = Action::Send { to, from: NOTHING };
-        let recv = Action::Recv { of, into: NOTHING };
+        let send = Action::Send {
+            to,
+            from: Region::EMPTY,
+        };
+        let recv = Action::Recv {
+            of,
+            into: Region::EMPTY,
+        };
         assert_eq!(rt; rounds[i].actions(), &[send, recv][..]);
     }
 }

@@ -9,7 +9,8 @@ use Rattle.coll_sched.specs.declared.action.Action.{Action}
 use Rattle.coll_sched.specs.declared.action.Action.TheVariants.{Send, Copy, Combine, Recv}
 use Rattle.coll_sched.specs.Actions.{Follows, EachFollows, IsLocal}
 use Rattle.coll_sched.specs.Families.{Family, actions_at, laid_in, IsRecvOf, Receives}
-use Rattle.coll_sched.specs.Worlds.{Progress, World, put, put_mail, acted, turned, left, joined, IsNext}
+use Rattle.coll_kinds.specs.Puts.{put}
+use Rattle.coll_sched.specs.Worlds.{Progress, World, put_mail, acted, turned, left, joined, IsNext}
 use Rattle.coll_sched.specs.Tracks.{outs, ins, total, done_by, done_at, standing, Balanced}
 use Rattle.coll_sched.proofs.Rounds.{before_at, actions_past, take_nil}
 

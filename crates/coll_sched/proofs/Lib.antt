@@ -8,3 +8,5 @@ pub mod Builders
 pub mod Views
 pub mod Serving
 pub mod Orders
+pub mod Points
+pub mod Tracked

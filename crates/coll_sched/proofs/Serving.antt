@@ -7,7 +7,8 @@ use Rattle.coll_kinds.specs.declared.signature.Signature.{Signature}
 use Rattle.coll_sched.specs.declared.action.Action.{Action}
 use Rattle.coll_sched.specs.declared.action.Action.TheVariants.{Send, Copy, Combine, Recv}
 use Rattle.coll_ops.specs.Values.{row_of}
-use Rattle.coll_sched.specs.Regions.{AreBytes, read_of}
+use Rattle.coll_sched.specs.Regions.{read_of}
+use Rattle.coll_kinds.specs.Elements.{AreBytes}
 use Rattle.coll_sched.specs.Actions.{IsAmong}
 use Rattle.coll_sched.specs.Families.{Family, actions_at, Receives, Heard, IsLawful}
 use Rattle.coll_sched.specs.Worlds.{Progress, World, filled}

@@ -79,6 +79,13 @@ IsLocal (Copy from into) = Unit {0}
 IsLocal (Combine op ty left right into) = Unit {0}
 IsLocal (Recv of into) = ⊥
 
+-- the action is a Combine
+abbrev pub IsCombine : Action → Type 0
+IsCombine (Send to from) = ⊥
+IsCombine (Copy from into) = ⊥
+IsCombine (Combine op ty left right into) = Unit {0}
+IsCombine (Recv of into) = ⊥
+
 -- the action is a Send
 abbrev pub IsSend : Action → Type 0
 IsSend (Send to from) = Unit {0}

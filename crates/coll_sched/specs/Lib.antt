@@ -9,3 +9,5 @@ pub mod Views
 pub mod Orders
 pub mod Served
 pub mod Rows
+pub mod Points
+pub mod Tracked

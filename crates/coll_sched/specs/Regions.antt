@@ -1,5 +1,5 @@
 -- Regions of a buffer: runs of bytes that actions read and write
-use Rattle.std.specs.Prelude.{ℕ, ◌+◌, ◌<◌, ◌≤◌, List, ◌++◌, take, drop, slice_index}
+use Rattle.std.specs.Prelude.{ℕ, ◌+◌, ◌<◌, ◌≤◌, List, ◌++◌, take, drop}
 use Rattle.coll_sched.specs.declared.region.Region.{Region}
 
 -- the region lies in a buffer of this size
@@ -18,6 +18,14 @@ read_of buf g = take g.len (drop g.at buf)
 abbrev pub written : List ℕ → Region → List ℕ → List ℕ
 written buf g bytes = take g.at buf ++ (bytes ++ drop (g.at + g.len) buf)
 
--- the numbers are bytes
-abbrev pub AreBytes : List ℕ → Type 0
-AreBytes bytes = (i : ℕ) → slice_index bytes i < 256
+-- no bytes
+abbrev pub nothing : Region
+nothing = record { at = 0; len = 0 }
+
+-- the first block of a buffer
+abbrev pub front : ℕ → Region
+front len = record { at = 0; len = len }
+
+-- the second block, as long as the first
+abbrev pub behind : ℕ → Region
+behind len = record { at = len; len = len }

@@ -2,7 +2,7 @@
 use Rattle.std.specs.Prelude.{◌≡◌, ℕ, ◌+◌, ◌<◌, ◌≤◌, ◌≢◌, ◌==◌, cond, nat_lt, List, [], ◌∷◌, take, length, Option, Some, None}
 use Rattle.coll_sched.specs.declared.action.Action.{Action}
 use Rattle.coll_sched.specs.declared.action.Action.TheVariants.{Send, Copy, Combine, Recv}
-use Rattle.coll_sched.specs.Regions.{AreBytes}
+use Rattle.coll_kinds.specs.Elements.{AreBytes}
 use Rattle.coll_sched.specs.Actions.{wrote_all}
 use Rattle.coll_sched.specs.Families.{Family, actions_at, lock_step, messages, Receives, Heard}
 use Rattle.coll_sched.specs.Worlds.{Progress, World, filled}

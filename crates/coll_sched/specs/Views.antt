@@ -2,7 +2,8 @@
 -- instance that all have left
 use Rattle.std.specs.Prelude.{◌≡◌, ℕ, suc, ◌+◌, ◌<◌, ◌≤◌, ◌≢◌, [], length, Some, None}
 use Rattle.coll_sched.specs.Families.{Family, actions_at, IsLawful}
-use Rattle.coll_sched.specs.Worlds.{Progress, World, put, Reached}
+use Rattle.coll_kinds.specs.Puts.{put}
+use Rattle.coll_sched.specs.Worlds.{Progress, World, Reached}
 use Rattle.coll_sched.specs.Tracks.{Tracks}
 
 -- the worlds are alike at each place

@@ -1,9 +1,11 @@
 -- One instance as it runs: members join, act one action at a time in any order, and leave
 use Rattle.std.specs.Prelude.{◌≡◌, ℕ, suc, ◌<◌, ◌==◌, ◌&&◌, cond, List, [], length, replicate, slice_get, unwrap_or, Option, Some, None}
+use Rattle.coll_kinds.specs.Puts.{put}
 use Rattle.coll_sched.specs.declared.region.Region.{Region}
 use Rattle.coll_sched.specs.declared.action.Action.{Action}
 use Rattle.coll_sched.specs.declared.action.Action.TheVariants.{Send, Recv}
-use Rattle.coll_sched.specs.Regions.{AreBytes, read_of, written}
+use Rattle.coll_sched.specs.Regions.{read_of, written}
+use Rattle.coll_kinds.specs.Elements.{AreBytes}
 use Rattle.coll_sched.specs.Actions.{wrote, IsLocal}
 use Rattle.coll_sched.specs.Families.{Family, actions_at, laid_in}
 
@@ -22,10 +24,6 @@ pub record World : Type 0 where
 -- nobody has joined
 abbrev pub empty : World
 empty = record { given = λ r. None; progress = λ r. None; mail = λ q r j. None }
-
--- the function with another value at k
-abbrev pub put : {X : Type 0} → (ℕ → X) → ℕ → X → ℕ → X
-put f k v i = cond (i == k) v (f i)
 
 -- the mail with another value under one key
 abbrev pub put_mail : (ℕ → ℕ → ℕ → Option (List ℕ)) → ℕ → ℕ → ℕ → Option (List ℕ) → ℕ → ℕ → ℕ → Option (List ℕ)

@@ -52,17 +52,18 @@ impl Default for Action {
 }
 
 impl Action {
-    ghost use Rattle.coll_sched.specs.Actions.{Fits, Follows, OtherPeer, AllApart, order, reads, writes, wrote, message_of, IsLocal, IsSend, Takes};
+    ghost use Rattle.coll_sched.specs.Actions.{Fits, Follows, OtherPeer, AllApart, order, reads, writes, wrote, message_of, IsCombine, IsLocal, IsSend, Takes};
     ghost use Rattle.coll_sched.specs.Schedules.{has_peer};
 
     /// Carries out a Copy or a Combine over `buf`. A Combine takes memory for its result; where that
-    /// is refused, `buf` is unchanged.
+    /// is refused, `buf` is unchanged. A Copy takes none, and can't be refused.
     pub fn local(self, alloc: Global, buf: &mut [u8]) -> Result<(), Refusal>
         requires local { IsLocal self }
         requires fits { Fits (length buf.old) self }
         ensures ok { OnOk result (buf.new ≡ wrote (λ p. []) buf.old self buf.old) }
         ensures err { OnErr result (buf.new ≡ buf.old) }
         ensures refusal { IsOkUnless result Refusal.NoMemory }
+        ensures copy { OnErr result (IsCombine self) }
     {
         match self {
             Action::Copy { from, into } => {

@@ -3,7 +3,9 @@
 
 ghost use Rattle.coll_sched.specs.Heart.{Heart, Finishes};
 ghost use Rattle.coll_sched.specs.Orders.{BoundsMembers, Commutes, RestsOnHeard};
+ghost use Rattle.coll_sched.specs.Points.{Ends, GoesOver, KeepsRemaining, LowersRemaining};
 ghost use Rattle.coll_sched.specs.Served.{HeldValue};
+ghost use Rattle.coll_sched.specs.Tracked.{ReachedTracks, StepsTrack, TrackedFinishes, TrackedHolds, TrackedValue, UnbegunRests, UnbegunTracks};
 ghost use Rattle.coll_sched.specs.Views.{Empties, Skips};
 
 /// The heart: in a lawful family, whatever the interleaving of its members' actions, a member that has
@@ -49,4 +51,34 @@ pub fn bounds_members()
 /// Passing over the ends of several rounds in one go keeps what holds of a running instance.
 pub fn skips_empty_rounds()
     ensures { Skips }
+{}
+
+/// The same with the point itself as the first case, as `Schedule::following` gives it.
+pub fn goes_over()
+    ensures { GoesOver }
+{}
+
+/// What remains of a schedule: going over ends of rounds keeps it, an action lowers it by one, and it is nothing
+/// exactly at the end.
+pub fn remaining_falls()
+    ensures keeps { KeepsRemaining }
+    ensures lowers { LowersRemaining }
+    ensures ends { Ends }
+{}
+
+/// What an engine has to keep of an instance, call by call: each event keeps it on its track, and every world that
+/// is reached is on it; one that nobody has joined is on that of every family; who hasn't joined has no next action.
+pub fn worlds_track()
+    ensures steps { StepsTrack }
+    ensures reached { ReachedTracks }
+    ensures unbegun { UnbegunTracks }
+    ensures rests { UnbegunRests }
+{}
+
+/// What it may conclude of a world on its track: the heart, the value of a member that has done all its actions, and
+/// that quiet means finished.
+pub fn tracks_hold()
+    ensures holds { TrackedHolds }
+    ensures value { TrackedValue }
+    ensures finishes { TrackedFinishes }
 {}

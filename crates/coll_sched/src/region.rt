@@ -10,7 +10,24 @@ pub struct Region {
 }
 
 impl Region {
-    ghost use Rattle.coll_sched.specs.Regions.{Inside, Apart, read_of, written};
+    ghost use Rattle.coll_sched.specs.Regions.{Inside, Apart, behind, front, read_of, written};
+
+    /// No bytes.
+    pub const EMPTY: Region = Region { at: 0, len: 0 };
+
+    /// The first `len` bytes of a buffer.
+    pub fn front(len: u32) -> Region
+        ensures { result ≡ front len }
+    {
+        Region { at: 0, len }
+    }
+
+    /// The `len` bytes behind the first `len`.
+    pub fn behind(len: u32) -> Region
+        ensures { result ≡ behind len }
+    {
+        Region { at: len, len }
+    }
 
     /// Whether a buffer of `size` bytes holds the region. An empty region has its place too.
     pub fn is_inside(self, size: u32) -> bool

@@ -1,4 +1,4 @@
-ghost use Rattle.std.specs.Prelude.{◌≡◌, ◌↔◌, ◌∷◌, ◌++◌, [], List, IsTrue, IsOkUnless, OnOk, OnErr};
+ghost use Rattle.std.specs.Prelude.{◌≡◌, ◌≤◌, ◌<◌, ◌↔◌, ◌∷◌, ◌++◌, [], List, length, IsTrue, IsOk, IfOk, IsOkUnless, OnOk, OnErr};
 ghost use Rattle.std.specs.List.{list_any};
 
 use crate::action::Action;
@@ -11,16 +11,19 @@ use std::marker::Model;
 /// no memory of their own.
 #[derive(Debug, Drop)]
 pub struct Round {
-    pub actions: SmallVec<Action, 4>,
+    actions: SmallVec<Action, 4>,
 }
 
 impl Model for Round {
-    ghost use Rattle.std.specs.Prelude.{List};
+    ghost use Rattle.std.specs.Prelude.{◌≤◌, List};
     ghost use Rattle.coll_sched.specs.declared.action.Action.{Action};
 
     ghost Value = { List Action };
 
     ghost view = { λ r. r.actions.items };
+
+    // The places that need no memory.
+    ghost invariant = { λ r. 4 ≤ r.actions.capacity };
 }
 
 impl Round {
@@ -35,11 +38,22 @@ impl Round {
         }
     }
 
-    /// Puts an action at the end.
+    /// A round without actions that has room for so many. Up to four take no memory.
+    pub fn with_capacity(alloc: Global, count: usize) -> Result<Self, Refusal>
+        ensures ok { IfOk result (λ round. round ≡ []) }
+        ensures refusal { IsOkUnless result Refusal.NoMemory }
+        ensures inline { count ≤ 4 → IsOk result }
+    {
+        let actions = SmallVec::with_capacity(alloc, count)?;
+        Ok(Round { actions })
+    }
+
+    /// Puts an action at the end. The first four take no memory.
     pub fn push(&mut self, action: Action) -> Result<(), Refusal>
         ensures ok { OnOk result (self.new ≡ self.old ++ action ∷ []) }
         ensures err { OnErr result (self.new ≡ self.old) }
         ensures refusal { IsOkUnless result Refusal.NoMemory }
+        ensures inline { length self.old < 4 → IsOk result }
     {
         self.actions.push(action)?;
         Ok(())

@@ -1,9 +1,13 @@
 ghost use Rattle.coll_sched.specs.Schedules.{IsRound, has_peer};
 ghost use Rattle.std.specs.List.{list_any};
-ghost use Rattle.std.specs.Prelude.{◌≡◌, ◌↔◌, IsTrue, All, IsSome, IfSome, count_by};
+ghost use Rattle.std.specs.Prelude.{◌≡◌, ◌↔◌, ◌≤◌, ◌<◌, ◌+◌, ◌^◌, IsTrue, All, IfOk, IsOkUnless, IsSome, IfSome, count_by, length, slice_get};
 
+use crate::action::Action;
+use crate::point::Point;
 use crate::region::Region;
 use crate::round::Round;
+use coll_kinds::Refusal;
+use std::alloc::Global;
 use std::marker::Model;
 
 /// What one member does for one collective: a buffer of `size` bytes, into whose input region its
@@ -27,9 +31,12 @@ impl Model for Schedule {
 }
 
 impl Schedule {
+    ghost use Rattle.coll_sched.specs.Families.{laid_in};
     ghost use Rattle.coll_sched.specs.Schedules.{IsSchedule, exchanges};
+    ghost use Rattle.coll_sched.specs.Actions.{Fits};
+    ghost use Rattle.coll_sched.specs.Points.{IsPoint, Over, actions_of, remaining};
 
-    /// The schedule of these parts; the only way to one. It takes no memory, and its cost is at most
+    /// The schedule of these parts, tested. It takes no memory, and its cost is at most
     /// quadratic in the actions of one round.
     ///
     /// None where
@@ -61,6 +68,25 @@ impl Schedule {
         })
     }
 
+    /// The schedule of parts that are known to be lawful, as those of the builders, which prove it: no action is
+    /// looked at, and the cost is constant.
+    pub fn of_lawful_rounds(
+        size: u32,
+        input: Region,
+        output: Region,
+        rounds: Vec<Round>,
+    ) -> Schedule
+        requires { IsSchedule (record { size = size; input = input; output = output; rounds = rounds.items }) }
+        ensures { result ≡ record { size = size; input = input; output = output; rounds = rounds.items } }
+    {
+        Schedule {
+            size,
+            input,
+            output,
+            rounds,
+        }
+    }
+
     /// The bytes of the buffer.
     pub fn size(&self) -> u32
         ensures { result ≡ self.now.size }
@@ -88,6 +114,74 @@ impl Schedule {
         ensures lawful { IsSchedule self.now }
     {
         self.rounds.as_slice()
+    }
+
+    /// The action at a point; None past the end of its round.
+    pub fn action(&self, round: usize, index: usize) -> Option<Action>
+        ensures is { result ≡ slice_get (actions_of self.now round) index }
+        ensures fits { IfSome result (λ action. Fits self.now.size action) }
+        ensures short { IsSome result → index + 1 < 2 ^ 63 }
+    {
+        match self.rounds.get(round) {
+            Some(actions) => actions.actions().get(index).copied(),
+            None => None,
+        }
+    }
+
+    /// The point itself where it has an action, and else the first one behind it that has, or the end.
+    pub fn following(&self, round: usize, index: usize) -> Point
+        requires round_in { round ≤ length self.now.rounds }
+        requires index_in { index ≤ length (actions_of self.now round) }
+        ensures over { Over self.now round index result.round result.index }
+        ensures point { IsPoint self.now result.round result.index }
+        ensures same { remaining self.now result.round result.index ≡ remaining self.now round index }
+        ensures end { remaining self.now result.round result.index ≡ 0 ↔ result.round ≡ length self.now.rounds }
+    {
+        let mut point = Point { round, index };
+        while point.round < self.round_count() && point.index >= self.len_of(point.round) {
+            point = Point {
+                round: point.round + 1,
+                index: 0,
+            };
+        }
+        point
+    }
+
+    // How many rounds there are.
+    fn round_count(&self) -> usize
+        ensures { result ≡ length self.now.rounds }
+    {
+        self.rounds.len()
+    }
+
+    // How many actions a round has.
+    fn len_of(&self, round: usize) -> usize
+        requires { round < length self.now.rounds }
+        ensures { result ≡ length (actions_of self.now round) }
+    {
+        self.rounds[round].actions().len()
+    }
+
+    /// A buffer of the schedule's size with the contribution laid in, and zeros elsewhere.
+    /// Refuses [`Refusal::NoMemory`] alone.
+    pub fn lay_in(&self, alloc: Global, bytes: &[u8]) -> Result<Vec<u8>, Refusal>
+        requires { length bytes.now ≡ self.now.input.len }
+        ensures ok { IfOk result (λ buf. buf.items ≡ laid_in self.now bytes.now) }
+        ensures refusal { IsOkUnless result Refusal.NoMemory }
+    {
+        let mut buf = vec![in alloc; 0; self.size as usize]?;
+        self.input.write(bytes, &mut buf);
+        Ok(buf)
+    }
+
+    /// Lays another contribution into a buffer of the schedule's size, whatever it held. It takes no memory.
+    pub fn lay_in_again(&self, bytes: &[u8], buf: &mut [u8])
+        requires contribution { length bytes.now ≡ self.now.input.len }
+        requires size { length buf.old ≡ self.now.size }
+        ensures { buf.new ≡ laid_in self.now bytes.now }
+    {
+        buf.fill(0);
+        self.input.write(bytes, buf);
     }
 
     /// How many rounds have a Send or a Recv. The cost is linear in the actions.

@@ -15,12 +15,13 @@ use Rattle.coll_ops.specs.Contributions.{AreGiven}
 use Rattle.coll_ops.specs.Laws.{IsRow}
 use Rattle.coll_sched.specs.declared.action.Action.{Action}
 use Rattle.coll_sched.specs.Schedules.{Parts}
-use Rattle.coll_sched.specs.Regions.{AreBytes, read_of}
+use Rattle.coll_sched.specs.Regions.{read_of, front}
+use Rattle.coll_kinds.specs.Elements.{AreBytes}
 use Rattle.coll_sched.specs.Families.{actions_at, lock_step, result_at, Heard, IsLawful}
 use Rattle.coll_sched.proofs.Rounds.{GivenFits}
 use Rattle.coll_sched.proofs.Builders.{input_held}
 use Rattle.coll_trees.specs.Columns.{Column, rounds_of}
-use Rattle.coll_trees.specs.Depths.{depth, front}
+use Rattle.coll_trees.specs.Depths.{depth}
 use Rattle.coll_trees.specs.Spreading.{from_root, spread, spreading}
 use Rattle.coll_trees.specs.Folding.{folding}
 use Rattle.coll_trees.specs.Trees.{allreduce_family, IsNarrowFor}

@@ -12,12 +12,12 @@ use Rattle.coll_ops.specs.Contributions.{AreGiven}
 use Rattle.coll_sched.specs.declared.region.Region.{Region}
 use Rattle.coll_sched.specs.declared.action.Action.{Action}
 use Rattle.coll_sched.specs.Schedules.{Parts}
-use Rattle.coll_sched.specs.Regions.{Inside, read_of}
+use Rattle.coll_sched.specs.Regions.{Inside, read_of, front, nothing}
 use Rattle.coll_sched.specs.Families.{actions_at, lock_step, result_at, Heard, IsLawful}
 use Rattle.coll_sched.proofs.Rounds.{GivenFits}
 use Rattle.coll_sched.proofs.Builders.{input_held}
 use Rattle.coll_trees.specs.Columns.{rounds_of}
-use Rattle.coll_trees.specs.Depths.{depth, front, nothing}
+use Rattle.coll_trees.specs.Depths.{depth}
 use Rattle.coll_trees.specs.Spreading.{from_root, spread, spreading}
 use Rattle.coll_trees.specs.Trees.{bcast_family, IsNarrowFor}
 use Rattle.coll_trees.proofs.Checked.{checked, root_low}

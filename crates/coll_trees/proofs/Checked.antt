@@ -9,11 +9,10 @@ use Rattle.coll_kinds.specs.declared.operation.Op.TheVariants.{Sum}
 use Rattle.coll_kinds.specs.declared.datatype.Datatype.{Datatype}
 use Rattle.coll_kinds.specs.declared.refusal.SignatureFault.{SignatureFault}
 use Rattle.coll_kinds.specs.declared.refusal.SignatureFault.TheVariants.{Root, Operation, Count, Size}
-use Rattle.coll_kinds.specs.Elements.{width}
+use Rattle.coll_kinds.specs.Elements.{width, AreBytes}
 use Rattle.coll_kinds.specs.Lengths.{block_len}
 use Rattle.coll_kinds.specs.Checks.{allowed, reduces, has_root, has_operation, root_fits, operation_fits, count_fits, sizes_fit, broken}
 use Rattle.coll_ops.specs.Laws.{IsRow}
-use Rattle.coll_sched.specs.Regions.{AreBytes}
 
 passes : (b : Bool) (x : Option SignatureFault) (y : SignatureFault) → cond b x (Some y) ≡ None → (b ≡ true) × (x ≡ None)
 passes true x y h = (refl, h)

@@ -1,5 +1,5 @@
 -- the depth is enough, and no distance reaches the number of members
-use Rattle.std.proofs.Common.{◌≡◌, ℕ, zero, suc, ◌+◌, ◌^◌, ◌<◌, ◌≤◌, ◌⊎◌, inl, inr, true, false, leb, sym, subst, arith, leb-false, leb-true, le-leb, ap, ◌∙◌, ◌-◌}
+use Rattle.std.proofs.Common.{◌≡◌, ℕ, zero, suc, ◌+◌, ◌^◌, ◌<◌, ◌≤◌, ◌⊎◌, inl, inr, Bool, cond, true, false, leb, sym, subst, arith, leb-false, leb-true, le-leb, ap, ◌∙◌, ◌-◌}
 use Rattle.std.proofs.lemmas.Bool.{cases_eq, cases_Bool, cond-true, cond-false, cond_both, lt-leb}
 use Rattle.coll_trees.specs.Depths.{depth_from, depth}
 
@@ -45,3 +45,15 @@ pow_near (suc (suc (suc zero))) h = omega arith
 pow_near (suc (suc (suc (suc zero)))) h = omega arith
 pow_near (suc (suc (suc (suc (suc zero))))) h = omega arith
 pow_near (suc (suc (suc (suc (suc (suc k)))))) h = absurd (omega arith)
+
+depth_from-most : (fuel k n : ℕ) → depth_from fuel k n ≤ k + fuel
+depth_from-most zero k n = omega arith
+depth_from-most (suc fuel) k n = go (leb n (2 ^ k)) (depth_from-most fuel (suc k) n)
+  where
+    go : (b : Bool) → depth_from fuel (suc k) n ≤ suc k + fuel → cond b k (depth_from fuel (suc k) n) ≤ k + suc fuel
+    go true h = omega arith
+    go false h = omega arith
+
+pub depth-most : (n : ℕ) → depth n ≤ 6
+unfolding depth
+depth-most n = depth_from-most 6 0 n

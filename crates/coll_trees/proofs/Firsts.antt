@@ -7,11 +7,11 @@ use Rattle.coll_kinds.specs.Checks.{allowed}
 use Rattle.coll_ops.specs.Combinations.{combination}
 use Rattle.coll_ops.specs.Values.{row_of}
 use Rattle.coll_ops.specs.Laws.{IsRow}
-use Rattle.coll_sched.specs.Regions.{read_of}
+use Rattle.coll_sched.specs.Regions.{read_of, front}
 use Rattle.coll_sched.specs.Families.{Family, actions_at, lock_step, Heard, IsLawful}
 use Rattle.coll_sched.proofs.Rounds.{GivenFits}
 use Rattle.coll_trees.specs.Columns.{Column}
-use Rattle.coll_trees.specs.Depths.{depth, front}
+use Rattle.coll_trees.specs.Depths.{depth}
 use Rattle.coll_trees.specs.Folding.{move_at, combine_at, folding}
 use Rattle.coll_trees.proofs.Columns.{column_of, column-left, column-right}
 use Rattle.coll_trees.proofs.Depths.{depth_reaches}

@@ -12,7 +12,7 @@ use Rattle.coll_kinds.specs.Checks.{allowed}
 use Rattle.coll_ops.specs.Combinations.{combined}
 use Rattle.coll_ops.specs.Laws.{IsRow}
 use Rattle.coll_sched.specs.declared.action.Action.TheVariants.{Send, Combine, Recv}
-use Rattle.coll_sched.specs.Regions.{read_of}
+use Rattle.coll_sched.specs.Regions.{read_of, front, behind}
 use Rattle.coll_sched.specs.Actions.{IsAmong, AllApart, writes}
 use Rattle.coll_sched.specs.Schedules.{IsRound, has_peer}
 use Rattle.coll_sched.specs.Families.{Family, actions_at, in_link, out_link, len_of, lock_step, Receives, Heard, IsLawful, is_send, is_recv}
@@ -20,7 +20,6 @@ use Rattle.coll_sched.proofs.Rounds.{GivenFits}
 use Rattle.coll_sched.proofs.Builders.{Has, round_held, round_kept, message_is}
 use Rattle.coll_trees.specs.declared.role.Role.{Role}
 use Rattle.coll_trees.specs.declared.role.Role.TheVariants.{Gives, Takes, Rests}
-use Rattle.coll_trees.specs.Depths.{front, behind}
 use Rattle.coll_trees.specs.Folding.{role, moves, combines, move_at, combine_at, folding}
 use Rattle.coll_trees.proofs.Columns.{IsColumn, column_of, Costs, free, local_round, exchange}
 use Rattle.coll_trees.proofs.Spans.{span, Associates, span_join}

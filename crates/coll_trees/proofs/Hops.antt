@@ -7,7 +7,7 @@ use Rattle.coll_sched.specs.declared.action.Action.TheVariants.{Send, Recv}
 use Rattle.coll_sched.specs.Actions.{IsAmong}
 use Rattle.coll_sched.specs.Schedules.{IsRound}
 use Rattle.coll_sched.specs.Families.{in_link, out_link, len_of, is_send, is_recv}
-use Rattle.coll_trees.specs.Depths.{front}
+use Rattle.coll_sched.specs.Regions.{front}
 use Rattle.coll_trees.specs.Folding.{last_hop}
 use Rattle.coll_trees.proofs.Columns.{IsColumn}
 

@@ -11,3 +11,4 @@ pub mod Allreduces
 pub mod Hops
 pub mod Reduces
 pub mod Steps
+pub mod Counts

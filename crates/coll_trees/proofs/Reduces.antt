@@ -1,7 +1,7 @@
 -- the family of reduce
 use Rattle.std.proofs.Common.{◌≡◌, ℕ, suc, ◌+◌, ◌<◌, ◌≤◌, ◌⊎◌, inl, inr, cond, eqb, true, false, eq-eqb, ne_eqb, eqb-true, ltb, List, [], ◌∷◌, ◌++◌, length, Some, None, IsTrue, refl, sym, ap, subst, ◌∙◌, arith, unwrap_or, ltb-true, length-append}
 use Rattle.std.proofs.lemmas.Bool.{and_parts, or_cases, cases_eq, cond-true, cond-false, cond_both}
-use Rattle.std.specs.List.{AllByRecursion}
+use Rattle.std.specs.List.{AllByRecursion, list_any}
 use Rattle.coll_kinds.specs.declared.signature.Signature.{Signature}
 use Rattle.coll_kinds.specs.declared.kind.Kind.TheVariants.{Reduce}
 use Rattle.coll_kinds.specs.declared.operation.Op.{Op}
@@ -17,18 +17,19 @@ use Rattle.coll_sched.specs.declared.region.Region.{Region}
 use Rattle.coll_sched.specs.declared.action.Action.{Action}
 use Rattle.coll_sched.specs.declared.action.Action.TheVariants.{Send, Recv}
 use Rattle.coll_sched.specs.Actions.{AllApart, writes}
-use Rattle.coll_sched.specs.Schedules.{Parts}
-use Rattle.coll_sched.specs.Regions.{Inside, AreBytes, read_of}
-use Rattle.coll_sched.specs.Families.{actions_at, lock_step, result_at, Receives, Heard, IsLawful}
+use Rattle.coll_sched.specs.Schedules.{Parts, has_peer}
+use Rattle.coll_sched.specs.Regions.{Inside, read_of, front, nothing}
+use Rattle.coll_kinds.specs.Elements.{AreBytes}
+use Rattle.coll_sched.specs.Families.{actions_at, lock_step, result_at, Receives, Heard, IsLawful, family_exchanges}
 use Rattle.coll_sched.proofs.Rounds.{GivenFits}
 use Rattle.coll_sched.proofs.Track.{heard_self}
 use Rattle.coll_sched.proofs.Builders.{Has, round_held, round_kept, message_is, input_held}
 use Rattle.coll_trees.specs.Columns.{Column, rounds_of}
-use Rattle.coll_trees.specs.Depths.{depth, front, nothing}
+use Rattle.coll_trees.specs.Depths.{depth, direct_bound}
 use Rattle.coll_trees.specs.Folding.{folding, last_hop}
 use Rattle.coll_trees.specs.Trees.{reduce_family, IsNarrowFor}
 use Rattle.coll_trees.proofs.Checked.{checked, root_low, operation_allowed, block_whole, IsRow-block}
-use Rattle.coll_trees.proofs.Columns.{IsColumn, column_of, all_append, round-column, rounds-append, length-rounds, lawful_family, narrow_family, few_exchanges, costs_append, free, exchange}
+use Rattle.coll_trees.proofs.Columns.{IsColumn, column_of, all_append, round-column, rounds-append, length-rounds, lawful_family, narrow_family, few_exchanges, costs_append, free, exchange, local_round}
 use Rattle.coll_trees.proofs.Folds.{folding_columns, folding_costs, length-folding}
 use Rattle.coll_trees.proofs.Firsts.{later, first_hears, first_holds}
 use Rattle.coll_trees.proofs.Hops.{hop-none, hop-sends, hop-gets, hop_column}
@@ -139,9 +140,33 @@ module _ (sig : Signature) (n : ℕ) (kind : sig.kind ≡ Reduce) (low : sig.roo
         (folding_costs (unwrap_or sig.op Sum) sig.ty (block_len sig) (block_whole sig) may n 0 (depth n)) (exchange free));
   }
 
--- the family of reduce serves each checked reduce
-pub reduce_serves : (sig : Signature) (n : ℕ) → broken sig n ≡ None → sig.kind ≡ Reduce → n ≤ 64 → IsNarrowFor sig n (reduce_family sig n) (depth n + 1)
-reduce_serves sig n h kind top = reduce_tree sig n kind (root_low sig n (checked sig n h) (ap has_root kind)) top (operation_allowed sig n (checked sig n h) (ap has_operation kind))
+-- the one member of a reduce is the root, and has nobody to send to
+lone_hop : (b root r : ℕ) → root < 1 → last_hop b root r ≡ []
+lone_hop b root r low = cond-true (eqb root 0) [] _ (eq-eqb root 0 (omega arith))
+
+lone_reduce : (sig : Signature) → sig.root < 1 → family_exchanges 1 (reduce_family sig 1) ≤ depth 1 + 0
+unfolding depth
+lone_reduce sig low =
+    few_exchanges 1 (block_len sig + block_len sig) (λ r. front (block_len sig)) (λ r. cond (eqb r sig.root) (front (block_len sig)) nothing) (last_hop (block_len sig) sig.root ∷ []) 0
+    (local_round (λ r. ap (list_any has_peer) (lone_hop (block_len sig) sig.root r low)) free)
+
+reduce_few : (sig : Signature) (n : ℕ) → sig.root < n → family_exchanges n (reduce_family sig n) ≤ depth n + 1 → family_exchanges n (reduce_family sig n) ≤ depth n + direct_bound n
+reduce_few sig n low few = go (cases_eq n 1)
+  where
+    go : (n ≡ 1) ⊎ (n ≡ 1 → ⊥) → family_exchanges n (reduce_family sig n) ≤ depth n + direct_bound n
+    go (inl e) = subst (λ m. family_exchanges m (reduce_family sig m) ≤ depth m + direct_bound m) (sym e) (lone_reduce sig (omega arith))
+    go (inr d) = subst (λ m. family_exchanges n (reduce_family sig n) ≤ depth n + m) (sym (cond-false (eqb n 1) 0 1 (ne_eqb n 1 d))) few
+
+-- the family of reduce serves each checked reduce; a single member has no exchange
+pub reduce_serves : (sig : Signature) (n : ℕ) → broken sig n ≡ None → sig.kind ≡ Reduce → n ≤ 64 → IsNarrowFor sig n (reduce_family sig n) (depth n + direct_bound n)
+reduce_serves sig n h kind top =
+    let low : sig.root < n = root_low sig n (checked sig n h) (ap has_root kind) in
+    let tree = reduce_tree sig n kind low top (operation_allowed sig n (checked sig n h) (ap has_operation kind)) in
+    record {
+      serves = tree.serves;
+      narrow = tree.narrow;
+      few = reduce_few sig n low tree.few;
+    }
 
 -- the parts that the builder makes are the family's
 pub reduce_parts : (sig : Signature) (n r len : ℕ) (op : Op) (output : Region) (rounds : List (List Action)) → len ≡ block_len sig → sig.op ≡ Some op → output ≡ cond (eqb r sig.root) (front len) nothing → rounds ≡ rounds_of (folding op sig.ty len n 0 (depth n)) r ++ (last_hop len sig.root r ∷ []) → ◌≡◌ {A = Parts} (record { size = len + len; input = front len; output = output; rounds = rounds }) (reduce_family sig n r)

@@ -3,7 +3,7 @@ use Rattle.std.proofs.Common.{◌≡◌, ℕ, zero, suc, ◌+◌, ◌-◌, ◌^�
 use Rattle.std.proofs.lemmas.Bool.{cases_eq, cases_lt, cond-true, cond-false}
 use Rattle.std.specs.List.{AllByRecursion}
 use Rattle.coll_sched.specs.declared.action.Action.TheVariants.{Send, Recv}
-use Rattle.coll_sched.specs.Regions.{read_of}
+use Rattle.coll_sched.specs.Regions.{read_of, front}
 use Rattle.coll_sched.specs.Actions.{IsAmong, AllApart, writes}
 use Rattle.coll_sched.specs.Schedules.{IsRound}
 use Rattle.coll_sched.specs.Families.{Family, actions_at, in_link, out_link, len_of, lock_step, Receives, Heard, IsLawful, is_send, is_recv}
@@ -11,7 +11,6 @@ use Rattle.coll_sched.proofs.Rounds.{GivenFits}
 use Rattle.coll_sched.proofs.Builders.{Has, round_held, round_kept, message_is}
 use Rattle.coll_trees.specs.declared.way.Way.{Way}
 use Rattle.coll_trees.specs.declared.way.Way.TheVariants.{Passes, Gets, Idles}
-use Rattle.coll_trees.specs.Depths.{front}
 use Rattle.coll_trees.specs.Spreading.{from_root, member_at, way, hop, spread, spreading}
 use Rattle.coll_trees.proofs.Columns.{IsColumn, column_of, Costs, free, exchange}
 use Rattle.coll_trees.proofs.Turns.{Turned, straight, around, from_root_is, number_low, member_at_low, member_at-from_root, from_root-member_at}

@@ -1,6 +1,5 @@
--- How many steps a binomial tree takes, and the regions of its members
-use Rattle.std.specs.Prelude.{ℕ, zero, suc, ◌^◌, cond, nat_le}
-use Rattle.coll_sched.specs.declared.region.Region.{Region}
+-- How many exchanges a collective takes
+use Rattle.std.specs.Prelude.{ℕ, zero, suc, ◌==◌, ◌^◌, cond, nat_le}
 
 -- the least d from k on with n ≤ 2 ^ d, or k + fuel
 abbrev pub depth_from : ℕ → ℕ → ℕ → ℕ
@@ -11,14 +10,6 @@ depth_from (suc fuel) k n = cond (nat_le n (2 ^ k)) k (depth_from fuel (suc k) n
 unfoldable pub depth : ℕ → ℕ
 depth n = depth_from 6 0 n
 
--- the first block of a buffer
-abbrev pub front : ℕ → Region
-front b = record { at = 0; len = b }
-
--- the second block
-abbrev pub behind : ℕ → Region
-behind b = record { at = b; len = b }
-
--- no bytes
-abbrev pub nothing : Region
-nothing = record { at = 0; len = 0 }
+-- one exchange, in which members send straight to one another; none of a single member
+abbrev pub direct_bound : ℕ → ℕ
+direct_bound n = cond (n == 1) 0 1

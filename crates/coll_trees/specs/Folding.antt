@@ -8,7 +8,7 @@ use Rattle.coll_sched.specs.declared.action.Action.TheVariants.{Send, Combine, R
 use Rattle.coll_trees.specs.declared.role.Role.{Role}
 use Rattle.coll_trees.specs.declared.role.Role.TheVariants.{Gives, Takes, Rests}
 use Rattle.coll_trees.specs.Columns.{Column}
-use Rattle.coll_trees.specs.Depths.{front, behind}
+use Rattle.coll_sched.specs.Regions.{front, behind}
 
 -- what member r of n does at distance s
 abbrev pub role : ℕ → ℕ → ℕ → Role

@@ -6,7 +6,7 @@ use Rattle.coll_sched.specs.declared.action.Action.TheVariants.{Send, Recv}
 use Rattle.coll_trees.specs.declared.way.Way.{Way}
 use Rattle.coll_trees.specs.declared.way.Way.TheVariants.{Passes, Gets, Idles}
 use Rattle.coll_trees.specs.Columns.{Column}
-use Rattle.coll_trees.specs.Depths.{front}
+use Rattle.coll_sched.specs.Regions.{front}
 
 -- member r's number, counted round from the root
 abbrev pub from_root : ℕ → ℕ → ℕ → ℕ

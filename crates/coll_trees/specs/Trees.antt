@@ -6,7 +6,8 @@ use Rattle.coll_kinds.specs.Lengths.{block_len}
 use Rattle.coll_sched.specs.Families.{Family, IsNarrow, family_exchanges}
 use Rattle.coll_sched.specs.Served.{Serves}
 use Rattle.coll_trees.specs.Columns.{family_of}
-use Rattle.coll_trees.specs.Depths.{depth, front, nothing}
+use Rattle.coll_trees.specs.Depths.{depth}
+use Rattle.coll_sched.specs.Regions.{front, nothing}
 use Rattle.coll_trees.specs.Spreading.{spreading}
 use Rattle.coll_trees.specs.Folding.{folding, last_hop}
 

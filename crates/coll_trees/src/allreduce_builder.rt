@@ -4,8 +4,8 @@ ghost use Rattle.coll_kinds.specs.Checks.{broken};
 ghost use Rattle.coll_trees.specs.Depths.{depth};
 ghost use Rattle.coll_trees.specs.Trees.{allreduce_family, IsNarrowFor};
 
+use crate::depth::depth_of;
 use crate::folding::Folding;
-use crate::rounds::schedule;
 use crate::spreading::Spreading;
 use coll_kinds::{Refusal, Signature};
 use coll_sched::{Region, Schedule};
@@ -33,9 +33,9 @@ pub fn allreduce(alloc: Global, sig: Signature, n: u8, r: u8) -> Result<Schedule
         len,
     };
     let down = Spreading { n, root: 0, len };
-    let mut rounds = Vec::new(alloc);
+    let mut rounds = Vec::with_capacity(alloc, 3 * usize::from(depth_of(n)))?;
     up.push_rounds(alloc, r, &mut rounds)?;
     down.push_rounds(alloc, r, &mut rounds)?;
     let block = Region { at: 0, len };
-    Ok(schedule(len + len, block, block, rounds))
+    Ok(Schedule::of_lawful_rounds(len + len, block, block, rounds))
 }

@@ -4,7 +4,8 @@ ghost use Rattle.coll_kinds.specs.Checks.{broken};
 ghost use Rattle.coll_trees.specs.Depths.{depth};
 ghost use Rattle.coll_trees.specs.Trees.{bcast_family, IsNarrowFor};
 
-use crate::rounds::{block_if, schedule};
+use crate::depth::depth_of;
+use crate::rounds::block_if;
 use crate::spreading::Spreading;
 use coll_kinds::{Refusal, Signature};
 use coll_sched::{Region, Schedule};
@@ -28,9 +29,9 @@ pub fn bcast(alloc: Global, sig: Signature, n: u8, r: u8) -> Result<Schedule, Re
         root: sig.root,
         len,
     };
-    let mut rounds = Vec::new(alloc);
+    let mut rounds = Vec::with_capacity(alloc, usize::from(depth_of(n)))?;
     tree.push_rounds(alloc, r, &mut rounds)?;
     let input = block_if(r == sig.root, len);
     let block = Region { at: 0, len };
-    Ok(schedule(len, input, block, rounds))
+    Ok(Schedule::of_lawful_rounds(len, input, block, rounds))
 }

@@ -1,6 +1,7 @@
 ghost use Rattle.std.specs.Prelude.{◌≡◌, ◌+◌, ◌++◌, ◌<◌, ◌≤◌, ◌^◌, IfOk, OnOk, IsOkUnless};
 ghost use Rattle.coll_trees.specs.Columns.{rounds_of};
-ghost use Rattle.coll_trees.specs.Depths.{depth, front, behind};
+ghost use Rattle.coll_trees.specs.Depths.{depth};
+ghost use Rattle.coll_sched.specs.Regions.{front, behind};
 
 use crate::depth::depth_of;
 use crate::role::Role;
@@ -57,14 +58,14 @@ impl Folding {
                 alloc,
                 Action::Send {
                     to: r - distance,
-                    from: self.front(),
+                    from: Region::front(self.len),
                 },
             ),
             Role::Takes => one_action(
                 alloc,
                 Action::Recv {
                     of: r + distance,
-                    into: self.behind(),
+                    into: Region::behind(self.len),
                 },
             ),
             Role::Rests => Ok(Round::new(alloc)),
@@ -82,31 +83,12 @@ impl Folding {
                 Action::Combine {
                     op: self.op,
                     ty: self.ty,
-                    left: self.front(),
-                    right: self.behind(),
-                    into: self.front(),
+                    left: Region::front(self.len),
+                    right: Region::behind(self.len),
+                    into: Region::front(self.len),
                 },
             ),
             Role::Gives | Role::Rests => Ok(Round::new(alloc)),
-        }
-    }
-
-    // Where a member keeps what it holds, and where it takes.
-    fn front(self) -> Region
-        ensures { result ≡ front self.len }
-    {
-        Region {
-            at: 0,
-            len: self.len,
-        }
-    }
-
-    fn behind(self) -> Region
-        ensures { result ≡ behind self.len }
-    {
-        Region {
-            at: self.len,
-            len: self.len,
         }
     }
 }

@@ -1,12 +1,13 @@
 ghost use Rattle.std.specs.Prelude.{◌≡◌, ◌+◌, ◌<◌, ◌≤◌, None, IfOk, IsOkUnless};
 ghost use Rattle.coll_kinds.specs.declared.kind.Kind.TheVariants.{Reduce};
 ghost use Rattle.coll_kinds.specs.Checks.{broken};
-ghost use Rattle.coll_trees.specs.Depths.{depth};
+ghost use Rattle.coll_trees.specs.Depths.{depth, direct_bound};
 ghost use Rattle.coll_trees.specs.Folding.{last_hop};
 ghost use Rattle.coll_trees.specs.Trees.{reduce_family, IsNarrowFor};
 
+use crate::depth::depth_of;
 use crate::folding::Folding;
-use crate::rounds::{block_if, one_action, schedule};
+use crate::rounds::{block_if, one_action};
 use coll_kinds::{Refusal, Signature};
 use coll_sched::{Action, Region, Round, Schedule};
 use std::alloc::Global;
@@ -20,7 +21,7 @@ pub fn reduce(alloc: Global, sig: Signature, n: u8, r: u8) -> Result<Schedule, R
     requires member { r < n }
     requires few { n ≤ 64 }
     ensures schedule { IfOk result (λ s. s ≡ reduce_family sig n r) }
-    ensures family { IsNarrowFor sig n (reduce_family sig n) (depth n + 1) }
+    ensures family { IsNarrowFor sig n (reduce_family sig n) (depth n + direct_bound n) }
     ensures refusal { IsOkUnless result Refusal.NoMemory }
 {
     let Some(op) = sig.op else { unreachable!() };
@@ -31,13 +32,13 @@ pub fn reduce(alloc: Global, sig: Signature, n: u8, r: u8) -> Result<Schedule, R
         n,
         len,
     };
-    let mut rounds = Vec::new(alloc);
+    let mut rounds = Vec::with_capacity(alloc, 2 * usize::from(depth_of(n)) + 1)?;
     up.push_rounds(alloc, r, &mut rounds)?;
     let hop = to_root(alloc, len, sig.root, r)?;
     rounds.push(hop)?;
     let block = Region { at: 0, len };
     let output = block_if(r == sig.root, len);
-    Ok(schedule(len + len, block, output, rounds))
+    Ok(Schedule::of_lawful_rounds(len + len, block, output, rounds))
 }
 
 // Member r's part in the hop from member 0 to the root.

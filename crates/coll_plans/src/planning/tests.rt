@@ -316,6 +316,28 @@ fn plan_of_byte_sum(rt: HostRuntime) {
 }
 
 #[test]
+fn plan_of_a_root_that_is_no_member(rt: HostRuntime) {
+    let sig = signature(Kind::Bcast, 3, Op::Sum, Datatype::I32, 1);
+    let cause = SignatureFault::Root;
+    let refused = plan(rt.alloc(), sig, 3, 1).map(|plan| plan.member());
+    assert_eq!(rt; refused, Err(Refusal::BadSignature { cause }));
+}
+
+// The most elements of the widest type; a member gets them in one block.
+#[test]
+fn plans_of_the_greatest_count(rt: HostRuntime) {
+    for kind in Kind::ALL {
+        let sig = signature(kind, 0, Op::Sum, Datatype::I64, 65_536);
+        let Ok(plan) = plan(rt.alloc(), sig, 2, 1) else {
+            return assert!(rt; false, "{kind}");
+        };
+        assert_eq!(rt; plan.given_len(), sig.given_len(2, 1));
+        assert_eq!(rt; plan.schedule().output().len as usize, sig.got_len(2, 1));
+        assert_eq!(rt; plan.got_len(), sig.got_len(2, 1));
+    }
+}
+
+#[test]
 fn plan_tells_its_parts(rt: HostRuntime) {
     let sig = signature(Kind::Reduce, 2, Op::LastNz, Datatype::I16, 3);
     let Ok(plan) = plan(rt.alloc(), sig, 5, 4) else {

@@ -1,5 +1,6 @@
 use super::Schedule;
 use crate::action::Action;
+use crate::point::Point;
 use crate::region::Region;
 use crate::round::Round;
 use coll_kinds::{Datatype, Op};
@@ -184,4 +185,50 @@ fn reads_its_parts(rt: HostRuntime) {
     assert_eq!(rt; schedule.output(), region(28, 4));
     assert_eq!(rt; schedule.rounds().len(), 2);
     assert_eq!(rt; schedule.exchanges(), 1);
+}
+
+// The schedule's first round is empty, and the other one has the six actions of the good round.
+#[test]
+fn goes_over_an_empty_round(rt: HostRuntime) {
+    let Some(schedule) = schedule(&rt, rt.alloc(), region(0, 4), region(28, 4), &good()) else {
+        return assert!(rt; false);
+    };
+    assert_eq!(rt; schedule.following(0, 0), Point { round: 1, index: 0 });
+    assert_eq!(rt; schedule.action(0, 0), None);
+    for (index, action) in good().iter().enumerate() {
+        assert_eq!(rt; schedule.action(1, index), Some(*action));
+    }
+    assert_eq!(rt; schedule.action(1, 6), None);
+}
+
+#[test]
+fn lays_in_where_memory_is_ample(rt: HostRuntime) {
+    let Some(schedule) = schedule(&rt, rt.alloc(), region(1, 2), region(28, 4), &[]) else {
+        return assert!(rt; false);
+    };
+    if schedule.input().len != 2 {
+        return assert!(rt; false);
+    }
+    let Ok(mut buf) = schedule.lay_in(rt.alloc(), &[7, 8]) else {
+        return assert!(rt; false);
+    };
+    assert_eq!(rt; buf.len(), 32);
+    assert_eq!(rt; &buf[..5], [0, 7, 8, 0, 0].as_slice());
+    buf[31] = 1;
+    if buf.len() == schedule.size() as usize {
+        schedule.lay_in_again(&[5, 6], &mut buf);
+    }
+    assert_eq!(rt; &buf[..5], [0, 5, 6, 0, 0].as_slice());
+    assert_eq!(rt; buf[31], 0);
+}
+
+#[test]
+fn makes_room_for_a_round(rt: HostRuntime) {
+    let Ok(mut round) = Round::with_capacity(rt.alloc(), 6) else {
+        return assert!(rt; false);
+    };
+    for action in good() {
+        assert!(rt; round.push(action).is_ok());
+    }
+    assert_eq!(rt; round.actions(), good().as_slice());
 }

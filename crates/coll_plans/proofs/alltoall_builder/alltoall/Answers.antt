@@ -8,8 +8,8 @@ use Rattle.coll_plans.specs.Directs.{blocks_from, all_blocks, alltoall_by}
 use Rattle.coll_plans.proofs.Alltoalls.{alltoall_serves}
 use Rattle.coll_plans.proofs.alltoall_builder.alltoall.Goals as goal
 
-pub schedule-requires : goal.schedule-requires
-schedule-requires c =
+pub of_lawful_rounds-requires : goal.of_lawful_rounds-requires
+of_lawful_rounds-requires c =
     let rounds : c.in_ok-rounds.rounds.items ≡ (alltoall_by c.args.n c.block_bytes-len.result c.args.r).rounds =
     c.in_ok-rounds.ensures.ok
     ∙ (ap (λ (x : List Action). x ∷ []) c.in_ok-round.ensures.ok

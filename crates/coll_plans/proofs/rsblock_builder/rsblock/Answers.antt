@@ -9,8 +9,8 @@ use Rattle.coll_plans.specs.Directs.{combines_below}
 use Rattle.coll_plans.proofs.Rsblocks.{rsblock_serves, rsblock_parts}
 use Rattle.coll_plans.proofs.rsblock_builder.rsblock.Goals as goal
 
-pub schedule-requires : goal.schedule-requires
-schedule-requires c =
+pub of_lawful_rounds-requires : goal.of_lawful_rounds-requires
+of_lawful_rounds-requires c =
     subst IsSchedule
     (sym (rsblock_parts c.args.sig c.args.n c.args.r c.block_bytes-len.result c.all_bytes-half.result c.in-Some.op c.all_blocks-input.result c.push_combines.new.rounds.items c.block_bytes-len.ensures.length c.all_bytes-half.ensures.length c.in-Some.is c.all_blocks-input.ensures
     (c.in_ok-push_combines.ensures.ok
@@ -20,7 +20,7 @@ schedule-requires c =
 
 pub returns-clause-schedule : goal.returns-clause-schedule
 returns-clause-schedule c =
-    c.schedule.ensures
+    c.of_lawful_rounds.ensures
     ∙ rsblock_parts c.args.sig c.args.n c.args.r c.block_bytes-len.result c.all_bytes-half.result c.in-Some.op c.all_blocks-input.result c.push_combines.new.rounds.items c.block_bytes-len.ensures.length c.all_bytes-half.ensures.length c.in-Some.is c.all_blocks-input.ensures
     (c.in_ok-push_combines.ensures.ok
     ∙ (ap (λ xs. xs ++ rounds_of (combines_below c.in-Some.op c.args.sig.ty c.each-got.result (c.args.n - 1)) 0) (c.in_ok-rounds.ensures.ok ∙ ap (λ (x : List Action). x ∷ []) c.in_ok-round.ensures.ok)

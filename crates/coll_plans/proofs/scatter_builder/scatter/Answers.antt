@@ -8,8 +8,8 @@ use Rattle.coll_plans.specs.Directs.{scatter_by}
 use Rattle.coll_plans.proofs.Scatters.{scatter_serves}
 use Rattle.coll_plans.proofs.scatter_builder.scatter.Goals as goal
 
-pub schedule-requires : goal.schedule-requires
-schedule-requires c =
+pub of_lawful_rounds-requires : goal.of_lawful_rounds-requires
+of_lawful_rounds-requires c =
     let rounds : c.in_ok-rounds.rounds.items ≡ (scatter_by c.args.sig.root c.args.n c.block_bytes-len.result c.args.r).rounds =
     c.in_ok-rounds.ensures.ok
     ∙ (ap (λ (x : List Action). x ∷ []) c.in_ok-round.ensures.ok ∙ (λ k. exchange (FromRoot c.args.sig.root) (c.each.ensures k) (c.one.ensures k) c.args.n c.args.r ∷ [])) in

@@ -8,22 +8,22 @@ use Rattle.coll_trees.specs.Folding.{folding}
 use Rattle.coll_trees.proofs.Allreduces.{allreduce_serves, allreduce_parts}
 use Rattle.coll_trees.proofs.allreduce_builder.allreduce.Goals as goal
 
-pub schedule-requires : goal.schedule-requires
-schedule-requires c =
+pub of_lawful_rounds-requires : goal.of_lawful_rounds-requires
+of_lawful_rounds-requires c =
     subst IsSchedule
     (sym (allreduce_parts c.args.sig c.args.n c.args.r c.block_len-len.result c.in-Some.op c.push_rounds-2.new.rounds.items c.block_len-len.ensures c.in-Some.is
     (c.in_ok-push_rounds-2.ensures.ok
     ∙ ap (λ xs. xs ++ rounds_of (spreading c.block_len-len.result c.args.n 0 0 (depth c.args.n)) c.args.r)
-    (c.in_ok-push_rounds.ensures.ok ∙ ap (λ xs. xs ++ rounds_of (folding c.in-Some.op c.args.sig.ty c.block_len-len.result c.args.n 0 (depth c.args.n)) c.args.r) c.new-rounds.ensures.items))))
+    (c.in_ok-push_rounds.ensures.ok ∙ ap (λ xs. xs ++ rounds_of (folding c.in-Some.op c.args.sig.ty c.block_len-len.result c.args.n 0 (depth c.args.n)) c.args.r) c.in_ok-rounds.ensures.items))))
     ((allreduce_serves c.args.sig c.args.n c.requires.checked c.requires.kind (omega arith) c.requires.few).serves.lawful.schedules c.args.r c.requires.member)
 
 pub returns-clause-schedule : goal.returns-clause-schedule
 returns-clause-schedule c =
-    c.schedule.ensures
+    c.of_lawful_rounds.ensures
     ∙ allreduce_parts c.args.sig c.args.n c.args.r c.block_len-len.result c.in-Some.op c.push_rounds-2.new.rounds.items c.block_len-len.ensures c.in-Some.is
     (c.in_ok-push_rounds-2.ensures.ok
     ∙ ap (λ xs. xs ++ rounds_of (spreading c.block_len-len.result c.args.n 0 0 (depth c.args.n)) c.args.r)
-    (c.in_ok-push_rounds.ensures.ok ∙ ap (λ xs. xs ++ rounds_of (folding c.in-Some.op c.args.sig.ty c.block_len-len.result c.args.n 0 (depth c.args.n)) c.args.r) c.new-rounds.ensures.items))
+    (c.in_ok-push_rounds.ensures.ok ∙ ap (λ xs. xs ++ rounds_of (folding c.in-Some.op c.args.sig.ty c.block_len-len.result c.args.n 0 (depth c.args.n)) c.args.r) c.in_ok-rounds.ensures.items))
 
 pub returns-in_err-push_rounds-clause-family : goal.returns-in_err-push_rounds-clause-family
 returns-in_err-push_rounds-clause-family c = allreduce_serves c.args.sig c.args.n c.requires.checked c.requires.kind (omega arith) c.requires.few
@@ -33,3 +33,6 @@ returns-in_err-push_rounds-2-clause-family c = allreduce_serves c.args.sig c.arg
 
 pub returns-clause-family : goal.returns-clause-family
 returns-clause-family c = allreduce_serves c.args.sig c.args.n c.requires.checked c.requires.kind (omega arith) c.requires.few
+
+pub returns-in_err-rounds-clause-family : goal.returns-in_err-rounds-clause-family
+returns-in_err-rounds-clause-family c = allreduce_serves c.args.sig c.args.n c.requires.checked c.requires.kind (omega arith) c.requires.few

@@ -7,21 +7,24 @@ use Rattle.coll_trees.specs.Spreading.{spreading}
 use Rattle.coll_trees.proofs.Bcasts.{bcast_serves, bcast_parts}
 use Rattle.coll_trees.proofs.bcast_builder.bcast.Goals as goal
 
-pub schedule-requires : goal.schedule-requires
-schedule-requires c =
+pub of_lawful_rounds-requires : goal.of_lawful_rounds-requires
+of_lawful_rounds-requires c =
     subst IsSchedule
     (sym (bcast_parts c.args.sig c.args.n c.args.r c.block_len-len.result c.block_if-input.result (record { at = 0; len = c.block_len-len.result }) c.push_rounds.new.rounds.items c.block_len-len.ensures c.block_if-input.ensures refl
-    (c.in_ok-push_rounds.ensures.ok ∙ ap (λ xs. xs ++ rounds_of (spreading c.block_len-len.result c.args.n c.args.sig.root 0 (depth c.args.n)) c.args.r) c.new-rounds.ensures.items)))
+    (c.in_ok-push_rounds.ensures.ok ∙ ap (λ xs. xs ++ rounds_of (spreading c.block_len-len.result c.args.n c.args.sig.root 0 (depth c.args.n)) c.args.r) c.in_ok-rounds.ensures.items)))
     ((bcast_serves c.args.sig c.args.n c.requires.checked c.requires.kind c.requires.few).serves.lawful.schedules c.args.r c.requires.member)
 
 pub returns-clause-schedule : goal.returns-clause-schedule
 returns-clause-schedule c =
-    c.schedule.ensures
+    c.of_lawful_rounds.ensures
     ∙ bcast_parts c.args.sig c.args.n c.args.r c.block_len-len.result c.block_if-input.result (record { at = 0; len = c.block_len-len.result }) c.push_rounds.new.rounds.items c.block_len-len.ensures c.block_if-input.ensures refl
-    (c.in_ok-push_rounds.ensures.ok ∙ ap (λ xs. xs ++ rounds_of (spreading c.block_len-len.result c.args.n c.args.sig.root 0 (depth c.args.n)) c.args.r) c.new-rounds.ensures.items)
+    (c.in_ok-push_rounds.ensures.ok ∙ ap (λ xs. xs ++ rounds_of (spreading c.block_len-len.result c.args.n c.args.sig.root 0 (depth c.args.n)) c.args.r) c.in_ok-rounds.ensures.items)
 
 pub returns-in_err-push_rounds-clause-family : goal.returns-in_err-push_rounds-clause-family
 returns-in_err-push_rounds-clause-family c = bcast_serves c.args.sig c.args.n c.requires.checked c.requires.kind c.requires.few
 
 pub returns-clause-family : goal.returns-clause-family
 returns-clause-family c = bcast_serves c.args.sig c.args.n c.requires.checked c.requires.kind c.requires.few
+
+pub returns-in_err-rounds-clause-family : goal.returns-in_err-rounds-clause-family
+returns-in_err-rounds-clause-family c = bcast_serves c.args.sig c.args.n c.requires.checked c.requires.kind c.requires.few

@@ -8,12 +8,12 @@ use Rattle.coll_plans.proofs.scanning.Scanning.rounds.Goals as goal
 
 pub shift-requires-clause-near : goal.shift-requires-clause-near
 shift-requires-clause-near c =
-    let e : c.pow-distance.result ≡ 2 ^ c.loop-step.step = c.pow-distance.ensures ∙ ap (λ k. 2 ^ k) c.from.ensures in
+    let e : c.pow-distance.result ≡ 2 ^ c.loop-step.step = c.pow-distance.ensures ∙ ap (λ k. 2 ^ k) c.from-in-loop-step.ensures in
     let near : 2 ^ c.loop-step.step ≤ 64 = pow_near c.loop-step.step (omega arith) in omega arith
 
 pub loop-step-preserved : goal.loop-step-preserved
 loop-step-preserved c =
-    let e : c.pow-distance.result ≡ 2 ^ c.loop-step.step = c.pow-distance.ensures ∙ ap (λ k. 2 ^ k) c.from.ensures in
+    let e : c.pow-distance.result ≡ 2 ^ c.loop-step.step = c.pow-distance.ensures ∙ ap (λ k. 2 ^ k) c.from-in-loop-step.ensures in
     let first : c.in_ok-shift.shift ≡ shift c.args.self.len c.args.self.n (2 ^ c.loop-step.step) c.args.r =
     c.in_ok-shift.ensures.ok ∙ ap (λ s. shift c.args.self.len c.args.self.n s c.args.r) e in
     let second : c.in_ok-join.join ≡ joins c.args.self.exclusive c.args.self.op c.args.self.ty c.args.self.len (2 ^ c.loop-step.step) c.args.r =
