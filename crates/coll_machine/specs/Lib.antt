@@ -1,0 +1,15 @@
+pub mod Settings
+pub mod States
+pub mod Changes
+pub mod Calls
+pub mod Refusals
+pub mod Steps
+pub mod Machines
+pub mod Runs
+pub mod Entries
+pub mod Traces
+pub mod Reports
+pub mod Lents
+pub mod Postings
+pub mod Laws
+pub mod Rows

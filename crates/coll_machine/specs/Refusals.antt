@@ -1,0 +1,98 @@
+-- Why a call is refused: of the conditions on its list, in the order of the list, the first that holds.
+use Rattle.std.specs.Prelude.{◌==◌, ◌&&◌, ℕ, zero, suc, ◌+◌, nat_lt, Bool, not, List, [], ◌∷◌, ◌++◌, length, slice_get, unwrap_or, Option, Some, None, is_some, is_none, option_map, option_and_then, if◌then◌else◌}
+use Rattle.std.specs.Option.{option_or}
+use Rattle.std.specs.List.{list_any, range_with_len}
+use Rattle.coll_kinds.specs.declared.kind.Mode.{Mode}
+use Rattle.coll_kinds.specs.declared.kind.Mode.TheVariants.{Once, Persistent}
+use Rattle.coll_kinds.specs.declared.signature.Signature.{Signature}
+use Rattle.coll_kinds.specs.declared.refusal.Refusal.{Refusal}
+use Rattle.coll_kinds.specs.declared.refusal.Refusal.TheVariants.{BadComm, NotMember, BadSignature, BadLength, Mismatch, Stale, NotYours, Active, NotPersistent, PlacesUsed, StartsUsed, Full}
+use Rattle.coll_kinds.specs.declared.refusal.SignatureFault.TheVariants.{Mode as WrongMode, Group as WrongGroup}
+use Rattle.coll_kinds.specs.Checks.{broken}
+use Rattle.coll_kinds.specs.Groups.{member_of}
+use Rattle.coll_kinds.specs.Lengths.{given_len}
+use Rattle.coll_kinds.specs.Sameness.{mode_number, same_signature}
+use Rattle.coll_machine.specs.Settings.{Setting, group, size, rank_of}
+use Rattle.coll_machine.specs.States.{State, Request, found, signature_of}
+use Rattle.coll_machine.specs.Calls.{Planned, Call, Post, Init, Start, Retire, Free, Finish}
+
+-- a condition of a refusal: it holds where the call doesn't fit
+abbrev pub unless : Bool → Refusal → Option Refusal
+unless fits why = if fits then None else Some why
+
+abbrev pub first_of : List (Option Refusal) → Option Refusal
+first_of [] = None
+first_of (condition ∷ rest) = option_or condition (first_of rest)
+
+-- of n members, from one on, the lowest that has the place, and its signature there
+abbrev pub first_there : (ℕ → List Signature) → ℕ → ℕ → ℕ → Option (ℕ × Signature)
+first_there lists place from zero = None
+first_there lists place from (suc n) =
+    option_or (option_map (λ sig. (from, sig)) (slice_get (lists from) place)) (first_there lists place (from + 1) n)
+
+-- the lowest member that has the place has another signature there
+abbrev pub mismatch : Setting → State → ℕ → ℕ → Signature → Option Refusal
+mismatch g s comm place sig =
+    option_and_then (λ first. unless (same_signature first.1 sig) (Mismatch place (rank_of g comm first.0) first.1))
+    (first_there (s.posts comm) place 0 (size g comm))
+
+abbrev pub wrong_length : Signature → ℕ → ℕ → List ℕ → Option Refusal
+wrong_length sig n member bytes =
+    unless (given_len sig n member == length bytes) (BadLength (given_len sig n member) (length bytes))
+
+-- no slot is without a live request and may be given to one more
+abbrev pub full : Setting → State → Option Refusal
+full g s =
+    let spare = λ (slot : ℕ). is_none (s.request slot) && nat_lt (s.generation slot) g.wear in
+    unless (list_any spare (range_with_len 0 g.slots)) Full
+
+-- of a post or an initialisation by a member
+abbrev pub posting_refusals : Setting → State → ℕ → ℕ → ℕ → Mode → Planned → List (Option Refusal)
+posting_refusals g s rank comm member mode plan =
+    unless (nat_lt comm (length g.groups)) (BadComm comm)  -- no such communicator
+    ∷ unless (is_some (member_of rank (group g comm))) (NotMember rank)  -- not one of its ranks
+    ∷ option_map BadSignature (broken plan.sig (size g comm))  -- root, operation, count or size
+    ∷ unless (mode_number plan.sig.mode == mode_number mode) (BadSignature WrongMode)  -- once or persistent
+    ∷ unless ((plan.n == size g comm) && (plan.member == member)) (BadSignature WrongGroup)  -- another's plan
+    ∷ mismatch g s comm (length (s.posts comm member)) plan.sig  -- another collective at the member's next place
+    ∷ unless (nat_lt (length (s.posts comm member)) g.places) PlacesUsed  -- no next place
+    ∷ []
+
+-- of a call that names a request of its rank
+abbrev pub naming_refusals : Option Request → ℕ → List (Option Refusal)
+naming_refusals q rank =
+    unless (is_some q) Stale  -- the ticket names none
+    ∷ option_and_then (λ q. unless (q.rank == rank) NotYours) q  -- it names another rank's
+    ∷ []
+
+-- of one that wants it persistent and inactive: a start, a free
+abbrev pub idle_refusals : Option Request → List (Option Refusal)
+idle_refusals q =
+    option_and_then (λ q. unless (mode_number q.mode == mode_number Persistent) NotPersistent) q
+    ∷ option_and_then (λ q. unless (not q.active) Active) q  -- Pending or Done
+    ∷ []
+
+-- of a start by itself: bytes of the wrong length, no further start
+abbrev pub start_refusals : Setting → State → List ℕ → Option Request → List (Option Refusal)
+start_refusals g s bytes q =
+    option_and_then (λ q. option_and_then (λ sig. wrong_length sig (size g q.comm) q.member bytes) (signature_of s q)) q
+    ∷ option_and_then (λ q. unless (nat_lt q.starts g.starts) StartsUsed) q
+    ∷ []
+
+-- the lists in the order of the rules; that of Retire is also that of the question for a phase
+abbrev pub refusals : Setting → State → Call → List (Option Refusal)
+refusals g s (Post rank comm plan bytes) =
+    let member = unwrap_or (member_of rank (group g comm)) 0 in
+    posting_refusals g s rank comm member Once plan ++ wrong_length plan.sig (size g comm) member bytes ∷ full g s ∷ []
+refusals g s (Init rank comm plan) =
+    let member = unwrap_or (member_of rank (group g comm)) 0 in
+    posting_refusals g s rank comm member Persistent plan ++ full g s ∷ []
+refusals g s (Start rank t bytes) =
+    naming_refusals (found s t) rank ++ idle_refusals (found s t) ++ start_refusals g s bytes (found s t)
+refusals g s (Retire rank t) = naming_refusals (found s t) rank
+refusals g s (Free rank t) = naming_refusals (found s t) rank ++ idle_refusals (found s t)
+refusals g s Finish = []
+
+-- what a call is refused with; None where it is accepted
+abbrev pub refusal : Setting → State → Call → Option Refusal
+refusal g s call = first_of (refusals g s call)
