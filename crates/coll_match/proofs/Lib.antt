@@ -1,0 +1,5 @@
+pub mod Puts
+pub mod Shares
+pub mod Letters
+pub mod Standing
+pub mod Sizes

@@ -1,0 +1,62 @@
+-- The shares of an instance's members, and a change of one of them.
+use Rattle.std.proofs.Common.{◌≡◌, ℕ, ◌<◌, ◌≢◌, Bool, true, List, [], ◌∷◌, length, map, set, get_or, refl, sym, ap, ◌∙◌, Option, Some, None, zero, suc, replicate, arith}
+use Rattle.std.proofs.lemmas.Bool.{and_from, and_parts}
+use Rattle.std.specs.Prelude.{slice_get, option_map, is_some, is_none, ◌&&◌, Vec}
+use Rattle.std.specs.Global.{Global}
+use Rattle.std.specs.List.{list_all}
+use Rattle.std.proofs.lemmas.List.{length-map}
+use Rattle.std.proofs.lemmas.Option.{slice_get-map, slice_get_read, none-some}
+use Rattle.coll_kinds.specs.Puts.{put}
+use Rattle.coll_match.specs.declared.instance.Share.{Share}
+use Rattle.coll_match.specs.declared.key.Address.{Address}
+use Rattle.coll_match.specs.Held.{Held, Part, gift_of, slot_of}
+use Rattle.coll_match.specs.Views.{held_of, part_of}
+use Rattle.coll_match.proofs.Puts.{cond_map, put_own, slice_get-set}
+
+module _ {X : Type 0} (f : Option Part → X) (shares : List Share) (i : ℕ) (share : Share) (low : i < length shares) where
+  pub part_set : (m : ℕ) → f (slice_get (map part_of (set shares i share)) m) ≡ put (λ k. f (slice_get (map part_of shares) k)) i (f (Some (part_of share))) m
+  part_set m =
+      ap f (slice_get-map part_of (set shares i share) m ∙ ap (option_map part_of) (slice_get-set shares i share low m))
+      ∙ cond_map (λ o. f (option_map part_of o)) _ (Some share) (slice_get shares m)
+      ∙ ap (λ g. put g i (f (Some (part_of share))) m) (λ z k. f (sym (slice_get-map part_of shares k) z))
+
+  pub parts_set : ◌≡◌ {A = ℕ → X} (λ m. f (slice_get (map part_of (set shares i share)) m)) (put (λ m. f (slice_get (map part_of shares) m)) i (f (Some (part_of share))))
+  parts_set = λ z m. part_set m z
+
+  -- a share that shows the same
+  pub parts_kept : (old : Share) → old ≡ get_or shares i old → f (Some (part_of share)) ≡ f (Some (part_of old)) → ◌≡◌ {A = ℕ → X} (λ m. f (slice_get (map part_of (set shares i share)) m)) (λ m. f (slice_get (map part_of shares) m))
+  parts_kept old is same = parts_set ∙ put_own (λ m. f (slice_get (map part_of shares) m)) i (f (Some (part_of share)))
+      (same ∙ ap f (sym (slice_get-map part_of shares i ∙ ap (option_map part_of) (slice_get_read shares (length shares) i old refl low is))))
+
+-- every member has given and has no active request
+abbrev pub has_left : Share → Bool
+has_left share = is_some share.given && is_none share.slot
+
+left_share : (given : Option (Vec ℕ Global)) (slot : Option ℕ) → (is_some given && is_none slot) ≡ true → (option_map (λ (bytes : Vec ℕ Global). bytes.items) given ≢ None) × (slot ≡ None)
+left_share None slot e = absurd cc
+left_share (Some bytes) None e = (λ is. none-some bytes.items (sym is), refl)
+left_share (Some bytes) (Some slot) e = absurd cc
+
+share_left : (given : Option (Vec ℕ Global)) (slot : Option ℕ) → (option_map (λ (bytes : Vec ℕ Global). bytes.items) given ≢ None) × (slot ≡ None) → (is_some given && is_none slot) ≡ true
+share_left None slot h = absurd (h.0 refl)
+share_left (Some bytes) None h = refl
+share_left (Some bytes) (Some slot) h = absurd (none-some slot (sym h.1))
+
+pub all_over : (shares : List Share) → list_all has_left shares ≡ true → (m : ℕ) → m < length shares → (gift_of (slice_get (map part_of shares) m) ≢ None) × (slot_of (slice_get (map part_of shares) m) ≡ None)
+all_over [] e m lt = absurd (omega (arith, lt))
+all_over (share ∷ shares) e zero lt = left_share share.given share.slot (and_parts (has_left share) (list_all has_left shares) e).0
+all_over (share ∷ shares) e (suc m) lt = all_over shares (and_parts (has_left share) (list_all has_left shares) e).1 m (omega (arith, lt))
+
+pub over_all : (shares : List Share) → ((m : ℕ) → m < length shares → (gift_of (slice_get (map part_of shares) m) ≢ None) × (slot_of (slice_get (map part_of shares) m) ≡ None)) → list_all has_left shares ≡ true
+over_all [] h = refl
+over_all (share ∷ shares) h = and_from (has_left share) (list_all has_left shares) (share_left share.given share.slot (h 0 (omega arith))) (over_all shares (λ m lt. h (suc m) (omega (arith, lt))))
+
+-- shares without anything
+pub empty_part : {X : Type 0} (f : Option Part → X) (y : X) → f None ≡ y → f (Some (record { gift = None; slot = None })) ≡ y → (n m : ℕ) → f (slice_get (map part_of (replicate n (record { given = None; slot = None }))) m) ≡ y
+empty_part f y none some zero m = none
+empty_part f y none some (suc n) zero = some
+empty_part f y none some (suc n) (suc m) = empty_part f y none some n m
+
+-- a member's number is an index of the shares
+pub low_share : (shares : List Share) (letters : List (Address × Vec ℕ Global)) (v : Held) (member i : ℕ) → held_of shares letters ≡ v → member < length v.shares → i ≡ member → i < length shares
+low_share shares letters v member i e low is = omega (arith, low, is, ap (λ (h : Held). length h.shares) e, length-map shares part_of)

@@ -1,0 +1,217 @@
+-- The instances that stand, as a map's entries, and a change of one of them.
+use Rattle.std.proofs.Common.{◌≡◌, ◌≢◌, ℕ, ◌<◌, ◌≤◌, Bool, true, false, cond, ◌&&◌, eqb, List, [], ◌∷◌, length, Result, Ok, Err, refl, sym, ap, subst, ◌∙◌, Option, Some, None, inl, inr, arith}
+use Rattle.std.specs.Prelude.{◌==◌, is_some, unwrap_or, OnOk, OnErr}
+use Rattle.std.specs.Map.{lookup, set_value}
+use Rattle.std.specs.Ordering.{is_eq, nat_cmp, ordering_then}
+use Rattle.std.proofs.lemmas.Bool.{cases_Bool, cases_lt, and_parts, and_from, eqb-true, eq-eqb}
+use Rattle.std.proofs.lemmas.Option.{same_Some, slice_get_past}
+use Rattle.coll_kinds.specs.Puts.{put}
+use Rattle.coll_kinds.proofs.Puts.{put_cases}
+use Rattle.coll_match.specs.declared.key.Key.{Key}
+use Rattle.coll_match.specs.Held.{Held, IsOver, gift_of, slot_of, given_in, mail_in, seat_in, put_mail}
+use Rattle.coll_match.specs.Instances.{IsLast, given, given_of, mail, mail_of, members, members_of, put_key, same_key, seats, seats_of, size, standing}
+use Rattle.coll_match.proofs.Puts.{cond_map, eqb_sym, found_by, is_eq-nat_cmp, is_eq-then, updated}
+
+-- the order of keys tests whether they are the same
+order_is : (a b : Key) → is_eq (ordering_then (nat_cmp a.comm b.comm) (ordering_then (nat_cmp a.place b.place) (nat_cmp a.start b.start))) ≡ same_key a b
+order_is a b =
+    is_eq-then (nat_cmp a.comm b.comm) _ ∙ (λ z. is_eq-nat_cmp a.comm b.comm z && is_eq-then (nat_cmp a.place b.place) (nat_cmp a.start b.start) z)
+    ∙ (λ z. eqb a.comm b.comm && (is_eq-nat_cmp a.place b.place z && is_eq-nat_cmp a.start b.start z))
+
+turned : (a b : Key) → same_key a b ≡ same_key b a
+turned a b = λ z. eqb_sym a.comm b.comm z && (eqb_sym a.place b.place z && eqb_sym a.start b.start z)
+
+pub found : (t : List (Key × Held)) (k : Key) → lookup (λ q. is_eq (ordering_then (nat_cmp k.comm q.comm) (ordering_then (nat_cmp k.place q.place) (nat_cmp k.start q.start)))) t ≡ standing t k
+found t k = found_by same_key (λ a b. ordering_then (nat_cmp a.comm b.comm) (ordering_then (nat_cmp a.place b.place) (nat_cmp a.start b.start))) order_is turned t k
+
+-- a look-up by the keys' order
+abbrev pub by_order : List (Key × Held) → Key → Option Held
+by_order t k = lookup (λ q. is_eq (ordering_then (nat_cmp k.comm q.comm) (ordering_then (nat_cmp k.place q.place) (nat_cmp k.start q.start)))) t
+
+-- the map has another value, or none, at one key
+abbrev pub Alters : List (Key × Held) → List (Key × Held) → Key → Option Held → Type 0
+Alters t u k x = (q : Key) → by_order u q ≡ cond (is_eq (ordering_then (nat_cmp k.comm q.comm) (ordering_then (nat_cmp k.place q.place) (nat_cmp k.start q.start)))) x (by_order t q)
+
+changed : (t u : List (Key × Held)) (k : Key) (x : Option Held) → Alters t u k x → standing u ≡ put_key (standing t) k x
+changed t u k x change = λ z q. updated same_key (λ a b. ordering_then (nat_cmp a.comm b.comm) (ordering_then (nat_cmp a.place b.place) (nat_cmp a.start b.start))) order_is turned t u k x change q z
+
+same_at : (a k : Key) → same_key a k ≡ true → a ≡ k
+same_at a k e =
+    let one = and_parts (eqb a.comm k.comm) _ e in
+    let two = and_parts (eqb a.place k.place) (eqb a.start k.start) one.1 in
+    λ z. record { comm = eqb-true a.comm k.comm one.0 z; place = eqb-true a.place k.place two.0 z; start = eqb-true a.start k.start two.1 z }
+
+pub put_key_own : {X : Type 0} (f : Key → X) (k : Key) (x : X) → x ≡ f k → put_key f k x ≡ f
+put_key_own {X} f k x e = λ z a. at a z
+  where
+    at : (a : Key) → put_key f k x a ≡ f a
+    at a = elim (cases_Bool (same_key a k)) [
+      | inl same ↦ ap (λ b. cond b x (f a)) same ∙ e ∙ ap f (sym (same_at a k same))
+      | inr apart ↦ ap (λ b. cond b x (f a)) apart
+    ]
+
+pub put_key_at : {X : Type 0} (f : Key → X) (k : Key) (x : X) → put_key f k x k ≡ x
+put_key_at f k x = ap (λ b. cond b x (f k)) (and_from _ _ (eq-eqb k.comm k.comm refl) (and_from _ _ (eq-eqb k.place k.place refl) (eq-eqb k.start k.start refl)))
+
+pub put_key_twice : {X : Type 0} (f : Key → X) (k : Key) (x y : X) → put_key (put_key f k x) k y ≡ put_key f k y
+put_key_twice {X} f k x y = λ z a. go (same_key a k) (f a) z
+  where
+    go : (b : Bool) (w : X) → cond b y (cond b x w) ≡ cond b y w
+    go true w = refl
+    go false w = refl
+
+-- ---- a change of what stands of one instance, by what each look-up shows
+
+module _ (t u v : List (Key × Held)) (e : t ≡ v) (k : Key) (x : Option Held) (alters : Alters t u k x) where
+  to : standing u ≡ put_key (standing v) k x
+  to = changed t u k x alters ∙ ap (λ t. put_key (standing t) k x) e
+
+  pub lifted : {Y : Type 0} (g : Option Held → Y) → ◌≡◌ {A = Key → Y} (λ a. g (standing u a)) (put_key (λ a. g (standing v a)) k (g x))
+  lifted g = (λ z a. g (to z a)) ∙ (λ z a. cond_map g (same_key a k) x (standing v a) z)
+
+  pub kept : {Y : Type 0} (g : Option Held → Y) → g x ≡ g (standing v k) → ◌≡◌ {A = Key → Y} (λ a. g (standing u a)) (λ a. g (standing v a))
+  kept g same = lifted g ∙ put_key_own (λ a. g (standing v a)) k (g x) same
+
+-- of one that stands, h, to w
+module _ (t u v : List (Key × Held)) (e : t ≡ v) (k : Key) (h w : Held) (was : Some h ≡ by_order t k) (alters : Alters t u k (Some w)) where
+  stood : standing v k ≡ Some h
+  stood = ap (λ t. standing t k) (sym e) ∙ sym (found t k) ∙ sym was
+
+  pub members_kept : length w.shares ≡ length h.shares → members u ≡ members v
+  members_kept same = kept t u v e k (Some w) alters members_of (ap Some same ∙ ap members_of (sym stood))
+
+  pub given_kept : given_in w ≡ given_in h → given u ≡ given v
+  given_kept same = kept t u v e k (Some w) alters given_of (same ∙ ap given_of (sym stood))
+
+  pub given_put : (member : ℕ) (x : Option (List ℕ)) → given_in w ≡ put (given_in h) member x → given u ≡ put_key (given v) k (put (given v k) member x)
+  given_put member x is = lifted t u v e k (Some w) alters given_of ∙ ap (put_key (given v) k) (is ∙ (λ z. put (given_of (sym stood z)) member x))
+
+  pub seats_kept : seat_in w ≡ seat_in h → seats u ≡ seats v
+  seats_kept same = kept t u v e k (Some w) alters seats_of (same ∙ ap seats_of (sym stood))
+
+  pub seats_put : (member : ℕ) (x : Option ℕ) → seat_in w ≡ put (seat_in h) member x → seats u ≡ put_key (seats v) k (put (seats v k) member x)
+  seats_put member x is = lifted t u v e k (Some w) alters seats_of ∙ ap (put_key (seats v) k) (is ∙ (λ z. put (seats_of (sym stood z)) member x))
+
+  pub mail_kept : mail_in w ≡ mail_in h → mail u ≡ mail v
+  mail_kept same = kept t u v e k (Some w) alters mail_of (same ∙ ap mail_of (sym stood))
+
+  pub mail_put : (from to round : ℕ) (x : Option (List ℕ)) → mail_in w ≡ put_mail (mail_in h) from to round x → mail u ≡ put_key (mail v) k (put_mail (mail v k) from to round x)
+  mail_put from to round x is = lifted t u v e k (Some w) alters mail_of ∙ ap (put_key (mail v) k) (is ∙ (λ z. put_mail (mail_of (sym stood z)) from to round x))
+
+  -- it was over with this member's leaving
+  pub last : (member : ℕ) (b : Bool) → length w.shares ≡ length h.shares → given_in w ≡ given_in h → seat_in w ≡ put (seat_in h) member None → (b ≡ true → IsOver w) × (IsOver w → b ≡ true)
+      → (b ≡ true → IsLast v k member) × (IsLast v k member → b ≡ true)
+  last member b len gave sat over = ((λ is m low. there m (over.0 is m (omega (arith, low, len, size_is)))), (λ is. over.1 (λ m low. back m (is m (omega (arith, low, len, size_is))))))
+    where
+      size_is : size v k ≡ length h.shares
+      size_is = ap (λ o. unwrap_or (members_of o) 0) stood
+
+      gave_is : (m : ℕ) → given v k m ≡ given_in w m
+      gave_is m = ap (λ o. given_of o m) stood ∙ ap (λ f. f m) (sym gave)
+
+      sat_is : (m : ℕ) → put (seats v k) member None m ≡ seat_in w m
+      sat_is m = ap (λ o. put (seats_of o) member None m) stood ∙ ap (λ f. f m) (sym sat)
+
+      there : (m : ℕ) → (given_in w m ≢ None) × (seat_in w m ≡ None) → (given v k m ≢ None) × (put (seats v k) member None m ≡ None)
+      there m h = (λ none. h.0 (sym (gave_is m) ∙ none), sat_is m ∙ h.1)
+
+      back : (m : ℕ) → (given v k m ≢ None) × (put (seats v k) member None m ≡ None) → (given_in w m ≢ None) × (seat_in w m ≡ None)
+      back m h = (λ none. h.0 (gave_is m ∙ none), sym (sat_is m) ∙ h.1)
+
+-- ---- a member that has something is one
+
+module _ (t v : List (Key × Held)) (e : t ≡ v) (k : Key) (h : Held) (was : Some h ≡ by_order t k) (member : ℕ) where
+  pub stands : standing v k ≡ Some h
+  stands = ap (λ t. standing t k) (sym e) ∙ sym (found t k) ∙ sym was
+
+  pub sized : member < size v k → member < length h.shares
+  sized low = omega (arith, low, ap (λ o. unwrap_or (members_of o) 0) stands)
+
+  pub gave : given v k member ≢ None → member < length h.shares
+  gave some = elim (cases_lt member (length h.shares)) [
+    | inl low ↦ low
+    | inr past ↦ absurd (some (ap (λ o. given_of o member) stands ∙ ap gift_of (slice_get_past h.shares member past)))
+  ]
+
+  pub sat : seats v k member ≢ None → member < length h.shares
+  sat some = elim (cases_lt member (length h.shares)) [
+    | inl low ↦ low
+    | inr past ↦ absurd (some (ap (λ o. seats_of o member) stands ∙ ap slot_of (slice_get_past h.shares member past)))
+  ]
+
+-- ---- an instance that doesn't stand
+
+pub nothing_stands : (t v : List (Key × Held)) (e : t ≡ v) (k : Key) → is_some (by_order t k) ≡ false → standing v k ≡ None
+nothing_stands t v e k absent = ap (λ t. standing t k) (sym e) ∙ sym (found t k) ∙ none (by_order t k) absent
+  where
+    none : (o : Option Held) → is_some o ≡ false → o ≡ None
+    none None is = refl
+    none (Some h) is = absurd cc
+
+pub kept_members : (t v : List (Key × Held)) (e : t ≡ v) (k : Key) (n : ℕ) → is_some (by_order t k) ≡ true → members v ≡ put_key (members v) k (Some (unwrap_or (members v k) n))
+kept_members t v e k n there = sym (put_key_own (members v) k (Some (unwrap_or (members v k) n)) (count (standing v k) (ap (λ t. is_some (standing t k)) (sym e) ∙ ap is_some (sym (found t k)) ∙ there)))
+  where
+    count : (o : Option Held) → is_some o ≡ true → Some (unwrap_or (members_of o) n) ≡ members_of o
+    count None is = absurd cc
+    count (Some h) is = refl
+
+-- a new one, to which none has given
+module _ (t u v : List (Key × Held)) (e : t ≡ v) (k : Key) (w : Held) (absent : is_some (by_order t k) ≡ false) (alters : Alters t u k (Some w)) where
+  pub members_new : (n : ℕ) → length w.shares ≡ n → members u ≡ put_key (members v) k (Some (unwrap_or (members v k) n))
+  members_new n is = lifted t u v e k (Some w) alters members_of ∙ ap (λ m. put_key (members v) k (Some m)) (is ∙ ap (λ o. unwrap_or (members_of o) n) (sym (nothing_stands t v e k absent)))
+
+  pub given_new : given_in w ≡ (λ m. None) → given u ≡ given v
+  given_new is = kept t u v e k (Some w) alters given_of (is ∙ ap given_of (sym (nothing_stands t v e k absent)))
+
+  pub seats_new : seat_in w ≡ (λ m. None) → seats u ≡ seats v
+  seats_new is = kept t u v e k (Some w) alters seats_of (is ∙ ap seats_of (sym (nothing_stands t v e k absent)))
+
+  pub mail_new : mail_in w ≡ (λ a b c. None) → mail u ≡ mail v
+  mail_new is = kept t u v e k (Some w) alters mail_of (is ∙ ap mail_of (sym (nothing_stands t v e k absent)))
+
+-- taking what isn't there
+pub mail_missing : (t v : List (Key × Held)) (e : t ≡ v) (k : Key) (from to round : ℕ) → is_some (by_order t k) ≡ false → mail v ≡ put_key (mail v) k (put_mail (mail v k) from to round None)
+mail_missing t v e k from to round absent = sym (put_key_own (mail v) k (put_mail (mail v k) from to round None) (same (standing v k) (nothing_stands t v e k absent)))
+  where
+    at : (b : Bool) → ◌≡◌ {A = Option (List ℕ)} (cond b None None) None
+    at true = refl
+    at false = refl
+
+    same : (o : Option Held) → o ≡ None → put_mail (mail_of o) from to round None ≡ mail_of o
+    same o is = subst (λ o. put_mail (mail_of o) from to round None ≡ mail_of o) (sym is) (λ z a b c. at ((a == from) && ((b == to) && (c == round))) z)
+
+-- ---- a value written back as it was
+
+pub set_value_own : {K X : Type 0} (test : K → Bool) (es : List (K × X)) (w : X) → Some w ≡ lookup test es → set_value test es w ≡ es
+set_value_own test [] w is = refl
+set_value_own {K} {X} test (e ∷ es) w is = go (set_value_own test es w) (test e.0) is
+  where
+    go : (Some w ≡ lookup test es → set_value test es w ≡ es) → (b : Bool) → Some w ≡ cond b (Some e.1) (lookup test es) → cond b ((e.0, w) ∷ es) (e ∷ set_value test es w) ≡ e ∷ es
+    go rest true same = λ z. (e.0, same_Some w e.1 same z) ∷ es
+    go rest false later = ap (λ xs. e ∷ xs) (rest later)
+
+pub on_ok : {T E P Q : Type 0} (r : Result T E) → (P → Q) → OnOk r P → OnOk r Q
+on_ok (Ok x) f h = f h
+on_ok (Err e) f h = tt
+
+pub on_err : {T E P Q : Type 0} (r : Result T E) → (P → Q) → OnErr r P → OnErr r Q
+on_err (Ok x) f h = tt
+on_err (Err e) f h = f h
+
+-- ---- the last one leaves
+
+pub nobody_sits : (v : List (Key × Held)) (k : Key) (member : ℕ) → IsLast v k member → (λ m. None) ≡ put (seats v k) member None
+nobody_sits v k member last = λ z m. sym (at m) z
+  where
+    past : (o : Option Held) (m : ℕ) → unwrap_or (members_of o) 0 ≤ m → seats_of o m ≡ None
+    past None m le = refl
+    past (Some h) m le = ap slot_of (slice_get_past h.shares m le)
+
+    at : (m : ℕ) → put (seats v k) member None m ≡ None
+    at m = elim (cases_lt m (size v k)) [
+      | inl low ↦ (last m low).1
+      | inr over ↦ elim (put_cases (seats v k) member None m) [
+        | inl here ↦ here.1
+        | inr else_where ↦ else_where.1 ∙ past (standing v k) m over
+      ]
+    ]

@@ -1,0 +1,24 @@
+use Rattle.std.proofs.Common.{◌∙◌, ap, sym, Some}
+use Rattle.std.specs.Prelude.{is_some}
+use Rattle.coll_match.proofs.Standing.{given_kept, mail_put, members_kept, on_err, on_ok, seats_kept, set_value_own}
+use Rattle.coll_match.proofs.matches.Matches.put.Goals as goal
+
+pub returns-clause-members : goal.returns-clause-members
+returns-clause-members c =
+    on_ok c.put.result (members_kept _ _ _ c.self.view_is c.args.key c.in-Some.instance.now c.put.new.self c.in-Some.ensures.value ((c.get_mut.follows.holds c.put.new.self).3 (ap is_some (sym c.in-Some.ensures.value))).0) c.put.ensures.members
+
+pub returns-clause-given : goal.returns-clause-given
+returns-clause-given c =
+    on_ok c.put.result (given_kept _ _ _ c.self.view_is c.args.key c.in-Some.instance.now c.put.new.self c.in-Some.ensures.value ((c.get_mut.follows.holds c.put.new.self).3 (ap is_some (sym c.in-Some.ensures.value))).0) c.put.ensures.given
+
+pub returns-clause-seats : goal.returns-clause-seats
+returns-clause-seats c =
+    on_ok c.put.result (seats_kept _ _ _ c.self.view_is c.args.key c.in-Some.instance.now c.put.new.self c.in-Some.ensures.value ((c.get_mut.follows.holds c.put.new.self).3 (ap is_some (sym c.in-Some.ensures.value))).0) c.put.ensures.seats
+
+pub returns-clause-mail : goal.returns-clause-mail
+returns-clause-mail c =
+    on_ok c.put.result (mail_put _ _ _ c.self.view_is c.args.key c.in-Some.instance.now c.put.new.self c.in-Some.ensures.value ((c.get_mut.follows.holds c.put.new.self).3 (ap is_some (sym c.in-Some.ensures.value))).0 c.args.from c.args.to c.args.round _) c.put.ensures.mail
+
+pub returns-clause-err : goal.returns-clause-err
+returns-clause-err c =
+    on_err c.put.result (λ same. (c.get_mut.follows.holds c.put.new.self).0 ∙ set_value_own _ _ c.put.new.self (ap Some same ∙ c.in-Some.ensures.value) ∙ c.self.view_is) c.put.ensures.err

@@ -1,0 +1,4 @@
+pub mod Held
+pub mod Instances
+pub mod Views
+pub mod Rows

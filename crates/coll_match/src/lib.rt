@@ -1,0 +1,22 @@
+//! What members give to their collectives, and the messages on the way between them.
+//!
+//! A collective of a communicator is named by its place in the posting lists and the number of its start; here it is
+//! called an instance. What a member gave to an instance outlives that member's request, since the others may read it
+//! later: it stays until every member has given and left.
+//!
+//! | Module | Has |
+//! |---|---|
+//! | `key` | `Key`, by which an instance goes, and the address of a message in it |
+//! | `instance` | `Instance`, what stands of one |
+//! | `matches` | `Matches`, all that stand |
+#![tactic(auto)]
+
+mod instance;
+mod key;
+mod matches;
+
+pub use key::Key;
+pub use matches::Matches;
+
+#[cfg(test)]
+mod tests;

@@ -1,0 +1,130 @@
+ghost use Rattle.coll_match.specs.Instances.{HaveSize};
+
+use crate::key::Key;
+use crate::matches::Matches;
+use coll_kinds::Refusal;
+use std::alloc::Global;
+use std::test::Fail;
+
+/// A member of three joins, and its request has that slot.
+fn enter(
+    matches: &mut Matches,
+    alloc: Global,
+    key: Key,
+    member: u8,
+    byte: u8,
+) -> Result<(), Refusal>
+    requires { HaveSize matches.old 3 }
+    ensures { HaveSize matches.new 3 }
+{
+    let bytes = Vec::from_slice(alloc, &[byte])?;
+    matches.room(key, 3)?;
+    if member < 3 && matches.given(key, member).is_none() {
+        matches.join(key, member, bytes);
+        matches.seat(key, member, u32::from(byte));
+    }
+    Ok(())
+}
+
+/// A member that has joined sends a byte.
+fn send(
+    matches: &mut Matches,
+    alloc: Global,
+    key: Key,
+    from: u8,
+    to: u8,
+    round: usize,
+    byte: u8,
+) -> Result<(), Refusal>
+    requires { HaveSize matches.old 3 }
+    ensures { HaveSize matches.new 3 }
+{
+    let message = Vec::from_slice(alloc, &[byte])?;
+    if matches.given(key, from).is_some() && !matches.ready(key, from, to, round) {
+        match matches.put(key, from, to, round, message) {
+            Ok(()) => {}
+            Err(refused) => return Err(refused.why),
+        }
+    }
+    Ok(())
+}
+
+/// A member whose slot is noted leaves.
+fn leave(matches: &mut Matches, key: Key, member: u8) -> bool
+    requires { HaveSize matches.old 3 }
+    ensures { HaveSize matches.new 3 }
+{
+    matches.seated(key, member).is_some() && matches.leave(key, member)
+}
+
+/// The byte that was taken.
+fn taken(matches: &mut Matches, key: Key, from: u8, to: u8, round: usize) -> Option<u8>
+    requires { HaveSize matches.old 3 }
+    ensures { HaveSize matches.new 3 }
+{
+    matches.take(key, from, to, round)?.first().copied()
+}
+
+/// The byte that a member gave.
+fn gift(matches: &Matches, key: Key, member: u8) -> Option<u8> {
+    matches.given(key, member)?.first().copied()
+}
+
+const FIRST: Key = Key {
+    comm: 1,
+    place: 2,
+    start: 0,
+};
+
+const SECOND: Key = Key {
+    comm: 1,
+    place: 2,
+    start: 1,
+};
+
+#[test]
+fn contributions_outlive_their_requests(rt: HostRuntime) -> Result<(), Fail> {
+    let alloc = rt.alloc();
+    let mut matches = Matches::new(alloc);
+    enter(&mut matches, alloc, FIRST, 0, 10)?;
+    enter(&mut matches, alloc, FIRST, 1, 11)?;
+    enter(&mut matches, alloc, FIRST, 2, 12)?;
+    enter(&mut matches, alloc, SECOND, 0, 20)?;
+    assert_eq!(rt; matches.seated(FIRST, 0), Some(10));
+    assert_eq!(rt; matches.seated(SECOND, 0), Some(20));
+    assert_eq!(rt; matches.seated(SECOND, 1), None);
+
+    assert!(rt; !leave(&mut matches, FIRST, 0));
+    assert_eq!(rt; matches.seated(FIRST, 0), None);
+    assert_eq!(rt; gift(&matches, FIRST, 0), Some(10));
+    assert!(rt; !leave(&mut matches, FIRST, 2));
+    assert_eq!(rt; gift(&matches, FIRST, 2), Some(12));
+    assert!(rt; leave(&mut matches, FIRST, 1));
+    for member in 0..3 {
+        assert_eq!(rt; gift(&matches, FIRST, member), None);
+    }
+    assert_eq!(rt; gift(&matches, SECOND, 0), Some(20));
+    Ok(())
+}
+
+#[test]
+fn a_message_is_what_was_put(rt: HostRuntime) -> Result<(), Fail> {
+    let alloc = rt.alloc();
+    let mut matches = Matches::new(alloc);
+    enter(&mut matches, alloc, FIRST, 0, 1)?;
+    enter(&mut matches, alloc, SECOND, 0, 2)?;
+    send(&mut matches, alloc, FIRST, 0, 1, 0, 30)?;
+    send(&mut matches, alloc, FIRST, 0, 1, 7, 31)?;
+    send(&mut matches, alloc, FIRST, 0, 2, 0, 32)?;
+    send(&mut matches, alloc, SECOND, 0, 1, 0, 33)?;
+    assert!(rt; matches.ready(FIRST, 0, 1, 7));
+    assert!(rt; !matches.ready(FIRST, 1, 0, 0));
+
+    assert_eq!(rt; taken(&mut matches, FIRST, 0, 1, 7), Some(31));
+    assert_eq!(rt; taken(&mut matches, FIRST, 0, 1, 7), None);
+    assert!(rt; !matches.ready(FIRST, 0, 1, 7));
+    assert_eq!(rt; taken(&mut matches, SECOND, 0, 1, 0), Some(33));
+    assert_eq!(rt; taken(&mut matches, FIRST, 0, 1, 0), Some(30));
+    assert_eq!(rt; taken(&mut matches, FIRST, 0, 2, 0), Some(32));
+    Ok(())
+}

@@ -1,0 +1,4 @@
+pub mod Fronts
+pub mod Comms
+pub mod Judging
+pub mod Calls

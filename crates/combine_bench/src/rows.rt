@@ -1,0 +1,67 @@
+use coll_kinds::{Datatype, Op};
+use coll_ops::combine;
+use std::alloc::{AllocError, Global};
+
+/// Blocks of eight bytes in a row of 64 KiB.
+const BLOCKS: u32 = 8192;
+
+/// Two rows of bytes that are mixed well, and a third for their combination.
+#[derive(Drop)]
+pub(crate) struct Rows {
+    left: Vec<u8>,
+    right: Vec<u8>,
+    out: Vec<u8>,
+}
+
+impl Rows {
+    pub(crate) fn new(alloc: Global) -> Result<Self, AllocError> {
+        Ok(Rows {
+            left: row(alloc, 1)?,
+            right: row(alloc, 2)?,
+            out: row(alloc, 3)?,
+        })
+    }
+
+    /// Combines the rows once, and gives the checksum of the result.
+    pub(crate) fn combine(&mut self, op: Op, ty: Datatype) -> u32 {
+        self.turn(op, ty);
+        self.checksum()
+    }
+
+    /// Combines the rows once, and changes the left one by the result, so that each turn differs from the one before.
+    pub(crate) fn turn(&mut self, op: Op, ty: Datatype) {
+        if !op.is_allowed_on(ty)
+            || self.right.len() != self.left.len()
+            || self.out.len() != self.left.len()
+            || self.left.len() % ty.width() != 0
+        {
+            return;
+        }
+        combine(op, ty, &self.left, &self.right, &mut self.out);
+        if let (Some(first), Some(last)) = (self.left.first_mut(), self.out.last()) {
+            *first ^= *last;
+        }
+    }
+
+    /// A number that depends on every byte of the result.
+    pub(crate) fn checksum(&self) -> u32 {
+        let mut sum = 0u32;
+        for byte in &self.out {
+            sum = sum.wrapping_mul(31).wrapping_add(u32::from(*byte));
+        }
+        sum
+    }
+}
+
+/// A row of bytes made from the seed by a linear congruence.
+fn row(alloc: Global, seed: u64) -> Result<Vec<u8>, AllocError> {
+    let mut row = Vec::new(alloc);
+    let mut x = seed;
+    for _ in 0..BLOCKS {
+        x = x
+            .wrapping_mul(6_364_136_223_846_793_005)
+            .wrapping_add(1_442_695_040_888_963_407);
+        row.extend_from_slice(&x.to_be_bytes())?;
+    }
+    Ok(row)
+}
