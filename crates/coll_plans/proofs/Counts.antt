@@ -1,27 +1,39 @@
 -- How many actions a member of each family has
-use Rattle.std.proofs.Common.{ℕ, zero, suc, ◌+◌, ◌-◌, ◌*◌, ◌^◌, ◌≤◌, leb, ltb, Bool, [], ◌∷◌, ◌++◌, length, unwrap_or, arith, length-append}
+use Rattle.std.proofs.Common.{◌≡◌, ℕ, zero, suc, ◌+◌, ◌-◌, ◌*◌, ◌%◌, ◌^◌, ◌≤◌, ◌&&◌, cond, eqb, leb, ltb, Bool, true, false, None, [], ◌∷◌, ◌++◌, length, unwrap_or, arith, eqb-true, leb-true, length-append, mul-le-mul}
+use Rattle.std.proofs.lemmas.Bool.{cond_both}
 use Rattle.coll_kinds.specs.declared.kind.Kind.{Kind}
 use Rattle.coll_kinds.specs.declared.kind.Kind.TheVariants.{Barrier, Bcast, Gather, Scatter, Allgather, Alltoall, Reduce, Allreduce, Rsblock, Scan, Exscan}
 use Rattle.coll_kinds.specs.declared.operation.Op.{Op}
 use Rattle.coll_kinds.specs.declared.operation.Op.TheVariants.{Sum}
 use Rattle.coll_kinds.specs.declared.datatype.Datatype.{Datatype}
+use Rattle.coll_kinds.specs.declared.datatype.Datatype.TheVariants.{I8, I16, I32, I64, U8, U16, U32, U64, Byte}
+use Rattle.coll_kinds.specs.Elements.{width}
+use Rattle.coll_kinds.specs.Checks.{broken, is_barrier}
 use Rattle.coll_kinds.specs.declared.signature.Signature.{Signature}
 use Rattle.coll_kinds.specs.Lengths.{block_len}
 use Rattle.coll_sched.specs.declared.action.Action.{Action}
 use Rattle.coll_sched.specs.Points.{remaining}
 use Rattle.coll_trees.specs.Columns.{Column}
 use Rattle.coll_trees.specs.Depths.{depth}
-use Rattle.coll_trees.specs.Spreading.{spreading}
+use Rattle.coll_trees.specs.Spreading.{from_root}
+use Rattle.coll_trees.specs.Trees.{bcast_family}
 use Rattle.coll_trees.specs.Folding.{folding, last_hop}
 use Rattle.coll_trees.proofs.Counts.{all_in, all_in-append, cond-few, folding-few, last_hop-few, spreading-few}
+use Rattle.coll_trees.proofs.Checked.{checked}
 use Rattle.coll_plans.specs.declared.blocks.Blocks.{Blocks}
+use Rattle.coll_plans.specs.declared.pairing.Pairing.{Pairing}
+use Rattle.coll_plans.specs.declared.pairing.Pairing.TheVariants.{Lower, Upper, Alone}
 use Rattle.coll_plans.specs.declared.pattern.Pattern.{Pattern}
 use Rattle.coll_plans.specs.declared.pattern.Pattern.TheVariants.{ToAll, ToRoot, FromRoot}
 use Rattle.coll_plans.specs.Barriers.{meetings}
 use Rattle.coll_plans.specs.Scans.{doubling, join, join_both, receipt, shift}
 use Rattle.coll_plans.specs.Exchanges.{carries, chosen, exchange, keeps, recvs, sends}
 use Rattle.coll_plans.specs.Directs.{blocks_from, combines_below, one_block}
+use Rattle.coll_plans.specs.Corners.{corner, dimension, extra, mate, pairing}
+use Rattle.coll_plans.specs.Trades.{exchanging, give, gives, joins_by, pair_up, pairs, tell, tells, trade, trade_joins, trades, trading}
+use Rattle.coll_plans.specs.Relays.{chain_family, is_long, is_passing, receipt_of, relay_count, relay_of, relaying, segment_count}
 use Rattle.coll_plans.specs.Plans.{family_by, most_actions}
+use Rattle.coll_plans.proofs.Corners.{dimension-most}
 
 receipt-few : (b s r : ℕ) → length (receipt b s r) ≤ 1
 receipt-few b s r = cond-few (leb s r) _ [] 1 (omega arith) (omega arith)
@@ -69,33 +81,109 @@ combines_below-few op ty blocks (suc k) r = let rest : all_in (combines_below op
 alone : (column : Column) (r most : ℕ) → length (column r) ≤ most → all_in (column ∷ []) r ≤ most
 alone column r most few = omega arith
 
+-- of an allreduce
+gives-few : (b r : ℕ) (o : Pairing) → length (gives b r o) ≤ 1
+gives-few b r Lower = omega arith
+gives-few b r Upper = omega arith
+gives-few b r Alone = omega arith
+
+pairs-few : (op : Op) (ty : Datatype) (b : ℕ) (o : Pairing) → length (pairs op ty b o) ≤ 1
+pairs-few op ty b Lower = omega arith
+pairs-few op ty b Upper = omega arith
+pairs-few op ty b Alone = omega arith
+
+trades-few : (b p : ℕ) (o : Pairing) → length (trades b p o) ≤ 2
+trades-few b p Lower = omega arith
+trades-few b p Upper = omega arith
+trades-few b p Alone = omega arith
+
+joins_by-few : (op : Op) (ty : Datatype) (b q s : ℕ) (o : Pairing) → length (joins_by op ty b q s o) ≤ 1
+joins_by-few op ty b q s Lower = cond-few (ltb (q % (s + s)) s) _ _ 1 (omega arith) (omega arith)
+joins_by-few op ty b q s Upper = omega arith
+joins_by-few op ty b q s Alone = cond-few (ltb (q % (s + s)) s) _ _ 1 (omega arith) (omega arith)
+
+tells-few : (b r : ℕ) (o : Pairing) → length (tells b r o) ≤ 1
+tells-few b r Lower = omega arith
+tells-few b r Upper = omega arith
+tells-few b r Alone = omega arith
+
+trading-few : (op : Op) (ty : Datatype) (b e k c r : ℕ) → all_in (trading op ty b e k c) r ≤ 3 * c
+trading-few op ty b e k zero r = omega arith
+trading-few op ty b e k (suc c) r =
+    let first : length (trade b e (2 ^ k) r) ≤ 2 = trades-few b (mate e (2 ^ k) r) (pairing e r) in
+    let then : length (trade_joins op ty b e (2 ^ k) r) ≤ 1 = joins_by-few op ty b (corner e r) (2 ^ k) (pairing e r) in
+    let rest : all_in (trading op ty b e (suc k) c) r ≤ 3 * c = trading-few op ty b e (suc k) c r in
+    omega arith
+
+exchanging-few : (op : Op) (ty : Datatype) (b e d r : ℕ) → all_in (exchanging op ty b e d) r ≤ 3 * d + 3
+exchanging-few op ty b e d r =
+    let first : length (give b e r) ≤ 1 = gives-few b r (pairing e r) in
+    let then : length (pair_up op ty b e r) ≤ 1 = pairs-few op ty b (pairing e r) in
+    let last : all_in (tell b e ∷ []) r ≤ 1 = alone (tell b e) r 1 (tells-few b r (pairing e r)) in
+    let all : all_in (trading op ty b e 0 d ++ (tell b e ∷ [])) r ≡ all_in (trading op ty b e 0 d) r + all_in (tell b e ∷ []) r = all_in-append (trading op ty b e 0 d) (tell b e ∷ []) r in
+    let trades : all_in (trading op ty b e 0 d) r ≤ 3 * d = trading-few op ty b e 0 d r in
+    omega arith
+
+-- of a long bcast, whose block has at most 32 segments
+receipt_of-few : (b n root j v : ℕ) → length (receipt_of b n root j v) ≤ 1
+receipt_of-few b n root j v = cond-few (ltb 0 v && is_passing n (segment_count b) j (v - 1)) _ [] 1 (omega arith) (omega arith)
+
+relay_of-few : (b n root j v : ℕ) → length (relay_of b n root j v) ≤ 2
+relay_of-few b n root j v =
+    let rest : length (receipt_of b n root j v) ≤ 1 = receipt_of-few b n root j v in
+    cond-few (is_passing n (segment_count b) j v) _ (receipt_of b n root j v) 2 (omega arith) (omega arith)
+
+relaying-few : (b n root k c r : ℕ) → all_in (relaying b n root k c) r ≤ c + c
+relaying-few b n root k zero r = omega arith
+relaying-few b n root k (suc c) r =
+    let first : length (relay_of b n root k (from_root n root r)) ≤ 2 = relay_of-few b n root k (from_root n root r) in
+    let rest : all_in (relaying b n root (suc k) c) r ≤ c + c = relaying-few b n root (suc k) c r in
+    omega arith
+
+width-most : (ty : Datatype) → width ty ≤ 8
+width-most I8 = omega arith
+width-most I16 = omega arith
+width-most I32 = omega arith
+width-most I64 = omega arith
+width-most U8 = omega arith
+width-most U16 = omega arith
+width-most U32 = omega arith
+width-most U64 = omega arith
+width-most Byte = omega arith
+
+count_is-most : (barrier : Bool) (count : ℕ) → cond barrier (eqb count 0) (leb count 65536) ≡ true → count ≤ 65536
+count_is-most true count h = let e : count ≡ 0 = eqb-true count 0 h in omega arith
+count_is-most false count h = leb-true count 65536 h
+
+block_len-most : (sig : Signature) (n : ℕ) → broken sig n ≡ None → block_len sig ≤ 524288
+block_len-most sig n h = mul-le-mul (count_is-most (is_barrier sig.kind) sig.count (checked sig n h).count_is) (width-most sig.ty)
+
 -- the actions of each kind's schedules
-pub short_by : (k : Kind) (sig : Signature) (n : ℕ) → n ≤ 64 → depth n ≤ 6 → (r : ℕ) → remaining (family_by k sig n r) 0 0 ≤ most_actions
-short_by Barrier sig n few d r = omega (arith, meetings-few n 0 (depth n) r)
-short_by Bcast sig n few d r = omega (arith, spreading-few (block_len sig) n sig.root 0 (depth n) r)
-short_by Gather sig n few d r = omega (arith, exchange-few (ToRoot sig.root) (one_block (block_len sig)) (blocks_from (block_len sig) (block_len sig)) n r)
-short_by Scatter sig n few d r = omega (arith, exchange-few (FromRoot sig.root) (blocks_from (block_len sig) (block_len sig)) (one_block (block_len sig)) n r)
-short_by Allgather sig n few d r = omega (arith, exchange-few ToAll (one_block (block_len sig)) (blocks_from (block_len sig) (block_len sig)) n r)
-short_by Alltoall sig n few d r = omega (arith, exchange-few ToAll (blocks_from 0 (block_len sig)) (blocks_from (n * block_len sig) (block_len sig)) n r)
-short_by Reduce sig n few d r =
+pub short_by : (k : Kind) (sig : Signature) (n : ℕ) → broken sig n ≡ None → n ≤ 64 → depth n ≤ 6 → (r : ℕ) → remaining (family_by k sig n r) 0 0 ≤ most_actions
+short_by Barrier sig n h few d r = omega (arith, meetings-few n 0 (depth n) r)
+short_by Bcast sig n h few d r =
+    cond_both (is_long n (block_len sig)) (chain_family sig n) (bcast_family sig n) (λ f. remaining (f r) 0 0 ≤ most_actions)
+    (λ e. let short : block_len sig ≤ 524288 = block_len-most sig n h in omega (arith, relaying-few (block_len sig) n sig.root 0 (relay_count n (block_len sig)) r))
+    (λ e. omega (arith, spreading-few (block_len sig) n sig.root 0 (depth n) r))
+short_by Gather sig n h few d r = omega (arith, exchange-few (ToRoot sig.root) (one_block (block_len sig)) (blocks_from (block_len sig) (block_len sig)) n r)
+short_by Scatter sig n h few d r = omega (arith, exchange-few (FromRoot sig.root) (blocks_from (block_len sig) (block_len sig)) (one_block (block_len sig)) n r)
+short_by Allgather sig n h few d r = omega (arith, exchange-few ToAll (one_block (block_len sig)) (blocks_from (block_len sig) (block_len sig)) n r)
+short_by Alltoall sig n h few d r = omega (arith, exchange-few ToAll (blocks_from 0 (block_len sig)) (blocks_from (n * block_len sig) (block_len sig)) n r)
+short_by Reduce sig n h few d r =
     omega (
       arith,
       all_in-append (folding (unwrap_or sig.op Sum) sig.ty (block_len sig) n 0 (depth n)) (last_hop (block_len sig) sig.root ∷ []) r,
       folding-few (unwrap_or sig.op Sum) sig.ty (block_len sig) n 0 (depth n) r,
       alone (last_hop (block_len sig) sig.root) r 1 (last_hop-few (block_len sig) sig.root r),
     )
-short_by Allreduce sig n few d r =
-    omega (
-      arith,
-      all_in-append (folding (unwrap_or sig.op Sum) sig.ty (block_len sig) n 0 (depth n)) (spreading (block_len sig) n 0 0 (depth n)) r,
-      folding-few (unwrap_or sig.op Sum) sig.ty (block_len sig) n 0 (depth n) r,
-      spreading-few (block_len sig) n 0 0 (depth n) r,
-    )
-short_by Rsblock sig n few d r =
+short_by Allreduce sig n h few d r =
+    let most : dimension n ≤ 6 = dimension-most n in
+    omega (arith, exchanging-few (unwrap_or sig.op Sum) sig.ty (block_len sig) (extra n) (dimension n) r)
+short_by Rsblock sig n h few d r =
     omega (
       arith,
       exchange-few ToAll (blocks_from 0 (block_len sig)) (blocks_from (n * block_len sig) (block_len sig)) n r,
       combines_below-few (unwrap_or sig.op Sum) sig.ty (blocks_from (n * block_len sig) (block_len sig)) (n - 1) r,
     )
-short_by Scan sig n few d r = omega (arith, doubling-few (block_len sig) n (join (unwrap_or sig.op Sum) sig.ty (block_len sig)) (join-few (unwrap_or sig.op Sum) sig.ty (block_len sig)) 0 (depth n) r)
-short_by Exscan sig n few d r = omega (arith, doubling-few (block_len sig) n (join_both (unwrap_or sig.op Sum) sig.ty (block_len sig)) (join_both-few (unwrap_or sig.op Sum) sig.ty (block_len sig)) 0 (depth n) r)
+short_by Scan sig n h few d r = omega (arith, doubling-few (block_len sig) n (join (unwrap_or sig.op Sum) sig.ty (block_len sig)) (join-few (unwrap_or sig.op Sum) sig.ty (block_len sig)) 0 (depth n) r)
+short_by Exscan sig n h few d r = omega (arith, doubling-few (block_len sig) n (join_both (unwrap_or sig.op Sum) sig.ty (block_len sig)) (join_both-few (unwrap_or sig.op Sum) sig.ty (block_len sig)) 0 (depth n) r)

@@ -14,5 +14,12 @@ pub mod LocalRounds
 pub mod Ranges
 pub mod Scans
 pub mod Exscans
+pub mod Corners
+pub mod Trades
+pub mod Joining
+pub mod Allreduces
+pub mod Segments
+pub mod Relays
+pub mod Chains
 mod Counts
 pub mod Plans

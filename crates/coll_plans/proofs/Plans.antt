@@ -1,6 +1,6 @@
 -- the family of every checked signature serves it, within its kind's bound
-use Rattle.std.proofs.Common.{◌≡◌, ℕ, ◌<◌, ◌≤◌, true, Option, Some, None, MatchOption, Result, Ok, Err, IsOk, IfOk, IsErrOf, IsOkUnless, refl, sym, ap, subst, ◌∙◌}
-use Rattle.std.proofs.lemmas.Bool.{false≢true}
+use Rattle.std.proofs.Common.{◌≡◌, ℕ, ◌<◌, ◌≤◌, ◌⊎◌, inl, inr, Bool, true, false, cond, Option, Some, None, MatchOption, Result, Ok, Err, IsOk, IfOk, IsErrOf, IsOkUnless, refl, sym, ap, subst, ◌∙◌}
+use Rattle.std.proofs.lemmas.Bool.{cases_Bool, false≢true}
 use Rattle.coll_kinds.specs.declared.kind.Kind.{Kind}
 use Rattle.coll_kinds.specs.declared.kind.Kind.TheVariants.{Barrier, Bcast, Gather, Scatter, Allgather, Alltoall, Reduce, Allreduce, Rsblock, Scan, Exscan}
 use Rattle.coll_kinds.specs.declared.signature.Signature.{Signature}
@@ -8,20 +8,24 @@ use Rattle.coll_kinds.specs.declared.refusal.Refusal.{Refusal}
 use Rattle.coll_kinds.specs.declared.refusal.Refusal.TheVariants.{BadSignature, NoMemory}
 use Rattle.coll_kinds.specs.declared.refusal.SignatureFault.{SignatureFault}
 use Rattle.coll_kinds.specs.Checks.{broken}
+use Rattle.coll_kinds.specs.Lengths.{block_len}
 use Rattle.coll_sched.specs.Schedules.{Parts}
 use Rattle.coll_sched.specs.Families.{IsNarrow, family_exchanges}
 use Rattle.coll_sched.specs.Served.{Serves}
-use Rattle.coll_trees.specs.Trees.{IsNarrowFor}
+use Rattle.coll_trees.specs.Depths.{depth}
+use Rattle.coll_trees.specs.Trees.{IsNarrowFor, bcast_family}
 use Rattle.coll_trees.proofs.Depths.{depth-most}
 use Rattle.coll_trees.proofs.Bcasts.{bcast_serves}
 use Rattle.coll_trees.proofs.Reduces.{reduce_serves}
-use Rattle.coll_trees.proofs.Allreduces.{allreduce_serves}
 use Rattle.coll_plans.specs.Directs.{IsDirectFor}
+use Rattle.coll_plans.specs.Relays.{chain_family, is_long, relay_count}
 use Rattle.coll_plans.specs.Plans.{family_by, family, is_direct, most_exchanges_by, IsPlanned, FamiliesServe, Planned}
 use Rattle.coll_plans.proofs.Counts.{short_by}
 use Rattle.coll_plans.proofs.Meetings.{barrier_serves}
 use Rattle.coll_plans.proofs.Scans.{scan_serves}
 use Rattle.coll_plans.proofs.Exscans.{exscan_serves}
+use Rattle.coll_plans.proofs.Allreduces.{allreduce_serves}
+use Rattle.coll_plans.proofs.Chains.{chain_serves}
 use Rattle.coll_plans.proofs.Gathers.{gather_serves}
 use Rattle.coll_plans.proofs.Scatters.{scatter_serves}
 use Rattle.coll_plans.proofs.Allgathers.{allgather_serves}
@@ -29,34 +33,45 @@ use Rattle.coll_plans.proofs.Alltoalls.{alltoall_serves}
 use Rattle.coll_plans.proofs.Rsblocks.{rsblock_serves}
 
 -- a narrow family of the kind, and a direct one
-of_narrow : (sig : Signature) (n : ℕ) (k : Kind) → n ≤ 64 → sig.kind ≡ k → IsNarrowFor sig n (family_by k sig n) (most_exchanges_by k n) → IsPlanned sig n (family_by sig.kind sig n)
-of_narrow sig n k top e h = record {
+of_narrow : (sig : Signature) (n : ℕ) (k : Kind) → broken sig n ≡ None → n ≤ 64 → sig.kind ≡ k → IsNarrowFor sig n (family_by k sig n) (most_exchanges_by k sig n) → IsPlanned sig n (family_by sig.kind sig n)
+of_narrow sig n k rules top e h = record {
   serves = subst (λ x. Serves sig n (family_by x sig n)) (sym e) h.serves;
-  few = subst (λ x. family_exchanges n (family_by x sig n) ≤ most_exchanges_by x n) (sym e) h.few;
-  short = short_by sig.kind sig n top (depth-most n);
+  few = subst (λ x. family_exchanges n (family_by x sig n) ≤ most_exchanges_by x sig n) (sym e) h.few;
+  short = short_by sig.kind sig n rules top (depth-most n);
   narrow = λ d. subst (λ x. IsNarrow n (family_by x sig n)) (sym e) h.narrow;
 }
 
-of_direct : (sig : Signature) (n : ℕ) (k : Kind) → n ≤ 64 → sig.kind ≡ k → is_direct k ≡ true → IsDirectFor sig n (family_by k sig n) (most_exchanges_by k n) → IsPlanned sig n (family_by sig.kind sig n)
-of_direct sig n k top e direct h = record {
+of_direct : (sig : Signature) (n : ℕ) (k : Kind) → broken sig n ≡ None → n ≤ 64 → sig.kind ≡ k → is_direct k ≡ true → IsDirectFor sig n (family_by k sig n) (most_exchanges_by k sig n) → IsPlanned sig n (family_by sig.kind sig n)
+of_direct sig n k rules top e direct h = record {
   serves = subst (λ x. Serves sig n (family_by x sig n)) (sym e) h.serves;
-  few = subst (λ x. family_exchanges n (family_by x sig n) ≤ most_exchanges_by x n) (sym e) h.few;
-  short = short_by sig.kind sig n top (depth-most n);
+  few = subst (λ x. family_exchanges n (family_by x sig n) ≤ most_exchanges_by x sig n) (sym e) h.few;
+  short = short_by sig.kind sig n rules top (depth-most n);
   narrow = λ d. absurd (false≢true (sym d ∙ (ap is_direct e ∙ direct)));
 }
 
+-- a bcast by the chain or by the tree
+abbrev BcastsServe : Signature → ℕ → Bool → Type 0
+BcastsServe sig n long = IsNarrowFor sig n (cond long (chain_family sig n) (bcast_family sig n)) (cond long (relay_count n (block_len sig)) (depth n))
+
+bcasts_serve : (sig : Signature) (n : ℕ) → broken sig n ≡ None → sig.kind ≡ Bcast → n ≤ 64 → BcastsServe sig n (is_long n (block_len sig))
+bcasts_serve sig n h e top = go (cases_Bool (is_long n (block_len sig)))
+  where
+    go : (is_long n (block_len sig) ≡ true) ⊎ (is_long n (block_len sig) ≡ false) → BcastsServe sig n (is_long n (block_len sig))
+    go (inl t) = subst (BcastsServe sig n) (sym t) (chain_serves sig n h e t)
+    go (inr t) = subst (BcastsServe sig n) (sym t) (bcast_serves sig n h e top)
+
 by_kind : (sig : Signature) (n : ℕ) → broken sig n ≡ None → 0 < n → n ≤ 64 → (k : Kind) → sig.kind ≡ k → IsPlanned sig n (family_by sig.kind sig n)
-by_kind sig n h pos top Barrier e = of_narrow sig n Barrier top e (barrier_serves sig n e pos top)
-by_kind sig n h pos top Bcast e = of_narrow sig n Bcast top e (bcast_serves sig n h e top)
-by_kind sig n h pos top Gather e = of_direct sig n Gather top e refl (gather_serves sig n e)
-by_kind sig n h pos top Scatter e = of_direct sig n Scatter top e refl (scatter_serves sig n h e)
-by_kind sig n h pos top Allgather e = of_direct sig n Allgather top e refl (allgather_serves sig n e)
-by_kind sig n h pos top Alltoall e = of_direct sig n Alltoall top e refl (alltoall_serves sig n e)
-by_kind sig n h pos top Reduce e = of_narrow sig n Reduce top e (reduce_serves sig n h e top)
-by_kind sig n h pos top Allreduce e = of_narrow sig n Allreduce top e (allreduce_serves sig n h e pos top)
-by_kind sig n h pos top Rsblock e = of_direct sig n Rsblock top e refl (rsblock_serves sig n h e)
-by_kind sig n h pos top Scan e = of_narrow sig n Scan top e (scan_serves sig n h e top)
-by_kind sig n h pos top Exscan e = of_narrow sig n Exscan top e (exscan_serves sig n h e top)
+by_kind sig n h pos top Barrier e = of_narrow sig n Barrier h top e (barrier_serves sig n e pos top)
+by_kind sig n h pos top Bcast e = of_narrow sig n Bcast h top e (bcasts_serve sig n h e top)
+by_kind sig n h pos top Gather e = of_direct sig n Gather h top e refl (gather_serves sig n e)
+by_kind sig n h pos top Scatter e = of_direct sig n Scatter h top e refl (scatter_serves sig n h e)
+by_kind sig n h pos top Allgather e = of_direct sig n Allgather h top e refl (allgather_serves sig n e)
+by_kind sig n h pos top Alltoall e = of_direct sig n Alltoall h top e refl (alltoall_serves sig n e)
+by_kind sig n h pos top Reduce e = of_narrow sig n Reduce h top e (reduce_serves sig n h e top)
+by_kind sig n h pos top Allreduce e = of_narrow sig n Allreduce h top e (allreduce_serves sig n h e pos top)
+by_kind sig n h pos top Rsblock e = of_direct sig n Rsblock h top e refl (rsblock_serves sig n h e)
+by_kind sig n h pos top Scan e = of_narrow sig n Scan h top e (scan_serves sig n h e top)
+by_kind sig n h pos top Exscan e = of_narrow sig n Exscan h top e (exscan_serves sig n h e top)
 
 pub all_served : FamiliesServe
 unfolding family

@@ -2,6 +2,11 @@ pub mod Barriers
 pub mod Exchanges
 pub mod Directs
 pub mod Scans
+pub mod Corners
+pub mod Trades
+pub mod Relays
 pub mod Plans
 pub mod Rows
 pub mod DirectRows
+pub mod TradeRows
+pub mod RelayRows

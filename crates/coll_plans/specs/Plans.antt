@@ -1,23 +1,26 @@
 -- The one family that a signature and a number of members fix, and what is known of it
-use Rattle.std.specs.Prelude.{◌≡◌, ℕ, ◌+◌, ◌<◌, ◌≤◌, Bool, true, false, None}
+use Rattle.std.specs.Prelude.{◌≡◌, ℕ, ◌+◌, ◌<◌, ◌≤◌, Bool, true, false, cond, None}
 use Rattle.coll_kinds.specs.declared.kind.Kind.{Kind}
 use Rattle.coll_kinds.specs.declared.kind.Kind.TheVariants.{Barrier, Bcast, Gather, Scatter, Allgather, Alltoall, Reduce, Allreduce, Rsblock, Scan, Exscan}
 use Rattle.coll_kinds.specs.declared.signature.Signature.{Signature}
 use Rattle.coll_kinds.specs.Checks.{broken}
+use Rattle.coll_kinds.specs.Lengths.{block_len}
 use Rattle.coll_sched.specs.Schedules.{Parts}
 use Rattle.coll_sched.specs.Families.{Family, IsNarrow, family_exchanges}
 use Rattle.coll_sched.specs.Points.{remaining}
 use Rattle.coll_sched.specs.Served.{Serves}
 use Rattle.coll_trees.specs.Depths.{depth, direct_bound}
-use Rattle.coll_trees.specs.Trees.{bcast_family, reduce_family, allreduce_family}
+use Rattle.coll_trees.specs.Trees.{bcast_family, reduce_family}
 use Rattle.coll_plans.specs.Barriers.{barrier_family}
 use Rattle.coll_plans.specs.Scans.{scan_family, exscan_family}
+use Rattle.coll_plans.specs.Trades.{allreduce_family, most_trades}
+use Rattle.coll_plans.specs.Relays.{chain_family, is_long, relay_count}
 use Rattle.coll_plans.specs.Directs.{gather_family, scatter_family, allgather_family, alltoall_family, rsblock_family}
 
--- by kind
+-- by kind; a bcast also by its length
 abbrev pub family_by : Kind → Signature → ℕ → Family
 family_by Barrier sig n = barrier_family sig n
-family_by Bcast sig n = bcast_family sig n
+family_by Bcast sig n = cond (is_long n (block_len sig)) (chain_family sig n) (bcast_family sig n)
 family_by Gather sig n = gather_family sig n
 family_by Scatter sig n = scatter_family sig n
 family_by Allgather sig n = allgather_family sig n
@@ -47,21 +50,21 @@ is_direct Scan = false
 is_direct Exscan = false
 
 -- the most rounds in which some member sends or receives; a single member never does
-abbrev pub most_exchanges_by : Kind → ℕ → ℕ
-most_exchanges_by Barrier n = depth n
-most_exchanges_by Bcast n = depth n
-most_exchanges_by Gather n = direct_bound n
-most_exchanges_by Scatter n = direct_bound n
-most_exchanges_by Allgather n = direct_bound n
-most_exchanges_by Alltoall n = direct_bound n
-most_exchanges_by Reduce n = depth n + direct_bound n
-most_exchanges_by Allreduce n = depth n + depth n
-most_exchanges_by Rsblock n = direct_bound n
-most_exchanges_by Scan n = depth n
-most_exchanges_by Exscan n = depth n
+abbrev pub most_exchanges_by : Kind → Signature → ℕ → ℕ
+most_exchanges_by Barrier sig n = depth n
+most_exchanges_by Bcast sig n = cond (is_long n (block_len sig)) (relay_count n (block_len sig)) (depth n)
+most_exchanges_by Gather sig n = direct_bound n
+most_exchanges_by Scatter sig n = direct_bound n
+most_exchanges_by Allgather sig n = direct_bound n
+most_exchanges_by Alltoall sig n = direct_bound n
+most_exchanges_by Reduce sig n = depth n + direct_bound n
+most_exchanges_by Allreduce sig n = most_trades n
+most_exchanges_by Rsblock sig n = direct_bound n
+most_exchanges_by Scan sig n = depth n
+most_exchanges_by Exscan sig n = depth n
 
 abbrev pub most_exchanges : Signature → ℕ → ℕ
-most_exchanges sig n = most_exchanges_by sig.kind n
+most_exchanges sig n = most_exchanges_by sig.kind sig n
 
 -- the most actions of one member
 abbrev pub most_actions : ℕ

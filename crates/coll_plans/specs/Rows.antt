@@ -47,7 +47,7 @@ later_are_joined : join_both LastNz I32 4 2 3 ≡ Combine LastNz I32 (behind 4) 
 later_are_joined = refl
 
 -- of three members that give 3, 0, 5 the last nonzero row up to the member's own, and before it
-abbrev last_nonzero : Kind → Signature
+abbrev pub last_nonzero : Kind → Signature
 last_nonzero kind = record { kind = kind; mode = Once; root = 0; op = Some LastNz; ty = I8; count = 1 }
 
 abbrev given : ℕ → List ℕ

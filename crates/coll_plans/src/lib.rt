@@ -1,5 +1,5 @@
 //! Plans of all collectives, for 1 to 64 members and every root, and the builders of schedules of the barrier, of
-//! the scans and of the direct collectives.
+//! the allreduce, of long bcasts, of the scans and of the direct collectives.
 //!
 //! | Module | Has |
 //! |---|---|
@@ -7,6 +7,8 @@
 //! | `planned` | `Plan`, what `plan` answers |
 //! | `laws` | what is known of every plan's family, as a contract |
 //! | `barrier_builder` | `barrier`, by dissemination |
+//! | `allreduce_builder` | `allreduce`, by recursive doubling |
+//! | `chain_builder` | `chain_bcast`, of a long block along a chain |
 //! | `gather_builder` | `gather`, by a direct exchange |
 //! | `scatter_builder` | `scatter`, likewise |
 //! | `allgather_builder` | `allgather`, likewise |
@@ -15,6 +17,9 @@
 //! | `scan_builder` | `scan`, by doubling of ranges |
 //! | `exscan_builder` | `exscan`, by the same |
 //! | `scanning` | `Scanning`, the rounds of the two |
+//! | `trading` | `Trading`, the rounds of an allreduce |
+//! | `cube`, `pairing` | which members trade, and which act for two |
+//! | `relay` | `Relay`, the rounds of a chain |
 //! | `exchange` | `Exchange`, the round of a direct exchange |
 //! | `pattern` | `Pattern`, which members have bytes for which others |
 //! | `blocks` | `Blocks`, where a member's blocks lie |
@@ -22,25 +27,33 @@
 #![tactic(auto)]
 
 mod allgather_builder;
+mod allreduce_builder;
 mod alltoall_builder;
 mod barrier_builder;
 mod blocks;
+mod chain_builder;
+mod cube;
 mod exchange;
 mod exscan_builder;
 mod gather_builder;
 pub mod laws;
 mod layout;
+mod pairing;
 mod pattern;
 mod planned;
 mod planning;
+mod relay;
 mod rsblock_builder;
 mod scan_builder;
 mod scanning;
 mod scatter_builder;
+mod trading;
 
 pub use allgather_builder::allgather;
+pub use allreduce_builder::allreduce;
 pub use alltoall_builder::alltoall;
 pub use barrier_builder::barrier;
+pub use chain_builder::chain_bcast;
 pub use exscan_builder::exscan;
 pub use gather_builder::gather;
 pub use planned::Plan;

@@ -1,17 +1,22 @@
 ghost use Rattle.std.specs.Prelude.{◌≡◌, ◌<◌, ◌≤◌, None, IfOk, IsOkUnless, IsErrOf, MatchOption};
 ghost use Rattle.coll_kinds.specs.Checks.{broken};
-ghost use Rattle.coll_plans.specs.Plans.{family, IsPlanned};
+ghost use Rattle.coll_kinds.specs.declared.kind.Kind.TheVariants.{Bcast};
+ghost use Rattle.coll_plans.specs.Plans.{family, family_by, IsPlanned};
 
+use crate::chain_builder::is_long;
+use crate::layout::block_bytes;
 use crate::planned::Plan;
-use crate::{allgather, alltoall, barrier, exscan, gather, rsblock, scan, scatter};
+use crate::{
+    allgather, allreduce, alltoall, barrier, chain_bcast, exscan, gather, rsblock, scan, scatter,
+};
 use coll_kinds::{Kind, Refusal, Signature};
 use coll_sched::Schedule;
-use coll_trees::{allreduce, bcast, reduce};
+use coll_trees::{bcast, reduce};
 use std::alloc::Global;
 
 /// Member `r`'s plan of a collective among `n` members (MPI 4.1, 6.12). Refuses [`Refusal::BadSignature`]
 /// exactly as [`Signature::check`] does, with its cause, and else [`Refusal::NoMemory`] alone. The cost is linear in
-/// the schedule's actions, which are at most 3 `n`, and in `n` for the check.
+/// the schedule's actions, which are at most 256, and in `n` for the check.
 pub fn plan(alloc: Global, sig: Signature, n: u8, r: u8) -> Result<Plan, Refusal>
     requires member { r < n }
     requires few { n ≤ 64 }
@@ -36,7 +41,7 @@ fn schedule_of(alloc: Global, sig: Signature, n: u8, r: u8) -> Result<Schedule, 
 {
     match sig.kind {
         Kind::Barrier => barrier(alloc, sig, n, r),
-        Kind::Bcast => bcast(alloc, sig, n, r),
+        Kind::Bcast => bcast_by_length(alloc, sig, n, r),
         Kind::Gather => gather(alloc, sig, n, r),
         Kind::Scatter => scatter(alloc, sig, n, r),
         Kind::Allgather => allgather(alloc, sig, n, r),
@@ -49,6 +54,24 @@ fn schedule_of(alloc: Global, sig: Signature, n: u8, r: u8) -> Result<Schedule, 
     }
 }
 
+// A long block goes along a chain, a shorter one by the tree.
+fn bcast_by_length(alloc: Global, sig: Signature, n: u8, r: u8) -> Result<Schedule, Refusal>
+    requires kind { sig.kind ≡ Bcast }
+    requires checked { broken sig n ≡ None }
+    requires member { r < n }
+    requires few { n ≤ 64 }
+    ensures schedule { IfOk result (λ s. s ≡ family_by Bcast sig n r) }
+    ensures refusal { IsOkUnless result Refusal.NoMemory }
+{
+    if is_long(n, block_bytes(sig, n)) {
+        chain_bcast(alloc, sig, n, r)
+    } else {
+        bcast(alloc, sig, n, r)
+    }
+}
+
+#[cfg(test)]
+mod exchange_tests;
 #[cfg(test)]
 mod lock_step;
 #[cfg(test)]

@@ -10,3 +10,4 @@ pub mod Serving
 pub mod Orders
 pub mod Points
 pub mod Tracked
+pub mod Writers

@@ -39,11 +39,11 @@ apart_flip : (gs hs : List Region) → AllApart gs hs → AllApart hs gs
 apart_flip [] hs x = all_unit hs
 apart_flip (g ∷ gs) hs x = apart_cons g gs hs x.0 (apart_flip gs hs x.1)
 
-EachApart : List Action → Type 0
+unfoldable pub EachApart : List Action → Type 0
 EachApart [] = Unit {0}
 EachApart (a ∷ rest) = AllByRecursion (λ b. AllApart (writes a) (writes b)) rest × EachApart rest
 
-each_apart : (xs : List Action) → EachFollows xs → EachApart xs
+pub each_apart : (xs : List Action) → EachFollows xs → EachApart xs
 unfolding EachApart
 each_apart [] h = tt
 each_apart (x ∷ xs) h = (all_map (Follows x) (λ b. AllApart (writes x) (writes b)) (λ b f. f.both_written) xs h.0, each_apart xs h.1)
@@ -93,7 +93,7 @@ module _ (size : ℕ) (msgs : ℕ → List ℕ) (mine : List ℕ) (own : length 
   })
 
   -- two actions that write apart may be done in either order
-  wrote_swap : (a b : Action) (buf : List ℕ) → Fits size a → Fits size b → MessageFits msgs a → MessageFits msgs b → AllApart (writes a) (writes b) → length buf ≡ size → wrote msgs mine a (wrote msgs mine b buf) ≡ wrote msgs mine b (wrote msgs mine a buf)
+  pub wrote_swap : (a b : Action) (buf : List ℕ) → Fits size a → Fits size b → MessageFits msgs a → MessageFits msgs b → AllApart (writes a) (writes b) → length buf ≡ size → wrote msgs mine a (wrote msgs mine b buf) ≡ wrote msgs mine b (wrote msgs mine a buf)
   wrote_swap a b buf fa fb ma mb apart e = go (writing a fa ma) (writing b fb mb)
     where
       go : ((buf : List ℕ) → wrote msgs mine a buf ≡ buf) ⊎ Writing size msgs mine a → ((buf : List ℕ) → wrote msgs mine b buf ≡ buf) ⊎ Writing size msgs mine b → wrote msgs mine a (wrote msgs mine b buf) ≡ wrote msgs mine b (wrote msgs mine a buf)

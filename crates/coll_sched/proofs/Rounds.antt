@@ -41,7 +41,7 @@ module _ (size : ℕ) (msgs : ℕ → List ℕ) (mine : List ℕ) (own : length 
   length_wrote_all [] buf fits m e = e
   length_wrote_all (a ∷ xs) buf fits m e = length_wrote_all xs (wrote msgs mine a buf) fits.1 m.1 (length_wrote a buf fits.0 m.0 e)
 
-  read_wrote : (a : Action) (buf : List ℕ) (g : Region) → Fits size a → MessageFits msgs a → length buf ≡ size → Inside size g → AllByRecursion (λ w. Apart w g) (writes a) → read_of (wrote msgs mine a buf) g ≡ read_of buf g
+  pub read_wrote : (a : Action) (buf : List ℕ) (g : Region) → Fits size a → MessageFits msgs a → length buf ≡ size → Inside size g → AllByRecursion (λ w. Apart w g) (writes a) → read_of (wrote msgs mine a buf) g ≡ read_of buf g
   read_wrote (Send to from) buf g fits m e inside apart = refl
   read_wrote (Copy from into) buf g fits m e inside apart =
       read_apart buf into g (read_of mine from) (omega arith) (length_read mine from (omega arith) ∙ fits.2) apart.0 (omega arith)

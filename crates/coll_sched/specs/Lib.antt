@@ -7,6 +7,7 @@ pub mod Tracks
 pub mod Heart
 pub mod Views
 pub mod Orders
+pub mod Writers
 pub mod Served
 pub mod Rows
 pub mod Points

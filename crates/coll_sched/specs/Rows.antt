@@ -1,9 +1,10 @@
 -- Worked rows, computed.
-use Rattle.std.specs.Prelude.{◌≡◌, ℕ, List, [], ◌∷◌, refl, cond, ◌==◌}
+use Rattle.std.specs.Prelude.{◌≡◌, ℕ, List, [], ◌∷◌, true, false, refl, cond, ◌==◌}
 use Rattle.coll_sched.specs.declared.region.Region.{Region}
 use Rattle.coll_sched.specs.declared.action.Action.TheVariants.{Send, Copy, Recv}
 use Rattle.coll_sched.specs.Regions.{written, read_of}
 use Rattle.coll_sched.specs.Schedules.{exchanges}
+use Rattle.coll_sched.specs.Writers.{shares, writers}
 use Rattle.coll_sched.specs.Families.{Family, lock_step, result_at, family_exchanges}
 
 abbrev byte_at : ℕ → Region
@@ -38,3 +39,16 @@ one_exchange = refl
 
 one_exchange_of_two : family_exchanges 2 shifting ≡ 1
 one_exchange_of_two = refl
+
+-- of two neighbouring copies the second alone writes bytes of a region that begins where the first ends
+next_is_apart : shares (byte_at 1) (byte_at 0) ≡ false
+next_is_apart = refl
+
+last_is_shared : shares (record { at = 0; len = 2 }) (byte_at 1) ≡ true
+last_is_shared = refl
+
+empty_shares_nothing : shares (record { at = 0; len = 2 }) (record { at = 1; len = 0 }) ≡ false
+empty_shares_nothing = refl
+
+second_writes : writers (byte_at 1) (Copy (byte_at 2) (byte_at 0) ∷ Copy (byte_at 3) (byte_at 1) ∷ []) ≡ Copy (byte_at 3) (byte_at 1) ∷ []
+second_writes = refl

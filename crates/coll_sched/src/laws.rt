@@ -7,6 +7,7 @@ ghost use Rattle.coll_sched.specs.Points.{Ends, GoesOver, KeepsRemaining, Lowers
 ghost use Rattle.coll_sched.specs.Served.{HeldValue};
 ghost use Rattle.coll_sched.specs.Tracked.{ReachedTracks, StepsTrack, TrackedFinishes, TrackedHolds, TrackedValue, UnbegunRests, UnbegunTracks};
 ghost use Rattle.coll_sched.specs.Views.{Empties, Skips};
+ghost use Rattle.coll_sched.specs.Writers.{RestsOnWriters};
 
 /// The heart: in a lawful family, whatever the interleaving of its members' actions, a member that has
 /// done all of them has the lock-step result over what was given, and all whom it has heard have
@@ -41,6 +42,11 @@ pub fn rests_on_heard()
 /// The writes of one round commute, so they are done at once.
 pub fn writes_commute()
     ensures { Commutes }
+{}
+
+/// What a round does to a region rests on those of its actions alone that write bytes of the region.
+pub fn rests_on_writers()
+    ensures { RestsOnWriters }
 {}
 
 /// No member has more exchanges than its family.

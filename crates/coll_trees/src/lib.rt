@@ -7,6 +7,7 @@
 //! | `allreduce_builder` | `allreduce`: from all to member 0, and from there to all |
 //! | `spreading` | `Spreading`, the tree from a root to all |
 //! | `folding` | `Folding`, the tree from all to member 0 |
+//! | `numbering` | members counted round from the root |
 //! | `way`, `role` | what a member does in a step of the one and of the other |
 //! | `depth` | how many steps a tree takes |
 //! | `rounds` | rounds, and the schedule of a list of them |
@@ -16,6 +17,7 @@ mod allreduce_builder;
 mod bcast_builder;
 mod depth;
 mod folding;
+mod numbering;
 mod reduce_builder;
 mod role;
 mod rounds;
@@ -25,4 +27,5 @@ mod way;
 pub use allreduce_builder::allreduce;
 pub use bcast_builder::bcast;
 pub use depth::depth_of;
+pub use numbering::{from_root, member_at};
 pub use reduce_builder::reduce;

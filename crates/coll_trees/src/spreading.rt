@@ -3,6 +3,7 @@ ghost use Rattle.coll_trees.specs.Columns.{rounds_of};
 ghost use Rattle.coll_trees.specs.Depths.{depth};
 
 use crate::depth::depth_of;
+use crate::numbering::{from_root, member_at};
 use crate::rounds::one_action;
 use crate::way::Way;
 use coll_kinds::Refusal;
@@ -23,7 +24,7 @@ pub(crate) struct Spreading {
 }
 
 impl Spreading {
-    ghost use Rattle.coll_trees.specs.Spreading.{from_root, member_at, way, hop, spreading};
+    ghost use Rattle.coll_trees.specs.Spreading.{way, hop, spreading};
 
     /// Appends the rounds of member `r`, one for each step.
     pub fn push_rounds(self, alloc: Global, r: u8, rounds: &mut Vec<Round>) -> Result<(), Refusal>
@@ -31,7 +32,7 @@ impl Spreading {
         ensures ok { OnOk result (rounds.new.items ≡ rounds.old.items ++ rounds_of (spreading self.len self.n self.root 0 (depth self.n)) r) }
         ensures refusal { IsOkUnless result Refusal.NoMemory }
     {
-        let number = self.from_root(r);
+        let number = from_root(self.n, self.root, r);
         let steps = depth_of(self.n);
         for step in 0..steps {
             let round = self.hop(alloc, number, 2u8.pow(u32::from(step)))?;
@@ -55,43 +56,18 @@ impl Spreading {
             Way::Passes => one_action(
                 alloc,
                 Action::Send {
-                    to: self.member_at(number + distance),
+                    to: member_at(self.n, self.root, number + distance),
                     from: block,
                 },
             ),
             Way::Gets => one_action(
                 alloc,
                 Action::Recv {
-                    of: self.member_at(number - distance),
+                    of: member_at(self.n, self.root, number - distance),
                     into: block,
                 },
             ),
             Way::Idles => Ok(Round::new(alloc)),
-        }
-    }
-
-    // Member r's number, counted round from the root.
-    fn from_root(self, r: u8) -> u8
-        requires { r < self.n }
-        ensures number { result ≡ from_root self.n self.root r }
-        ensures low { result < self.n }
-    {
-        if self.root <= r {
-            r - self.root
-        } else {
-            r + self.n - self.root
-        }
-    }
-
-    // The member with that number.
-    fn member_at(self, number: u8) -> u8
-        requires { number < self.n }
-        ensures { result ≡ member_at self.n self.root number }
-    {
-        if number + self.root < self.n {
-            number + self.root
-        } else {
-            number + self.root - self.n
         }
     }
 }

@@ -13,16 +13,8 @@ fn laid_in(
     schedule: &Schedule,
     given: &[u8],
 ) -> Result<Vec<u8>, Refusal> {
-    let mut buf = Vec::new(alloc);
-    for _ in 0..schedule.size() {
-        buf.push(0)?;
-    }
-    let input = schedule.input();
-    assert!(rt; buf.len() < 1000000);
-    assert!(rt; input.is_inside(buf.len() as u32));
-    assert_eq!(rt; given.len(), input.len as usize);
-    input.write(given, &mut buf);
-    Ok(buf)
+    assert_eq!(rt; given.len(), schedule.input().len as usize);
+    schedule.lay_in(alloc, given)
 }
 
 // The message of round j to member r.
@@ -49,21 +41,42 @@ fn message_to(
     Err(Refusal::Stalled)
 }
 
-// The buffer of member r after round j, every message being of the buffers before it.
-fn next_buffer(
+// The messages that member r receives in round j, in the order of its receives, of the buffers before the round.
+fn messages_to(
     rt: &impl Abort,
     alloc: Global,
     plans: &[Plan],
     bufs: &[Vec<u8>],
     j: usize,
     r: u8,
-) -> Result<Vec<u8>, Refusal> {
-    let me = r as usize;
-    assert!(rt; me < plans.len());
-    assert!(rt; me < bufs.len());
-    let mut buf = Vec::new(alloc);
-    buf.extend_from_slice(&bufs[me])?;
-    let rounds = plans[me].schedule().rounds();
+) -> Result<Vec<Vec<u8>>, Refusal> {
+    let mut messages = Vec::new(alloc);
+    assert!(rt; (r as usize) < plans.len());
+    let rounds = plans[r as usize].schedule().rounds();
+    assert!(rt; j < rounds.len());
+    for action in rounds[j].actions() {
+        if let Action::Recv { of, .. } = *action {
+            let sender = of as usize;
+            assert!(rt; sender < plans.len());
+            assert!(rt; sender < bufs.len());
+            let schedule = plans[sender].schedule();
+            messages.push(message_to(rt, alloc, schedule, &bufs[sender], j, r)?)?;
+        }
+    }
+    Ok(messages)
+}
+
+// Does what a member does in round j. Its actions are independent, so it needs no copy of its buffer.
+fn act(
+    rt: &impl Abort,
+    alloc: Global,
+    schedule: &Schedule,
+    j: usize,
+    messages: &[Vec<u8>],
+    buf: &mut [u8],
+) -> Result<(), Refusal> {
+    let mut taken: usize = 0;
+    let rounds = schedule.rounds();
     assert!(rt; j < rounds.len());
     for action in rounds[j].actions() {
         let action = *action;
@@ -71,19 +84,44 @@ fn next_buffer(
         assert!(rt; action.fits(buf.len() as u32));
         match action {
             Action::Send { .. } => {}
-            Action::Copy { .. } | Action::Combine { .. } => action.local(alloc, &mut buf)?,
-            Action::Recv { of, into } => {
-                let sender = of as usize;
-                assert!(rt; sender < plans.len());
-                assert!(rt; sender < bufs.len());
-                let schedule = plans[sender].schedule();
-                let message = message_to(rt, alloc, schedule, &bufs[sender], j, r)?;
-                assert_eq!(rt; message.len(), into.len as usize);
-                action.accept(&message, &mut buf);
+            Action::Copy { .. } | Action::Combine { .. } => action.local(alloc, buf)?,
+            Action::Recv { into, .. } => {
+                assert!(rt; taken < messages.len());
+                assert_eq!(rt; messages[taken].len(), into.len as usize);
+                action.accept(&messages[taken], buf);
+                taken += 1;
             }
         }
     }
-    Ok(buf)
+    Ok(())
+}
+
+// One round of all members, every message being of the buffers before it.
+fn turn(
+    rt: &impl Abort,
+    alloc: Global,
+    plans: &[Plan],
+    bufs: &mut Vec<Vec<u8>>,
+    j: usize,
+) -> Result<(), Refusal> {
+    let mut messages = Vec::new(alloc);
+    assert!(rt; plans.len() <= 64);
+    for r in 0..plans.len() as u8 {
+        messages.push(messages_to(rt, alloc, plans, bufs, j, r)?)?;
+    }
+    for r in 0..plans.len() {
+        assert!(rt; r < bufs.len());
+        assert!(rt; r < messages.len());
+        act(
+            rt,
+            alloc,
+            plans[r].schedule(),
+            j,
+            &messages[r],
+            &mut bufs[r],
+        )?;
+    }
+    Ok(())
 }
 
 /// The buffers of all members after the last round.
@@ -98,14 +136,9 @@ pub(super) fn run(
         assert!(rt; r < given.len());
         bufs.push(laid_in(rt, alloc, plans[r].schedule(), &given[r])?)?;
     }
-    assert!(rt; 0 < plans.len());
-    assert!(rt; plans.len() <= 64);
+    assert!(rt; !plans.is_empty());
     for j in 0..plans[0].schedule().rounds().len() {
-        let mut next = Vec::new(alloc);
-        for r in 0..plans.len() as u8 {
-            next.push(next_buffer(rt, alloc, plans, &bufs, j, r)?)?;
-        }
-        bufs = next;
+        turn(rt, alloc, plans, &mut bufs, j)?;
     }
     Ok(bufs)
 }

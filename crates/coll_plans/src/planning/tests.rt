@@ -29,7 +29,7 @@ const OPERATIONS: [(Op, Datatype); 4] = [
     (Op::Bxor, Datatype::Byte),
 ];
 
-fn signature(kind: Kind, root: u8, op: Op, ty: Datatype, count: u32) -> Signature {
+pub(super) fn signature(kind: Kind, root: u8, op: Op, ty: Datatype, count: u32) -> Signature {
     Signature {
         kind,
         mode: Mode::Once,
@@ -59,19 +59,35 @@ fn doublings(n: u8) -> usize
     }
 }
 
-// The most exchanges among n members.
+// The greatest number of doublings that n reaches.
+fn dimension(n: u8) -> usize
+    ensures { result ≤ 6 }
+{
+    match n {
+        0 | 1 => 0,
+        2..=3 => 1,
+        4..=7 => 2,
+        8..=15 => 3,
+        16..=31 => 4,
+        32..=63 => 5,
+        _ => 6,
+    }
+}
+
+// The most exchanges among n members, of a bcast that isn't long.
 fn most_exchanges(kind: Kind, n: u8) -> usize {
     let hop = if n == 1 { 0 } else { 1 };
     match kind {
         Kind::Barrier | Kind::Bcast | Kind::Scan | Kind::Exscan => doublings(n),
         Kind::Reduce => doublings(n) + hop,
-        Kind::Allreduce => 2 * doublings(n),
+        Kind::Allreduce if doublings(n) == dimension(n) => dimension(n),
+        Kind::Allreduce => dimension(n) + 2,
         Kind::Gather | Kind::Scatter | Kind::Allgather | Kind::Alltoall | Kind::Rsblock => hop,
     }
 }
 
 // What member r gives: bytes of which some are zero, so that `lastnz` tells orders apart.
-fn contribution(alloc: Global, len: usize, r: u8) -> Result<Vec<u8>, Refusal> {
+pub(super) fn contribution(alloc: Global, len: usize, r: u8) -> Result<Vec<u8>, Refusal> {
     let mut bytes = Vec::new(alloc);
     for i in 0..len {
         let place = (i % 37) as u8 * 4 + (r % 64) * 3 % 97;
@@ -81,7 +97,7 @@ fn contribution(alloc: Global, len: usize, r: u8) -> Result<Vec<u8>, Refusal> {
 }
 
 // Asserts what `plain_value` asks for, and then calls it.
-fn value_at(
+pub(super) fn value_at(
     rt: &impl Abort,
     alloc: Global,
     sig: Signature,
@@ -100,7 +116,12 @@ fn value_at(
 
 // Runs a family, and compares each member's outcome with the value computed directly, and its exchanges
 // with the bound.
-fn compare(rt: &impl Abort, alloc: Global, sig: Signature, n: u8) -> Result<(), Refusal> {
+pub(super) fn compare(
+    rt: &impl Abort,
+    alloc: Global,
+    sig: Signature,
+    n: u8,
+) -> Result<(), Refusal> {
     assert!(rt; n <= 64);
     let mut plans = Vec::new(alloc);
     let mut given = Vec::new(alloc);
@@ -120,10 +141,12 @@ fn compare(rt: &impl Abort, alloc: Global, sig: Signature, n: u8) -> Result<(), 
         assert!(rt; buf.len() < 1000000);
         assert!(rt; output.is_inside(buf.len() as u32));
         assert_eq!(rt; output.read(buf), want.as_slice(), "member {r} of {n}");
-        assert!(rt;
-            schedule.exchanges() <= most_exchanges(sig.kind, n),
-            "member {r} of {n}"
-        );
+        let most = if matches!(sig.kind, Kind::Bcast) && n > 1 && sig.block_len() >= 65_536 {
+            sig.block_len().div_ceil(16_384).saturating_add(1)
+        } else {
+            most_exchanges(sig.kind, n)
+        };
+        assert!(rt; schedule.exchanges() <= most, "member {r} of {n}");
     }
     Ok(())
 }
@@ -228,7 +251,11 @@ fn messages_and_rounds(kind: Kind, n: u8, root: u8) -> (usize, usize)
         Kind::Allgather | Kind::Alltoall => (many * others, 1),
         Kind::Reduce if root == 0 => (others, 2 * steps + 1),
         Kind::Reduce => (many, 2 * steps + 1),
-        Kind::Allreduce => (2 * others, 3 * steps),
+        Kind::Allreduce => {
+            let corners = 2usize.pow(dimension(n) as u32);
+            let extra = many.saturating_sub(corners);
+            (corners * dimension(n) + 2 * extra, 2 * dimension(n) + 3)
+        }
         Kind::Rsblock => (many * others, many),
         Kind::Scan | Kind::Exscan => {
             let reached = 2usize.pow(steps as u32);

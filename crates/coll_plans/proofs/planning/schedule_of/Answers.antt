@@ -7,7 +7,7 @@ pub returns-in-Barrier-clause-schedule : goal.returns-in-Barrier-clause-schedule
 returns-in-Barrier-clause-schedule c = of_kind c.args.sig c.args.n c.args.r Barrier c.barrier.result c.in-Barrier.is c.barrier.ensures.schedule
 
 pub returns-in-Bcast-clause-schedule : goal.returns-in-Bcast-clause-schedule
-returns-in-Bcast-clause-schedule c = of_kind c.args.sig c.args.n c.args.r Bcast c.bcast.result c.in-Bcast.is c.bcast.ensures.schedule
+returns-in-Bcast-clause-schedule c = of_kind c.args.sig c.args.n c.args.r Bcast c.bcast_by_length.result c.in-Bcast.is c.bcast_by_length.ensures.schedule
 
 pub returns-in-Gather-clause-schedule : goal.returns-in-Gather-clause-schedule
 returns-in-Gather-clause-schedule c = of_kind c.args.sig c.args.n c.args.r Gather c.gather.result c.in-Gather.is c.gather.ensures.schedule

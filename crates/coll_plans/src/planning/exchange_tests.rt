@@ -1,0 +1,168 @@
+//! How many rounds have a Send or a Recv, and what long bcasts and allreduces carry.
+
+ghost use Rattle.std.specs.Prelude.{◌≤◌};
+
+use super::lock_step::run;
+use super::tests::{compare, signature};
+use crate::{Plan, plan};
+use coll_kinds::{Datatype, Kind, Op, Refusal, Signature};
+use std::alloc::Global;
+use std::process::Abort;
+
+fn plans_of(alloc: Global, sig: Signature, n: u8) -> Result<Vec<Plan>, Refusal>
+    requires { n ≤ 64 }
+{
+    let mut plans = Vec::new(alloc);
+    for r in 0..n {
+        plans.push(plan(alloc, sig, n, r)?)?;
+    }
+    Ok(plans)
+}
+
+// The rounds in which some member sends or receives.
+fn family_exchanges(rt: &impl Abort, plans: &[Plan]) -> usize {
+    assert!(rt; !plans.is_empty());
+    let mut count: usize = 0;
+    for j in 0..plans[0].schedule().rounds().len() {
+        let busy = plans.iter().any(|plan| {
+            plan.schedule()
+                .rounds()
+                .get(j)
+                .is_some_and(|round| round.has_exchange())
+        });
+        if busy {
+            count = count.saturating_add(1);
+        }
+    }
+    count
+}
+
+fn assert_exchanges(rt: &impl Abort, alloc: Global, sig: Signature, n: u8, want: usize) {
+    assert!(rt; n <= 64);
+    let Ok(plans) = plans_of(alloc, sig, n) else {
+        return assert!(rt; false);
+    };
+    assert_eq!(rt; family_exchanges(rt, &plans), want, "{:?} of {n}", sig.kind);
+    for plan in &plans {
+        assert!(rt; plan.schedule().exchanges() <= want);
+    }
+}
+
+// The exchanges of an allreduce, whatever its length.
+const TRADES: [(u8, usize); 12] = [
+    (1, 0),
+    (2, 1),
+    (3, 3),
+    (4, 2),
+    (5, 4),
+    (6, 4),
+    (7, 4),
+    (8, 3),
+    (9, 5),
+    (16, 4),
+    (63, 7),
+    (64, 6),
+];
+
+#[test]
+fn allreduce_exchanges(rt: HostRuntime) {
+    for (n, want) in TRADES {
+        for count in [1, 16_384, 65_536] {
+            let sig = signature(Kind::Allreduce, 0, Op::Sum, Datatype::I32, count);
+            assert_exchanges(&rt, rt.alloc(), sig, n, want);
+        }
+    }
+}
+
+// 65,536 bytes are four segments, 524,288 are 32.
+#[test]
+fn long_bcast_exchanges(rt: HostRuntime) {
+    for n in [2, 3, 4, 5, 6, 7, 8, 9, 16, 64] {
+        let others = (n as usize).saturating_sub(2);
+        for (ty, segments) in [(Datatype::U8, 4), (Datatype::U64, 32)] {
+            let sig = signature(Kind::Bcast, 1, Op::Sum, ty, 65_536);
+            assert_exchanges(&rt, rt.alloc(), sig, n, others.saturating_add(segments));
+        }
+    }
+}
+
+#[test]
+fn segmented_bcast(rt: HostRuntime) {
+    let sig = signature(Kind::Bcast, 0, Op::Sum, Datatype::U8, 65_536);
+    for (r, want) in [(0, 4), (1, 5), (2, 4)] {
+        let Ok(plan) = plan(rt.alloc(), sig, 3, r) else {
+            return assert!(rt; false);
+        };
+        assert_eq!(rt; plan.schedule().rounds().len(), 5);
+        assert_eq!(rt; plan.schedule().exchanges(), want, "member {r}");
+    }
+    let short = signature(Kind::Bcast, 0, Op::Sum, Datatype::U64, 8_191);
+    for r in 0..3 {
+        let exchanges = plan(rt.alloc(), short, 3, r).map(|plan| plan.schedule().exchanges());
+        assert!(rt; exchanges.is_ok_and(|count| count <= 2), "member {r}");
+    }
+}
+
+// A single member has nobody to send to, however long the block.
+#[test]
+fn long_bcast_alone(rt: HostRuntime) {
+    let sig = signature(Kind::Bcast, 0, Op::Sum, Datatype::U64, 65_536);
+    assert_exchanges(&rt, rt.alloc(), sig, 1, 0);
+}
+
+// The last segment is shorter than the others.
+fn compare_long(rt: &impl Abort, alloc: Global, n: u8, root: u8) {
+    let sig = signature(Kind::Bcast, root, Op::Sum, Datatype::U16, 32_769);
+    assert_eq!(rt; compare(rt, alloc, sig, n), Ok(()), "root {root} of {n}");
+}
+
+#[test]
+fn long_bcasts_from_each_root(rt: HostRuntime) {
+    for n in 1..18 {
+        for root in 0..n {
+            compare_long(&rt, rt.alloc(), n, root);
+        }
+    }
+}
+
+#[test]
+fn long_bcasts_of_many(rt: HostRuntime) {
+    for (n, root) in [(33, 0), (33, 1), (33, 32), (64, 0), (64, 31), (64, 63)] {
+        compare_long(&rt, rt.alloc(), n, root);
+    }
+}
+
+// Whole segments.
+#[test]
+fn long_bcast_of_whole_segments(rt: HostRuntime) {
+    let sig = signature(Kind::Bcast, 2, Op::Sum, Datatype::U8, 65_536);
+    assert_eq!(rt; compare(&rt, rt.alloc(), sig, 5), Ok(()));
+}
+
+// The last that isn't zero of 3, 0, 5, 0, 0 is 5, at each member.
+#[test]
+fn lastnz_of_five(rt: HostRuntime) {
+    let sig = signature(Kind::Allreduce, 0, Op::LastNz, Datatype::I32, 1);
+    let Ok(plans) = plans_of(rt.alloc(), sig, 5) else {
+        return assert!(rt; false);
+    };
+    let Ok(given) = rows_of(rt.alloc(), [3, 0, 5, 0, 0]) else {
+        return assert!(rt; false);
+    };
+    let Ok(bufs) = run(&rt, rt.alloc(), &plans, &given) else {
+        return assert!(rt; false);
+    };
+    assert_eq!(rt; bufs.len(), 5);
+    for buf in &bufs {
+        assert_eq!(rt; buf.get(..4), Some(&[5, 0, 0, 0][..]));
+    }
+}
+
+// Rows of one 32-bit element each.
+fn rows_of(alloc: Global, values: [u8; 5]) -> Result<Vec<Vec<u8>>, Refusal> {
+    let mut rows = Vec::new(alloc);
+    for value in values {
+        rows.push(vec![in alloc; value, 0, 0, 0]?)?;
+    }
+    Ok(rows)
+}
