@@ -70,7 +70,7 @@ impl PostingLists {
     }
 
     /// How many members there are.
-    fn size(&self) -> u8
+    pub(crate) fn size(&self) -> u8
         ensures { result ≡ length self.now.group }
     {
         self.group.len() as u8

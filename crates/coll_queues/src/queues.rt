@@ -1,6 +1,6 @@
 ghost use Rattle.std.specs.Prelude.{◌≡◌, ◌≤◌, ◌++◌, ◌∷◌, [], None, Some, All, length, map, IfOk, IfErr, OnOk, OnErr};
 ghost use Rattle.std.specs.Result.{result_err};
-ghost use Rattle.coll_queues.specs.Postings.{HasRoom, groups_of, member_of, number_of, place_of, posts, put_posts, put_signed, signed};
+ghost use Rattle.coll_queues.specs.Postings.{HasRoom, groups_of, member_of, number_of, place_of, posts, put_posts, put_signed, signed, size};
 ghost use Rattle.coll_queues.specs.Refusing.{judge_refusal, member_refusal};
 ghost use Rattle.coll_queues.specs.Sound.{IsSound};
 
@@ -47,6 +47,16 @@ impl Queues {
             comms.push(PostingLists::new(alloc, group)?)?;
         }
         Ok(Queues { comms, places })
+    }
+
+    /// How many members a communicator has; 0 where there is no such communicator. It takes constant time.
+    pub fn size(&self, comm: u32) -> u8
+        ensures { result ≡ size self.now comm }
+    {
+        match self.comms.get(comm as usize) {
+            Some(lists) => lists.size(),
+            None => 0,
+        }
     }
 
     /// The member number of a rank. Linear in the group.

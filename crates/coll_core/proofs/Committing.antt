@@ -1,0 +1,153 @@
+-- A combination that was out.
+use Rattle.std.proofs.Common.{◌≡◌, ◌∙◌, ◌&&◌, ◌==◌, inr, ℕ, Bool, true, false, List, length, Option, Some, ap, sym, subst, eqb-true}
+use Rattle.std.specs.Prelude.{IsTrue}
+use Rattle.std.proofs.lemmas.Bool.{and_parts}
+use Rattle.std.proofs.lemmas.Option.{same_Some}
+use Rattle.coll_kinds.specs.declared.ticket.Ticket.{Ticket}
+use Rattle.coll_kinds.proofs.Puts.{put_same}
+use Rattle.coll_ops.specs.Combinations.{combined}
+use Rattle.coll_lists.specs.Layouts.{sequence}
+use Rattle.coll_lists.specs.Moves.{taken_out}
+use Rattle.coll_sched.specs.declared.action.Action.{Action}
+use Rattle.coll_sched.specs.declared.action.Action.TheVariants.{Send, Copy, Combine, Recv}
+use Rattle.coll_sched.specs.declared.region.Region.{Region}
+use Rattle.coll_sched.specs.Regions.{read_of, written}
+use Rattle.coll_arena.specs.ListNames.{number_of}
+use Rattle.coll_arena.specs.Changes.{rewritten}
+use Rattle.coll_arena.specs.Slots.{Slots, home, names, record_in}
+use Rattle.coll_arena.specs.Sound.{IsSound}
+use Rattle.coll_arena.proofs.Sounds.{Named-names}
+use Rattle.coll_queues.specs.Postings.{Postings}
+use Rattle.coll_tables.specs.Requests.{Live, went}
+use Rattle.coll_tables.specs.EngineLaws.{ActsOnce}
+use Rattle.coll_tables.specs.Shown.{Instances}
+use Rattle.coll_tables.proofs.EngineActions.{compute_core}
+use Rattle.coll_core.specs.declared.request.Request.{Request}
+use Rattle.coll_core.specs.declared.stepped.Stepped.{Stepped}
+use Rattle.coll_core.specs.Cores.{IsCore, Parts, setting}
+use Rattle.coll_core.specs.Requests.{schedule, shown}
+use Rattle.coll_core.specs.Goings.{CanGoOn, GoneOn}
+use Rattle.coll_core.specs.Steps.{Commits, CommitSteps, IsOut, stepped_by}
+use Rattle.coll_core.specs.Works.{Combined, Made, Piece, StandsAt, result_of}
+use Rattle.coll_core.proofs.Acting.{Gone, Rewrites, can_go_on, core_after, done_here, goes, goes_on, going_not_done, gone_written, list_low, none_ends, parts}
+use Rattle.coll_core.proofs.Reading.{have_lists, running_acting}
+
+-- ---- whether it is out
+
+pub out_filled : (p : Parts) (x : Request) (t u w : Ticket) → t ≡ w → u ≡ w → IsCore p → record_in p.arena t.slot ≡ Some x
+    → true ≡ (names p.arena u && (home p.arena u.slot == 3)) → length x.buffer.items ≡ (schedule (shown x)).size
+out_filled p x t u w t_is u_is core here on =
+    (running_acting p core t.slot x here (ap (λ (z : Ticket). home p.arena z.slot) (t_is ∙ sym u_is) ∙ eqb-true (home p.arena u.slot) 3 (and_parts (names p.arena u) (home p.arena u.slot == 3) (sym on)).1)).filled
+
+pub out_by : (p v : Parts) → p ≡ v → (x : Request) (w : Piece) (t u : Ticket) → t ≡ w.ticket → u ≡ w.ticket → record_in p.arena t.slot ≡ Some x
+    → true ≡ (names p.arena u && (home p.arena u.slot == 3)) → (b : Bool) → (IsTrue b → StandsAt (shown x) w) × (StandsAt (shown x) w → IsTrue b)
+    → (IsTrue b → IsOut v w) × (IsOut v w → IsTrue b)
+out_by p v e x w t u t_is u_is here on b same = subst (λ (z : Parts). (IsTrue b → IsOut z w) × (IsOut z w → IsTrue b)) e (
+  (λ yes. record {
+    request = x;
+    live = subst (λ (z : Ticket). names p.arena z ≡ true) u_is both.0;
+    here = there;
+    runs = subst (λ (z : Ticket). home p.arena z.slot ≡ 3) u_is (eqb-true (home p.arena u.slot) 3 both.1);
+    stands = same.0 yes;
+  }),
+  λ out. same.1 (subst (λ (r : Request). StandsAt (shown r) w) (same_Some out.request x (sym out.here ∙ there)) out.stands),
+)
+  where
+    both : (names p.arena u ≡ true) × ((home p.arena u.slot == 3) ≡ true)
+    both = and_parts (names p.arena u) (home p.arena u.slot == 3) (sym on)
+
+    there : record_in p.arena w.ticket.slot ≡ Some x
+    there = subst (λ (z : Ticket). record_in p.arena z.slot ≡ Some x) t_is here
+
+-- ---- from what is_out said
+
+pub record OutAt (p : Parts) (t : Ticket) (x : Request) (w : Piece) : Type 0 where
+  pub live : names p.arena t ≡ true
+  pub here : record_in p.arena t.slot ≡ Some x
+  pub runs : home p.arena t.slot ≡ 3
+  pub stands : StandsAt (shown x) w
+
+pub out_at : (p v : Parts) → p ≡ v → (w u : Piece) → u ≡ w → (t : Ticket) → t ≡ w.ticket → (x : Request) → IsOut v u → record_in p.arena t.slot ≡ Some x → OutAt p t x w
+out_at p v e w u u_is t t_is x out here = record {
+  live = subst (λ (z : Ticket). names p.arena z ≡ true) (sym t_is) at.live;
+  here = here;
+  runs = subst (λ (z : Ticket). home p.arena z.slot ≡ 3) (sym t_is) at.runs;
+  stands = subst (λ (r : Request). StandsAt (shown r) w) (same_Some at.request x (sym at.here ∙ subst (λ (z : Ticket). record_in p.arena z.slot ≡ Some x) t_is here)) at.stands;
+}
+  where
+    at : IsOut p w
+    at = subst (λ (z : Parts). IsOut z w) (sym e) (subst (λ (z : Piece). IsOut v z) u_is out)
+
+-- ---- the commit
+
+abbrev region_into : Action → Region → Region
+region_into (Combine op ty left right into) other = into
+region_into (Send to from) other = other
+region_into (Copy from into) other = other
+region_into (Recv of into) other = other
+
+module _ (ranks starts trace : ℕ) (a b : Slots Request) (q : Postings) (m : Instances) (t : Ticket) (x y : Request) (d : Made)
+    (sound : IsSound a) (core : IsCore (parts ranks starts trace a q m)) (out : OutAt (parts ranks starts trace a q m) t x d.piece) (wrote : Combined (shown x) (shown y) d.bytes) where
+  abbrev s : StandsAt (shown x) d.piece
+  s = out.stands
+
+  same_into : wrote.into ≡ s.into
+  same_into = ap (λ (c : Action). region_into c wrote.into) (same_Some _ _ (sym wrote.next_is ∙ s.next_is))
+
+  buf_is : y.buffer.items ≡ written x.buffer.items s.into d.bytes
+  buf_is = ap (λ (l : Live). l.buf) wrote.is ∙ ap (λ (g : Region). written x.buffer.items g d.bytes) same_into
+
+  pub rewrites : Rewrites x y (written x.buffer.items s.into d.bytes)
+  rewrites = record {
+    is = wrote.is ∙ (λ z. went (shown x) (record { round = x.round; index = x.index; buf = sym (ap (λ (l : Live). l.buf) wrote.is) z }));
+    round_is = ap (λ (l : Live). l.round) wrote.is;
+    index_is = ap (λ (l : Live). l.index) wrote.is;
+    buf = buf_is;
+  }
+
+  pub commit_can_go : CanGoOn (rewritten a t.slot y) t
+  commit_can_go = can_go_on a t x y (written x.buffer.items s.into d.bytes) (Combine d.piece.op d.piece.ty s.left s.right s.into) sound out.live rewrites
+      (have_lists (parts ranks starts trace a q m) core t.slot x out.here)
+      (running_acting (parts ranks starts trace a q m) core t.slot x out.here out.runs).round_in s.next_is
+
+  module _ (finished : Bool) (is : d.bytes ≡ result_of d.piece) (t_is : t ≡ d.piece.ticket) (gone : GoneOn (rewritten a t.slot y) b m t finished) where
+    abbrev bytes : List ℕ
+    bytes = written x.buffer.items s.into d.bytes
+
+    on : Gone a b m t x bytes finished
+    on = gone_written a b m t x y bytes finished sound (Named-names a t out.live).low rewrites gone
+
+    result_is : d.bytes ≡ combined d.piece.op d.piece.ty (read_of x.buffer.items s.left) (read_of x.buffer.items s.right)
+    result_is = is ∙ (λ z. combined d.piece.op d.piece.ty (sym s.left_is z) (sym s.right_is z))
+
+    once : ActsOnce shown (setting (parts ranks starts trace a q m)) a b q m m
+    once = compute_core shown (setting (parts ranks starts trace a q m)) a b q m t x on.to (Combine d.piece.op d.piece.ty s.left s.right s.into) on.point (number_of on.list) core
+        (goes_on a b m t x bytes finished (Combine d.piece.op d.piece.ty s.left s.right s.into) out.live out.here (inr out.runs) s.next_is on) tt
+        (on.buf ∙ ap (λ (l : List ℕ). written x.buffer.items s.into l) result_is)
+
+    there : record_in b t.slot ≡ Some on.to
+    there = ap (λ (f : ℕ → Option Request). f t.slot) on.puts.records ∙ put_same (record_in a) t.slot (Some on.to)
+
+    pub committed : IsCore (parts ranks starts trace b q m) × Commits (parts ranks starts trace a q m) (parts ranks starts trace b q m) d finished
+    committed = (
+      core_after ranks starts trace a b q m m on.puts.count_is on.puts.wear_is once,
+      record {
+        goes = goes ranks starts trace a b q m m on.puts.count_is on.puts.wear_is once t.slot finished
+            (going_not_done a t.slot x out.here (inr out.runs)) (done_here a b m t x bytes finished on)
+            (λ e. none_ends a b m t x bytes (subst (λ f. Gone a b m t x bytes f) e on));
+        result = record {
+          from = x;
+          to = on.to;
+          into = s.into;
+          here = subst (λ (z : Ticket). record_in a z.slot ≡ Some x) t_is out.here;
+          there = subst (λ (z : Ticket). record_in b z.slot ≡ Some on.to) t_is there;
+          next_is = (s.left, s.right, s.next_is);
+          buf = ap (λ (l : Live). l.buf) on.is ∙ on.buf;
+        };
+        running_is = subst (λ (z : Ticket). sequence b.lists 3 ≡ taken_out z.slot (sequence a.lists 3)) t_is (on.puts.from 3 (λ e. list_low x.comm on.list on.onto (sym e)));
+      },
+    )
+
+pub commit_steps : (p r : Parts) (d : Made) (finished : Bool) (s : Stepped) → s ≡ stepped_by finished → Commits p r d finished → CommitSteps p r d s
+commit_steps p r d true s e c = subst (λ (z : Stepped). CommitSteps p r d z) (sym e) c
+commit_steps p r d false s e c = subst (λ (z : Stepped). CommitSteps p r d z) (sym e) c

@@ -1,0 +1,116 @@
+-- Actions of requests of Ready, each with what it writes.
+use Rattle.std.proofs.Common.{◌≡◌, ◌≢◌, ◌∙◌, inl, ℕ, Bool, List, [], length, Option, Some, None, Result, Ok, Err, ap, sym, subst, arith}
+use Rattle.std.specs.Prelude.{OnErr, Vec, slice_set}
+use Rattle.std.specs.Global.{Global}
+use Rattle.std.specs.Vec.{with_items}
+use Rattle.std.proofs.Math.Nat.{ℕ_set}
+use Rattle.std.proofs.lemmas.List.{set-get_or, with_items_is}
+use Rattle.coll_kinds.specs.declared.ticket.Ticket.{Ticket}
+use Rattle.coll_sched.specs.declared.action.Action.{Action}
+use Rattle.coll_sched.specs.declared.action.Action.TheVariants.{Recv}
+use Rattle.coll_sched.specs.declared.region.Region.{Region}
+use Rattle.coll_sched.specs.Actions.{IsLocal, wrote}
+use Rattle.coll_sched.specs.Regions.{written}
+use Rattle.coll_arena.specs.ListNames.{number_of}
+use Rattle.coll_arena.specs.Changes.{rewritten}
+use Rattle.coll_arena.specs.Slots.{Slots, home, record_in}
+use Rattle.coll_arena.specs.Sound.{IsSound}
+use Rattle.coll_arena.proofs.Sounds.{Named-names}
+use Rattle.coll_queues.specs.Postings.{Postings}
+use Rattle.coll_match.specs.declared.key.Key.{Key}
+use Rattle.coll_match.specs.Held.{put_mail}
+use Rattle.coll_match.specs.Instances.{mail, put_key}
+use Rattle.coll_tables.specs.Shown.{Instances}
+use Rattle.coll_tables.specs.Engines.{KeepsGifts}
+use Rattle.coll_tables.specs.EngineLaws.{ActsOnce}
+use Rattle.coll_tables.proofs.EngineActions.{compute_core, receive_core}
+use Rattle.coll_core.specs.declared.request.Request.{Request}
+use Rattle.coll_core.specs.Cores.{IsCore, Parts, setting}
+use Rattle.coll_core.specs.Requests.{instance, shown}
+use Rattle.coll_core.specs.Goings.{GoneOn}
+use Rattle.coll_core.specs.Steps.{Acts, IsActingAt}
+use Rattle.coll_core.proofs.Reading.{acting}
+use Rattle.coll_core.proofs.Acting.{Gone, Rewrites, core_after, done_here, goes, goes_on, going_not_done, gone_written, list_low, none_ends, parts}
+
+-- ---- nothing was written
+
+pub on_err : {A E : Type 0} (r : Result A E) (P : Type 0) → P → OnErr r P
+on_err (Ok x) P p = tt
+on_err (Err e) P p = p
+
+pub same_vec : (v : Vec ℕ Global) (ws : List ℕ) → ws ≡ v.items → with_items v ws ≡ v
+same_vec v ws e =
+    subst (λ (xs : List ℕ). (o : v.len ≡ length xs) → record { ptr = v.ptr; len = v.len; cap = v.cap; alloc = v.alloc; items = xs; ok = (o, v.ok.1); small = v.small } ≡ v)
+    (sym (with_items_is v ws (ap length e ∙ sym v.ok.0) ∙ e))
+    (λ o. ap (λ (p : v.len ≡ length v.items). record { ptr = v.ptr; len = v.len; cap = v.cap; alloc = v.alloc; items = v.items; ok = (p, v.ok.1); small = v.small }) (ℕ_set v.len (length v.items) o v.ok.0))
+    (with_items v ws).ok.0
+
+pub same_arena : (a : Slots Request) (i : ℕ) (x : Request) → record_in a i ≡ Some x → rewritten a i x ≡ a
+same_arena a i x here =
+    ap (λ (rs : List (Option Request)). record { generations = a.generations; weights = a.weights; records = rs; lists = a.lists; comms = a.comms; wear = a.wear })
+    (ap (λ (o : Option Request). slice_set a.records i o) (sym here) ∙ set-get_or a.records i None)
+
+-- ---- an action with its write
+
+module _ (ranks starts trace : ℕ) (a b : Slots Request) (q : Postings) (m n : Instances) (t : Ticket) (x : Request) (act : Action) (bytes : List ℕ) (finished : Bool) where
+  pub acted : IsActingAt (parts ranks starts trace a q m) t act x → (g : Gone a b n t x bytes finished)
+      → ActsOnce shown (setting (parts ranks starts trace a q m)) a b q m n
+      → IsCore (parts ranks starts trace b q n) × Acts (parts ranks starts trace a q m) (parts ranks starts trace b q n) finished
+  acted at g once = (
+    core_after ranks starts trace a b q m n g.puts.count_is g.puts.wear_is once,
+    record {
+      goes = goes ranks starts trace a b q m n g.puts.count_is g.puts.wear_is once t.slot finished
+          (going_not_done a t.slot x at.here (inl at.on_ready)) (done_here a b n t x bytes finished g)
+          (λ e. none_ends a b n t x bytes (subst (λ f. Gone a b n t x bytes f) e g));
+      running_is = g.puts.others 3 (λ e. off (home a t.slot) at.on_ready e) (λ e. list_low x.comm g.list g.onto (sym e));
+    },
+  )
+    where
+      off : (l : ℕ) → l ≡ 2 → 3 ≢ l
+      off l e f = absurd (omega (arith, e, f))
+
+pub computed : (ranks starts trace : ℕ) (a b : Slots Request) (q : Postings) (m : Instances) (t : Ticket) (x y : Request) (act : Action) (bytes : List ℕ) (finished : Bool)
+    → IsSound a → IsCore (parts ranks starts trace a q m) → IsActingAt (parts ranks starts trace a q m) t act x
+    → IsLocal act → bytes ≡ wrote (λ from. []) x.buffer.items act x.buffer.items → Rewrites x y bytes
+    → GoneOn (rewritten a t.slot y) b m t finished
+    → IsCore (parts ranks starts trace b q m) × Acts (parts ranks starts trace a q m) (parts ranks starts trace b q m) finished
+computed ranks starts trace a b q m t x y act bytes finished sound core at local wrote_is w g =
+    let on : Gone a b m t x bytes finished = gone_written a b m t x y bytes finished sound (Named-names a t at.live).low w g in
+    acted ranks starts trace a b q m m t x act bytes finished at on
+    (compute_core shown (setting (parts ranks starts trace a q m)) a b q m t x on.to act on.point (number_of on.list) core
+    (goes_on a b m t x bytes finished act at.live at.here (inl at.on_ready) at.next_is on) local (on.buf ∙ wrote_is))
+
+-- the bytes that stood there, written again
+pub same_written : (a : Slots Request) (i : ℕ) (x : Request) (ws : List ℕ) → record_in a i ≡ Some x → ws ≡ x.buffer.items
+    → rewritten a i (record { rank = x.rank; comm = x.comm; place = x.place; plan = x.plan; starts = x.starts; round = x.round; index = x.index; buffer = with_items x.buffer ws }) ≡ a
+same_written a i x ws here e =
+    ap (λ (v : Vec ℕ Global). rewritten a i (record { rank = x.rank; comm = x.comm; place = x.place; plan = x.plan; starts = x.starts; round = x.round; index = x.index; buffer = v })) (same_vec x.buffer ws e)
+    ∙ same_arena a i x here
+
+pub received : (ranks starts trace : ℕ) (a b : Slots Request) (q : Postings) (m n : Instances) (t : Ticket) (x y : Request) (of : ℕ) (into : Region) (message bytes : List ℕ) (finished : Bool)
+    → IsSound a → IsCore (parts ranks starts trace a q m) → IsActingAt (parts ranks starts trace a q m) t (Recv of into) x
+    → KeepsGifts m n
+    → mail m (instance (shown x)) of x.plan.member x.round ≡ Some message
+    → mail n ≡ put_key (mail m) (instance (shown x)) (put_mail (mail m (instance (shown x))) of x.plan.member x.round None)
+    → bytes ≡ written x.buffer.items into message → Rewrites x y bytes
+    → GoneOn (rewritten a t.slot y) b n t finished
+    → IsCore (parts ranks starts trace b q n) × Acts (parts ranks starts trace a q m) (parts ranks starts trace b q n) finished
+received ranks starts trace a b q m n t x y of into message bytes finished sound core at keeps came mails wrote_is w g =
+    let on : Gone a b n t x bytes finished = gone_written a b n t x y bytes finished sound (Named-names a t at.live).low w g in
+    acted ranks starts trace a b q m n t x (Recv of into) bytes finished at on
+    (receive_core shown (setting (parts ranks starts trace a q m)) a b q m n t x on.to of into message on.point (number_of on.list) core
+    (goes_on a b n t x bytes finished (Recv of into) at.live at.here (inl at.on_ready) at.next_is on) keeps came mails (on.buf ∙ wrote_is))
+
+-- a message that was taken, under the names of a call
+module _ (m : Instances) (x : Request) (of : ℕ) (k : Key) (member : ℕ) (k_is : k ≡ instance (shown x)) (member_is : member ≡ x.plan.member) where
+  pub message_came : (message : List ℕ) → Some message ≡ mail m k of member x.round → mail m (instance (shown x)) of x.plan.member x.round ≡ Some message
+  message_came message e = sym (e ∙ (λ z. mail m (k_is z) of (member_is z) x.round))
+
+  pub message_taken : (n : Instances) → mail n ≡ put_key (mail m) k (put_mail (mail m k) of member x.round None)
+      → mail n ≡ put_key (mail m) (instance (shown x)) (put_mail (mail m (instance (shown x))) of x.plan.member x.round None)
+  message_taken n e = e ∙ (λ z. put_key (mail m) (k_is z) (put_mail (mail m (k_is z)) of (member_is z) x.round None))
+
+-- a message is as long as the region into which it goes
+pub message_long : (p : Parts) (t : Ticket) (x : Request) (of : ℕ) (into : Region) (message : List ℕ) → IsCore p → IsActingAt p t (Recv of into) x
+    → mail p.matches (instance (shown x)) of x.plan.member x.round ≡ Some message → length message ≡ into.len
+message_long p t x of into message core at came = (acting p core t.slot x at.here at.on_ready).takes of into message at.next_is came

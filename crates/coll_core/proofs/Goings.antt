@@ -1,0 +1,69 @@
+-- A slot whose request was written, and which then went to another list.
+use Rattle.std.proofs.Common.{◌≡◌, ◌∙◌, ◌<◌, ℕ, suc, Bool, true, Option, Some, ap, refl, subst}
+use Rattle.coll_kinds.specs.declared.ticket.Ticket.{Ticket}
+use Rattle.coll_kinds.specs.Puts.{put}
+use Rattle.coll_kinds.proofs.Puts.{put_put, put_same}
+use Rattle.coll_arena.specs.declared.list_name.ListName.{ListName}
+use Rattle.coll_arena.specs.ListNames.{number_of}
+use Rattle.coll_arena.specs.Changes.{rewritten}
+use Rattle.coll_arena.specs.Lookups.{PutsSlot}
+use Rattle.coll_arena.specs.Slots.{Slots, count, generation_of, home, names, record_in, weight_of}
+use Rattle.coll_arena.specs.Sound.{IsSound}
+use Rattle.coll_arena.proofs.Lookups.{PutsSlot-rewritten}
+use Rattle.coll_arena.proofs.Sounds.{Named-names}
+use Rattle.coll_match.specs.Instances.{mail}
+use Rattle.coll_tables.specs.Requests.{Live}
+use Rattle.coll_tables.specs.Shown.{Instances}
+use Rattle.coll_tables.specs.Sound.{Stands}
+use Rattle.coll_core.specs.declared.request.Request.{Request}
+use Rattle.coll_core.specs.Requests.{GoesOver, IsListOf, instance, shown}
+use Rattle.coll_core.specs.Goings.{GoneOn, is_end}
+
+-- a change of a slot after a write to it is that change alone
+pub puts_written : (a b : Slots Request) (i gen w list : ℕ) (y : Request) (o : Option Request) → IsSound a → i < count a
+    → PutsSlot (rewritten a i y) b i gen w o list → PutsSlot a b i gen w o list
+puts_written a b i gen w list y o sound low p = record {
+  count_is = p.count_is;
+  comms_is = p.comms_is;
+  wear_is = p.wear_is;
+  generations = p.generations;
+  weights = p.weights;
+  records = p.records ∙ (ap (λ (f : ℕ → Option Request). put f i o) one.records ∙ put_put (record_in a) i (Some y) o);
+  homes = p.homes;
+  lists_is = p.lists_is;
+  others = p.others;
+  from = p.from;
+}
+  where
+    one : PutsSlot a (rewritten a i y) i (generation_of a i) (weight_of a i) (Some y) (home a i)
+    one = PutsSlot-rewritten a sound i low y
+
+pub record_written : (a : Slots Request) (i : ℕ) (y : Request) → IsSound a → i < count a → record_in (rewritten a i y) i ≡ Some y
+record_written a i y sound low = ap (λ (f : ℕ → Option Request). f i) (PutsSlot-rewritten a sound i low y).records ∙ put_same (record_in a) i (Some y)
+
+pub gone_on : (a b : Slots Request) (n : Instances) (t : Ticket) (x y : Request) (list : ListName) (finished : Bool)
+    → IsSound a → names a t ≡ true → record_in a t.slot ≡ Some x
+    → GoesOver (shown x) (shown y) (suc x.index)
+    → Stands y.plan.n (mail n (instance (shown y))) (number_of list) (shown y)
+    → IsListOf y.comm list
+    → PutsSlot (rewritten a t.slot y) b t.slot t.generation (weight_of a t.slot) (record_in (rewritten a t.slot y) t.slot) (number_of list)
+    → finished ≡ is_end list
+    → GoneOn a b n t finished
+gone_on a b n t x y list finished sound live here goes stands onto puts end = record {
+  from = x;
+  to = y;
+  point = record { round = y.round; index = y.index; buf = x.buffer.items };
+  list = list;
+  here = here;
+  puts = puts_written a b t.slot t.generation (weight_of a t.slot) (number_of list) y (Some y) sound low
+      (subst (λ (o : Option Request). PutsSlot (rewritten a t.slot y) b t.slot t.generation (weight_of a t.slot) o (number_of list)) (record_written a t.slot y sound low) puts);
+  is = goes.is;
+  buf = refl;
+  over = goes.over;
+  stands = subst (λ (q : Live). Stands q.members (mail n (instance q)) (number_of list) (shown y)) goes.is stands;
+  onto = subst (λ (q : Live). IsListOf q.comm list) goes.is onto;
+  finished_is = end;
+}
+  where
+    low : t.slot < count a
+    low = (Named-names a t live).low

@@ -1,0 +1,56 @@
+-- Whom a message wakes.
+use Rattle.std.proofs.Common.{◌≡◌, ◌∙◌, ◌+◌, ◌*◌, ◌&&◌, ◌==◌, inr, ℕ, Bool, true, false, cond, Some, None, ap, refl, sym, eqb-true}
+use Rattle.std.proofs.lemmas.Bool.{and_parts}
+use Rattle.std.proofs.lemmas.Option.{none-some, same_Some}
+use Rattle.coll_kinds.specs.declared.ticket.Ticket.{Ticket}
+use Rattle.coll_sched.specs.declared.action.Action.TheVariants.{Recv}
+use Rattle.coll_arena.specs.Lookups.{PutsSlot}
+use Rattle.coll_arena.specs.Slots.{Slots, home, is_live, names, record_in, ticket_of, weight_of}
+use Rattle.coll_arena.proofs.Sounds.{Named-names}
+use Rattle.coll_match.specs.declared.key.Key.{Key}
+use Rattle.coll_match.specs.Instances.{mail, seats}
+use Rattle.coll_tables.specs.Engines.{Delivers}
+use Rattle.coll_tables.specs.Shown.{Instances}
+use Rattle.coll_tables.specs.Sound.{ready}
+use Rattle.coll_tables.proofs.Slots.{one_shifted}
+use Rattle.coll_core.specs.declared.request.Request.{Request}
+use Rattle.coll_core.specs.Requests.{Hears, instance, shown}
+use Rattle.coll_core.specs.Goings.{CanHear}
+
+slot_by : (a : Slots Request) (slot : ℕ) (t : Ticket) (live : Bool) → Some t ≡ cond live (Some (ticket_of a slot)) None → t.slot ≡ slot
+slot_by a slot t true e = ap (λ (u : Ticket). u.slot) (same_Some t (ticket_of a slot) e)
+slot_by a slot t false e = absurd (none-some t (sym e))
+
+pub can_hear : (a : Slots Request) (n : Instances) (k : Key) (to slot : ℕ) (t : Ticket) (r : Request)
+    → seats n k to ≡ Some slot
+    → Some t ≡ cond (is_live a slot) (Some (ticket_of a slot)) None
+    → record_in a t.slot ≡ Some r
+    → true ≡ (names a t && (home a t.slot == 5 + 3 * r.comm))
+    → Hears (mail n (instance (shown r))) (shown r)
+    → CanHear a n k to t
+can_hear a n k to slot t r seat found here on hears =
+    let both = and_parts (names a t) (home a t.slot == 5 + 3 * r.comm) (sym on) in
+    record {
+      request = r;
+      seat = seat ∙ ap Some (sym (slot_by a slot t (is_live a slot) found));
+      live = both.0;
+      here = here;
+      waits = eqb-true (home a t.slot) (5 + 3 * r.comm) both.1;
+      hears = hears;
+    }
+
+pub delivers : (a b : Slots Request) (n : Instances) (k : Key) (to : ℕ) (t : Ticket)
+    → CanHear a n k to t
+    → PutsSlot a b t.slot t.generation (weight_of a t.slot) (record_in a t.slot) 2
+    → Delivers shown a b n k to
+delivers a b n k to t h puts = inr (
+  t,
+  h.request,
+  record {
+    seat = h.seat;
+    found = record { here = h.here; generation_is = (Named-names a t h.live).generation };
+    waits = h.waits;
+    ready = ready (Recv h.hears.of h.hears.into) refl refl h.hears.next_is h.hears.came;
+    puts = one_shifted a b t.slot t.generation 2 h.request h.here puts;
+  },
+)

@@ -1,0 +1,109 @@
+-- A start from its tests to its steps.
+use Rattle.std.proofs.Common.{◌≡◌, ◌∙◌, ◌<◌, ◌^◌, ℕ, suc, true, List, Option, Some, None, is_some, ap, refl, sym, subst}
+use Rattle.std.specs.Prelude.{IfSome}
+use Rattle.std.proofs.lemmas.Bool.{false≢true}
+use Rattle.coll_kinds.specs.declared.ticket.Ticket.{Ticket}
+use Rattle.coll_kinds.specs.declared.refusal.Refusal.{Refusal}
+use Rattle.coll_kinds.specs.declared.refusal.Refusal.TheVariants.{NoMemory}
+use Rattle.coll_kinds.specs.Elements.{AreBytes}
+use Rattle.coll_sched.specs.Families.{laid_in}
+use Rattle.coll_arena.specs.Slots.{Slots, names, record_in}
+use Rattle.coll_match.specs.Instances.{size}
+use Rattle.coll_machine.specs.Calls.{Nothing, Start}
+use Rattle.coll_machine.specs.Machines.{refuse, short}
+use Rattle.coll_machine.specs.Refusals.{refusal}
+use Rattle.coll_tables.specs.Cores as tabled
+use Rattle.coll_tables.specs.EngineLaws.{NewCore, StartCore}
+use Rattle.coll_tables.specs.Machines.{StepsTo}
+use Rattle.coll_tables.specs.Shown.{Instances}
+use Rattle.coll_tables.specs.Tables.{Tables, machine}
+use Rattle.coll_core.specs.declared.request.Request.{Request}
+use Rattle.coll_core.specs.Calls.{Refuses}
+use Rattle.coll_core.specs.Cores.{IsCore, Parts, seen, setting, tables}
+use Rattle.coll_core.specs.Requests.{schedule, shown}
+use Rattle.coll_core.specs.Starts.{Begun, CanBegin, IsSame, next_instance}
+use Rattle.coll_core.proofs.Retiring.{generation_named, if_some, setting_with, the_one, with}
+use Rattle.coll_core.proofs.Standings.{comm_in}
+
+-- the bytes as they were handed in
+pub read_as : (p : Parts) (rank : ℕ) (t : Ticket) (d bytes : List ℕ) (o : Option Refusal) → d ≡ bytes
+    → o ≡ refusal (setting p) (seen p).state (Start rank t d) → o ≡ refusal (setting p) (seen p).state (Start rank t bytes)
+read_as p rank t d bytes o same e = subst (λ d. o ≡ refusal (setting p) (seen p).state (Start rank t d)) same e
+
+pub laid_as : (o : Option Request) (d bytes buf : List ℕ) → d ≡ bytes
+    → IfSome o (λ x. buf ≡ laid_in (schedule (shown x)) d) → IfSome o (λ x. buf ≡ laid_in (schedule (shown x)) bytes)
+laid_as o d bytes buf same h = subst (λ d. IfSome o (λ x. buf ≡ laid_in (schedule (shown x)) d)) same h
+
+pub refused_so : (p : Parts) (rank : ℕ) (t : Ticket) (bytes : List ℕ) (why : Refusal)
+    → Some why ≡ refusal (setting p) (seen p).state (Start rank t bytes)
+    → Refuses (setting p) (seen p) (Start rank t bytes) why
+refused_so p rank t bytes why e = refuse (Start rank t bytes) why (sym e)
+
+pub short_so : (p : Parts) (rank : ℕ) (t : Ticket) (bytes : List ℕ) (why : Refusal)
+    → None ≡ refusal (setting p) (seen p).state (Start rank t bytes) → why ≡ NoMemory
+    → Refuses (setting p) (seen p) (Start rank t bytes) why
+short_so p rank t bytes why e n =
+    subst (λ why. Refuses (setting p) (seen p) (Start rank t bytes) why) (sym n) (short (Start rank t bytes) refl (sym e))
+
+pub the_record : {A : Type 0} (o : Option A) → is_some o ≡ true → (x : A) × (o ≡ Some x)
+the_record None e = absurd (false≢true e)
+the_record (Some x) e = (x, refl)
+
+-- p is the engine o once room was made
+module _ (p o w : Parts) (view : p ≡ w) (same : IsSame o w) (arena : w.arena ≡ o.arena) (t : Ticket) (core : IsCore p)
+    (x : Request) (was : record_in o.arena t.slot ≡ Some x) where
+  arena_is : p.arena ≡ o.arena
+  arena_is = ap (λ p. p.arena) view ∙ arena
+
+  setting_is : setting p ≡ setting o
+  setting_is = ap setting view ∙ same.setting_is
+
+  tables_is : tables p ≡ tables o
+  tables_is = ap tables view ∙ same.tables_is
+
+  found : record_in p.arena t.slot ≡ Some x
+  found = ap (λ a. record_in a t.slot) arena_is ∙ was
+
+  pub can_begin : NewCore Request
+      → IfSome (record_in o.arena t.slot) (λ x. suc x.starts < 2 ^ 32)
+      → IfSome (record_in o.arena t.slot) (λ x. x.plan.member < size w.matches (next_instance x))
+      → IfSome (record_in p.arena t.slot) (CanBegin p.arena p.matches)
+  can_begin law low room = if_some (CanBegin p.arena p.matches) (record_in p.arena t.slot) x found (record {
+    comm_in = comm_in p t.slot x core found;
+    short = the_one (λ x. suc x.starts < 2 ^ 32) (record_in o.arena t.slot) x was low;
+    room = subst (λ w. x.plan.member < size w.matches (next_instance x)) (sym view)
+        (the_one (λ x. x.plan.member < size w.matches (next_instance x)) (record_in o.arena t.slot) x was room);
+    new = (law shown (setting p) p.arena p.queues p.matches core).1 t.slot x found;
+  })
+
+  module _ (b : Slots Request) (n : Instances) (rank : ℕ) (bytes buf : List ℕ) (law : StartCore Request)
+      (accepted : None ≡ refusal (setting o) (seen o).state (Start rank t bytes)) (live : names o.arena t ≡ true) (are : AreBytes bytes)
+      (laid : IfSome (record_in o.arena t.slot) (λ x. buf ≡ laid_in (schedule (shown x)) bytes))
+      (begun : IfSome (record_in p.arena t.slot) (λ x. Begun p.arena b p.matches n t x bytes buf)) where
+    now : Begun p.arena b p.matches n t x bytes buf
+    now = the_one (λ x. Begun p.arena b p.matches n t x bytes buf) (record_in p.arena t.slot) x found begun
+
+    done : tabled.IsCore shown (setting p) b p.queues n × StepsTo (setting p) (seen p) (Start rank t bytes) Nothing (seen (with p b n))
+    done = law shown (setting p) p.arena b p.queues p.matches n t rank bytes x now.to
+        (record { round = now.to.round; index = now.to.index; buf = buf }) _ core (record {
+          accepted = (λ z. refusal (setting_is z) (machine (tables_is z)).state (Start rank t bytes)) ∙ sym accepted;
+          are = are;
+          found = record { here = found; generation_is = generation_named p.arena t (subst (λ a. names a t ≡ true) (sym arena_is) live) };
+          joined = now.joined;
+          puts = now.puts;
+          is = now.begins.is;
+          buf = the_one (λ x. buf ≡ laid_in (schedule (shown x)) bytes) (record_in o.arena t.slot) x was laid;
+          over = now.begins.over;
+          stands = now.stands;
+        })
+
+    pub started_core : IsCore (with p b n)
+    started_core = subst (λ g. tabled.IsCore shown g b p.queues n) (sym (setting_with p b n now.puts.count_is now.puts.wear_is)) done.0
+
+    pub started_setting : setting (with p b n) ≡ setting o
+    started_setting = setting_with p b n now.puts.count_is now.puts.wear_is ∙ setting_is
+
+    pub starts : StepsTo (setting o) (seen o) (Start rank t bytes) Nothing (seen (with p b n))
+    starts =
+        subst (λ (v : Tables). StepsTo (setting o) (machine v) (Start rank t bytes) Nothing (seen (with p b n))) tables_is
+        (subst (λ g. StepsTo g (seen p) (Start rank t bytes) Nothing (seen (with p b n))) setting_is done.1)

@@ -1,0 +1,165 @@
+-- A Send with its delivery.
+use Rattle.std.proofs.Common.{◌≡◌, ◌≢◌, ◌∙◌, ◌<◌, ◌+◌, ◌*◌, ◌==◌, ◌&&◌, ◌⊎◌, nat_lt, inl, inr, ℕ, Bool, true, false, List, Option, Some, None, ap, refl, sym, subst, arith, ne_eqb}
+use Rattle.std.specs.Prelude.{option_map}
+use Rattle.std.proofs.lemmas.Bool.{cases_eq}
+use Rattle.std.proofs.lemmas.Option.{none-some}
+use Rattle.coll_kinds.specs.declared.ticket.Ticket.{Ticket}
+use Rattle.coll_kinds.proofs.Puts.{put_same, put_other}
+use Rattle.coll_lists.specs.Layouts.{sequence}
+use Rattle.coll_sched.specs.declared.action.Action.TheVariants.{Send}
+use Rattle.coll_sched.specs.declared.region.Region.{Region}
+use Rattle.coll_sched.specs.Regions.{read_of}
+use Rattle.coll_arena.specs.ListNames.{number_of}
+use Rattle.coll_arena.specs.Slots.{Slots, count, generation_of, home, names, record_in}
+use Rattle.coll_queues.specs.Postings.{Postings}
+use Rattle.coll_match.specs.declared.key.Key.{Key}
+use Rattle.coll_match.specs.Held.{put_mail}
+use Rattle.coll_match.specs.Instances.{given, mail, put_key}
+use Rattle.coll_tables.specs.Tables.{is_done}
+use Rattle.coll_tables.specs.Engines.{Delivers, KeepsGifts, Wakens}
+use Rattle.coll_tables.specs.EngineLaws.{ActsOnce}
+use Rattle.coll_tables.specs.Shown.{Instances}
+use Rattle.coll_tables.specs.Shown as tabled
+use Rattle.coll_tables.proofs.EngineSends.{send_core}
+use Rattle.coll_core.specs.declared.request.Request.{Request}
+use Rattle.coll_core.specs.Cores.{IsCore, Parts, setting}
+use Rattle.coll_core.specs.Requests.{instance, shown}
+use Rattle.coll_core.specs.Goings.{CanGoOn, GoneOn}
+use Rattle.coll_core.specs.Steps.{Acts, IsActingAt}
+use Rattle.coll_core.proofs.Acting.{Gone, core_after, done_by, done_here, done_in, goes, goes_on, going_not_done, gone_from, list_low, none_ends, parts}
+use Rattle.coll_core.proofs.Reading.{acting}
+
+-- ---- what the calls ask for
+
+module _ (p : Parts) (t : Ticket) (x : Request) (to : ℕ) (from : Region) (core : IsCore p) (at : IsActingAt p t (Send to from) x) (k : Key) (member : ℕ) (k_is : k ≡ instance (shown x)) (member_is : member ≡ x.plan.member) where
+  pub has_given : given p.matches k member ≢ None
+  has_given none = (acting p core t.slot x at.here at.on_ready).gave (sym (λ z. given p.matches (k_is z) (member_is z)) ∙ none)
+
+  pub no_message : mail p.matches k member to x.round ≡ None
+  no_message = (λ z. mail p.matches (k_is z) (member_is z) to x.round) ∙ (acting p core t.slot x at.here at.on_ready).sends to from at.next_is
+
+-- ---- a delivery
+
+module _ (b d : Slots Request) (n : Instances) (k : Key) (to : ℕ) where
+  queue_not_done : (l c : ℕ) → l ≡ 5 + 3 * c → (l == 6 + 3 * c) ≡ false
+  queue_not_done l c e = ne_eqb l (6 + 3 * c) (λ f. absurd (omega (arith, e, f)))
+
+  ready_not_done : (l c : ℕ) → l ≡ 2 → (l == 6 + 3 * c) ≡ false
+  ready_not_done l c e = ne_eqb l (6 + 3 * c) (λ f. absurd (omega (arith, e, f)))
+
+  woken_same : (u : Ticket) (r : Request) → Wakens shown b d n k to u r → (i : ℕ) → (i ≡ u.slot) ⊎ (i ≡ u.slot → ⊥) → done_in d i ≡ done_in b i
+  woken_same u r w i (inl e) = ap (done_in d) e
+      ∙ ((done_by d u.slot r there ∙ ready_not_done (home d u.slot) r.comm (ap (λ (f : ℕ → ℕ). f u.slot) w.puts.homes ∙ put_same (home b) u.slot 2))
+      ∙ (sym (done_by b u.slot r w.found.here ∙ queue_not_done (home b u.slot) r.comm w.waits) ∙ ap (done_in b) (sym e)))
+    where
+      there : record_in d u.slot ≡ Some r
+      there = ap (λ (f : ℕ → Option Request). f u.slot) w.puts.records ∙ put_same (record_in b) u.slot (Some r)
+  woken_same u r w i (inr away) = λ z. is_done (home_is z) (tabled.seen (home_is z) (option_map shown (record_is z)))
+    where
+      home_is : home d i ≡ home b i
+      home_is = ap (λ (f : ℕ → ℕ). f i) w.puts.homes ∙ put_other (home b) u.slot 2 i away
+
+      record_is : record_in d i ≡ record_in b i
+      record_is = ap (λ (f : ℕ → Option Request). f i) w.puts.records ∙ put_other (record_in b) u.slot (Some r) i away
+
+  pub done_same : Delivers shown b d n k to → (i : ℕ) → done_in d i ≡ done_in b i
+  done_same (inl same) i = ap (λ (z : Slots Request). done_in z i) same.1
+  done_same (inr w) i = woken_same w.0 w.1 w.2 i (cases_eq i (w.0).slot)
+
+  pub count_same : Delivers shown b d n k to → count d ≡ count b
+  count_same (inl same) = ap count same.1
+  count_same (inr w) = w.2.puts.count_is
+
+  pub wear_same : Delivers shown b d n k to → d.wear ≡ b.wear
+  wear_same (inl same) = ap (λ (z : Slots Request). z.wear) same.1
+  wear_same (inr w) = w.2.puts.wear_is
+
+-- ---- the sender, when its message was delivered
+
+-- it stands where it stood
+pub record Stood (a b : Slots Request) (t : Ticket) (x : Request) : Type 0 where
+  pub live : names b t ≡ true
+  pub here : record_in b t.slot ≡ Some x
+  pub home_is : home b t.slot ≡ home a t.slot
+  pub comms_is : b.comms ≡ a.comms
+
+pub stood : (a b : Slots Request) (n : Instances) (k : Key) (to : ℕ) (t : Ticket) (x : Request)
+    → names a t ≡ true → record_in a t.slot ≡ Some x → home a t.slot ≡ 2
+    → Delivers shown a b n k to → Stood a b t x
+stood a b n k to t x live here ready (inl same) =
+    subst (λ z. Stood a z t x) (sym same.1) (record { live = live; here = here; home_is = refl; comms_is = refl })
+stood a b n k to t x live here ready (inr w) = record {
+  live = (λ z. (nat_lt t.slot (w.2.puts.count_is z) && nat_lt 1 (home_is z)) && (generation_is z == t.generation)) ∙ live;
+  here = ap (λ (f : ℕ → Option Request). f t.slot) w.2.puts.records ∙ (put_other (record_in a) (w.0).slot (Some w.1) t.slot away ∙ here);
+  home_is = home_is;
+  comms_is = w.2.puts.comms_is;
+}
+  where
+    apart : (l c : ℕ) → l ≡ 2 → l ≡ 5 + 3 * c → ⊥
+    apart l c e f = absurd (omega (arith, e, f))
+
+    away : t.slot ≢ (w.0).slot
+    away e = apart (home a (w.0).slot) w.1.comm (ap (home a) (sym e) ∙ ready) w.2.waits
+
+    home_is : home b t.slot ≡ home a t.slot
+    home_is = ap (λ (f : ℕ → ℕ). f t.slot) w.2.puts.homes ∙ put_other (home a) (w.0).slot 2 t.slot away
+
+    generation_is : generation_of b t.slot ≡ generation_of a t.slot
+    generation_is = ap (λ (f : ℕ → ℕ). f t.slot) w.2.puts.generations
+        ∙ put_other (generation_of a) (w.0).slot (w.0).generation t.slot away
+
+pub can_go_then : (p : Parts) (b : Slots Request) (t : Ticket) (x : Request) (to : ℕ) (from : Region)
+    → IsActingAt p t (Send to from) x → Stood p.arena b t x → CanGoOn b t
+can_go_then p b t x to from at s = record {
+  request = x;
+  live = s.live;
+  here = s.here;
+  comm_in = subst (λ n. x.comm < n) (sym s.comms_is) at.comm_in;
+  round_in = at.round_in;
+  some = λ none. none-some (Send to from) (sym none ∙ at.next_is);
+}
+
+-- ---- both
+
+pub sent : (ranks starts trace : ℕ) (a b d : Slots Request) (q : Postings) (m n : Instances) (t : Ticket) (x : Request) (to : ℕ) (from : Region) (k : Key) (member : ℕ) (message : List ℕ) (finished : Bool)
+    → IsCore (parts ranks starts trace a q m) → IsActingAt (parts ranks starts trace a q m) t (Send to from) x
+    → k ≡ instance (shown x) → member ≡ x.plan.member → message ≡ read_of x.buffer.items from
+    → KeepsGifts m n
+    → mail n ≡ put_key (mail m) k (put_mail (mail m k) member to x.round (Some message))
+    → Delivers shown a b n k to
+    → sequence b.lists 3 ≡ sequence a.lists 3
+    → GoneOn b d n t finished
+    → IsCore (parts ranks starts trace d q n) × Acts (parts ranks starts trace a q m) (parts ranks starts trace d q n) finished
+sent ranks starts trace a b d q m n t x to from k member message finished core at k_is member_is message_is keeps mails delivered runs gone = (
+  core_after ranks starts trace a d q m n count_is wear_is once,
+  record {
+    goes = goes ranks starts trace a d q m n count_is wear_is once t.slot finished
+        (going_not_done a t.slot x at.here (inl at.on_ready))
+        (done_here b d n t x x.buffer.items finished on)
+        (λ e i done. sym (done_same a b n k to delivered i)
+        ∙ none_ends b d n t x x.buffer.items (subst (λ f. Gone b d n t x x.buffer.items f) e on) i done);
+    running_is = on.puts.others 3 (λ e. off (home b t.slot) (at_b.home_is ∙ at.on_ready) e) (λ e. list_low x.comm on.list on.onto (sym e)) ∙ runs;
+  },
+)
+  where
+    off : (l : ℕ) → l ≡ 2 → 3 ≢ l
+    off l e f = absurd (omega (arith, e, f))
+
+    at_b : Stood a b t x
+    at_b = stood a b n k to t x at.live at.here at.on_ready delivered
+
+    on : Gone b d n t x x.buffer.items finished
+    on = gone_from b d n t x finished at_b.here gone
+
+    count_is : count d ≡ count a
+    count_is = on.puts.count_is ∙ count_same a b n k to delivered
+
+    wear_is : d.wear ≡ a.wear
+    wear_is = on.puts.wear_is ∙ wear_same a b n k to delivered
+
+    once : ActsOnce shown (setting (parts ranks starts trace a q m)) a d q m n
+    once = send_core shown (setting (parts ranks starts trace a q m)) a b d q m n t x on.to to from on.point (number_of on.list) core
+        (subst (λ (l : Key). Delivers shown a b n l to) k_is delivered)
+        (goes_on b d n t x x.buffer.items finished (Send to from) at_b.live at_b.here (inl (at_b.home_is ∙ at.on_ready)) at.next_is on) keeps
+        (mails ∙ (λ z. put_key (mail m) (k_is z) (put_mail (mail m (k_is z)) (member_is z) to x.round (Some (message_is z)))))
+        on.buf

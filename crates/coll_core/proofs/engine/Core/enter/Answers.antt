@@ -1,0 +1,103 @@
+use Rattle.std.proofs.Common.{◌≡◌, ◌∙◌, None, length, ap, refl, subst}
+use Rattle.coll_arena.specs.ListNames.{number_of}
+use Rattle.coll_lists.specs.Layouts.{sequence}
+use Rattle.coll_kinds.specs.declared.kind.Mode.TheVariants.{Once}
+use Rattle.coll_kinds.specs.declared.signature.Signature.{Signature}
+use Rattle.coll_kinds.specs.Elements.{AreBytes}
+use Rattle.coll_machine.specs.Calls.{Post, Ticketed}
+use Rattle.coll_queues.specs.Refusing.{judge_refusal}
+use Rattle.coll_tables.specs.EngineTests.{MayEnter}
+use Rattle.coll_tables.specs.Machines.{StepsTo}
+use Rattle.coll_core.specs.declared.request.Request.{Request}
+use Rattle.coll_core.specs.Requests.{shown}
+use Rattle.coll_core.specs.Cores.{Parts, seen, setting}
+use Rattle.coll_core.specs.Posts.{planned, refused_in, next_instance}
+use Rattle.coll_core.proofs.Posting.{Calls, accepted_from, emptied, given_now, lent_moved, not_given, parts_of, post_kept, post_steps}
+use Rattle.coll_core.proofs.engine.Core.enter.Goals as goal
+
+pub offer-place-requires-clause-judged : goal.offer-place-requires-clause-judged
+offer-place-requires-clause-judged c =
+    let p : Parts = record { ranks = c.self.inside.ranks; starts = c.self.inside.starts; trace = c.self.inside.trace; arena = c.self.inside.arena; queues = c.self.inside.queues; matches = c.self.inside.matches } in
+    let plan = planned c.args.offer.plan in
+    let bytes = c.args.offer.bytes.items in
+    let accepted : refused_in p (Post c.args.rank c.args.comm plan bytes) ≡ None = accepted_from p c.args.self.now (Post c.args.rank c.args.comm plan bytes) c.self.view_is c.requires.accepted in
+    let tested : MayEnter (setting p) p.arena p.queues c.args.rank c.args.comm Once plan = ((c.entry_core.ensures shown (setting p) p.arena p.queues p.matches c.args.rank c.args.comm plan c.self.invariant c.is_sound.ensures).0 bytes accepted).0 in
+    ap (λ (s : Signature). judge_refusal c.self.inside.queues c.args.comm c.args.rank s) c.sig.ensures.sig ∙ tested.judged
+
+pub join-requires-clause-new : goal.join-requires-clause-new
+join-requires-clause-new c =
+    let p : Parts = record { ranks = c.self.inside.ranks; starts = c.self.inside.starts; trace = c.self.inside.trace; arena = c.self.inside.arena; queues = c.self.inside.queues; matches = c.self.inside.matches } in
+    let plan = planned c.args.offer.plan in
+    let bytes = c.args.offer.bytes.items in
+    let accepted : refused_in p (Post c.args.rank c.args.comm plan bytes) ≡ None = accepted_from p c.args.self.now (Post c.args.rank c.args.comm plan bytes) c.self.view_is c.requires.accepted in
+    let key_is : c.key-key.result ≡ record { comm = c.args.comm; place = c.offer-place.result; start = 0 } = c.key-key.ensures in
+    let instance_is : c.key-key.result ≡ next_instance p.queues c.args.rank c.args.comm = key_is ∙ ap (λ l. record { comm = c.args.comm; place = l; start = 0 }) c.offer-place.ensures.place in
+    not_given p.matches c.key-key.result (next_instance p.queues c.args.rank c.args.comm) c.member-member.result plan.member instance_is c.member-member.ensures.member
+    ((c.new_core.ensures shown (setting p) p.arena p.queues p.matches c.self.invariant).0 c.args.rank c.args.comm plan bytes accepted)
+
+pub seat-requires : goal.seat-requires
+seat-requires c = given_now c.self.inside.matches c.join.new.self c.key-key.result c.member-member.result c.args.offer.bytes.items c.join.ensures.given
+
+pub invariant_of-self : goal.invariant_of-self
+invariant_of-self c =
+    let p : Parts = record { ranks = c.self.inside.ranks; starts = c.self.inside.starts; trace = c.self.inside.trace; arena = c.self.inside.arena; queues = c.self.inside.queues; matches = c.self.inside.matches } in
+    let plan = planned c.args.offer.plan in
+    let bytes = c.args.offer.bytes.items in
+    let accepted : refused_in p (Post c.args.rank c.args.comm plan bytes) ≡ None = accepted_from p c.args.self.now (Post c.args.rank c.args.comm plan bytes) c.self.view_is c.requires.accepted in
+    let key_is : c.key-key.result ≡ record { comm = c.args.comm; place = c.offer-place.result; start = 0 } = c.key-key.ensures in
+    let x : Request = record { rank = c.args.rank; comm = c.args.comm; place = c.offer-place.result; plan = c.args.offer.plan; starts = 1; round = 0; index = 0; buffer = c.args.buffer } in
+    let calls : Calls p c.take.new.self c.offer-place.new.self c.join.new.self c.seat.new.self c.in-Ok.ticket c.args.rank c.args.comm plan bytes c.sig.result c.key-key.result c.offer-place.result c.member-member.result c.lent-weight.result (number_of c.list-list.result) x c.go_over.new.self = record {
+      accepted = accepted;
+      are = subst AreBytes c.deref.ensures.value c.are_bytes.ensures;
+      free = record { first = c.in-Ok.ensures.slot; next = c.in-Ok.ensures.generation };
+      offered = record { groups = c.offer-place.ensures.groups; places = c.offer-place.ensures.places; posted = c.offer-place.ensures.posts; signs = c.offer-place.ensures.signed };
+      sig_is = c.sig.ensures.sig;
+      place_is = c.offer-place.ensures.place;
+      key_is = key_is;
+      member_is = c.member-member.ensures.member;
+      joins = record { members_is = c.join.ensures.members; given_is = c.join.ensures.given; seats_is = c.join.ensures.seats; mail_is = c.join.ensures.mail; then_members = c.seat.ensures.members; then_given = c.seat.ensures.given; then_seats = c.seat.ensures.seats; then_mail = c.seat.ensures.mail };
+      puts = c.in-Ok.ensures.puts;
+      weight_is = c.lent-weight.ensures ∙ lent_moved c.sig-2.result plan.sig c.n.result plan.n c.member-member.result plan.member c.sig-2.ensures.sig c.n.ensures.n c.member-member.ensures.member;
+      made_is = refl;
+      over = c.go_over.ensures;
+      buf = c.requires.buffer;
+      stands = c.list-list.ensures.stands;
+    } in
+    post_kept p c.take.new.self c.offer-place.new.self c.join.new.self c.seat.new.self c.in-Ok.ticket c.args.rank c.args.comm plan bytes c.sig.result c.key-key.result c.offer-place.result c.member-member.result c.lent-weight.result (number_of c.list-list.result) x c.go_over.new.self c.post_core.ensures c.self.invariant c.is_sound.ensures calls
+
+pub unreachable-requires : goal.unreachable-requires
+unreachable-requires c =
+    let p : Parts = record { ranks = c.self.inside.ranks; starts = c.self.inside.starts; trace = c.self.inside.trace; arena = c.self.inside.arena; queues = c.self.inside.queues; matches = c.self.inside.matches } in
+    let plan = planned c.args.offer.plan in
+    let bytes = c.args.offer.bytes.items in
+    let accepted : refused_in p (Post c.args.rank c.args.comm plan bytes) ≡ None = accepted_from p c.args.self.now (Post c.args.rank c.args.comm plan bytes) c.self.view_is c.requires.accepted in
+    let tested : MayEnter (setting p) p.arena p.queues c.args.rank c.args.comm Once plan = ((c.entry_core.ensures shown (setting p) p.arena p.queues p.matches c.args.rank c.args.comm plan c.self.invariant c.is_sound.ensures).0 bytes accepted).0 in
+    emptied (length (sequence p.arena.lists 0)) c.in-Err.ensures.full tested.free
+
+pub returns-clause-posted : goal.returns-clause-posted
+returns-clause-posted c =
+    let p : Parts = record { ranks = c.self.inside.ranks; starts = c.self.inside.starts; trace = c.self.inside.trace; arena = c.self.inside.arena; queues = c.self.inside.queues; matches = c.self.inside.matches } in
+    let plan = planned c.args.offer.plan in
+    let bytes = c.args.offer.bytes.items in
+    let accepted : refused_in p (Post c.args.rank c.args.comm plan bytes) ≡ None = accepted_from p c.args.self.now (Post c.args.rank c.args.comm plan bytes) c.self.view_is c.requires.accepted in
+    let key_is : c.key-key.result ≡ record { comm = c.args.comm; place = c.offer-place.result; start = 0 } = c.key-key.ensures in
+    let x : Request = record { rank = c.args.rank; comm = c.args.comm; place = c.offer-place.result; plan = c.args.offer.plan; starts = 1; round = 0; index = 0; buffer = c.args.buffer } in
+    let calls : Calls p c.take.new.self c.offer-place.new.self c.join.new.self c.seat.new.self c.in-Ok.ticket c.args.rank c.args.comm plan bytes c.sig.result c.key-key.result c.offer-place.result c.member-member.result c.lent-weight.result (number_of c.list-list.result) x c.go_over.new.self = record {
+      accepted = accepted;
+      are = subst AreBytes c.deref.ensures.value c.are_bytes.ensures;
+      free = record { first = c.in-Ok.ensures.slot; next = c.in-Ok.ensures.generation };
+      offered = record { groups = c.offer-place.ensures.groups; places = c.offer-place.ensures.places; posted = c.offer-place.ensures.posts; signs = c.offer-place.ensures.signed };
+      sig_is = c.sig.ensures.sig;
+      place_is = c.offer-place.ensures.place;
+      key_is = key_is;
+      member_is = c.member-member.ensures.member;
+      joins = record { members_is = c.join.ensures.members; given_is = c.join.ensures.given; seats_is = c.join.ensures.seats; mail_is = c.join.ensures.mail; then_members = c.seat.ensures.members; then_given = c.seat.ensures.given; then_seats = c.seat.ensures.seats; then_mail = c.seat.ensures.mail };
+      puts = c.in-Ok.ensures.puts;
+      weight_is = c.lent-weight.ensures ∙ lent_moved c.sig-2.result plan.sig c.n.result plan.n c.member-member.result plan.member c.sig-2.ensures.sig c.n.ensures.n c.member-member.ensures.member;
+      made_is = refl;
+      over = c.go_over.ensures;
+      buf = c.requires.buffer;
+      stands = c.list-list.ensures.stands;
+    } in
+    subst (λ (v : Parts). StepsTo (setting v) (seen v) (Post c.args.rank c.args.comm plan bytes) (Ticketed c.in-Ok.ticket) (seen (parts_of p c.take.new.self c.offer-place.new.self c.seat.new.self))) c.self.view_is
+    (post_steps p c.take.new.self c.offer-place.new.self c.join.new.self c.seat.new.self c.in-Ok.ticket c.args.rank c.args.comm plan bytes c.sig.result c.key-key.result c.offer-place.result c.member-member.result c.lent-weight.result (number_of c.list-list.result) x c.go_over.new.self c.post_core.ensures c.self.invariant c.is_sound.ensures calls)

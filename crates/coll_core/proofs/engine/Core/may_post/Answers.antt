@@ -1,0 +1,43 @@
+use Rattle.std.proofs.Common.{◌≡◌, ◌∙◌, ◌∷◌, [], length, true, false, sym, arith}
+use Rattle.coll_kinds.specs.declared.kind.Mode.TheVariants.{Once}
+use Rattle.coll_machine.specs.Refusals.{wrong_length}
+use Rattle.coll_tables.specs.EngineTests.{entry_refusals, full_refusal}
+use Rattle.coll_core.specs.Posts.{planned}
+use Rattle.coll_core.proofs.Entering.{post_tested, stops_at_entry, enters, misses, right_length, at_free}
+use Rattle.coll_core.proofs.engine.Core.may_post.Goals as goal
+
+pub returns-in-Err : goal.returns-in-Err
+returns-in-Err c =
+    let plan = planned c.args.offer.now.plan in
+    let bytes = c.args.offer.now.bytes.items in
+    sym (post_tested _ c.args.self.now c.args.rank c.args.comm plan bytes c.self.view_is c.post_refused.ensures c.self.invariant c.is_sound.ensures
+    ∙ stops_at_entry (entry_refusals c.args.self.now.queues c.args.rank c.args.comm Once plan) (wrong_length plan.sig plan.n plan.member bytes ∷ full_refusal c.self.inside.arena ∷ []) c.in-Err.why (sym c.in-Err.ensures))
+
+pub returns-then-got-want : goal.returns-then-got-want
+returns-then-got-want c =
+    let plan = planned c.args.offer.now.plan in
+    let bytes = c.args.offer.now.bytes.items in
+    let long : c.len-got.result ≡ length c.args.offer.now.bytes.items = omega arith in
+    sym (post_tested _ c.args.self.now c.args.rank c.args.comm plan bytes c.self.view_is c.post_refused.ensures c.self.invariant c.is_sound.ensures
+    ∙ (enters (entry_refusals c.args.self.now.queues c.args.rank c.args.comm Once plan) (wrong_length plan.sig plan.n plan.member bytes ∷ full_refusal c.self.inside.arena ∷ []) (sym c.in_default.ensures)
+    ∙ misses plan bytes c.want-want.result c.len-got.result c.want-want.ensures long (full_refusal c.self.inside.arena ∷ []) c.if-got-want.true))
+
+pub returns-then-not-has_free : goal.returns-then-not-has_free
+returns-then-not-has_free c =
+    let plan = planned c.args.offer.now.plan in
+    let bytes = c.args.offer.now.bytes.items in
+    let long : c.len-got.result ≡ length c.args.offer.now.bytes.items = omega arith in
+    sym (post_tested _ c.args.self.now c.args.rank c.args.comm plan bytes c.self.view_is c.post_refused.ensures c.self.invariant c.is_sound.ensures
+    ∙ (enters (entry_refusals c.args.self.now.queues c.args.rank c.args.comm Once plan) (wrong_length plan.sig plan.n plan.member bytes ∷ full_refusal c.self.inside.arena ∷ []) (sym c.in_default.ensures)
+    ∙ (right_length plan bytes c.want-want.result c.len-got.result c.want-want.ensures long (full_refusal c.self.inside.arena ∷ []) c.if-got-want.false
+    ∙ at_free c.self.inside.arena c.has_free.result false c.has_free.ensures c.if-not-has_free.true)))
+
+pub returns : goal.returns
+returns c =
+    let plan = planned c.args.offer.now.plan in
+    let bytes = c.args.offer.now.bytes.items in
+    let long : c.len-got.result ≡ length c.args.offer.now.bytes.items = omega arith in
+    sym (post_tested _ c.args.self.now c.args.rank c.args.comm plan bytes c.self.view_is c.post_refused.ensures c.self.invariant c.is_sound.ensures
+    ∙ (enters (entry_refusals c.args.self.now.queues c.args.rank c.args.comm Once plan) (wrong_length plan.sig plan.n plan.member bytes ∷ full_refusal c.self.inside.arena ∷ []) (sym c.in_default.ensures)
+    ∙ (right_length plan bytes c.want-want.result c.len-got.result c.want-want.ensures long (full_refusal c.self.inside.arena ∷ []) c.if-got-want.false
+    ∙ at_free c.self.inside.arena c.has_free.result true c.has_free.ensures c.if-not-has_free.false)))

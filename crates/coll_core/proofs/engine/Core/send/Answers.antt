@@ -1,0 +1,53 @@
+use Rattle.std.proofs.Common.{◌∙◌, ap, subst}
+use Rattle.coll_sched.specs.declared.action.Action.TheVariants.{Send}
+use Rattle.coll_sched.specs.Regions.{read_of}
+use Rattle.coll_core.specs.Cores.{Parts}
+use Rattle.coll_core.specs.Steps.{Acts}
+use Rattle.coll_core.proofs.Acting.{parts}
+use Rattle.coll_core.proofs.Sending.{can_go_then, has_given, no_message, sent, stood}
+use Rattle.coll_core.proofs.Reading.{acts_at, have_lists}
+use Rattle.coll_core.proofs.engine.Core.send.Goals as goal
+
+pub put-requires-clause-joined : goal.put-requires-clause-joined
+put-requires-clause-joined c =
+    let x = c.in-Ok.request.now in
+    let at = acts_at _ c.args.self.now c.args.ticket x (Send c.args.to c.args.from) c.self.view_is c.requires c.in-Ok.ensures.found in
+    has_given _ c.args.ticket x c.args.to c.args.from c.self.invariant at c.key-key.result c.member-member.result c.key-key.ensures c.member-member.ensures.member
+
+pub put-requires-clause-new : goal.put-requires-clause-new
+put-requires-clause-new c =
+    let x = c.in-Ok.request.now in
+    let at = acts_at _ c.args.self.now c.args.ticket x (Send c.args.to c.args.from) c.self.view_is c.requires c.in-Ok.ensures.found in
+    no_message _ c.args.ticket x c.args.to c.args.from c.self.invariant at c.key-key.result c.member-member.result c.key-key.ensures c.member-member.ensures.member
+
+pub deliver-requires : goal.deliver-requires
+deliver-requires c =
+    have_lists (parts c.self.inside.ranks c.self.inside.starts c.self.inside.trace c.self.inside.arena c.self.inside.queues c.self.inside.matches) c.self.invariant
+
+pub go_on-requires : goal.go_on-requires
+go_on-requires c =
+    let x = c.in-Ok.request.now in
+    let at = acts_at _ c.args.self.now c.args.ticket x (Send c.args.to c.args.from) c.self.view_is c.requires c.in-Ok.ensures.found in
+    can_go_then _ c.deliver.new.arena c.args.ticket x c.args.to c.args.from at
+    (stood c.self.inside.arena c.deliver.new.arena c.put.new.self c.key-key.result c.args.to c.args.ticket x at.live at.here at.on_ready c.deliver.ensures.delivers)
+
+pub invariant_of-self-2 : goal.invariant_of-self-2
+invariant_of-self-2 c =
+    let x = c.in-Ok.request.now in
+    let at = acts_at _ c.args.self.now c.args.ticket x (Send c.args.to c.args.from) c.self.view_is c.requires c.in-Ok.ensures.found in
+    (sent c.self.inside.ranks c.self.inside.starts c.self.inside.trace c.self.inside.arena c.deliver.new.arena c.go_on.new.arena c.self.inside.queues c.self.inside.matches c.put.new.self
+    c.args.ticket x c.args.to c.args.from c.key-key.result c.member-member.result c.in_ok-message.message.items c.go_on.result c.self.invariant at c.key-key.ensures c.member-member.ensures.member
+    (c.in_ok-message.ensures.ok ∙ ap (λ b. read_of b c.args.from) c.deref.ensures.value)
+    (record { members = c.in_default-put.ensures.members; given = c.in_default-put.ensures.given; seats = c.in_default-put.ensures.seats })
+    c.in_default-put.ensures.mail c.deliver.ensures.delivers c.deliver.ensures.running c.go_on.ensures).0
+
+pub returns-clause-acts : goal.returns-clause-acts
+returns-clause-acts c =
+    let x = c.in-Ok.request.now in
+    let at = acts_at _ c.args.self.now c.args.ticket x (Send c.args.to c.args.from) c.self.view_is c.requires c.in-Ok.ensures.found in
+    subst (λ (p : Parts). Acts p (parts c.self.inside.ranks c.self.inside.starts c.self.inside.trace c.go_on.new.arena c.self.inside.queues c.put.new.self) c.go_on.result) c.self.view_is
+    (sent c.self.inside.ranks c.self.inside.starts c.self.inside.trace c.self.inside.arena c.deliver.new.arena c.go_on.new.arena c.self.inside.queues c.self.inside.matches c.put.new.self
+    c.args.ticket x c.args.to c.args.from c.key-key.result c.member-member.result c.in_ok-message.message.items c.go_on.result c.self.invariant at c.key-key.ensures c.member-member.ensures.member
+    (c.in_ok-message.ensures.ok ∙ ap (λ b. read_of b c.args.from) c.deref.ensures.value)
+    (record { members = c.in_default-put.ensures.members; given = c.in_default-put.ensures.given; seats = c.in_default-put.ensures.seats })
+    c.in_default-put.ensures.mail c.deliver.ensures.delivers c.deliver.ensures.running c.go_on.ensures).1

@@ -1,0 +1,27 @@
+use Rattle.std.proofs.Common.{◌≡◌, ◌∙◌, ◌==◌, ◌&&◌, true, false, sym}
+use Rattle.coll_core.specs.Posts.{planned}
+use Rattle.coll_core.proofs.Fitting.{fault_is, faultless, mode_is, faulty, wrong_mode, wrong_group, another_n, another_member}
+use Rattle.coll_core.proofs.engine.posting.fits.Goals.{then-n-size-via-then-n-size, then-n-size-via-else-n-size+then-member}
+use Rattle.coll_core.proofs.engine.posting.fits.Goals as goal
+
+pub returns-in-Err : goal.returns-in-Err
+returns-in-Err c =
+    sym (faulty (planned c.args.plan.now) c.args.size c.args.member c.args.mode c.in-Err.why
+    (fault_is c.sig.result c.args.plan.now.sig c.args.size c.check.result c.in-Err.why c.sig.ensures.sig c.check.ensures c.in-Err.is))
+
+pub returns-then-ne : goal.returns-then-ne
+returns-then-ne c =
+    sym (wrong_mode (planned c.args.plan.now) c.args.size c.args.member c.args.mode
+    (faultless c.sig.result c.args.plan.now.sig c.args.size c.check.result c.in_default.field-0 c.sig.ensures.sig c.check.ensures c.in_default.is)
+    (mode_is c.sig-2.result c.args.plan.now.sig c.args.mode c.ne.result true c.sig-2.ensures.sig c.ne.ensures c.if-ne.true))
+
+pub returns-then-n-size : goal.returns-then-n-size
+returns-then-n-size c =
+    let p = c.args.plan.now in
+    let other : ((p.n == c.args.size) && (p.member == c.args.member)) ≡ false = elim c.then-n-size.branch [
+      | then-n-size-via-then-n-size w ↦ another_n p.n c.args.size p.member c.args.member (λ e. w.if-n-size.true (c.n.ensures.n ∙ e))
+      | then-n-size-via-else-n-size+then-member w ↦ another_member p.n c.args.size p.member c.args.member (λ e. w.if-member.true (w.member.ensures.member ∙ e))
+    ] in
+    sym (wrong_group (planned p) c.args.size c.args.member c.args.mode
+    (faultless c.sig.result p.sig c.args.size c.check.result c.in_default.field-0 c.sig.ensures.sig c.check.ensures c.in_default.is)
+    (mode_is c.sig-2.result p.sig c.args.mode c.ne.result false c.sig-2.ensures.sig c.ne.ensures c.if-ne.false) other)

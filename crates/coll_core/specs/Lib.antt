@@ -1,0 +1,11 @@
+pub mod Requests
+pub mod Works
+pub mod Cores
+pub mod Configs
+pub mod Phases
+pub mod Goings
+pub mod Steps
+pub mod Posts
+pub mod Starts
+pub mod Completions
+pub mod Calls

@@ -1,0 +1,66 @@
+-- A request's record as the engine's tables show it, and what its own steps change.
+use Rattle.std.specs.Prelude.{◌≡◌, ◌≢◌, ℕ, true, Option, Some, None}
+use Rattle.coll_arena.specs.declared.list_name.ListName.{ListName}
+use Rattle.coll_arena.specs.declared.list_name.ListName.TheVariants.{Free, Worn, Ready, Running, Idle, Queue, Done}
+use Rattle.coll_match.specs.declared.key.Key.{Key as Instance}
+use Rattle.coll_sched.specs.declared.action.Action.TheVariants.{Recv}
+use Rattle.coll_sched.specs.declared.action.Action.{Action}
+use Rattle.coll_sched.specs.declared.region.Region.{Region}
+use Rattle.coll_sched.specs.Points.{Over, IsPoint}
+use Rattle.coll_sched.specs.Schedules.{Parts as Schedule}
+use Rattle.coll_plans.specs.Plans.{family}
+use Rattle.coll_tables.specs.Requests.{Live, key, went}
+use Rattle.coll_tables.specs.Shown.{named}
+use Rattle.coll_tables.specs.Sound.{next}
+use Rattle.coll_tables.specs.Tables.{Mail}
+use Rattle.coll_core.specs.declared.request.Request.{Request}
+
+-- the record as an active request; where it lies on its communicator's Idle list it isn't active
+abbrev pub shown : Request → Live
+shown r = record {
+  rank = r.rank;
+  comm = r.comm;
+  members = r.plan.n;
+  member = r.plan.member;
+  place = r.place;
+  sig = r.plan.sig;
+  starts = r.starts;
+  active = true;
+  round = r.round;
+  index = r.index;
+  buf = r.buffer.items;
+}
+
+-- the instance of its last start
+abbrev pub instance : Live → Instance
+instance q = named (key q)
+
+abbrev pub schedule : Live → Schedule
+schedule q = family q.sig q.members q.member
+
+-- its next action
+abbrev pub next_of : Live → Option Action
+next_of q = next q.members q
+
+-- b is a past the actions before that index of its round, and past ends of rounds
+pub record GoesOver (a b : Live) (index : ℕ) : Type 0 where
+  pub is : b ≡ went a (record { round = b.round; index = b.index; buf = a.buf })
+  pub over : Over (schedule a) a.round index b.round b.index
+  pub point : IsPoint (schedule a) b.round b.index
+
+-- it waits for a message that has come
+pub record Hears (mail : Mail) (q : Live) : Type 0 where
+  pub of : ℕ
+  pub into : Region
+  pub next_is : next_of q ≡ Some (Recv of into)
+  pub came : mail of q.member q.round ≢ None
+
+-- one of the lists of an active request
+abbrev pub IsListOf : ℕ → ListName → Type 0
+IsListOf comm Free = ⊥
+IsListOf comm Worn = ⊥
+IsListOf comm Ready = Unit {0}
+IsListOf comm Running = ⊥
+IsListOf comm (Idle c) = ⊥
+IsListOf comm (Queue c) = c ≡ comm
+IsListOf comm (Done c) = c ≡ comm

@@ -1,0 +1,143 @@
+-- What steps do to an engine.
+use Rattle.std.specs.Prelude.{◌≡◌, ◌<◌, ◌≤◌, ◌+◌, ℕ, suc, length, List, Bool, true, false, IfSome, Some}
+use Rattle.coll_kinds.specs.declared.ticket.Ticket.{Ticket}
+use Rattle.coll_lists.specs.Layouts.{sequence}
+use Rattle.coll_lists.specs.Moves.{taken_out}
+use Rattle.coll_lists.specs.Neighbours.{first_in}
+use Rattle.coll_sched.specs.declared.action.Action.{Action}
+use Rattle.coll_sched.specs.declared.action.Action.TheVariants.{Combine}
+use Rattle.coll_sched.specs.declared.region.Region.{Region}
+use Rattle.coll_sched.specs.Actions.{Fits, IsCombine}
+use Rattle.coll_sched.specs.Regions.{written}
+use Rattle.coll_arena.specs.declared.list_name.ListName.TheVariants.{Ready, Running}
+use Rattle.coll_arena.specs.ListNames.{number_of}
+use Rattle.coll_arena.specs.Slots.{home, names, record_in}
+use Rattle.coll_match.specs.Instances.{mail}
+use Rattle.coll_machine.specs.Settings.{Setting}
+use Rattle.coll_machine.specs.States.{Machine}
+use Rattle.coll_machine.specs.Calls.{Finish, Nothing}
+use Rattle.coll_machine.specs.Machines.{MachineStep}
+use Rattle.coll_tables.specs.Remaining.{actions_left}
+use Rattle.coll_tables.specs.Sound.{Doable}
+use Rattle.coll_core.specs.declared.request.Request.{Request}
+use Rattle.coll_core.specs.declared.stepped.Stepped.{Stepped}
+use Rattle.coll_core.specs.declared.stepped.Stepped.TheVariants.{Quiet, Moved, Finished, Out}
+use Rattle.coll_core.specs.Cores.{Parts, seen, setting, tables}
+use Rattle.coll_core.specs.Requests.{instance, next_of, schedule, shown}
+use Rattle.coll_core.specs.Works.{Made, Piece, StandsAt}
+
+-- the actions that all requests have still to do
+abbrev pub left : Parts → ℕ
+left p = actions_left (tables p)
+
+abbrev pub ready : Parts → List ℕ
+ready p = sequence p.arena.lists (number_of Ready)
+
+abbrev pub running : Parts → List ℕ
+running p = sequence p.arena.lists (number_of Running)
+
+-- the ticket's request is on Ready, and can do this action next
+pub record IsActingAt (p : Parts) (t : Ticket) (a : Action) (request : Request) : Type 0 where
+  pub live : names p.arena t ≡ true
+  pub here : record_in p.arena t.slot ≡ Some request
+  pub on_ready : home p.arena t.slot ≡ number_of Ready
+  pub next_is : next_of (shown request) ≡ Some a
+  pub doable : Doable (mail p.matches (instance (shown request))) (shown request) a
+  pub fits : Fits (schedule (shown request)).size a
+  pub filled : length request.buffer.items ≡ (schedule (shown request)).size
+  pub round_in : request.round ≤ length (schedule (shown request)).rounds
+  pub comm_in : request.comm < p.arena.comms
+
+abbrev pub IsActing : Parts → Ticket → Action → Type 0
+IsActing p t a = (request : Request) × IsActingAt p t a request
+
+-- the ticket names a request whose next action is a Combine
+abbrev pub CombinesNext : Parts → Ticket → Type 0
+CombinesNext p t = (r : Request) → record_in p.arena t.slot ≡ Some r → IfSome (next_of (shown r)) IsCombine
+
+-- a request becomes Done, or nothing changes that callers see
+abbrev pub StepsBy : Bool → Setting → Machine → Machine → Type 0
+StepsBy true g m n = MachineStep g m Finish Nothing n
+StepsBy false g m n = n ≡ m
+
+-- one action was done, the last of its request or another one
+pub record Goes (p r : Parts) (finished : Bool) : Type 0 where
+  pub set : setting r ≡ setting p
+  pub steps : StepsBy finished (setting p) (seen p) (seen r)
+  pub lowers : suc (left r) ≡ left p
+
+-- the same of a request of Ready
+pub record Acts (p r : Parts) (finished : Bool) : Type 0 where
+  pub goes : Goes p r finished
+  pub running_is : running r ≡ running p
+
+-- the work is out: its request runs, and stands before that combination with these operands
+pub record IsOut (p : Parts) (w : Piece) : Type 0 where
+  pub request : Request
+  pub live : names p.arena w.ticket ≡ true
+  pub here : record_in p.arena w.ticket.slot ≡ Some request
+  pub runs : home p.arena w.ticket.slot ≡ number_of Running
+  pub stands : StandsAt (shown request) w
+
+-- nothing that callers see changes, and no action is done
+pub record Stays (p r : Parts) : Type 0 where
+  pub set : setting r ≡ setting p
+  pub same : seen r ≡ seen p
+  pub keeps : left r ≡ left p
+
+-- the first request of Ready goes out
+pub record HandsOut (p r : Parts) (w : Piece) : Type 0 where
+  pub first : first_in (ready p) ≡ Some w.ticket.slot
+  pub out : IsOut r w
+  pub stays : Stays p r
+
+abbrev pub Steps : Parts → Parts → Stepped → Type 0
+Steps p r Quiet = r ≡ p
+Steps p r Moved = Acts p r false
+Steps p r Finished = Acts p r true
+Steps p r (Out w) = HandsOut p r w
+
+-- the work's result stands in its request's buffer
+pub record HasResult (p r : Parts) (d : Made) : Type 0 where
+  pub from : Request
+  pub to : Request
+  pub into : Region
+  pub here : record_in p.arena d.piece.ticket.slot ≡ Some from
+  pub there : record_in r.arena d.piece.ticket.slot ≡ Some to
+  pub next_is : (l : Region) × (m : Region) × (next_of (shown from) ≡ Some (Combine d.piece.op d.piece.ty l m into))
+  pub buf : to.buffer.items ≡ written from.buffer.items into d.bytes
+
+-- a combination that was out is done
+pub record Commits (p r : Parts) (d : Made) (finished : Bool) : Type 0 where
+  pub goes : Goes p r finished
+  pub result : HasResult p r d
+  pub running_is : running r ≡ taken_out d.piece.ticket.slot (running p)
+
+abbrev pub CommitSteps : Parts → Parts → Made → Stepped → Type 0
+CommitSteps p r d Quiet = ⊥
+CommitSteps p r d Moved = Commits p r d false
+CommitSteps p r d Finished = Commits p r d true
+CommitSteps p r d (Out w) = ⊥
+
+-- some requests became Done, one after the other
+pub data Finishings (g : Setting) (m : Machine) : Machine → Type 0 where
+  none : Finishings g m m
+  more : {mid n : Machine} → Finishings g m mid → MachineStep g mid Finish Nothing n → Finishings g m n
+
+-- what a step did, by whether the request is Done
+abbrev pub stepped_by : Bool → Stepped
+stepped_by true = Finished
+stepped_by false = Moved
+
+-- some actions were done, so many
+pub record Ran (p r : Parts) (steps : ℕ) : Type 0 where
+  pub set : setting r ≡ setting p
+  pub finishes : Finishings (setting p) (seen p) (seen r)
+  pub running_is : running r ≡ running p
+  pub lowers : left r + steps ≡ left p
+
+-- a combination that was out comes back undone: its request is the first that is ready
+pub record Returns (p r : Parts) (w : Piece) : Type 0 where
+  pub first : first_in (ready r) ≡ Some w.ticket.slot
+  pub stays : Stays p r
+  pub running_is : running r ≡ taken_out w.ticket.slot (running p)

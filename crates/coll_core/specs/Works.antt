@@ -1,0 +1,68 @@
+-- A combination that is handed out.
+use Rattle.std.specs.Prelude.{◌≡◌, ◌%◌, ℕ, List, length, IsTrue, Some}
+use Rattle.coll_kinds.specs.declared.datatype.Datatype.{Datatype}
+use Rattle.coll_kinds.specs.declared.operation.Op.{Op}
+use Rattle.coll_kinds.specs.declared.ticket.Ticket.{Ticket}
+use Rattle.coll_kinds.specs.Checks.{allowed}
+use Rattle.coll_kinds.specs.Elements.{width}
+use Rattle.coll_ops.specs.Combinations.{combined}
+use Rattle.coll_sched.specs.declared.action.Action.TheVariants.{Combine}
+use Rattle.coll_sched.specs.declared.region.Region.{Region}
+use Rattle.coll_sched.specs.Regions.{read_of, written}
+use Rattle.coll_tables.specs.Requests.{Live, went}
+use Rattle.coll_core.specs.Requests.{next_of}
+
+-- the request's ticket, the action's round and index, its operation and type, and both operands
+pub record Piece : Type 0 where
+  pub ticket : Ticket
+  pub round : ℕ
+  pub index : ℕ
+  pub op : Op
+  pub ty : Datatype
+  pub left : List ℕ
+  pub right : List ℕ
+
+-- its operands can be combined
+pub record IsPiece (w : Piece) : Type 0 where
+  pub allowed_is : IsTrue (allowed w.op w.ty)
+  pub same : length w.right ≡ length w.left
+  pub whole : length w.left % width w.ty ≡ 0
+
+-- the request's next action is the piece, with these operands
+pub record StandsAt (q : Live) (w : Piece) : Type 0 where
+  pub left : Region
+  pub right : Region
+  pub into : Region
+  pub next_is : next_of q ≡ Some (Combine w.op w.ty left right into)
+  pub round_is : q.round ≡ w.round
+  pub index_is : q.index ≡ w.index
+  pub left_is : read_of q.buf left ≡ w.left
+  pub right_is : read_of q.buf right ≡ w.right
+
+abbrev pub result_of : Piece → List ℕ
+result_of w = combined w.op w.ty w.left w.right
+
+-- a piece with its result
+pub record Made : Type 0 where
+  pub piece : Piece
+  pub bytes : List ℕ
+
+-- the request's next action is a Combine into a region of so many bytes
+pub record Combines (q : Live) (len : ℕ) : Type 0 where
+  pub op : Op
+  pub ty : Datatype
+  pub left : Region
+  pub right : Region
+  pub into : Region
+  pub next_is : next_of q ≡ Some (Combine op ty left right into)
+  pub long : len ≡ into.len
+
+-- the bytes are written into that region
+pub record Combined (q r : Live) (bytes : List ℕ) : Type 0 where
+  pub op : Op
+  pub ty : Datatype
+  pub left : Region
+  pub right : Region
+  pub into : Region
+  pub next_is : next_of q ≡ Some (Combine op ty left right into)
+  pub is : r ≡ went q (record { round = q.round; index = q.index; buf = written q.buf into bytes })

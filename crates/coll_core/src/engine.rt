@@ -1,0 +1,165 @@
+//! The engine's state, and the questions on it.
+
+mod posting;
+mod retiring;
+mod starting;
+mod stepping;
+mod working;
+
+ghost use Rattle.std.specs.Prelude.{◌≡◌, ◌↔◌, Some, true, IsTrue, OnOk, IfOk, IfErr, OnErr};
+ghost use Rattle.std.specs.Result.{result_err};
+ghost use Rattle.coll_machine.specs.Calls.{Retire};
+ghost use Rattle.coll_machine.specs.Lents.{lent_bytes};
+ghost use Rattle.coll_machine.specs.Refusals.{refusal};
+ghost use Rattle.coll_arena.specs.Slots.{names, record_in, lent};
+ghost use Rattle.coll_tables.specs.FreeLocks.{NothingGoes};
+ghost use Rattle.coll_tables.specs.Sound.{IsSound};
+ghost use Rattle.coll_core.specs.Configs.{IsUnopened, idle, setting_by};
+ghost use Rattle.coll_core.specs.Cores.{seen, setting, tables};
+ghost use Rattle.coll_core.specs.Phases.{IsQuiet, about_in, phase_in};
+
+use crate::about::About;
+use crate::config::Config;
+use crate::phase::Phase;
+use crate::request::Request;
+use coll_arena::laws::is_sound;
+use coll_arena::{Arena, ListName, Ticket};
+use coll_kinds::Refusal;
+use coll_match::Matches;
+use coll_queues::Queues;
+use coll_tables::laws;
+use std::alloc::Global;
+use std::marker::Model;
+
+/// The engine's core: live requests on their lists, the posting lists, and what members gave and sent.
+#[derive(Drop)]
+pub struct Core {
+    alloc: Global,
+    ranks: u8,
+    starts: u32,
+    trace: u32,
+    arena: Arena<Request>,
+    queues: Queues,
+    matches: Matches,
+}
+
+impl Model for Core {
+    ghost use Rattle.coll_core.specs.Cores.{IsCore, Parts};
+
+    ghost Value = { Parts };
+
+    ghost view = { λ c. record { ranks = c.ranks; starts = c.starts; trace = c.trace; arena = c.arena; queues = c.queues; matches = c.matches } };
+
+    ghost invariant = { λ c. IsCore (record { ranks = c.ranks; starts = c.starts; trace = c.trace; arena = c.arena; queues = c.queues; matches = c.matches }) };
+}
+
+impl Core {
+    /// An engine without requests. Takes time and memory for each slot, communicator and member.
+    ///
+    /// # Errors
+    ///
+    /// BadConfig with the first field that is out of its range, then NoMemory.
+    pub fn open(alloc: Global, config: Config) -> Result<Core, Refusal>
+        ensures setting { IfOk result (λ core. setting core ≡ setting_by config) }
+        ensures idle { IfOk result (λ core. seen core ≡ idle) }
+        ensures refused { IfErr result (IsUnopened config) }
+    {
+        config.check()?;
+        let comms = config.groups.len() as u32;
+        let arena = Arena::open(alloc, config.slots, comms, config.wear)?;
+        let queues = Queues::open(alloc, config.groups, config.places)?;
+        laws::open_core(&arena);
+        Ok(Core {
+            alloc,
+            ranks: config.ranks,
+            starts: config.starts,
+            trace: config.trace,
+            arena,
+            queues,
+            matches: Matches::new(alloc),
+        })
+    }
+
+    /// The request that a ticket names, if it is the rank's.
+    fn named(&self, rank: u8, ticket: Ticket) -> Result<&Request, Refusal>
+        ensures refused { result_err result ≡ refusal (setting self.now) (seen self.now).state (Retire rank ticket) }
+        ensures named { OnOk result (names self.now.arena ticket ≡ true) }
+        ensures found { IfOk result (λ request. record_in self.now.arena ticket.slot ≡ Some request.now) }
+    {
+        is_sound(&self.arena);
+        let Ok(request) = self.arena.get(ticket) else {
+            return Err(Refusal::Stale);
+        };
+        if request.rank != rank {
+            return Err(Refusal::NotYours);
+        }
+        Ok(request)
+    }
+
+    /// How far a request is. It takes constant time.
+    ///
+    /// # Errors
+    ///
+    /// Stale where the ticket names no live request, then NotYours where it is another rank's.
+    pub fn phase(&self, rank: u8, ticket: Ticket) -> Result<Phase, Refusal>
+        ensures refused { result_err result ≡ refusal (setting self.now) (seen self.now).state (Retire rank ticket) }
+        ensures phase { IfOk result (λ phase. phase_in (seen self.now) ticket ≡ Some phase) }
+    {
+        let comm = self.named(rank, ticket)?.comm;
+        if self.arena.is_on(ticket, ListName::Idle(comm)) {
+            return Ok(Phase::Idle);
+        }
+        if self.arena.is_on(ticket, ListName::Done(comm)) {
+            return Ok(Phase::Done);
+        }
+        Ok(Phase::Pending)
+    }
+
+    /// What a ticket names; none where that is no live request.
+    pub fn about(&self, ticket: Ticket) -> Option<About>
+        ensures { result ≡ about_in (seen self.now) ticket }
+    {
+        is_sound(&self.arena);
+        let Ok(request) = self.arena.get(ticket) else {
+            return None;
+        };
+        Some(About {
+            rank: request.rank,
+            comm: request.comm,
+            place: request.place,
+            mode: request.plan.sig().mode,
+            starts: request.starts,
+        })
+    }
+
+    /// The bytes that active requests lend to the engine, given and got together.
+    pub fn lent(&self) -> u64
+        ensures { result ≡ lent_bytes (setting self.now) (seen self.now).state }
+    {
+        is_sound(&self.arena);
+        laws::lent_core(&self.arena);
+        self.arena.lent()
+    }
+
+    /// Whether no request is ready and no combination is handed out.
+    pub fn quiet(&self) -> bool
+        ensures { IsTrue result ↔ IsQuiet self.now }
+    {
+        self.arena.first(ListName::Ready).is_none() && self.arena.first(ListName::Running).is_none()
+    }
+
+    /// What holds of every engine, for the laws.
+    pub(crate) fn check(&self)
+        ensures { IsSound (tables self.now) }
+    {
+        let _arena = &self.arena;
+    }
+
+    /// Nothing can go on where no request is ready and no combination is handed out.
+    pub(crate) fn check_quiet(&self)
+        ensures { IsQuiet self.now → NothingGoes (tables self.now) }
+    {
+        is_sound(&self.arena);
+        laws::quiet_core(&self.arena);
+    }
+}

@@ -1,0 +1,300 @@
+//! Posts and initialisations.
+
+ghost use Rattle.std.specs.Prelude.{◌≡◌, ◌<◌, None, OnOk, OnErr, IfOk, IfErr};
+ghost use Rattle.std.specs.Result.{result_err};
+ghost use Rattle.coll_kinds.specs.Elements.{AreBytes};
+ghost use Rattle.coll_kinds.specs.Lengths.{given_len};
+ghost use Rattle.coll_machine.specs.Calls.{Ticketed};
+ghost use Rattle.coll_machine.specs.Machines.{MachineStep};
+ghost use Rattle.coll_machine.specs.Refusals.{first_of};
+ghost use Rattle.coll_machine.specs.Settings.{size};
+ghost use Rattle.coll_match.specs.Instances as instances;
+ghost use Rattle.coll_plans.specs.Plans.{family};
+ghost use Rattle.coll_queues.specs.Postings.{HasRoom};
+ghost use Rattle.coll_queues.specs.Refusing.{member_refusal};
+ghost use Rattle.coll_sched.specs.Families.{laid_in};
+ghost use Rattle.coll_tables.specs.EngineTests.{entry_refusals};
+ghost use Rattle.coll_tables.specs.Machines.{StepsTo};
+ghost use Rattle.coll_core.specs.Calls.{Refuses};
+ghost use Rattle.coll_core.specs.Cores.{seen, setting};
+ghost use Rattle.coll_core.specs.Posts.{init_of, next_instance, plan_refusals, planned, post_of, refused_in, IsRoomy, Unchanged};
+
+use crate::engine::Core;
+use crate::offer::Offer;
+use crate::request::Request;
+use coll_arena::laws::is_sound;
+use coll_arena::{ListName, Ticket};
+use coll_kinds::laws::lengths_are_small;
+use coll_kinds::{Mode, Refusal, Refused, SignatureFault};
+use coll_match::Key;
+use coll_plans::Plan;
+use coll_tables::laws::{
+    entry_core, init_core, init_refused, new_core, post_core, post_refused, room_core,
+};
+
+/// The signature breaks no rule among so many members, and the plan is that mode's and that member's.
+fn fits(plan: &Plan, size: u8, member: u8, mode: Mode) -> Result<(), Refusal>
+    ensures { result_err result ≡ first_of (plan_refusals (planned plan.now) size member mode) }
+{
+    if let Err(why) = plan.sig().check(size) {
+        return Err(why);
+    }
+    if plan.sig().mode != mode {
+        return Err(Refusal::BadSignature {
+            cause: SignatureFault::Mode,
+        });
+    }
+    if plan.n() != size || plan.member() != member {
+        return Err(Refusal::BadSignature {
+            cause: SignatureFault::Group,
+        });
+    }
+    Ok(())
+}
+
+/// The bytes that a plan's member gives.
+fn want(plan: &Plan) -> u32
+    ensures { result ≡ given_len plan.now.sig plan.now.n plan.now.member }
+{
+    lengths_are_small();
+    plan.sig().given_len(plan.n(), plan.member()) as u32
+}
+
+/// Each byte is one.
+fn are_bytes(bytes: &[u8])
+    ensures { AreBytes bytes.now }
+{
+    let _bytes = bytes;
+}
+
+impl Core {
+    /// Starts a collective (`MPI_Ibcast` and its like; MPI 4.1, 6.12).
+    ///
+    /// # Errors
+    ///
+    /// In this order, with the offer handed back and nothing changed: BadComm; NotMember; BadSignature; Mismatch where
+    /// another member has another signature at the rank's next place; PlacesUsed; BadLength; Full; NoMemory.
+    pub fn post(&mut self, rank: u8, comm: u32, offer: Offer) -> Result<Ticket, Refused<Offer>>
+        ensures setting { setting self.new ≡ setting self.old }
+        ensures posted { IfOk result (λ ticket. StepsTo (setting self.old) (seen self.old) (post_of rank comm offer) (Ticketed ticket) (seen self.new)) }
+        ensures back { IfErr result (λ refused. refused.back ≡ offer) }
+        ensures refused { IfErr result (λ refused. Refuses (setting self.old) (seen self.old) (post_of rank comm offer) refused.why) }
+        ensures unchanged { OnErr result (Unchanged self.old self.new) }
+    {
+        if let Err(why) = self.may_post(rank, comm, &offer) {
+            return Err(Refused { why, back: offer });
+        }
+        let buffer = match self.make_room(rank, comm, &offer) {
+            Ok(buffer) => buffer,
+            Err(why) => return Err(Refused { why, back: offer }),
+        };
+        Ok(self.enter(rank, comm, offer, buffer))
+    }
+
+    /// Makes a persistent request, which is Idle (`MPI_Bcast_init` and its like; MPI 4.1, 6.13).
+    ///
+    /// # Errors
+    ///
+    /// In this order, with the plan handed back and nothing changed: BadComm; NotMember; BadSignature; Mismatch where
+    /// another member has another signature at the rank's next place; PlacesUsed; Full; NoMemory.
+    pub fn init(&mut self, rank: u8, comm: u32, plan: Plan) -> Result<Ticket, Refused<Plan>>
+        ensures setting { setting self.new ≡ setting self.old }
+        ensures made { IfOk result (λ ticket. MachineStep (setting self.old) (seen self.old) (init_of rank comm plan) (Ticketed ticket) (seen self.new)) }
+        ensures back { IfErr result (λ refused. refused.back ≡ plan) }
+        ensures refused { IfErr result (λ refused. Refuses (setting self.old) (seen self.old) (init_of rank comm plan) refused.why) }
+        ensures unchanged { OnErr result (Unchanged self.old self.new) }
+    {
+        if let Err(why) = self.may_init(rank, comm, &plan) {
+            return Err(Refused { why, back: plan });
+        }
+        if let Err(why) = self.make_idle_room(rank, comm, &plan) {
+            return Err(Refused { why, back: plan });
+        }
+        Ok(self.lay_down(rank, comm, plan))
+    }
+
+    /// A plan may enter the rank's posting list.
+    fn may_enter(&self, rank: u8, comm: u32, plan: &Plan, mode: Mode) -> Result<(), Refusal>
+        ensures { result_err result ≡ first_of (entry_refusals self.now.queues rank comm mode (planned plan.now)) }
+    {
+        let member = match self.queues.member(comm, rank) {
+            Ok(member) => member,
+            Err(why) => return Err(why),
+        };
+        if let Err(why) = fits(plan, self.queues.size(comm), member, mode) {
+            return Err(why);
+        }
+        match self.queues.judge(comm, rank, &plan.sig()) {
+            Ok(_) => Ok(()),
+            Err(why) => Err(why),
+        }
+    }
+
+    /// A post isn't refused, but for want of memory.
+    fn may_post(&self, rank: u8, comm: u32, offer: &Offer) -> Result<(), Refusal>
+        ensures { result_err result ≡ refused_in self.now (post_of rank comm offer.now) }
+    {
+        is_sound(&self.arena);
+        post_refused(&self.arena);
+        if let Err(why) = self.may_enter(rank, comm, &offer.plan, Mode::Once) {
+            return Err(why);
+        }
+        let want = want(&offer.plan);
+        let got = offer.bytes.len();
+        if got != want as usize {
+            return Err(Refusal::BadLength { want, got });
+        }
+        if !self.arena.has_free() {
+            return Err(Refusal::Full);
+        }
+        Ok(())
+    }
+
+    /// An initialisation isn't refused, but for want of memory.
+    fn may_init(&self, rank: u8, comm: u32, plan: &Plan) -> Result<(), Refusal>
+        ensures { result_err result ≡ refused_in self.now (init_of rank comm plan.now) }
+    {
+        is_sound(&self.arena);
+        init_refused(&self.arena);
+        if let Err(why) = self.may_enter(rank, comm, plan, Mode::Persistent) {
+            return Err(why);
+        }
+        if !self.arena.has_free() {
+            return Err(Refusal::Full);
+        }
+        Ok(())
+    }
+
+    /// Makes room for one more signature in the rank's posting list.
+    fn make_place(&mut self, rank: u8, comm: u32) -> Result<(), Refusal>
+        requires { member_refusal self.old.queues comm rank ≡ None }
+        ensures unchanged { Unchanged self.old self.new }
+        ensures room { OnOk result (HasRoom self.new.queues comm rank) }
+        ensures refused { IfErr result (λ why. why ≡ Refusal.NoMemory) }
+    {
+        room_core(&self.arena);
+        self.queues.room(comm, rank)
+    }
+
+    /// Makes room for what the members of a communicator give to the collective at the rank's next place.
+    fn make_instance(&mut self, rank: u8, comm: u32, n: u8) -> Result<(), Refusal>
+        requires member { member_refusal self.old.queues comm rank ≡ None }
+        requires members { n ≡ size (setting self.old) comm }
+        ensures unchanged { Unchanged self.old self.new }
+        ensures same { self.new.queues ≡ self.old.queues }
+        ensures room { OnOk result (n ≡ instances.size self.new.matches (next_instance self.new.queues rank comm)) }
+        ensures refused { IfErr result (λ why. why ≡ Refusal.NoMemory) }
+    {
+        room_core(&self.arena);
+        let place = self.queues.place_of(comm, rank);
+        let key = Key {
+            comm,
+            place,
+            start: 0,
+        };
+        self.matches.room(key, n)
+    }
+
+    /// Makes room for all that a post takes, and the schedule's buffer with the contribution laid in.
+    fn make_room(&mut self, rank: u8, comm: u32, offer: &Offer) -> Result<Vec<u8>, Refusal>
+        requires { refused_in self.old (post_of rank comm offer.now) ≡ None }
+        ensures unchanged { Unchanged self.old self.new }
+        ensures room { OnOk result (IsRoomy self.new rank comm offer.now.plan) }
+        ensures buffer { IfOk result (λ buffer. buffer.items ≡ laid_in (family offer.now.plan.sig offer.now.plan.n offer.now.plan.member) offer.now.bytes.items) }
+        ensures refused { IfErr result (λ why. why ≡ Refusal.NoMemory) }
+    {
+        is_sound(&self.arena);
+        entry_core(&self.arena);
+        let buffer = match offer.plan.schedule().lay_in(self.alloc, &offer.bytes) {
+            Ok(buffer) => buffer,
+            Err(why) => return Err(why),
+        };
+        if let Err(why) = self.make_place(rank, comm) {
+            return Err(why);
+        }
+        if let Err(why) = self.make_instance(rank, comm, offer.plan.n()) {
+            return Err(why);
+        }
+        Ok(buffer)
+    }
+
+    /// Makes room for all that an initialisation takes.
+    fn make_idle_room(&mut self, rank: u8, comm: u32, plan: &Plan) -> Result<(), Refusal>
+        requires { refused_in self.old (init_of rank comm plan.now) ≡ None }
+        ensures unchanged { Unchanged self.old self.new }
+        ensures room { OnOk result (HasRoom self.new.queues comm rank) }
+        ensures refused { IfErr result (λ why. why ≡ Refusal.NoMemory) }
+    {
+        is_sound(&self.arena);
+        entry_core(&self.arena);
+        self.make_place(rank, comm)
+    }
+
+    /// Enters a post for which room was made.
+    fn enter(&mut self, rank: u8, comm: u32, offer: Offer, buffer: Vec<u8>) -> Ticket
+        requires accepted { refused_in self.old (post_of rank comm offer) ≡ None }
+        requires room { IsRoomy self.old rank comm offer.plan }
+        requires buffer { buffer.items ≡ laid_in (family offer.plan.sig offer.plan.n offer.plan.member) offer.bytes.items }
+        ensures setting { setting self.new ≡ setting self.old }
+        ensures posted { StepsTo (setting self.old) (seen self.old) (post_of rank comm offer) (Ticketed result) (seen self.new) }
+    {
+        is_sound(&self.arena);
+        lengths_are_small();
+        entry_core(&self.arena);
+        new_core(&self.arena);
+        post_core(&self.arena);
+        let Offer { plan, bytes } = offer;
+        are_bytes(&bytes);
+        let place = self.queues.offer(comm, rank, plan.sig());
+        let member = plan.member();
+        let weight = plan.sig().lent(plan.n(), member) as u32;
+        let mut request = Request {
+            rank,
+            comm,
+            place,
+            plan,
+            starts: 1,
+            round: 0,
+            index: 0,
+            buffer,
+        };
+        let key = request.key();
+        self.matches.join(key, member, bytes);
+        request.go_over();
+        let list = request.list(&self.matches);
+        match self.arena.take(request, weight, list) {
+            Ok(ticket) => {
+                self.matches.seat(key, member, ticket.slot);
+                ticket
+            }
+            Err(_) => unreachable!(),
+        }
+    }
+
+    /// Enters an initialisation for whose signature room was made.
+    fn lay_down(&mut self, rank: u8, comm: u32, plan: Plan) -> Ticket
+        requires accepted { refused_in self.old (init_of rank comm plan) ≡ None }
+        requires room { HasRoom self.old.queues comm rank }
+        ensures setting { setting self.new ≡ setting self.old }
+        ensures made { MachineStep (setting self.old) (seen self.old) (init_of rank comm plan) (Ticketed result) (seen self.new) }
+    {
+        is_sound(&self.arena);
+        entry_core(&self.arena);
+        init_core(&self.arena);
+        let place = self.queues.offer(comm, rank, plan.sig());
+        let request = Request {
+            rank,
+            comm,
+            place,
+            plan,
+            starts: 0,
+            round: 0,
+            index: 0,
+            buffer: Vec::new(self.alloc),
+        };
+        match self.arena.take(request, 0, ListName::Idle(comm)) {
+            Ok(ticket) => ticket,
+            Err(_) => unreachable!(),
+        }
+    }
+}

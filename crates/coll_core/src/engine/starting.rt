@@ -1,0 +1,202 @@
+//! Starts of persistent requests, and their end.
+
+ghost use Rattle.std.specs.Prelude.{◌≡◌, ◌<◌, ◌^◌, suc, true, is_some, length, IfErr, IfOk, IfSome, OnOk, OnErr};
+ghost use Rattle.std.specs.Result.{result_err};
+ghost use Rattle.coll_kinds.specs.Elements.{AreBytes};
+ghost use Rattle.coll_kinds.specs.Lengths.{given_len};
+ghost use Rattle.coll_sched.specs.Families.{laid_in};
+ghost use Rattle.coll_arena.specs.Slots.{names, record_in};
+ghost use Rattle.coll_match.specs.Instances.{size};
+ghost use Rattle.coll_machine.specs.Calls.{Free, Nothing, Start};
+ghost use Rattle.coll_machine.specs.Machines.{MachineStep};
+ghost use Rattle.coll_machine.specs.Refusals.{refusal};
+ghost use Rattle.coll_tables.specs.Machines.{StepsTo};
+ghost use Rattle.coll_core.specs.Calls.{Refuses};
+ghost use Rattle.coll_core.specs.Cores.{seen, setting};
+ghost use Rattle.coll_core.specs.Requests.{schedule, shown};
+ghost use Rattle.coll_core.specs.Starts.{Begins, Begun, CanBegin, IsSame, next_instance};
+
+use crate::engine::Core;
+use crate::request::Request;
+use coll_arena::laws::is_sound;
+use coll_arena::{Arena, ListName, Ticket};
+use coll_kinds::laws::lengths_are_small;
+use coll_kinds::{Mode, Refusal, Refused};
+use coll_match::{Key, Matches};
+use coll_tables::laws;
+
+impl Core {
+    /// Starts a persistent request (`MPI_Start`; MPI 4.1, 3.9).
+    ///
+    /// # Errors
+    ///
+    /// In this order, with the bytes handed back and nothing changed: Stale; NotYours; NotPersistent; Active; BadLength;
+    /// StartsUsed; NoMemory.
+    pub fn start(
+        &mut self,
+        rank: u8,
+        ticket: Ticket,
+        bytes: Vec<u8>,
+    ) -> Result<(), Refused<Vec<u8>>>
+        ensures setting { setting self.new ≡ setting self.old }
+        ensures starts { OnOk result (StepsTo (setting self.old) (seen self.old) (Start rank ticket bytes.items) Nothing (seen self.new)) }
+        ensures back { IfErr result (λ refused. refused.back ≡ bytes) }
+        ensures refused { IfErr result (λ refused. Refuses (setting self.old) (seen self.old) (Start rank ticket bytes.items) refused.why) }
+        ensures unchanged { OnErr result (IsSame self.old self.new) }
+    {
+        if let Err(why) = self.may_start(rank, ticket, &bytes) {
+            return Err(Refused { why, back: bytes });
+        }
+        let buffer = match self.make_start_room(ticket, &bytes) {
+            Ok(buffer) => buffer,
+            Err(why) => return Err(Refused { why, back: bytes }),
+        };
+        laws::start_core(&self.arena);
+        laws::new_core(&self.arena);
+        begin(&mut self.arena, &mut self.matches, ticket, bytes, buffer);
+        Ok(())
+    }
+
+    /// Gives up a persistent request that isn't active (`MPI_Request_free`; MPI 4.1, 3.7.3). Its place in the posting
+    /// list stays taken.
+    ///
+    /// # Errors
+    ///
+    /// In this order, with nothing changed: Stale; NotYours; NotPersistent; Active.
+    pub fn free(&mut self, rank: u8, ticket: Ticket) -> Result<(), Refusal>
+        ensures refused { result_err result ≡ refusal (setting self.old) (seen self.old).state (Free rank ticket) }
+        ensures err { OnErr result (self.new ≡ self.old) }
+        ensures setting { setting self.new ≡ setting self.old }
+        ensures frees { OnOk result (MachineStep (setting self.old) (seen self.old) (Free rank ticket) Nothing (seen self.new)) }
+    {
+        laws::free_core(&self.arena);
+        if let Err(why) = self.may_free(rank, ticket) {
+            return Err(why);
+        }
+        let Ok(_) = self.arena.retire(ticket) else {
+            unreachable!()
+        };
+        Ok(())
+    }
+
+    /// The ticket names a persistent request of the rank that isn't active.
+    fn may_free(&self, rank: u8, ticket: Ticket) -> Result<(), Refusal>
+        ensures refused { result_err result ≡ refusal (setting self.now) (seen self.now).state (Free rank ticket) }
+        ensures named { OnOk result (names self.now.arena ticket ≡ true) }
+    {
+        let request = match self.named(rank, ticket) {
+            Ok(request) => request,
+            Err(why) => return Err(why),
+        };
+        if request.plan.sig().mode != Mode::Persistent {
+            return Err(Refusal::NotPersistent);
+        }
+        if !self.arena.is_on(ticket, ListName::Idle(request.comm)) {
+            return Err(Refusal::Active);
+        }
+        Ok(())
+    }
+
+    /// A start isn't refused, but for want of memory.
+    fn may_start(&self, rank: u8, ticket: Ticket, bytes: &[u8]) -> Result<(), Refusal>
+        ensures refused { result_err result ≡ refusal (setting self.now) (seen self.now).state (Start rank ticket bytes.now) }
+        ensures named { OnOk result (names self.now.arena ticket ≡ true) }
+        ensures bytes { OnOk result (AreBytes bytes.now) }
+        ensures found { OnOk result (is_some (record_in self.now.arena ticket.slot) ≡ true) }
+        ensures long { OnOk result (IfSome (record_in self.now.arena ticket.slot) (λ x. length bytes.now ≡ given_len x.plan.sig x.plan.n x.plan.member)) }
+        ensures low { OnOk result (IfSome (record_in self.now.arena ticket.slot) (λ x. suc x.starts < 2 ^ 32)) }
+    {
+        if let Err(why) = self.may_free(rank, ticket) {
+            return Err(why);
+        }
+        lengths_are_small();
+        let Ok(request) = self.arena.get(ticket) else {
+            unreachable!()
+        };
+        let sig = request.plan.sig();
+        let want = sig.given_len(request.plan.n(), request.plan.member());
+        if bytes.len() != want {
+            return Err(Refusal::BadLength {
+                want: want as u32,
+                got: bytes.len(),
+            });
+        }
+        if request.starts >= self.starts {
+            return Err(Refusal::StartsUsed);
+        }
+        Ok(())
+    }
+
+    /// Makes room for all that a start takes, and the schedule's buffer with the contribution laid in.
+    fn make_start_room(&mut self, ticket: Ticket, bytes: &[u8]) -> Result<Vec<u8>, Refusal>
+        requires named { names self.old.arena ticket ≡ true }
+        requires long { IfSome (record_in self.old.arena ticket.slot) (λ x. length bytes.now ≡ given_len x.plan.sig x.plan.n x.plan.member) }
+        ensures same { IsSame self.old self.new }
+        ensures arena { self.new.arena ≡ self.old.arena }
+        ensures room { OnOk result (IfSome (record_in self.old.arena ticket.slot) (λ x. x.plan.member < size self.new.matches (next_instance x))) }
+        ensures buffer { IfOk result (λ buf. IfSome (record_in self.old.arena ticket.slot) (λ x. buf.items ≡ laid_in (schedule (shown x)) bytes.now)) }
+        ensures refused { IfErr result (λ why. why ≡ Refusal.NoMemory) }
+    {
+        laws::room_core(&self.arena);
+        let Ok(request) = self.arena.get(ticket) else {
+            unreachable!()
+        };
+        let buffer = match request.plan.schedule().lay_in(self.alloc, bytes) {
+            Ok(buffer) => buffer,
+            Err(why) => return Err(why),
+        };
+        let key = Key {
+            comm: request.comm,
+            place: request.place,
+            start: request.starts,
+        };
+        if let Err(why) = self.matches.room(key, request.plan.n()) {
+            return Err(why);
+        }
+        Ok(buffer)
+    }
+}
+
+/// Starts a request for which room was made.
+fn begin(
+    arena: &mut Arena<Request>,
+    matches: &mut Matches,
+    ticket: Ticket,
+    bytes: Vec<u8>,
+    buffer: Vec<u8>,
+)
+    requires named { names arena.old ticket ≡ true }
+    requires can { IfSome (record_in arena.old ticket.slot) (CanBegin arena.old matches.old) }
+    ensures { IfSome (record_in arena.old ticket.slot) (λ x. Begun arena.old arena.new matches.old matches.new ticket x bytes.items buffer.items) }
+{
+    is_sound(arena);
+    lengths_are_small();
+    let Ok(request) = arena.get_mut(ticket) else {
+        unreachable!()
+    };
+    once_more(request, buffer);
+    let key = request.key();
+    let member = request.plan.member();
+    let weight = request.plan.sig().lent(request.plan.n(), member) as u32;
+    matches.join(key, member, bytes);
+    matches.seat(key, member, ticket.slot);
+    let list = request.list(matches);
+    let Ok(()) = arena.reweigh(ticket, weight) else {
+        unreachable!()
+    };
+    let Ok(()) = arena.shift(ticket, list) else {
+        unreachable!()
+    };
+}
+
+/// Takes a request to the first action of its next start.
+fn once_more(request: &mut Request, buffer: Vec<u8>)
+    requires { suc request.old.starts < 2 ^ 32 }
+    ensures { Begins (shown request.old) (shown request.new) buffer.items }
+{
+    request.starts += 1;
+    request.buffer = buffer;
+    request.round = 0;
+    request.index = 0;
+    request.go_over();
+}

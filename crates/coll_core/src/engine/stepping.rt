@@ -1,0 +1,226 @@
+//! Steps.
+
+ghost use Rattle.std.specs.Prelude.{◌≡◌, ◌+◌, ◌↔◌, [], IfOk, IfSome, IsOkUnless, None, Ok, OnErr, OnOk};
+ghost use Rattle.coll_lists.specs.Layouts.{sequence};
+ghost use Rattle.coll_sched.specs.Actions.{IsLocal};
+ghost use Rattle.coll_arena.specs.declared.list_name.ListName.TheVariants.{Ready, Running};
+ghost use Rattle.coll_arena.specs.ListNames.{number_of};
+ghost use Rattle.coll_arena.specs.Lookups.{IsFirst};
+ghost use Rattle.coll_tables.specs.Engines.{Delivers};
+ghost use Rattle.coll_core.specs.declared.stepped.Stepped.TheVariants.{Quiet};
+ghost use Rattle.coll_core.specs.Cores.{seen, setting};
+ghost use Rattle.coll_core.specs.Goings.{CanGoOn, CanHear, GoneOn, HaveLists, NoneHears, is_end};
+ghost use Rattle.coll_core.specs.Requests.{shown};
+ghost use Rattle.coll_core.specs.Steps.{Acts, CombinesNext, Finishings, HandsOut, IsActing, Steps, left, ready, running};
+
+use crate::engine::Core;
+use crate::request::Request;
+use crate::stepped::Stepped;
+use crate::work::Work;
+use coll_arena::laws::is_sound;
+use coll_arena::{Arena, ListName, Ticket};
+use coll_kinds::Refusal;
+use coll_match::{Key, Matches};
+use coll_sched::{Action, Region};
+
+impl Core {
+    /// Carries out the next action of the first ready request, or hands it out where it is a combination. It touches a
+    /// bounded number of requests, and copies bytes at most once.
+    ///
+    /// # Errors
+    ///
+    /// NoMemory, with nothing changed.
+    pub fn step(&mut self) -> Result<Stepped, Refusal>
+        ensures quiet { (result ≡ Ok Quiet) ↔ (ready self.old ≡ []) }
+        ensures steps { IfOk result (Steps self.old self.new) }
+        ensures err { OnErr result (self.new ≡ self.old) }
+        ensures refusal { IsOkUnless result Refusal.NoMemory }
+    {
+        let Some(ticket) = self.arena.first(ListName::Ready) else {
+            return Ok(Stepped::Quiet);
+        };
+        match self.next_of(ticket) {
+            Action::Combine { .. } => Ok(Stepped::Out(self.hand_out(ticket)?)),
+            _ => Ok(Stepped::by(self.act(ticket)?)),
+        }
+    }
+
+    /// Steps until no request is ready, and computes combinations itself. Answers the number of actions.
+    ///
+    /// # Errors
+    ///
+    /// NoMemory; the actions that were done before stay done.
+    pub fn settle(&mut self) -> Result<u64, Refusal>
+        ensures quiet { OnOk result (ready self.new ≡ []) }
+        ensures running { running self.new ≡ running self.old }
+        ensures left { IfOk result (λ steps. left self.new + steps ≡ left self.old) }
+        ensures finishes { Finishings (setting self.old) (seen self.old) (seen self.new) }
+        ensures refusal { IsOkUnless result Refusal.NoMemory }
+    {
+        is_sound(&self.arena);
+        let mut steps = 0;
+        while let Some(ticket) = self.arena.first(ListName::Ready) {
+            self.act(ticket)?;
+            steps += 1;
+        }
+        Ok(steps)
+    }
+
+    /// The next action of a ready request.
+    fn next_of(&self, ticket: Ticket) -> Action
+        requires { IsFirst self.now.arena (number_of Ready) ticket }
+        ensures { IsActing self.now ticket result }
+    {
+        let Ok(request) = self.arena.get(ticket) else {
+            unreachable!()
+        };
+        match request.next() {
+            Some(action) => action,
+            None => unreachable!(),
+        }
+    }
+
+    /// Carries out the next action of a ready request. Answers whether it is Done.
+    fn act(&mut self, ticket: Ticket) -> Result<bool, Refusal>
+        requires { IsFirst self.old.arena (number_of Ready) ticket }
+        ensures acts { IfOk result (Acts self.old self.new) }
+        ensures err { OnErr result (self.new ≡ self.old) }
+        ensures refusal { IsOkUnless result Refusal.NoMemory }
+    {
+        let action = self.next_of(ticket);
+        match action {
+            Action::Send { to, from } => self.send(ticket, to, from),
+            Action::Copy { .. } => self.compute(ticket, action),
+            Action::Combine { .. } => self.compute(ticket, action),
+            Action::Recv { of, into } => Ok(self.receive(ticket, of, into)),
+        }
+    }
+
+    /// Sends a message. A receiver that waits for it is woken first, so that it comes before the sender on Ready.
+    fn send(&mut self, ticket: Ticket, to: u8, from: Region) -> Result<bool, Refusal>
+        requires { IsActing self.old ticket (Action.Send to from) }
+        ensures acts { IfOk result (Acts self.old self.new) }
+        ensures err { OnErr result (self.new ≡ self.old) }
+        ensures refusal { IsOkUnless result Refusal.NoMemory }
+    {
+        let Ok(request) = self.arena.get(ticket) else {
+            unreachable!()
+        };
+        let message = Action::Send { to, from }.message(self.alloc, &request.buffer)?;
+        let key = request.key();
+        let member = request.plan.member();
+        if let Err(refused) = self.matches.put(key, member, to, request.round, message) {
+            return Err(refused.why);
+        }
+        deliver(&mut self.arena, &self.matches, key, to);
+        Ok(go_on(&mut self.arena, &self.matches, ticket))
+    }
+
+    /// Takes a message that is there.
+    fn receive(&mut self, ticket: Ticket, of: u8, into: Region) -> bool
+        requires { IsActing self.old ticket (Action.Recv of into) }
+        ensures { Acts self.old self.new result }
+    {
+        is_sound(&self.arena);
+        let Ok(request) = self.arena.get_mut(ticket) else {
+            unreachable!()
+        };
+        let (key, member, round) = (request.key(), request.plan.member(), request.round);
+        let Some(message) = self.matches.take(key, of, member, round) else {
+            unreachable!()
+        };
+        Action::Recv { of, into }.accept(&message, &mut request.buffer);
+        go_on(&mut self.arena, &self.matches, ticket)
+    }
+
+    /// Copies or combines within the buffer.
+    fn compute(&mut self, ticket: Ticket, action: Action) -> Result<bool, Refusal>
+        requires acting { IsActing self.old ticket action }
+        requires local { IsLocal action }
+        ensures acts { IfOk result (Acts self.old self.new) }
+        ensures err { OnErr result (self.new ≡ self.old) }
+        ensures refusal { IsOkUnless result Refusal.NoMemory }
+    {
+        is_sound(&self.arena);
+        let Ok(request) = self.arena.get_mut(ticket) else {
+            unreachable!()
+        };
+        action.local(self.alloc, &mut request.buffer)?;
+        Ok(go_on(&mut self.arena, &self.matches, ticket))
+    }
+
+    /// Hands out the combination of a ready request.
+    fn hand_out(&mut self, ticket: Ticket) -> Result<Work, Refusal>
+        requires first { IsFirst self.old.arena (number_of Ready) ticket }
+        requires combines { CombinesNext self.old ticket }
+        ensures out { IfOk result (HandsOut self.old self.new) }
+        ensures err { OnErr result (self.new ≡ self.old) }
+        ensures refusal { IsOkUnless result Refusal.NoMemory }
+    {
+        let Ok(request) = self.arena.get(ticket) else {
+            unreachable!()
+        };
+        let work = request.work(self.alloc, ticket)?;
+        let Ok(()) = self.arena.shift(ticket, ListName::Running) else {
+            unreachable!()
+        };
+        Ok(work)
+    }
+}
+
+/// Takes a request one action on, to the list where it then belongs. Answers whether it is Done.
+pub(super) fn go_on(arena: &mut Arena<Request>, matches: &Matches, ticket: Ticket) -> bool
+    requires { CanGoOn arena.old ticket }
+    ensures { GoneOn arena.old arena.new matches.now ticket result }
+{
+    is_sound(arena);
+    let Ok(request) = arena.get_mut(ticket) else {
+        unreachable!()
+    };
+    request.go_on();
+    let list = request.list(matches);
+    let Ok(()) = arena.shift(ticket, list) else {
+        unreachable!()
+    };
+    is_end(list)
+}
+
+/// Whether requests on that list are Done.
+fn is_end(list: ListName) -> bool
+    ensures { result ≡ is_end list }
+{
+    matches!(list, ListName::Done(_))
+}
+
+/// Makes a member's request ready if it waits for a message that is there.
+fn deliver(arena: &mut Arena<Request>, matches: &Matches, key: Key, member: u8)
+    requires { HaveLists arena.old }
+    ensures delivers { Delivers shown arena.old arena.new matches.now key member }
+    ensures running { sequence arena.new.lists (number_of Running) ≡ sequence arena.old.lists (number_of Running) }
+{
+    let Some(ticket) = hearer(arena, matches, key, member) else {
+        return;
+    };
+    let Ok(()) = arena.shift(ticket, ListName::Ready) else {
+        unreachable!()
+    };
+}
+
+/// A member's request that waits for a message that is there.
+fn hearer(arena: &Arena<Request>, matches: &Matches, key: Key, member: u8) -> Option<Ticket>
+    requires { HaveLists arena.now }
+    ensures hears { IfSome result (CanHear arena.now matches.now key member) }
+    ensures none { result ≡ None → NoneHears arena.now matches.now key member }
+{
+    is_sound(arena);
+    let slot = matches.seated(key, member)?;
+    let ticket = arena.ticket_at(slot)?;
+    let Ok(request) = arena.get(ticket) else {
+        unreachable!()
+    };
+    if arena.is_on(ticket, ListName::Queue(request.comm)) && request.hears(matches) {
+        Some(ticket)
+    } else {
+        None
+    }
+}

@@ -1,0 +1,72 @@
+//! Combinations that were handed out.
+
+ghost use Rattle.std.specs.Prelude.{◌≡◌, ◌↔◌, IfErr, IfOk, IsTrue, OnErr, OnOk, is_ok};
+ghost use Rattle.coll_lists.specs.Layouts.{sequence};
+ghost use Rattle.coll_arena.specs.declared.list_name.ListName.TheVariants.{Ready, Running};
+ghost use Rattle.coll_arena.specs.ListNames.{number_of};
+ghost use Rattle.coll_core.specs.Steps.{CommitSteps, IsOut, Returns};
+
+use crate::engine::Core;
+use crate::engine::stepping::go_on;
+use crate::stepped::Stepped;
+use crate::work::{DoneWork, Work};
+use coll_arena::ListName;
+use coll_arena::laws::is_sound;
+use coll_kinds::Refusal;
+
+impl Core {
+    /// Writes the result of a combination that was handed out, and its request goes on.
+    ///
+    /// # Errors
+    ///
+    /// Stale, with nothing changed, unless the work is out: its request runs, and stands at that action with these
+    /// operands.
+    pub fn commit(&mut self, done: DoneWork) -> Result<Stepped, Refusal>
+        ensures out { IsTrue (is_ok result) ↔ IsOut self.old done.piece }
+        ensures steps { IfOk result (CommitSteps self.old self.new done) }
+        ensures err { OnErr result (self.new ≡ self.old) }
+        ensures refused { IfErr result (λ why. why ≡ Refusal.Stale) }
+    {
+        if !self.is_out(done.work()) {
+            return Err(Refusal::Stale);
+        }
+        is_sound(&self.arena);
+        let ticket = done.work().ticket();
+        let Ok(request) = self.arena.get_mut(ticket) else {
+            unreachable!()
+        };
+        request.write(&done);
+        Ok(Stepped::by(go_on(&mut self.arena, &self.matches, ticket)))
+    }
+
+    /// Takes back a combination that was handed out. Its request is the first that is ready.
+    ///
+    /// # Errors
+    ///
+    /// Stale, with nothing changed, as `commit`.
+    pub fn abandon(&mut self, work: Work) -> Result<(), Refusal>
+        ensures out { IsTrue (is_ok result) ↔ IsOut self.old work }
+        ensures back { OnOk result (Returns self.old self.new work) }
+        ensures err { OnErr result (self.new ≡ self.old) }
+        ensures refused { IfErr result (λ why. why ≡ Refusal.Stale) }
+    {
+        if !self.is_out(&work) {
+            return Err(Refusal::Stale);
+        }
+        is_sound(&self.arena);
+        let Ok(()) = self.arena.shift_front(work.ticket(), ListName::Ready) else {
+            unreachable!()
+        };
+        Ok(())
+    }
+
+    /// The work is out.
+    fn is_out(&self, work: &Work) -> bool
+        ensures { IsTrue result ↔ IsOut self.now work.now }
+    {
+        let Ok(request) = self.arena.get(work.ticket()) else {
+            return false;
+        };
+        self.arena.is_on(work.ticket(), ListName::Running) && request.stands_at(work)
+    }
+}

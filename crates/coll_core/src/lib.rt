@@ -1,0 +1,35 @@
+//! The engine's core: requests for collectives, their progress step by step, and their completion.
+//!
+//! | Module | Has |
+//! |---|---|
+//! | `config` | `Config`, what an engine is opened with |
+//! | `offer` | `Offer`, what a post hands in |
+//! | `phase` | `Phase`, how far a request is |
+//! | `about` | `About`, what a ticket names |
+//! | `outcome` | `Outcome`, what a completion hands out |
+//! | `request` | `Request`, what the engine keeps of a live request |
+//! | `work` | `Work` and `DoneWork`, a combination that is computed outside the engine |
+//! | `stepped` | `Stepped`, what a step did |
+//! | `engine` | `Core`, with its calls by what they do |
+//! | `laws` | what holds of an engine between its calls |
+#![tactic(auto)]
+
+mod about;
+mod config;
+mod engine;
+pub mod laws;
+mod offer;
+mod outcome;
+mod phase;
+mod request;
+mod stepped;
+mod work;
+
+pub use about::About;
+pub use config::Config;
+pub use engine::Core;
+pub use offer::Offer;
+pub use outcome::Outcome;
+pub use phase::Phase;
+pub use stepped::Stepped;
+pub use work::{DoneWork, Work};

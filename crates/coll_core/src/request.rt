@@ -1,0 +1,198 @@
+ghost use Rattle.std.specs.Prelude.{◌≡◌, ◌≢◌, ◌≤◌, ◌<◌, ◌+◌, ◌^◌, suc, length, None, Some, IsTrue, ◌↔◌, IsSome, IfSome, IfOk, IsOkUnless, IfErr, []};
+ghost use Rattle.coll_arena.specs.ListNames.{number_of};
+ghost use Rattle.coll_match.specs.Instances.{mail};
+ghost use Rattle.coll_sched.specs.Actions.{Fits, IsCombine};
+ghost use Rattle.coll_sched.specs.Points.{IsPoint, actions_of};
+ghost use Rattle.coll_sched.specs.Regions.{Inside, read_of};
+ghost use Rattle.coll_tables.specs.Requests.{went};
+ghost use Rattle.coll_tables.specs.Sound.{Stands};
+ghost use Rattle.coll_core.specs.Requests.{GoesOver, Hears, IsListOf, instance, next_of, schedule, shown};
+ghost use Rattle.coll_core.specs.Works.{Combined, StandsAt};
+
+use crate::work::{DoneWork, Work};
+use coll_arena::{ListName, Ticket};
+use coll_kinds::Refusal;
+use coll_match::{Key, Matches};
+use coll_plans::Plan;
+use coll_sched::Action;
+use std::alloc::Global;
+
+/// What the engine keeps of a live request.
+#[derive(Debug, Drop)]
+pub(crate) struct Request {
+    /// The world rank whose it is.
+    pub(crate) rank: u8,
+    pub(crate) comm: u32,
+    /// The index in the member's posting list on the communicator.
+    pub(crate) place: u32,
+    pub(crate) plan: Plan,
+    /// How often it was started.
+    pub(crate) starts: u32,
+    /// The round of its next action, and the action's index there.
+    pub(crate) round: usize,
+    pub(crate) index: usize,
+    /// The schedule's buffer; empty where the request isn't active.
+    pub(crate) buffer: Vec<u8>,
+}
+
+impl Request {
+    /// The instance of the start under way, or of the last one; of the first where it was never started.
+    pub(crate) fn key(&self) -> Key
+        ensures { result ≡ instance (shown self.now) }
+    {
+        Key {
+            comm: self.comm,
+            place: self.place,
+            start: self.starts.saturating_sub(1),
+        }
+    }
+
+    /// The next action; none behind the last.
+    pub(crate) fn next(&self) -> Option<Action>
+        ensures is { result ≡ next_of (shown self.now) }
+        ensures fits { IfSome result (λ action. Fits (schedule (shown self.now)).size action) }
+        ensures short { IsSome result → self.now.index + 1 < 2 ^ 63 }
+    {
+        self.plan.schedule().action(self.round, self.index)
+    }
+
+    /// The list where an active request belongs, by its next action and by whether the message that this one waits for
+    /// is there.
+    pub(crate) fn list(&self, matches: &Matches) -> ListName
+        requires { IsPoint (schedule (shown self.now)) self.now.round self.now.index }
+        ensures stands { Stands self.now.plan.n (mail matches.now (instance (shown self.now))) (number_of result) (shown self.now) }
+        ensures list { IsListOf self.now.comm result }
+    {
+        match self.next() {
+            None => ListName::Done(self.comm),
+            Some(Action::Recv { of, .. }) => {
+                if matches.ready(self.key(), of, self.plan.member(), self.round) {
+                    ListName::Ready
+                } else {
+                    ListName::Queue(self.comm)
+                }
+            }
+            Some(Action::Send { .. }) => ListName::Ready,
+            Some(Action::Copy { .. }) => ListName::Ready,
+            Some(Action::Combine { .. }) => ListName::Ready,
+        }
+    }
+
+    /// Whether it waits for a message that is there.
+    pub(crate) fn hears(&self, matches: &Matches) -> bool
+        ensures { IsTrue result ↔ Hears (mail matches.now (instance (shown self.now))) (shown self.now) }
+    {
+        match self.next() {
+            Some(Action::Recv { of, .. }) => matches.ready(
+                self.key(),
+                of,
+                self.plan.member(),
+                self.round,
+            ),
+            _ => false,
+        }
+    }
+
+    /// Goes past ends of rounds to the next action, or to the end.
+    pub(crate) fn go_over(&mut self)
+        requires round_in { self.old.round ≤ length (schedule (shown self.old)).rounds }
+        requires index_in { self.old.index ≤ length (actions_of (schedule (shown self.old)) self.old.round) }
+        ensures { GoesOver (shown self.old) (shown self.new) self.old.index }
+    {
+        let point = self.plan.schedule().following(self.round, self.index);
+        self.round = point.round;
+        self.index = point.index;
+    }
+
+    /// Goes one action on.
+    pub(crate) fn go_on(&mut self)
+        requires round_in { self.old.round ≤ length (schedule (shown self.old)).rounds }
+        requires some { next_of (shown self.old) ≢ None }
+        ensures { GoesOver (shown self.old) (shown self.new) (suc self.old.index) }
+    {
+        let Some(_) = self.next() else { unreachable!() };
+        self.index += 1;
+        self.go_over();
+    }
+
+    /// The combination that comes next, with copies of its operands.
+    pub(crate) fn work(&self, alloc: Global, ticket: Ticket) -> Result<Work, Refusal>
+        requires combine { IfSome (next_of (shown self.now)) IsCombine }
+        requires some { next_of (shown self.now) ≢ None }
+        requires sized { length self.now.buffer.items ≡ (schedule (shown self.now)).size }
+        ensures work { IfOk result (λ work. StandsAt (shown self.now) work) }
+        ensures ticket { IfOk result (λ work. work.ticket ≡ ticket) }
+        ensures refusal { IsOkUnless result Refusal.NoMemory }
+    {
+        let Some(
+            Action::Combine {
+                op,
+                ty,
+                left,
+                right,
+                ..
+            },
+        ) = self.next()
+        else {
+            unreachable!()
+        };
+        let left = Vec::from_slice(alloc, left.read(&self.buffer))?;
+        let right = Vec::from_slice(alloc, right.read(&self.buffer))?;
+        Ok(Work::new(alloc, ticket, self.round, self.index, op, ty, left, right))
+    }
+
+    /// The next action is the work's combination, with the same operands.
+    pub(crate) fn stands_at(&self, work: &Work) -> bool
+        requires { length self.now.buffer.items ≡ (schedule (shown self.now)).size }
+        ensures { IsTrue result ↔ StandsAt (shown self.now) work.now }
+    {
+        let Some(
+            Action::Combine {
+                op,
+                ty,
+                left,
+                right,
+                ..
+            },
+        ) = self.next()
+        else {
+            return false;
+        };
+        if self.round != work.round() || self.index != work.index() {
+            return false;
+        }
+        if op != work.op() || ty != work.ty() {
+            return false;
+        }
+        left.read(&self.buffer) == work.left() && right.read(&self.buffer) == work.right()
+    }
+
+    /// Writes the result of the combination that comes next.
+    pub(crate) fn write(&mut self, done: &DoneWork)
+        requires stands { StandsAt (shown self.old) done.now.piece }
+        requires sized { length self.old.buffer.items ≡ (schedule (shown self.old)).size }
+        ensures { Combined (shown self.old) (shown self.new) done.now.bytes }
+    {
+        let Some(Action::Combine { into, .. }) = self.next() else {
+            unreachable!()
+        };
+        into.write(done.result(), &mut self.buffer);
+    }
+
+    /// Takes the buffer out, cut to the outcome, and goes back to the first round.
+    pub(crate) fn take_outcome(&mut self, alloc: Global) -> Vec<u8>
+        requires { Inside (length self.old.buffer.items) (schedule (shown self.old)).output }
+        ensures bytes { result.items ≡ read_of self.old.buffer.items (schedule (shown self.old)).output }
+        ensures left { shown self.new ≡ went (shown self.old) (record { round = 0; index = 0; buf = [] }) }
+    {
+        let output = self.plan.schedule().output();
+        let start = output.at as usize;
+        let len = output.len as usize;
+        let mut bytes = std::mem::replace(&mut self.buffer, Vec::new(alloc));
+        self.round = 0;
+        self.index = 0;
+        bytes.copy_within(start..start + len, 0);
+        bytes.truncate(len);
+        bytes
+    }
+}

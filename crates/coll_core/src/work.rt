@@ -1,0 +1,158 @@
+ghost use Rattle.std.specs.Prelude.{◌≡◌, IfOk, IfErr};
+ghost use Rattle.coll_core.specs.Works.{IsPiece, result_of};
+
+use coll_kinds::{Datatype, Op, Refusal, Refused, Ticket};
+use coll_ops::combine;
+use std::alloc::Global;
+use std::marker::Model;
+
+/// A combination that was handed out, with copies of its operands, to be computed outside the engine. It is spent by
+/// `commit` or `abandon`.
+#[derive(Debug, Drop)]
+pub struct Work {
+    alloc: Global,
+    ticket: Ticket,
+    round: usize,
+    index: usize,
+    op: Op,
+    ty: Datatype,
+    left: Vec<u8>,
+    right: Vec<u8>,
+}
+
+impl Model for Work {
+    ghost use Rattle.coll_core.specs.Works.{Piece, IsPiece};
+
+    ghost Value = { Piece };
+
+    ghost view = { λ w. record { ticket = w.ticket; round = w.round; index = w.index; op = w.op; ty = w.ty; left = w.left.items; right = w.right.items } };
+
+    ghost invariant = { λ w. IsPiece (record { ticket = w.ticket; round = w.round; index = w.index; op = w.op; ty = w.ty; left = w.left.items; right = w.right.items }) };
+}
+
+/// A combination with its result.
+#[derive(Debug, Drop)]
+pub struct DoneWork {
+    work: Work,
+    result: Vec<u8>,
+}
+
+impl Model for DoneWork {
+    ghost use Rattle.std.specs.Prelude.{◌≡◌};
+    ghost use Rattle.coll_core.specs.Works.{Made, result_of};
+
+    ghost Value = { Made };
+
+    ghost view = { λ d. record { piece = d.work; bytes = d.result.items } };
+
+    ghost invariant = { λ d. d.result.items ≡ result_of d.work };
+}
+
+impl Work {
+    /// A combination of the request's action at a point, with its operands.
+    pub(crate) fn new(
+        alloc: Global,
+        ticket: Ticket,
+        round: usize,
+        index: usize,
+        op: Op,
+        ty: Datatype,
+        left: Vec<u8>,
+        right: Vec<u8>,
+    ) -> Work
+        requires { IsPiece (record { ticket = ticket; round = round; index = index; op = op; ty = ty; left = left.items; right = right.items }) }
+        ensures { result ≡ record { ticket = ticket; round = round; index = index; op = op; ty = ty; left = left.items; right = right.items } }
+    {
+        Work {
+            alloc,
+            ticket,
+            round,
+            index,
+            op,
+            ty,
+            left,
+            right,
+        }
+    }
+
+    /// The request whose action it is.
+    pub fn ticket(&self) -> Ticket
+        ensures { result ≡ self.now.ticket }
+    {
+        self.ticket
+    }
+
+    /// The action's round.
+    pub fn round(&self) -> usize
+        ensures { result ≡ self.now.round }
+    {
+        self.round
+    }
+
+    /// The action's index in its round.
+    pub fn index(&self) -> usize
+        ensures { result ≡ self.now.index }
+    {
+        self.index
+    }
+
+    pub fn op(&self) -> Op
+        ensures { result ≡ self.now.op }
+    {
+        self.op
+    }
+
+    pub fn ty(&self) -> Datatype
+        ensures { result ≡ self.now.ty }
+    {
+        self.ty
+    }
+
+    /// The first operand.
+    pub fn left(&self) -> &[u8]
+        ensures { result.now ≡ self.now.left }
+    {
+        &self.left
+    }
+
+    /// The second operand.
+    pub fn right(&self) -> &[u8]
+        ensures { result.now ≡ self.now.right }
+    {
+        &self.right
+    }
+
+    /// Computes the combination. Only NoMemory is refused, and hands the work back.
+    pub fn run(self) -> Result<DoneWork, Refused<Work>>
+        ensures made { IfOk result (λ done. done.piece ≡ self) }
+        ensures refused { IfErr result (λ refused. refused ≡ record { why = Refusal.NoMemory; back = self }) }
+    {
+        match vec![in self.alloc; 0; self.left.len()] {
+            Ok(mut result) => {
+                combine(self.op, self.ty, &self.left, &self.right, &mut result);
+                Ok(DoneWork { work: self, result })
+            }
+            Err(_) => Err(Refused {
+                why: Refusal::NoMemory,
+                back: self,
+            }),
+        }
+    }
+}
+
+impl DoneWork {
+    /// The work whose result it is.
+    pub fn work(&self) -> &Work
+        ensures { result.now ≡ self.now.piece }
+    {
+        &self.work
+    }
+
+    /// The combination of the work's operands.
+    pub fn result(&self) -> &[u8]
+        ensures is { result.now ≡ self.now.bytes }
+        ensures combined { self.now.bytes ≡ result_of self.now.piece }
+    {
+        &self.result
+    }
+}

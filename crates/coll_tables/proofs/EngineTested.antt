@@ -1,0 +1,74 @@
+-- What an accepted call of the engine has tested.
+use Rattle.std.proofs.Common.{◌≡◌, ℕ, ◌+◌, ◌*◌, ◌==◌, ◌<◌, ◌≤◌, Bool, true, false, not, List, ◌∷◌, ◌++◌, [], length, Some, None, refl, sym, ap, subst, ◌∙◌, eqb-true, ltb-true}
+use Rattle.std.specs.Prelude.{nat_lt}
+use Rattle.coll_kinds.specs.declared.kind.Mode.{Mode}
+use Rattle.coll_kinds.specs.declared.kind.Mode.TheVariants.{Once, Persistent}
+use Rattle.coll_kinds.specs.declared.refusal.Refusal.TheVariants.{Full}
+use Rattle.coll_kinds.specs.declared.ticket.Ticket.{Ticket}
+use Rattle.coll_kinds.specs.Checks.{broken}
+use Rattle.coll_kinds.specs.Lengths.{given_len}
+use Rattle.coll_lists.specs.Layouts.{sequence}
+use Rattle.coll_arena.specs.Slots.{Slots, home}
+use Rattle.coll_queues.specs.Postings.{Postings}
+use Rattle.coll_queues.specs.Refusing.{judge_refusal, member_refusal}
+use Rattle.coll_machine.specs.Settings.{Setting}
+use Rattle.coll_machine.specs.Calls.{Planned, Post, Init, Start}
+use Rattle.coll_machine.specs.Refusals.{refusal, wrong_length}
+use Rattle.coll_machine.proofs.Accepted.{all_none, fits}
+use Rattle.coll_tables.specs.Requests.{Live}
+use Rattle.coll_tables.specs.Tables.{Tables, state}
+use Rattle.coll_tables.specs.Shown.{Instances, listed, tables}
+use Rattle.coll_tables.specs.Cores.{IsCore}
+use Rattle.coll_tables.specs.EngineTests.{EntryCore, MayEnter, StartedCore, entry_refusals, full_refusal}
+use Rattle.coll_tables.proofs.Accepting.{Passed, Startable, inited_passed, posted_passed, start_passed}
+use Rattle.coll_tables.proofs.EngineCalls.{few, found_here, number_is, ticket_is}
+use Rattle.coll_tables.proofs.EngineTests.{init_refused, post_refused}
+
+module _ {R : Type 0} (shown : R → Live) (g : Setting) (a : Slots R) (q : Postings) (m : Instances) (rank comm : ℕ) (plan : Planned) (c : IsCore shown g a q m) where
+  may_enter : (mode : Mode) → Passed (tables shown g a q m) comm rank mode plan → member_refusal q comm rank ≡ None → judge_refusal q comm rank plan.sig ≡ None → full_refusal a ≡ None → MayEnter g a q rank comm mode plan
+  may_enter mode p there judged room = record {
+    member_there = there;
+    judged = judged;
+    number_is = number_is shown g a q m c comm rank plan p.member_is;
+    size_is = p.n_is;
+    low = subst (λ n. plan.member < n) (sym p.n_is) p.low;
+    few = subst (λ n. n ≤ 64) (sym p.n_is) (few shown g a q m c comm);
+    checked = subst (λ n. broken plan.sig n ≡ None) (sym p.n_is) p.checked;
+    mode_is = p.mode_is;
+    free = ltb-true 0 (length (sequence a.lists 0)) (fits (nat_lt 0 (length (sequence a.lists 0))) Full room);
+  }
+
+pub entry_core : {R : Type 0} → EntryCore R
+entry_core {R} shown g a q m rank comm plan c s = (of_post, of_init)
+  where
+    v : Tables
+    v = tables shown g a q m
+
+    of_post : (bytes : List ℕ) → refusal g (state v) (Post rank comm plan bytes) ≡ None → MayEnter g a q rank comm Once plan × (length bytes ≡ given_len plan.sig plan.n plan.member)
+    of_post bytes e =
+        let h = all_none (entry_refusals q rank comm Once plan ++ wrong_length plan.sig plan.n plan.member bytes ∷ full_refusal a ∷ []) (sym (post_refused shown g a q m rank comm plan bytes c s) ∙ e) in
+        let p = posted_passed v comm rank plan bytes e in
+        (may_enter shown g a q m rank comm plan c Once p.0 h.0 h.1.1.1.1.0 h.1.1.1.1.1.1.0, p.1 ∙ ap (λ n. given_len plan.sig n plan.member) (sym p.0.n_is))
+
+    of_init : refusal g (state v) (Init rank comm plan) ≡ None → MayEnter g a q rank comm Persistent plan
+    of_init e =
+        let h = all_none (entry_refusals q rank comm Persistent plan ++ full_refusal a ∷ []) (sym (init_refused shown g a q m rank comm plan c s) ∙ e) in
+        may_enter shown g a q m rank comm plan c Persistent (inited_passed v comm rank plan e) h.0 h.1.1.1.1.0 h.1.1.1.1.1.0
+
+pub started_core : {R : Type 0} → StartedCore R
+started_core {R} shown g a q m t x rank bytes c f e =
+    let v : Tables = tables shown g a q m in
+    let p : Live = listed (home a t.slot) (shown x) in
+    let here : v.request t.slot ≡ Some p = found_here shown g a q m t x f in
+    let s : Startable v p rank bytes = start_passed v c.sound.paths c.sound.sound.base t.slot p here rank bytes (ap (λ (u : Ticket). refusal g (state v) (Start rank u bytes)) (ticket_is shown g a q m t x f) ∙ e) in
+    record {
+      rank_is = s.rank_is;
+      mode_is = s.mode_is;
+      on_idle = eqb-true (home a t.slot) (4 + 3 * p.comm) (back (home a t.slot == 4 + 3 * p.comm) s.inactive);
+      long = s.long ∙ ap (λ n. given_len p.sig n p.member) (sym (c.sound.sound.base.sized t.slot p here));
+      more = s.more;
+    }
+  where
+    back : (b : Bool) → not b ≡ false → b ≡ true
+    back true e = refl
+    back false e = sym e

@@ -1,0 +1,339 @@
+//! A random job on one engine, each outcome compared with the value computed directly.
+
+use crate::random::Random;
+use crate::seat::{STARTS, Seat, Stage};
+use coll_core::{Config, Core, Offer, Stepped, Work};
+use coll_kinds::{Datatype, Kind, Mode, Op, Refusal, Signature};
+use coll_ops::plain_value;
+use coll_plans::plan;
+use std::alloc::Global;
+
+/// How many collectives each communicator has.
+const PLACES: usize = 6;
+
+const KINDS: [Kind; 11] = [
+    Kind::Barrier,
+    Kind::Bcast,
+    Kind::Gather,
+    Kind::Scatter,
+    Kind::Allgather,
+    Kind::Alltoall,
+    Kind::Reduce,
+    Kind::Allreduce,
+    Kind::Rsblock,
+    Kind::Scan,
+    Kind::Exscan,
+];
+
+const OPERATIONS: [(Op, Datatype); 4] = [
+    (Op::Sum, Datatype::I32),
+    (Op::LastNz, Datatype::I16),
+    (Op::Prod, Datatype::U8),
+    (Op::Bxor, Datatype::Byte),
+];
+
+/// A job under way.
+#[derive(Drop)]
+pub struct Job {
+    alloc: Global,
+    core: Core,
+    random: Random,
+    seats: Vec<Seat>,
+    held: Vec<Work>,
+    outcomes: u32,
+}
+
+/// A random signature for that many members.
+fn signature(random: &mut Random, size: u8) -> Signature {
+    let kind = KINDS[random.below(11) % 11];
+    let (op, ty) = OPERATIONS[random.below(4) % 4];
+    Signature {
+        kind,
+        mode: if random.below(3) == 0 {
+            Mode::Persistent
+        } else {
+            Mode::Once
+        },
+        root: if kind.has_root() && size > 0 {
+            random.below(usize::from(size)) as u8
+        } else {
+            0
+        },
+        op: if kind.has_operation() { Some(op) } else { None },
+        ty,
+        count: if matches!(kind, Kind::Barrier) {
+            0
+        } else {
+            random.below(5) as u32
+        },
+    }
+}
+
+/// The communicators of a job: all ranks, all in reverse, and the first half.
+fn groups_of(alloc: Global, ranks: u8) -> Result<Vec<Vec<u8>>, Refusal> {
+    let mut all = Vec::new(alloc);
+    let mut back = Vec::new(alloc);
+    let mut half = Vec::new(alloc);
+    for rank in 0..ranks {
+        all.push(rank)?;
+        back.push(ranks - 1 - rank)?;
+        if rank <= ranks / 2 {
+            half.push(rank)?;
+        }
+    }
+    let mut groups = Vec::new(alloc);
+    groups.push(all)?;
+    groups.push(back)?;
+    groups.push(half)?;
+    Ok(groups)
+}
+
+/// The seats of a communicator, by member and place.
+fn seat_members(
+    seats: &mut Vec<Seat>,
+    random: &mut Random,
+    comm: u32,
+    group: &[u8],
+) -> Result<(), Refusal> {
+    if group.len() > 64 {
+        return Err(Refusal::Torn);
+    }
+    let size = group.len() as u8;
+    let before = seats.len();
+    for (member, rank) in group.iter().enumerate() {
+        for place in 0..PLACES {
+            let sig = if member == 0 {
+                signature(random, size)
+            } else {
+                match seats.get(before.wrapping_add(place)) {
+                    Some(seat) => seat.sig,
+                    None => signature(random, size),
+                }
+            };
+            seats.push(Seat {
+                comm,
+                place,
+                rank: *rank,
+                member: member as u8,
+                size,
+                sig,
+                starts: 0,
+                stage: Stage::New,
+            })?;
+        }
+    }
+    Ok(())
+}
+
+/// What a member gives to a start of a collective: bytes of which some are 0, so that orders can be told apart.
+fn contribution(alloc: Global, seat: &Seat, member: u8) -> Result<Vec<u8>, Refusal> {
+    let collective = (seat.comm % 3) as usize * 31 + seat.place % PLACES * 7;
+    let from = collective + (seat.starts % 8) as usize * 13 + usize::from(member) * 3;
+    let mut bytes = Vec::new(alloc);
+    for index in 0..seat.sig.given_len(seat.size, member) {
+        let byte = from.wrapping_add(index) % 23;
+        bytes.push(if byte < 7 { 0 } else { byte as u8 })?;
+    }
+    Ok(bytes)
+}
+
+/// The value of the seat's start, computed directly; Torn where the seat isn't one of a checked signature.
+fn value_at(alloc: Global, seat: &Seat) -> Result<Vec<u8>, Refusal> {
+    seat.sig.check(seat.size)?;
+    let mut given = Vec::new(alloc);
+    for member in 0..seat.size {
+        given.push(contribution(alloc, seat, member)?)?;
+    }
+    value_of(alloc, seat.sig, &given, seat.member)
+}
+
+/// The same of these contributions.
+fn value_of(
+    alloc: Global,
+    sig: Signature,
+    given: &[Vec<u8>],
+    member: u8,
+) -> Result<Vec<u8>, Refusal> {
+    if given.len() > 64 {
+        return Err(Refusal::Torn);
+    }
+    let n = given.len() as u8;
+    if member >= n {
+        return Err(Refusal::Torn);
+    }
+    sig.check(n)?;
+    for i in 0..n {
+        if given[i as usize].len() != sig.given_len(n, i) {
+            return Err(Refusal::Torn);
+        }
+    }
+    plain_value(alloc, sig, n, given, member)
+}
+
+impl Job {
+    /// A job of that many ranks, 1 to 9, on three communicators.
+    pub fn new(alloc: Global, ranks: u8, seed: u64) -> Result<Job, Refusal> {
+        let mut random = Random::new(seed);
+        let groups = groups_of(alloc, ranks)?;
+        let mut seats = Vec::new(alloc);
+        for (comm, group) in groups.iter().enumerate() {
+            seat_members(&mut seats, &mut random, (comm % 3) as u32, group)?;
+        }
+        let core = Core::open(
+            alloc,
+            Config {
+                ranks,
+                groups,
+                slots: 200,
+                places: PLACES as u32,
+                wear: 50,
+                starts: STARTS,
+                trace: 1000,
+            },
+        )?;
+        Ok(Job {
+            alloc,
+            core,
+            random,
+            seats,
+            held: Vec::new(alloc),
+            outcomes: 0,
+        })
+    }
+
+    /// Runs the job: how many outcomes it had, each of which was the value computed directly. Torn where one wasn't, or
+    /// where the job doesn't end.
+    pub fn run(&mut self) -> Result<u32, Refusal> {
+        for _turn in 0..100_000 {
+            if self.seats.iter().all(|seat| seat.stage == Stage::Over) {
+                return Ok(self.outcomes);
+            }
+            match self.random.below(4) {
+                0 => self.take_turn()?,
+                1 => self.give_back()?,
+                _ => self.step()?,
+            }
+        }
+        Err(Refusal::Torn)
+    }
+
+    /// The next call of a random seat that isn't over.
+    fn take_turn(&mut self) -> Result<(), Refusal> {
+        let from = self.random.below(self.seats.len());
+        for index in from..self.seats.len() {
+            if self.seats[index].stage != Stage::Over {
+                return self.advance(index);
+            }
+        }
+        Ok(())
+    }
+
+    /// The next call of a seat.
+    fn advance(&mut self, index: usize) -> Result<(), Refusal> {
+        let Some(seat) = self.seats.get(index).copied() else {
+            return Ok(());
+        };
+        let stage = match seat.stage {
+            Stage::New => self.enter(index, &seat)?,
+            Stage::Idle(ticket) => {
+                if seat.starts < STARTS {
+                    let bytes = contribution(self.alloc, &seat, seat.member)?;
+                    match self.core.start(seat.rank, ticket, bytes) {
+                        Ok(()) => Stage::Active(ticket),
+                        Err(refused) => return Err(refused.why),
+                    }
+                } else {
+                    self.core.free(seat.rank, ticket)?;
+                    Stage::Over
+                }
+            }
+            Stage::Active(ticket) => match self.core.retire(seat.rank, ticket)? {
+                Some(outcome) => {
+                    if outcome.start != seat.starts
+                        || outcome.bytes != value_at(self.alloc, &seat)?
+                    {
+                        return Err(Refusal::Torn);
+                    }
+                    self.outcomes = self.outcomes.wrapping_add(1);
+                    self.count_start(index);
+                    match seat.sig.mode {
+                        Mode::Once => Stage::Over,
+                        Mode::Persistent => Stage::Idle(ticket),
+                    }
+                }
+                None => Stage::Active(ticket),
+            },
+            Stage::Over => Stage::Over,
+        };
+        self.set_stage(index, stage);
+        Ok(())
+    }
+
+    /// Posts or initialises a seat's request, where its member's earlier ones have been.
+    fn enter(&mut self, index: usize, seat: &Seat) -> Result<Stage, Refusal> {
+        if seat.place > 0 && index > 0 {
+            if let Some(earlier) = self.seats.get(index - 1) {
+                if earlier.stage == Stage::New {
+                    return Ok(Stage::New);
+                }
+            }
+        }
+        if seat.member >= seat.size || seat.size > 64 {
+            return Err(Refusal::Torn);
+        }
+        let plan = plan(self.alloc, seat.sig, seat.size, seat.member)?;
+        match seat.sig.mode {
+            Mode::Once => {
+                let bytes = contribution(self.alloc, seat, seat.member)?;
+                match self.core.post(seat.rank, seat.comm, Offer { plan, bytes }) {
+                    Ok(ticket) => Ok(Stage::Active(ticket)),
+                    Err(refused) => Err(refused.why),
+                }
+            }
+            Mode::Persistent => match self.core.init(seat.rank, seat.comm, plan) {
+                Ok(ticket) => Ok(Stage::Idle(ticket)),
+                Err(refused) => Err(refused.why),
+            },
+        }
+    }
+
+    fn set_stage(&mut self, index: usize, stage: Stage) {
+        if let Some(seat) = self.seats.get_mut(index) {
+            seat.stage = stage;
+        }
+    }
+
+    fn count_start(&mut self, index: usize) {
+        if let Some(seat) = self.seats.get_mut(index) {
+            seat.starts = seat.starts.wrapping_add(1);
+        }
+    }
+
+    /// A step; a combination is held.
+    fn step(&mut self) -> Result<(), Refusal> {
+        match self.core.step()? {
+            Stepped::Quiet => {}
+            Stepped::Moved => {}
+            Stepped::Finished => {}
+            Stepped::Out(work) => self.held.push(work)?,
+        }
+        Ok(())
+    }
+
+    /// Computes a combination that is held and commits it, or abandons it.
+    fn give_back(&mut self) -> Result<(), Refusal> {
+        let Some(work) = self.held.pop() else {
+            return Ok(());
+        };
+        if self.random.below(4) == 0 {
+            return self.core.abandon(work);
+        }
+        match work.run() {
+            Ok(done) => {
+                self.core.commit(done)?;
+                Ok(())
+            }
+            Err(refused) => Err(refused.why),
+        }
+    }
+}
