@@ -1,0 +1,191 @@
+-- What is written is read again.
+use Rattle.std.proofs.Common.{◌≡◌, ℕ, suc, ◌^◌, ◌<◌, ◌≤◌, Bool, true, false, cond, eqb, ltb, leb, List, [], ◌∷◌, ◌++◌, length, map, Option, Some, None, Ok, refl, sym, ap, subst, ◌∙◌, append_assoc, arith, inl, inr}
+use Rattle.std.specs.Prelude.{ℤ, pos, negsuc, MatchBool, flat_map, slice_index, unwrap_or, is_some, ok_or, decimal}
+use Rattle.std.specs.List.{AllByRecursion, list_all}
+use Rattle.std.specs.Fmt.{signed_decimal}
+use Rattle.std.specs.Str.{all_ascii_digits}
+use Rattle.std.specs.Str.Parse.{digits_value}
+use Rattle.std.proofs.lemmas.Str.Parse.{IsNumeralModel, numerals_by_value, tells_all_ascii_digits}
+use Rattle.std.proofs.lemmas.Fmt.{digits_decimal, digits_value-decimal, length-decimal-le, decimal_nonempty}
+use Rattle.std.proofs.lemmas.Bool.{cases_eq, eq-eqb, ne_eqb, lt-ltb, le-leb, ltb-true, and_parts}
+use Rattle.std.proofs.lemmas.List.{append-nil, length-map}
+use Rattle.std.proofs.lemmas.List.Concat.{flat_map-cons}
+use Rattle.coll_kinds.specs.declared.datatype.Datatype.{Datatype}
+use Rattle.coll_kinds.specs.declared.datatype.Datatype.TheVariants.{I8, I16, I32, I64, U8, U16, U32, U64, Byte}
+use Rattle.coll_kinds.specs.declared.operation.Op.{Op}
+use Rattle.coll_kinds.specs.declared.operation.Op.TheVariants.{Max, Min, Sum, Prod, Land, Lor, Lxor, Band, Bor, Bxor, LastNz}
+use Rattle.coll_kinds.specs.declared.kind.Kind.{Kind}
+use Rattle.coll_kinds.specs.declared.kind.Kind.TheVariants.{Barrier, Bcast, Gather, Scatter, Allgather, Alltoall, Reduce, Allreduce, Rsblock, Scan, Exscan}
+use Rattle.coll_kinds.specs.declared.signature.Signature.{Signature}
+use Rattle.coll_kinds.specs.Checks.{has_root, has_operation, is_barrier, broken}
+use Rattle.coll_kinds.specs.Elements.{is_signed, limit, IsElement, element_bytes}
+use Rattle.coll_kinds.specs.Texts.{number_of, value_of}
+use Rattle.coll_history.specs.declared.cause.Cause.TheVariants.{BadSignature, NamedTwice}
+use Rattle.coll_kinds.specs.Words.{kind_word, operation_word, datatype_word, kind_of, operation_of, datatype_of}
+use Rattle.coll_history.specs.Reading.{Reading, and_then, ◌>>=◌, give, numbers_from}
+use Rattle.coll_history.specs.Lines.{number_within, request_in, next, values, fields, signature}
+use Rattle.coll_history.specs.Writing.{NoneTwice, AreValues, value_words, operation_words, signature_words, HasWords}
+
+-- ---- numbers
+
+pub numerals : IsNumeralModel (λ ds. all_ascii_digits ds ≡ true) (digits_value 10)
+numerals = numerals_by_value _ tells_all_ascii_digits
+
+pub number-again : (n : ℕ) → n < 2 ^ 64 → number_of (decimal n) ≡ Some n
+number-again n small =
+    let digits : all_ascii_digits (decimal n) ≡ true = digits_decimal numerals n small in
+    let some : leb 1 (length (decimal n)) ≡ true = le-leb 1 (length (decimal n)) (omega (arith, decimal_nonempty n small)) in
+    let few : leb (length (decimal n)) 20 ≡ true = le-leb (length (decimal n)) 20 (length-decimal-le 20 n (omega arith) (omega arith) small) in
+    let value : digits_value 10 (decimal n) ≡ n = digits_value-decimal numerals n small in
+    rw (some, few, digits) (ap Some value)
+
+pub within-again : (low limit n : ℕ) → low ≤ n → n < limit → n < 2 ^ 64 → number_within low limit (decimal n) ≡ Some n
+within-again low limit n le lt small = rw (number-again n small, le-leb low n le, lt-ltb n limit lt) refl
+
+pub request-again : (count q : ℕ) → q < 2 ^ 64 → q < count → request_in count (decimal q) ≡ Ok q
+request-again count q small lt = rw (number-again q small, lt-ltb q count lt) refl
+
+pub numbers-again : (count : ℕ) (before qs : List ℕ) → AllByRecursion (λ q. (q < 2 ^ 64) × (q < count)) qs → NoneTwice before qs → numbers_from (request_in count) NamedTwice before (map decimal qs) ≡ Ok (before ++ qs)
+numbers-again count before [] made none = ap Ok (sym (append-nil before))
+numbers-again count before (q ∷ qs) made none =
+    rw (request-again count q made.0.0 made.0.1, none.0) (numbers-again count (before ++ q ∷ []) qs made.1 none.1 ∙ ap Ok (append_assoc before (q ∷ []) qs))
+
+-- ---- words of kinds, operations and types
+
+pub kind-again : (kind : Kind) → kind_of (kind_word kind) ≡ Some kind
+kind-again Barrier = refl
+kind-again Bcast = refl
+kind-again Gather = refl
+kind-again Scatter = refl
+kind-again Allgather = refl
+kind-again Alltoall = refl
+kind-again Reduce = refl
+kind-again Allreduce = refl
+kind-again Rsblock = refl
+kind-again Scan = refl
+kind-again Exscan = refl
+
+pub operation-again : (op : Op) → operation_of (operation_word op) ≡ Some op
+operation-again Max = refl
+operation-again Min = refl
+operation-again Sum = refl
+operation-again Prod = refl
+operation-again Land = refl
+operation-again Lor = refl
+operation-again Lxor = refl
+operation-again Band = refl
+operation-again Bor = refl
+operation-again Bxor = refl
+operation-again LastNz = refl
+
+pub datatype-again : (ty : Datatype) → datatype_of (datatype_word ty) ≡ Some ty
+datatype-again I8 = refl
+datatype-again I16 = refl
+datatype-again I32 = refl
+datatype-again I64 = refl
+datatype-again U8 = refl
+datatype-again U16 = refl
+datatype-again U32 = refl
+datatype-again U64 = refl
+datatype-again Byte = refl
+
+-- ---- values
+
+pub limit-le : (ty : Datatype) → limit ty ≤ 2 ^ 64
+limit-le I8 = omega arith
+limit-le I16 = omega arith
+limit-le I32 = omega arith
+limit-le I64 = omega arith
+limit-le U8 = omega arith
+limit-le U16 = omega arith
+limit-le U32 = omega arith
+limit-le U64 = omega arith
+limit-le Byte = omega arith
+
+pub limit-signed : (ty : Datatype) → is_signed ty ≡ true → limit ty ≤ 2 ^ 63
+limit-signed I8 e = omega arith
+limit-signed I16 e = omega arith
+limit-signed I32 e = omega arith
+limit-signed I64 e = omega arith
+limit-signed U8 e = absurd cc
+limit-signed U16 e = absurd cc
+limit-signed U32 e = absurd cc
+limit-signed U64 e = absurd cc
+limit-signed Byte e = absurd cc
+
+-- a text of digits doesn't begin with a minus sign
+not-minus : (ds : List ℕ) → all_ascii_digits ds ≡ true → eqb (slice_index ds 0) 45 ≡ false
+not-minus [] digits = refl
+not-minus (c ∷ ds) digits =
+    elim (cases_eq c 45) [
+      | inl e ↦ absurd (let none : false ≡ true = subst (λ d. all_ascii_digits (d ∷ ds) ≡ true) e digits in cc)
+      | inr ne ↦ ne_eqb c 45 ne
+    ]
+
+pub value-again : (ty : Datatype) (z : ℤ) → IsElement ty z → value_of ty (signed_decimal z) ≡ Some z
+value-again ty (pos n) is =
+    let below : n < limit ty = ltb-true n (limit ty) is in
+    let small : n < 2 ^ 64 = omega (arith, below, limit-le ty) in
+    let plain : eqb (slice_index (decimal n) 0) 45 ≡ false = not-minus (decimal n) (digits_decimal numerals n small) in
+    rw (plain, number-again n small, is) refl
+value-again ty (negsuc n) is =
+    let parts = and_parts (is_signed ty) (ltb n (limit ty)) is in
+    let below : n < limit ty = ltb-true n (limit ty) parts.1 in
+    let small : suc n < 2 ^ 64 = omega (arith, below, limit-signed ty parts.0) in
+    rw (number-again (suc n) small, is) refl
+
+all-again : (ty : Datatype) (zs : List ℤ) → AllByRecursion (IsElement ty) zs → list_all (λ w. is_some (value_of ty w)) (map signed_decimal zs) ≡ true
+all-again ty [] are = refl
+all-again ty (z ∷ zs) are = rw (value-again ty z are.0, all-again ty zs are.1) refl
+
+abbrev bytes_of : Datatype → List ℕ → List ℕ
+bytes_of ty w = element_bytes ty (unwrap_or (value_of ty w) (pos 0))
+
+bytes-again : (ty : Datatype) (zs : List ℤ) → AllByRecursion (IsElement ty) zs → flat_map (bytes_of ty) (map signed_decimal zs) ≡ flat_map (element_bytes ty) zs
+bytes-again ty [] are = refl
+bytes-again ty (z ∷ zs) are =
+    let here : bytes_of ty (signed_decimal z) ≡ element_bytes ty z = rw (value-again ty z are.0) refl in
+    flat_map-cons (bytes_of ty) (signed_decimal z) (map signed_decimal zs) ∙ (ap (λ (x : List ℕ). x ++ flat_map (bytes_of ty) (map signed_decimal zs)) here
+    ∙ ap (λ (x : List ℕ). element_bytes ty z ++ x) (bytes-again ty zs are.1)) ∙ sym (flat_map-cons (element_bytes ty) z zs)
+
+pub values-again : (ty : Datatype) (count : ℕ) (elements : List ℤ) (given : List ℕ) → AreValues ty count elements given → values count ty (value_words elements) ≡ Ok (given, [])
+unfolding values
+values-again ty count elements given are =
+    let counted : eqb (length (map signed_decimal elements)) count ≡ true = eq-eqb _ _ (length-map elements signed_decimal ∙ are.0) in
+    rw (counted, all-again ty elements are.1) (ap (λ (x : List ℕ). Ok (x, [])) (bytes-again ty elements are.1 ∙ sym are.2))
+
+-- ---- signatures
+
+root-again : (b : Bool) (root : ℕ) (rest : List (List ℕ)) → MatchBool b (root < 256) (root ≡ 0)
+    → cond b (next (λ w. ok_or (number_within 0 256 w) BadSignature)) (give 0) (cond b (decimal root ∷ []) [] ++ rest) ≡ Ok (root, rest)
+root-again true root rest fits = rw (within-again 0 256 root (omega arith) fits (omega (arith, fits))) refl
+root-again false root rest fits = ap (λ n. Ok (n, rest)) (sym fits)
+
+op-again : (b : Bool) (op : Option Op) (rest : List (List ℕ)) → MatchBool b ((o : Op) × (op ≡ Some o)) (op ≡ None)
+    → cond b (next (λ w. and_then (ok_or (operation_of w) BadSignature) (λ o. Ok (Some o)))) (give None) (operation_words op ++ rest) ≡ Ok (op, rest)
+op-again true op rest fits = rw (fits.1, operation-again fits.0) refl
+op-again false op rest fits = rw fits refl
+
+tail-again : {A : Type 0} (b : Bool) (ty : Datatype) (count : ℕ) (rest : List (List ℕ)) (k : Datatype → ℕ → Reading A) → MatchBool b ((ty ≡ Byte) × (count ≡ 0)) (count < 2 ^ 32)
+    → (cond b (give Byte) (next (λ w. ok_or (datatype_of w) BadSignature)) >>= λ t. cond b (give 0) (next (λ w. ok_or (number_within 0 (2 ^ 32) w) BadSignature)) >>= λ n. k t n) (cond b [] (datatype_word ty ∷ decimal count ∷ []) ++ rest) ≡ k ty count rest
+tail-again true ty count rest k fits = rw (fits.0, fits.1) refl
+tail-again false ty count rest k fits = rw (datatype-again ty, within-again 0 (2 ^ 32) count (omega arith) fits (omega (arith, fits))) refl
+
+fields-again : (sig : Signature) (rest : List (List ℕ)) → HasWords sig
+    → fields sig.mode sig.kind (cond (has_root sig.kind) (decimal sig.root ∷ []) [] ++ (operation_words sig.op ++ (cond (is_barrier sig.kind) [] (datatype_word sig.ty ∷ decimal sig.count ∷ []) ++ rest))) ≡ Ok (sig, rest)
+unfolding fields
+fields-again sig rest has =
+    rw (
+      root-again (has_root sig.kind) sig.root (operation_words sig.op ++ (cond (is_barrier sig.kind) [] (datatype_word sig.ty ∷ decimal sig.count ∷ []) ++ rest)) has.root,
+      op-again (has_operation sig.kind) sig.op (cond (is_barrier sig.kind) [] (datatype_word sig.ty ∷ decimal sig.count ∷ []) ++ rest) has.operation,
+    )
+    (tail-again (is_barrier sig.kind) sig.ty sig.count rest (λ t n. give (record { kind = sig.kind; mode = sig.mode; root = sig.root; op = sig.op; ty = t; count = n })) has.elements)
+
+pub signature-again : (sig : Signature) (n : ℕ) (rest : List (List ℕ)) → HasWords sig → broken sig n ≡ None → signature sig.mode n (signature_words sig ++ rest) ≡ Ok (sig, rest)
+unfolding signature
+signature-again sig n rest has checked =
+    let roots = cond (has_root sig.kind) (decimal sig.root ∷ []) [] in
+    let tail = cond (is_barrier sig.kind) [] (datatype_word sig.ty ∷ decimal sig.count ∷ []) in
+    let regrouped : signature_words sig ++ rest ≡ kind_word sig.kind ∷ (roots ++ (operation_words sig.op ++ (tail ++ rest))) =
+    simp append_assoc in
+    ap (signature sig.mode n) regrouped ∙ rw (kind-again sig.kind, fields-again sig rest has, checked) refl

@@ -1,0 +1,51 @@
+-- A text is judged line by line.
+use Rattle.std.proofs.Common.{◌≡◌, ℕ, ◌+◌, ◌-◌, ◌<◌, ◌≤◌, Bool, true, false, cond, List, ◌∷◌, length, get_or, take, drop, Bor, Result, Ok, Err, refl, ap, sym, ◌∙◌, arith}
+use Rattle.std.proofs.lemmas.List.{length-take, length-map, get_or-map}
+use Rattle.std.proofs.lemmas.List.Sums.{count_by-le-length}
+use Rattle.std.proofs.lemmas.List.Splits.{length-slice_split}
+use Rattle.coll_history.specs.declared.fault.LineFault.{LineFault}
+use Rattle.coll_history.specs.declared.fault.LineFault.TheVariants as fault
+use Rattle.coll_history.specs.declared.fault.Fault.{Fault}
+use Rattle.coll_history.specs.Cutting.{words_of, is_line_feed, body_of, lines_of}
+use Rattle.coll_history.specs.Histories.{History}
+use Rattle.coll_history.specs.Lines.{line}
+use Rattle.coll_history.specs.Judging.{judged}
+use Rattle.coll_history.specs.Code.{texts, FailsSo, FailsText, fault_in_line}
+use Rattle.coll_history.proofs.Lists.{drop-more}
+
+-- the words or lines of a list are as many as its references
+pub length-texts : (words : List (Bor (List ℕ))) → length (texts words) ≡ length words
+length-texts words = length-map words _
+
+pub get_or-texts : (words : List (Bor (List ℕ))) (n : ℕ) (d : Bor (List ℕ)) (lines : List (List ℕ)) → n < length words → texts words ≡ lines → (get_or words n d).now ≡ get_or lines n (get_or words n d).now
+get_or-texts words n d lines lt e = sym (get_or-map (λ (word : Bor (List ℕ)). word.now) words n d (get_or words n d).now lt) ∙ ap (λ (all : List (List ℕ)). get_or all n (get_or words n d).now) e
+
+-- a line that is accepted leads on to the next
+pub judged-more : (number : ℕ) (h next : History) (n : ℕ) (lines : List (List ℕ)) (bytes : List ℕ) (total : Result History Fault) → n < length lines → bytes ≡ get_or lines n bytes
+    → line number h (words_of bytes) ≡ Ok next → judged number h (drop n lines) ≡ total → judged (number + 1) next (drop (n + 1) lines) ≡ total
+judged-more number h next n lines bytes total lt is accepted so_far =
+    let step : judged number h (bytes ∷ drop (n + 1) lines) ≡ judged (number + 1) next (drop (n + 1) lines) = rw accepted refl in
+    sym step ∙ ap (judged number h) (sym (drop-more lines n bytes lt is)) ∙ so_far
+
+-- a line that isn't ends it
+pub judged-stops : (why : LineFault) (number : ℕ) (h : History) (n : ℕ) (lines : List (List ℕ)) (bytes : List ℕ) (total : Result History Fault) → n < length lines → bytes ≡ get_or lines n bytes
+    → FailsSo why (line number h (words_of bytes)) → judged number h (drop n lines) ≡ total → FailsText (fault_in_line number why) total
+judged-stops fault.NoMemory number h n lines bytes total lt is fails so_far = tt
+judged-stops (fault.Broken cause) number h n lines bytes total lt is fails so_far =
+    let step : judged number h (bytes ∷ drop (n + 1) lines) ≡ Err (record { line = number; cause = cause }) = rw fails refl in
+    sym so_far ∙ ap (judged number h) (drop-more lines n bytes lt is) ∙ step
+
+length-cond : (b : Bool) (n : ℕ) (text : List ℕ) → length (cond b (take n text) text) ≤ length text
+length-cond true n text = let len = length-take n text in omega arith
+length-cond false n text = omega arith
+
+length-body_of : (text : List ℕ) → length (body_of text) ≤ length text
+length-body_of text = length-cond _ (length text - 1) text
+
+-- a text has at most one line more than bytes
+pub length-lines_of : (text : List ℕ) → length (lines_of text) ≤ length text + 1
+length-lines_of text =
+    let count = length-slice_split is_line_feed (body_of text) in
+    let most = count_by-le-length is_line_feed (body_of text) in
+    let body = length-body_of text in
+    omega arith

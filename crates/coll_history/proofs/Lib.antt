@@ -1,0 +1,19 @@
+pub mod Lists
+mod Again
+mod SaidAgain
+mod Gifts
+mod Cuts
+mod Texts
+mod First
+mod Inactive
+mod Numbers
+mod Marks
+mod Keeping
+mod Allowed
+mod Sounds
+mod Waiting
+mod Valued
+mod Readers
+pub mod JudgedLines
+mod Requested
+mod Soundly

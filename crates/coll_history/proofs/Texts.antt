@@ -1,0 +1,189 @@
+-- A text that is written so is read so.
+use Rattle.std.proofs.Common.{◌≡◌, ℕ, suc, ◌+◌, ◌^◌, ◌<◌, ◌≤◌, Bool, true, false, cond, ltb, List, [], ◌∷◌, ◌++◌, length, map, Option, Some, None, Result, Ok, refl, sym, ap, ◌∙◌, append_assoc, arith, inl, inr}
+use Rattle.std.specs.Prelude.{ℤ, pos, negsuc, MatchBool, codes, decimal}
+use Rattle.std.specs.List.{AllByRecursion, list_all}
+use Rattle.std.specs.Fmt.{signed_decimal}
+use Rattle.std.proofs.lemmas.Bool.{eq-eqb, le-ltb, ltb-true, lt-ltb, and_parts}
+use Rattle.std.proofs.lemmas.List.{append-nil, length-map}
+use Rattle.std.proofs.lemmas.Fmt.{digits_decimal, decimal_nonempty}
+use Rattle.coll_kinds.specs.declared.datatype.Datatype.{Datatype}
+use Rattle.coll_kinds.specs.declared.datatype.Datatype.TheVariants.{I8, I16, I32, I64, U8, U16, U32, U64, Byte}
+use Rattle.coll_kinds.specs.declared.operation.Op.{Op}
+use Rattle.coll_kinds.specs.declared.operation.Op.TheVariants.{Max, Min, Sum, Prod, Land, Lor, Lxor, Band, Bor, Bxor, LastNz}
+use Rattle.coll_kinds.specs.declared.kind.Kind.{Kind}
+use Rattle.coll_kinds.specs.declared.kind.Kind.TheVariants.{Barrier, Bcast, Gather, Scatter, Allgather, Alltoall, Reduce, Allreduce, Rsblock, Scan, Exscan}
+use Rattle.coll_kinds.specs.declared.signature.Signature.{Signature}
+use Rattle.coll_kinds.specs.Checks.{has_root, is_barrier}
+use Rattle.coll_kinds.specs.Elements.{is_signed, limit, IsElement}
+use Rattle.coll_history.specs.declared.cause.Cause.{Cause}
+use Rattle.coll_history.specs.declared.cause.Cause.TheVariants.{BadRank}
+use Rattle.coll_history.specs.declared.command.Command.{Command}
+use Rattle.coll_history.specs.declared.command.Command.TheVariants.{Post, Init, Start, Wait, Test, Free, WaitAny, WaitSome, WaitAll}
+use Rattle.coll_history.specs.Cutting.{lines_of, words_of}
+use Rattle.coll_kinds.specs.Words.{kind_word, operation_word, datatype_word}
+use Rattle.coll_history.specs.Reading.{and_then, numbers_from, numbers}
+use Rattle.coll_history.specs.Histories.{History, beginning}
+use Rattle.coll_history.specs.Lines.{rank_in, ranks, comm, section, line}
+use Rattle.coll_history.specs.Judging.{judged}
+use Rattle.coll_history.specs.Writing.{is_plain, IsWord, IsSkipped, skipped_line, operation_words, signature_words, value_words, HasWords, IsMade, IsSome, NoneTwice, Writes, Says, ranks_line, comm_line, rank_line, command_line, Tells, spaced, text_of}
+use Rattle.coll_history.proofs.Again.{numerals, limit-le, limit-signed, within-again}
+use Rattle.coll_history.proofs.SaidAgain.{command-again}
+use Rattle.coll_history.proofs.Cuts.{plain-digits, AllByRecursion-append, words_of-spaced, lines_of-text}
+
+-- ---- what is written are words
+
+number-word : (n : ℕ) → n < 2 ^ 64 → IsWord (decimal n)
+number-word n small = record { some = decimal_nonempty n small; plain = plain-digits (decimal n) (digits_decimal numerals n small) }
+
+value-word : (ty : Datatype) (z : ℤ) → IsElement ty z → IsWord (signed_decimal z)
+value-word ty (pos n) is = number-word n (omega (arith, ltb-true n (limit ty) is, limit-le ty))
+value-word ty (negsuc n) is =
+    let parts = and_parts (is_signed ty) (ltb n (limit ty)) is in
+    let digits = number-word (suc n) (omega (arith, ltb-true n (limit ty) parts.1, limit-signed ty parts.0)) in
+    record { some = omega arith; plain = digits.plain }
+
+kind-word : (kind : Kind) → IsWord (kind_word kind)
+kind-word Barrier = record { some = omega arith; plain = refl }
+kind-word Bcast = record { some = omega arith; plain = refl }
+kind-word Gather = record { some = omega arith; plain = refl }
+kind-word Scatter = record { some = omega arith; plain = refl }
+kind-word Allgather = record { some = omega arith; plain = refl }
+kind-word Alltoall = record { some = omega arith; plain = refl }
+kind-word Reduce = record { some = omega arith; plain = refl }
+kind-word Allreduce = record { some = omega arith; plain = refl }
+kind-word Rsblock = record { some = omega arith; plain = refl }
+kind-word Scan = record { some = omega arith; plain = refl }
+kind-word Exscan = record { some = omega arith; plain = refl }
+
+operation-word : (op : Op) → IsWord (operation_word op)
+operation-word Max = record { some = omega arith; plain = refl }
+operation-word Min = record { some = omega arith; plain = refl }
+operation-word Sum = record { some = omega arith; plain = refl }
+operation-word Prod = record { some = omega arith; plain = refl }
+operation-word Land = record { some = omega arith; plain = refl }
+operation-word Lor = record { some = omega arith; plain = refl }
+operation-word Lxor = record { some = omega arith; plain = refl }
+operation-word Band = record { some = omega arith; plain = refl }
+operation-word Bor = record { some = omega arith; plain = refl }
+operation-word Bxor = record { some = omega arith; plain = refl }
+operation-word LastNz = record { some = omega arith; plain = refl }
+
+datatype-word : (ty : Datatype) → IsWord (datatype_word ty)
+datatype-word I8 = record { some = omega arith; plain = refl }
+datatype-word I16 = record { some = omega arith; plain = refl }
+datatype-word I32 = record { some = omega arith; plain = refl }
+datatype-word I64 = record { some = omega arith; plain = refl }
+datatype-word U8 = record { some = omega arith; plain = refl }
+datatype-word U16 = record { some = omega arith; plain = refl }
+datatype-word U32 = record { some = omega arith; plain = refl }
+datatype-word U64 = record { some = omega arith; plain = refl }
+datatype-word Byte = record { some = omega arith; plain = refl }
+
+abbrev AreWords : List (List ℕ) → Type 0
+AreWords words = AllByRecursion IsWord words
+
+numbers-words : (qs : List ℕ) → AllByRecursion (λ q. q < 2 ^ 64) qs → AreWords (map decimal qs)
+numbers-words [] are = tt
+numbers-words (q ∷ qs) are = (number-word q are.0, numbers-words qs are.1)
+
+elements-words : (ty : Datatype) (zs : List ℤ) → AllByRecursion (IsElement ty) zs → AreWords (map signed_decimal zs)
+elements-words ty [] are = tt
+elements-words ty (z ∷ zs) are = (value-word ty z are.0, elements-words ty zs are.1)
+
+values-words : (ty : Datatype) (zs : List ℤ) → AllByRecursion (IsElement ty) zs → AreWords (value_words zs)
+values-words ty zs are = (record { some = omega arith; plain = refl }, elements-words ty zs are)
+
+root-words : (b : Bool) (root : ℕ) → MatchBool b (root < 256) (root ≡ 0) → AreWords (cond b (decimal root ∷ []) [])
+root-words true root fits = (number-word root (omega (arith, fits)), tt)
+root-words false root fits = tt
+
+op-words : (op : Option Op) → AreWords (operation_words op)
+op-words None = tt
+op-words (Some op) = (operation-word op, tt)
+
+tail-words : (b : Bool) (ty : Datatype) (count : ℕ) → MatchBool b ((ty ≡ Byte) × (count ≡ 0)) (count < 2 ^ 32) → AreWords (cond b [] (datatype_word ty ∷ decimal count ∷ []))
+tail-words true ty count fits = tt
+tail-words false ty count fits = (datatype-word ty, (number-word count (omega (arith, fits)), tt))
+
+signature-words : (sig : Signature) → HasWords sig → AreWords (signature_words sig)
+signature-words sig has =
+    let roots = cond (has_root sig.kind) (decimal sig.root ∷ []) [] in
+    let tail = cond (is_barrier sig.kind) [] (datatype_word sig.ty ∷ decimal sig.count ∷ []) in (
+      kind-word sig.kind,
+      AllByRecursion-append IsWord (roots ++ operation_words sig.op) tail
+          (AllByRecursion-append IsWord roots (operation_words sig.op) (root-words (has_root sig.kind) sig.root has.root) (op-words sig.op))
+          (tail-words (is_barrier sig.kind) sig.ty sig.count has.elements),
+    )
+
+abbrev plain_word : (w : List ℕ) → 0 < length w → list_all is_plain w ≡ true → IsWord w
+plain_word w some plain = record { some = some; plain = plain }
+
+made-small : (h : History) (rank : ℕ) (qs : List ℕ) → AllByRecursion (IsMade h rank) qs → AllByRecursion (λ q. q < 2 ^ 64) qs
+made-small h rank [] are = tt
+made-small h rank (q ∷ qs) are = (are.0.0, made-small h rank qs are.1)
+
+command-words : (h : History) (rank : ℕ) (c : Command) (words : List (List ℕ)) → Writes h rank c words → AreWords words
+command-words h rank (Post comm sig given) words w =
+    rw w.3 (plain_word (codes "post") (omega arith) refl, (number-word comm w.0.small, AllByRecursion-append IsWord (signature_words sig) (value_words w.1) (signature-words sig w.0.words) (values-words sig.ty w.1 w.2.1)))
+command-words h rank (Init comm sig) words w = rw w.1 (plain_word (codes "init") (omega arith) refl, (number-word comm w.0.small, signature-words sig w.0.words))
+command-words h rank (Start q given) words w = rw w.4 (plain_word (codes "start") (omega arith) refl, (number-word q w.1.small, values-words w.0.sig.ty w.2 w.3.1))
+command-words h rank (Wait q) words w = rw w.1 (plain_word (codes "wait") (omega arith) refl, (number-word q w.0.0, tt))
+command-words h rank (Test q) words w = rw w.1 (plain_word (codes "test") (omega arith) refl, (number-word q w.0.0, tt))
+command-words h rank (Free q) words w = rw w.2 (plain_word (codes "free") (omega arith) refl, (number-word q w.1.small, tt))
+command-words h rank (WaitAny qs) words w = rw w.2 (plain_word (codes "waitany") (omega arith) refl, numbers-words qs (made-small h rank qs w.1.0))
+command-words h rank (WaitSome qs) words w = rw w.2 (plain_word (codes "waitsome") (omega arith) refl, numbers-words qs (made-small h rank qs w.1.0))
+command-words h rank (WaitAll qs) words w =
+    elim w [
+      | inl named ↦ rw named.2 (plain_word (codes "waitall") (omega arith) refl, numbers-words qs (made-small h rank qs named.1.0))
+      | inr bare ↦ rw bare.1 (plain_word (codes "waitall") (omega arith) refl, tt)
+    ]
+
+-- ---- lines
+
+distinct-again : (read : List ℕ → Result ℕ Cause) (twice : Cause) (before qs : List ℕ) → AllByRecursion (λ q. read (decimal q) ≡ Ok q) qs → NoneTwice before qs → numbers_from read twice before (map decimal qs) ≡ Ok (before ++ qs)
+distinct-again read twice before [] are none = ap Ok (sym (append-nil before))
+distinct-again read twice before (q ∷ qs) are none = rw (are.0, none.0) (distinct-again read twice (before ++ q ∷ []) qs are.1 none.1 ∙ ap Ok (append_assoc before (q ∷ []) qs))
+
+ranks-read : (n : ℕ) (group : List ℕ) → n ≤ 64 → AllByRecursion (λ r. r < n) group → AllByRecursion (λ r. rank_in n (decimal r) ≡ Ok r) group
+ranks-read n [] few are = tt
+ranks-read n (r ∷ group) few are = (let read = within-again 0 n r (omega arith) are.0 (omega (arith, are.0)) in rw read refl, ranks-read n group few are.1)
+
+ranks-small : (n : ℕ) (group : List ℕ) → n ≤ 64 → AllByRecursion (λ r. r < n) group → AllByRecursion (λ r. r < 2 ^ 64) group
+ranks-small n [] few are = tt
+ranks-small n (r ∷ group) few are = (omega (arith, are.0), ranks-small n group few are.1)
+
+group-again : (n : ℕ) (group : List ℕ) → n ≤ 64 → IsSome group → AllByRecursion (λ r. r < n) group → NoneTwice [] group → numbers (rank_in n) BadRank (map decimal group) ≡ Ok (group, [])
+group-again n [] few some are none = absurd some
+group-again n (r ∷ group) few some are none = ap (λ (x : Result (List ℕ) Cause). and_then x (λ ns. Ok (ns, []))) (distinct-again (rank_in n) BadRank [] (r ∷ group) (ranks-read n (r ∷ group) few are) none)
+
+skips : (number : ℕ) (h : History) (words : List (List ℕ)) → IsSkipped words → line number h words ≡ Ok h
+unfolding line
+skips number h [] skipped = refl
+skips number h (w ∷ words) skipped = rw (eq-eqb _ _ skipped) refl
+
+says-reads : (number : ℕ) (h : History) (words : List (List ℕ)) (next : History) → Says number h words next → (line number h words ≡ Ok next) × AreWords words
+unfolding line ranks comm section
+says-reads number h words next (skipped_line all are skipped) = (skips number h all skipped, are)
+says-reads number h words next (ranks_line n none low high) =
+    (rw (none, within-again 1 65 n low (omega arith) (omega arith)) refl, (plain_word (codes "ranks") (omega arith) refl, (number-word n (omega arith), tt)))
+says-reads number h words next (comm_line n group ranks few closed room some are none) =
+    (rw (ranks, closed, lt-ltb (length h.groups) 16 room, group-again n group few some are none) refl, (plain_word (codes "comm") (omega arith) refl, numbers-words group (ranks-small n group few are)))
+says-reads number h words next (rank_line n rank ranks few lt) =
+    (rw (ranks, within-again 0 n rank (omega arith) lt (omega arith)) refl, (plain_word (codes "rank") (omega arith) refl, (number-word rank (omega arith), tt)))
+says-reads number h words next (command_line n rank c w ranks opened writes) = (command-again number rank n h ranks opened c w writes, command-words h rank c w writes)
+
+-- ---- texts
+
+pub tells-reads : (number : ℕ) (h : History) (lines : List (List (List ℕ))) (last : History) → Tells number h lines last → (judged number h (map spaced lines) ≡ Ok last) × AllByRecursion AreWords lines
+tells-reads number h [] last tells = (ap Ok (sym tells), tt)
+tells-reads number h (words ∷ lines) last tells =
+    let says = says-reads number h words tells.0 tells.1 in
+    let rest = tells-reads (number + 1) tells.0 lines last tells.2 in
+    let read : line number h (words_of (spaced words)) ≡ Ok tells.0 = rw (words_of-spaced words says.1) says.0 in
+    (rw read rest.0, (says.1, rest.1))
+
+-- what is written is read
+pub text-again : (words : List (List ℕ)) (lines : List (List (List ℕ))) (last : History) → Tells 1 beginning (words ∷ lines) last → judged 1 beginning (lines_of (text_of (words ∷ lines))) ≡ Ok last
+text-again words lines last tells =
+    let reads = tells-reads 1 beginning (words ∷ lines) last tells in
+    ap (judged 1 beginning) (lines_of-text words lines reads.1) ∙ reads.0

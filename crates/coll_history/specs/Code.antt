@@ -1,0 +1,162 @@
+-- What the code's functions owe to the definitions.
+use Rattle.std.specs.Prelude.{◌≡◌, ℕ, ◌<◌, ◌≤◌, nat_lt, false, List, [], ◌∷◌, Some, length, map, IfSome, slice_get, slice_index, unwrap_or, Result, Ok, Err, Vec, flat_map, is_some, pos, if◌then◌else◌}
+use Rattle.std.specs.Global.{Global}
+use Rattle.std.specs.List.{list_any, list_all, AllByRecursion, range_with_len}
+use denote.Ref.{Bor}
+use Rattle.coll_history.specs.declared.cause.Cause.{Cause}
+use Rattle.coll_history.specs.declared.command.Command.{Command}
+use Rattle.coll_history.specs.declared.command.Command.TheVariants.{Start, Wait, Free, WaitAll}
+use Rattle.coll_history.specs.declared.fault.Fault.{Fault}
+use Rattle.coll_history.specs.declared.fault.LineFault.{LineFault}
+use Rattle.coll_history.specs.declared.fault.LineFault.TheVariants as lines
+use Rattle.coll_history.specs.declared.fault.ScriptFault.{ScriptFault}
+use Rattle.coll_history.specs.declared.fault.ScriptFault.TheVariants as script
+use Rattle.coll_history.specs.declared.reader.Reader.{Reader}
+use Rattle.coll_history.specs.declared.request.Request as rust_request
+use Rattle.coll_history.specs.declared.section.Entry.{Entry}
+use Rattle.coll_history.specs.declared.section.Section.{Section}
+use Rattle.coll_history.specs.Histories.{History, Posting, postings, said_by, may_be_active, frees, total}
+use Rattle.coll_history.specs.Requests.{Request}
+use Rattle.coll_history.specs.Reading.{Reading}
+use Rattle.coll_history.specs.Lines.{post, init, start, wait, test, free, waitany, waitsome, waitall}
+use Rattle.coll_history.specs.declared.cause.Cause.TheVariants.{BadValue}
+use Rattle.coll_history.specs.declared.verb.Verb.{Verb}
+use Rattle.coll_history.specs.declared.verb.Verb.TheVariants as verb
+use Rattle.coll_kinds.specs.declared.datatype.Datatype.{Datatype}
+use Rattle.coll_kinds.specs.Elements.{element_bytes}
+use Rattle.coll_kinds.specs.Texts.{value_of}
+use Rattle.coll_history.specs.Sound.{IsHistory}
+
+-- ---- views: what lies in memory, without where it lies
+
+abbrev pub texts : List (Bor (List ℕ)) → List (List ℕ)
+texts words = map (λ word. word.now) words
+
+abbrev pub rows_view : List (Vec ℕ Global) → List (List ℕ)
+rows_view rows = map (λ row. row.items) rows
+
+abbrev pub request_view : rust_request.Request → Request
+request_view p = record { line = p.line; comm = p.comm; member = p.member; sig = p.sig; starts = texts p.starts.items }
+
+abbrev pub requests_view : List (Vec rust_request.Request Global) → List (List Request)
+requests_view ranks = map (λ requests. map request_view requests.items) ranks
+
+abbrev pub posting_view : Entry → Posting
+posting_view p = record { comm = p.comm; sig = p.sig }
+
+abbrev pub history_of : Reader → History
+history_of r = record { ranks = r.ranks; groups = rows_view r.groups.items; opened = r.opened; told = r.told.items }
+
+-- ---- what was read
+
+-- what a function returned, seen by view, is what the definition gives
+abbrev pub Finds : {X Y : Type 0} → (X → Y) → Result X Cause → Result Y Cause → Type 0
+Finds view (Ok x) given = given ≡ Ok (view x)
+Finds view (Err cause) given = given ≡ Err cause
+
+-- what a step returned, seen by view, and the words that it left are what the definition reads
+abbrev pub Reads : {X Y : Type 0} → (X → Y) → Result X Cause → List (List ℕ) → Result (Y × List (List ℕ)) Cause → Type 0
+Reads view (Ok x) left read = read ≡ Ok (view x, left)
+Reads view (Err cause) left read = read ≡ Err cause
+
+abbrev pub Asks : Result (Unit {0}) Cause → Reading (Unit {0}) → Type 0
+Asks (Ok done) asked = (words : List (List ℕ)) → asked words ≡ Ok (tt, words)
+Asks (Err cause) asked = (words : List (List ℕ)) → asked words ≡ Err cause
+
+-- the same, unless memory ran out
+abbrev pub FailsSo : {Y : Type 0} → LineFault → Result Y Cause → Type 0
+FailsSo (lines.Broken cause) read = read ≡ Err cause
+FailsSo lines.NoMemory read = Unit {0}
+
+abbrev pub ReadsSo : {X Y : Type 0} → (X → Y) → Result X LineFault → List (List ℕ) → Result (Y × List (List ℕ)) Cause → Type 0
+ReadsSo view (Ok x) left read = read ≡ Ok (view x, left)
+ReadsSo view (Err fault) left read = FailsSo fault read
+
+abbrev pub FindsSo : {X Y : Type 0} → (X → Y) → Result X LineFault → Result Y Cause → Type 0
+FindsSo view (Ok x) given = given ≡ Ok (view x)
+FindsSo view (Err fault) given = FailsSo fault given
+
+-- the bytes of values
+abbrev pub valued : Datatype → List (List ℕ) → Result (List ℕ) Cause
+valued ty words =
+    if list_all (λ w. is_some (value_of ty w)) words then Ok (flat_map (λ w. element_bytes ty (unwrap_or (value_of ty w) (pos 0))) words)
+    else Err BadValue
+
+-- what a line's first word has its rank read
+abbrev pub read_by : Verb → History → ℕ → Reading Command
+read_by verb.Post = post
+read_by verb.Init = init
+read_by verb.Start = start
+read_by verb.Wait = wait
+read_by verb.Test = test
+read_by verb.Free = free
+read_by verb.WaitAny = waitany
+read_by verb.WaitSome = waitsome
+read_by verb.WaitAll = waitall
+
+-- the same for a whole text
+abbrev pub FailsText : {Y : Type 0} → ScriptFault → Result Y Fault → Type 0
+FailsText (script.Text fault) given = given ≡ Err fault
+FailsText script.NoMemory given = Unit {0}
+
+abbrev pub GivesText : {X Y : Type 0} → (X → Y) → Result X ScriptFault → Result Y Fault → Type 0
+GivesText view (Ok x) given = given ≡ Ok (view x)
+GivesText view (Err fault) given = FailsText fault given
+
+-- a fault of a line, as one of the text
+abbrev pub fault_in_line : ℕ → LineFault → ScriptFault
+fault_in_line number (lines.Broken cause) = script.Text (record { line = number; cause = cause })
+fault_in_line number lines.NoMemory = script.NoMemory
+
+-- the history of a job of n ranks that has said nothing else
+abbrev pub begun : ℕ → History → History
+begun n h = record h { ranks = Some n; groups = range_with_len 0 n ∷ [] }
+
+-- ---- counters
+
+-- the requests that a command names are among so many
+abbrev pub IsNamed : ℕ → Command → Type 0
+IsNamed count (Start q given) = q < count
+IsNamed count (Wait q) = q < count
+IsNamed count (Free q) = q < count
+IsNamed count (WaitAll qs) = AllByRecursion (λ q. q < count) qs
+IsNamed count command = Unit {0}
+
+-- what is kept of request q of a section, before the line of that number is read
+pub record IsKeptOf (next waited : ℕ) (commands : List Command) (q : ℕ) (p : Entry) : Type 0 where
+  pub earlier : p.since < next
+  pub active : nat_lt waited p.since ≡ may_be_active q commands
+  pub freed : p.freed ≡ list_any (frees q) commands
+
+-- what is kept of a section says what its commands say
+pub record IsKept (next : ℕ) (commands : List Command) (section : Section) : Type 0 where
+  pub posted : map posting_view section.entries.items ≡ postings commands
+  pub earlier : section.waited < next
+  pub each : (q : ℕ) → IfSome (slice_get section.entries.items q) (IsKeptOf next section.waited commands q)
+  -- no command names a request that isn't made yet
+  pub unmade : (q : ℕ) → length section.entries.items ≤ q → (may_be_active q commands ≡ false) × (list_any (frees q) commands ≡ false)
+
+-- for some of the first requests of a rank the last line that named it among others, before the line of that number
+abbrev pub AreStamps : ℕ → ℕ → List ℕ → Type 0
+AreStamps next count stamps = (length stamps ≤ count) × ((q : ℕ) → q < length stamps → slice_index stamps q < next)
+
+-- what is kept beside a history, before the line of that number is read
+pub record IsReader (next : ℕ) (r : Reader) : Type 0 where
+  pub history : IsHistory next (history_of r)
+  pub members : AllByRecursion (λ group. length group ≤ 64) (rows_view r.groups.items)
+  pub sections : length r.sections.items ≡ unwrap_or r.ranks 0
+  pub kept : (rank : ℕ) → IfSome (slice_get r.sections.items rank) (IsKept next (said_by rank r.told.items))
+  pub total : r.total ≡ total r.told.items
+
+pub record IsStamped (next : ℕ) (r : Reader) : Type 0 where
+  pub ranks : length r.stamps.items ≡ unwrap_or r.ranks 0
+  pub each : (rank : ℕ) → IfSome (slice_get r.stamps.items rank) (λ s. AreStamps next (length (postings (said_by rank r.told.items))) s.items)
+
+-- only stamps were written
+pub record SameButStamps (old new : Reader) : Type 0 where
+  pub ranks : new.ranks ≡ old.ranks
+  pub groups : new.groups ≡ old.groups
+  pub opened : new.opened ≡ old.opened
+  pub told : new.told ≡ old.told
+  pub sections : new.sections ≡ old.sections
+  pub total : new.total ≡ old.total

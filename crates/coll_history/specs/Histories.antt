@@ -1,0 +1,86 @@
+-- What the lines of a text have said so far, and what follows from it.
+use Rattle.std.specs.Prelude.{ℕ, ◌==◌, Bool, true, false, not, ◌&&◌, ◌||◌, List, [], ◌∷◌, length, map, filter, filter_map, fold, Option, Some, None, slice_index_or, if◌then◌else◌}
+use Rattle.std.specs.List.{list_any}
+use Rattle.coll_kinds.specs.declared.kind.Mode.{Mode}
+use Rattle.coll_kinds.specs.declared.kind.Mode.TheVariants.{Once, Persistent}
+use Rattle.coll_kinds.specs.declared.signature.Signature.{Signature}
+use Rattle.coll_history.specs.declared.command.Command.{Command}
+use Rattle.coll_history.specs.declared.command.Command.TheVariants.{Post, Init, Start, Wait, Free, WaitAll}
+use Rattle.coll_history.specs.declared.command.Told.{Told}
+use Rattle.coll_kinds.specs.Groups.{is_among}
+
+-- the number of ranks, the members of each communicator in order, the rank whose section stands open, and the commands in
+-- the order of their lines
+pub record History : Type 0 where
+  pub ranks : Option ℕ
+  pub groups : List (List ℕ)
+  pub opened : Option ℕ
+  pub told : List Told
+
+abbrev pub beginning : History
+beginning = record { ranks = None; groups = []; opened = None; told = [] }
+
+-- ---- groups
+
+abbrev pub group_of : List (List ℕ) → ℕ → List ℕ
+group_of groups comm = slice_index_or groups comm []
+
+-- ---- what a command says of a request
+
+-- what is posted: on which communicator, and with which signature, mode included
+pub record Posting : Type 0 where
+  pub comm : ℕ
+  pub sig : Signature
+
+abbrev pub posting : Command → Option Posting
+posting (Post comm sig given) = Some (record { comm = comm; sig = sig })
+posting (Init comm sig) = Some (record { comm = comm; sig = sig })
+posting command = None
+
+-- what a post gives at once, and what a start gives to a request
+abbrev pub given_at_once : Command → List (List ℕ)
+given_at_once (Post comm sig given) = given ∷ []
+given_at_once command = []
+
+abbrev pub gift : ℕ → Command → Option (List ℕ)
+gift q (Start other given) = if other == q then Some given else None
+gift q command = None
+
+abbrev pub starts : ℕ → Command → Bool
+starts q (Start other given) = other == q
+starts q command = false
+
+abbrev pub frees : ℕ → Command → Bool
+frees q (Free other) = other == q
+frees q command = false
+
+-- a wait behind which the request is surely inactive
+abbrev pub waits_for : ℕ → Command → Bool
+waits_for q (Wait other) = other == q
+waits_for q (WaitAll qs) = is_among q qs
+waits_for q command = false
+
+-- ---- what a section says of its requests
+
+abbrev pub said_by : ℕ → List Told → List Command
+said_by rank told = map (λ t. t.command) (filter (λ t. t.rank == rank) told)
+
+-- its requests: they are numbered from 0, in the order of these lines
+abbrev pub postings : List Command → List Posting
+postings commands = filter_map posting commands
+
+-- a request may be active: a start makes it so, until a wait names it
+abbrev pub may_be_active : ℕ → List Command → Bool
+may_be_active q commands = fold (λ active command. starts q command || (active && not (waits_for q command))) false commands
+
+abbrev pub is_persistent : Mode → Bool
+is_persistent Once = false
+is_persistent Persistent = true
+
+-- a start or a free may name the request, which was posted so
+abbrev pub is_startable : ℕ → Posting → List Command → Bool
+is_startable q p commands = is_persistent p.sig.mode && not (list_any (frees q) commands) && not (may_be_active q commands)
+
+-- how many requests there are in all
+abbrev pub total : List Told → ℕ
+total told = length (postings (map (λ t. t.command) told))

@@ -1,0 +1,22 @@
+-- What holds of all texts: the first fault is the first.
+use Rattle.std.specs.Prelude.{◌≡◌, ℕ, ◌+◌, IsTrue, List, [], ◌∷◌, ◌++◌, length, Ok, Err}
+use Rattle.std.specs.List.{list_any}
+use Rattle.coll_history.specs.declared.fault.Fault.{Fault}
+use Rattle.coll_history.specs.Histories.{History, starts, waits_for}
+use Rattle.coll_history.specs.declared.command.Command.{Command}
+use Rattle.coll_history.specs.Judging.{judged}
+
+-- the fault is that of one line; those before it are accepted by themselves, and all lines that begin with these have it
+pub record IsFirst (number : ℕ) (h : History) (lines : List (List ℕ)) (fault : Fault) : Type 0 where
+  pub before : List (List ℕ)
+  pub faulty : List ℕ
+  pub behind : List (List ℕ)
+  pub parts : lines ≡ before ++ faulty ∷ behind
+  pub here : fault.line ≡ number + length before
+  pub accepted : (next : History) × (judged number h before ≡ Ok next)
+  pub whatever_follows : (others : List (List ℕ)) → judged number h (before ++ faulty ∷ others) ≡ Err fault
+
+-- surely inactive: it has had no start, or a wait has named it since its last one; that is, behind each start stands a wait
+abbrev pub EachStartIsOver : ℕ → List Command → Type 0
+EachStartIsOver q [] = Unit {0}
+EachStartIsOver q (command ∷ commands) = (IsTrue (starts q command) → IsTrue (list_any (waits_for q) commands)) × EachStartIsOver q commands

@@ -1,0 +1,221 @@
+-- The lines of the format: what each kind of line says, and which rules it keeps, in the order in which they are judged.
+use Rattle.std.specs.Prelude.{ℕ, ◌/◌, ◌^◌, ◌==◌, nat_le, nat_lt, ◌&&◌, List, [], ◌∷◌, ◌++◌, length, flat_map, Option, Some, None, Result, Ok, Err, ok_or, is_none, is_some, option_and_then, slice_get, slice_index, unwrap_or, codes, pos, if◌then◌else◌}
+use Rattle.std.specs.List.{list_all, range_with_len}
+use Rattle.std.specs.Str.{bytes_eq}
+use Rattle.coll_kinds.specs.declared.datatype.Datatype.{Datatype}
+use Rattle.coll_kinds.specs.declared.datatype.Datatype.TheVariants.{Byte}
+use Rattle.coll_kinds.specs.declared.kind.Kind.{Kind}
+use Rattle.coll_kinds.specs.declared.kind.Mode.{Mode}
+use Rattle.coll_kinds.specs.declared.kind.Mode.TheVariants.{Once, Persistent}
+use Rattle.coll_kinds.specs.declared.signature.Signature.{Signature}
+use Rattle.coll_kinds.specs.Elements.{width, element_bytes}
+use Rattle.coll_kinds.specs.Texts.{number_of, value_of}
+use Rattle.coll_kinds.specs.Lengths.{given_len}
+use Rattle.coll_kinds.specs.Checks.{has_root, has_operation, is_barrier, broken}
+use Rattle.coll_history.specs.declared.cause.Cause.{Cause}
+use Rattle.coll_history.specs.declared.cause.Cause.TheVariants.{MissingRanks, UnknownCommand, OutOfPlace, BadWords, BadNumber, BadRank, BadCommunicator, BadSignature, WrongValueCount, BadValue, UnknownRequest, NamedTwice, NotStartable, TooManyRequests}
+use Rattle.coll_history.specs.declared.command.Command.{Command}
+use Rattle.coll_history.specs.declared.command.Command.TheVariants.{Post, Init, Start, Wait, Test, Free, WaitAny, WaitSome, WaitAll}
+use Rattle.coll_kinds.specs.Words.{kind_of, operation_of, datatype_of}
+use Rattle.coll_kinds.specs.Groups.{member_of}
+use Rattle.coll_history.specs.Reading.{Reading, and_then, ◌>>=◌, give, fault, known, must, word, end, numbers}
+use Rattle.coll_history.specs.Histories.{History, group_of, Posting, postings, said_by, is_startable, total}
+
+-- ---- words
+
+-- a number from low on and below limit
+abbrev pub number_within : ℕ → ℕ → List ℕ → Option ℕ
+number_within low limit w = option_and_then (λ n. if nat_le low n && nat_lt n limit then Some n else None) (number_of w)
+
+-- R, of n ranks
+abbrev pub rank_in : ℕ → List ℕ → Result ℕ Cause
+rank_in n w = ok_or (number_within 0 n w) BadRank
+
+-- Q, of so many requests
+abbrev pub request_in : ℕ → List ℕ → Result ℕ Cause
+request_in count w =
+    and_then (ok_or (number_of w) BadNumber) (λ q. if nat_lt q count then Ok q else Err UnknownRequest)
+
+-- a word that is read so
+abbrev pub next : {A : Type 0} → (List ℕ → Result A Cause) → Reading A
+next read = word >>= λ w words. and_then (read w) (λ x. Ok (x, words))
+
+-- ---- post, init and start
+
+-- C: a communicator of which the rank is a member
+abbrev pub communicator : List (List ℕ) → ℕ → Reading ℕ
+communicator groups rank = do
+  comm ← next (λ w. ok_or (number_of w) BadNumber)
+  group ← known (slice_get groups comm) BadCommunicator
+  member ← known (member_of rank group) BadRank
+  give comm
+
+-- what stands behind the word of a kind; a barrier has type byte and count 0
+unfoldable pub fields : Mode → Kind → Reading Signature
+fields mode kind = do
+  root ← if has_root kind then next (λ w. ok_or (number_within 0 256 w) BadSignature) else give 0
+  op ← if has_operation kind then next (λ w. and_then (ok_or (operation_of w) BadSignature) (λ op. Ok (Some op))) else give None
+  ty ← if is_barrier kind then give Byte else next (λ w. ok_or (datatype_of w) BadSignature)
+  count ← if is_barrier kind then give 0 else next (λ w. ok_or (number_within 0 (2 ^ 32) w) BadSignature)
+  give (record { kind = kind; mode = mode; root = root; op = op; ty = ty; count = count })
+
+-- SIG: a signature that n members may use
+unfoldable pub signature : Mode → ℕ → Reading Signature
+signature mode n = do
+  kind ← next (λ w. ok_or (kind_of w) BadSignature)
+  sig ← fields mode kind
+  checked ← must (is_none (broken sig n)) BadSignature
+  give sig
+
+-- the bytes that a rank gives to a request with that signature
+abbrev pub due : List (List ℕ) → ℕ → ℕ → Signature → ℕ
+due groups rank comm sig =
+    let group = group_of groups comm in
+    given_len sig (length group) (unwrap_or (member_of rank group) 0)
+
+-- the words behind the colon, which may be left out where none are due
+abbrev pub colon : ℕ → Reading (List (List ℕ))
+colon count [] = if count == 0 then Ok ([], []) else Err BadWords
+colon count (w ∷ words) = if bytes_eq w (codes ":") then Ok (words, []) else Err BadWords
+
+-- : v ..: the bytes of so many values
+unfoldable pub values : ℕ → Datatype → Reading (List ℕ)
+values count ty = do
+  words ← colon count
+  counted ← must (length words == count) WrongValueCount
+  valued ← must (list_all (λ w. is_some (value_of ty w)) words) BadValue
+  give (flat_map (λ w. element_bytes ty (unwrap_or (value_of ty w) (pos 0))) words)
+
+-- a job has at most 4,096 requests
+abbrev pub room : History → Reading (Unit {0})
+room h = must (nat_lt (total h.told) 4096) TooManyRequests
+
+unfoldable pub post : History → ℕ → Reading Command
+post h rank = do
+  comm ← communicator h.groups rank
+  sig ← signature Once (length (group_of h.groups comm))
+  given ← values (due h.groups rank comm sig / width sig.ty) sig.ty
+  fits ← room h
+  give (Post comm sig given)
+
+unfoldable pub init : History → ℕ → Reading Command
+init h rank = do
+  comm ← communicator h.groups rank
+  sig ← signature Persistent (length (group_of h.groups comm))
+  ended ← end
+  fits ← room h
+  give (Init comm sig)
+
+-- what the rank whose section it is has posted
+abbrev pub made : History → ℕ → List Posting
+made h rank = postings (said_by rank h.told)
+
+-- Q, which a start or a free may name
+unfoldable pub startable : History → ℕ → Reading (ℕ × Posting)
+startable h rank = do
+  q ← next (request_in (length (made h rank)))
+  p ← known (slice_get (made h rank) q) UnknownRequest
+  fits ← must (is_startable q p (said_by rank h.told)) NotStartable
+  give (q, p)
+
+unfoldable pub start : History → ℕ → Reading Command
+start h rank = do
+  it ← startable h rank
+  given ← values (due h.groups rank it.1.comm it.1.sig / width it.1.sig.ty) it.1.sig.ty
+  give (Start it.0 given)
+
+unfoldable pub free : History → ℕ → Reading Command
+free h rank = startable h rank >>= λ it. end >>= λ ended. give (Free it.0)
+
+-- ---- waits and tests
+
+-- one request, and several, none twice
+abbrev pub one : History → ℕ → Reading ℕ
+one h rank = next (request_in (length (made h rank))) >>= λ q. end >>= λ ended. give q
+
+abbrev pub some : History → ℕ → Reading (List ℕ)
+some h rank = numbers (request_in (length (made h rank))) NamedTwice
+
+-- `waitall` without words names all requests of the section so far
+abbrev pub all : History → ℕ → Reading (List ℕ)
+all h rank [] = Ok (range_with_len 0 (length (made h rank)), [])
+all h rank (w ∷ words) = some h rank (w ∷ words)
+
+abbrev pub wait : History → ℕ → Reading Command
+wait h rank = one h rank >>= λ q. give (Wait q)
+
+abbrev pub test : History → ℕ → Reading Command
+test h rank = one h rank >>= λ q. give (Test q)
+
+abbrev pub waitany : History → ℕ → Reading Command
+waitany h rank = some h rank >>= λ qs. give (WaitAny qs)
+
+abbrev pub waitsome : History → ℕ → Reading Command
+waitsome h rank = some h rank >>= λ qs. give (WaitSome qs)
+
+abbrev pub waitall : History → ℕ → Reading Command
+waitall h rank = all h rank >>= λ qs. give (WaitAll qs)
+
+-- what a command's first word stands for
+abbrev pub command_of : List ℕ → Option (History → ℕ → Reading Command)
+command_of w =
+    if bytes_eq w (codes "post") then Some post
+    else (if bytes_eq w (codes "init") then Some init
+    else (if bytes_eq w (codes "start") then Some start
+    else (if bytes_eq w (codes "wait") then Some wait
+    else (if bytes_eq w (codes "test") then Some test
+    else (if bytes_eq w (codes "free") then Some free
+    else (if bytes_eq w (codes "waitany") then Some waitany
+    else (if bytes_eq w (codes "waitsome") then Some waitsome
+    else (if bytes_eq w (codes "waitall") then Some waitall
+    else None))))))))
+
+-- ---- lines, each by the history that begins with it and gives the one behind it
+
+unfoldable pub ranks : History → Reading History
+ranks h = do
+  n ← next (λ w. ok_or (number_within 1 65 w) BadNumber)
+  ended ← end
+  give (record h { ranks = Some n; groups = range_with_len 0 n ∷ [] })
+
+unfoldable pub comm : ℕ → History → Reading History
+comm n h = do
+  early ← must (is_none h.opened) OutOfPlace
+  few ← must (nat_lt (length h.groups) 16) BadCommunicator
+  group ← numbers (rank_in n) BadRank
+  give (record h { groups = h.groups ++ group ∷ [] })
+
+unfoldable pub section : ℕ → History → Reading History
+section n h = do
+  rank ← next (rank_in n)
+  ended ← end
+  give (record h { opened = Some rank })
+
+abbrev pub tell : ℕ → ℕ → Command → History → History
+tell number rank command h = record h { told = h.told ++ record { line = number; rank = rank; command = command } ∷ [] }
+
+-- a command, in the line of that number
+unfoldable pub command : ℕ → List ℕ → History → Reading History
+command number first h = do
+  read ← known (command_of first) UnknownCommand
+  rank ← known h.opened OutOfPlace
+  said ← read h rank
+  give (tell number rank said h)
+
+-- a line behind the first one that says anything, where there are n ranks
+abbrev pub later : ℕ → ℕ → List ℕ → History → Reading History
+later number n first h =
+    if bytes_eq first (codes "ranks") then fault OutOfPlace
+    else (if bytes_eq first (codes "comm") then comm n h
+    else (if bytes_eq first (codes "rank") then section n h
+    else command number first h))
+
+abbrev pub line_by : Option ℕ → ℕ → List ℕ → History → Reading History
+line_by None number first h = if bytes_eq first (codes "ranks") then ranks h else fault MissingRanks
+line_by (Some n) number first h = later number n first h
+
+-- a line without words says nothing, nor does one whose first word begins with `#`
+unfoldable pub line : ℕ → History → List (List ℕ) → Result History Cause
+line number h [] = Ok h
+line number h (first ∷ words) =
+    if slice_index first 0 == 35 then Ok h else and_then (line_by h.ranks number first h words) (λ read. Ok read.0)

@@ -1,0 +1,120 @@
+ghost use Rattle.coll_kinds.specs.Limits.{max_text};
+ghost use Rattle.std.specs.Prelude.{◌≡◌, ◌≤◌, [], length, is_some, unwrap_or, Ok, IfOk, OnOk, MatchResult};
+ghost use Rattle.std.specs.List.{AllByRecursion};
+ghost use Rattle.coll_history.specs.Cutting.{lines_of};
+ghost use Rattle.coll_history.specs.Histories.{beginning};
+ghost use Rattle.coll_history.specs.Judging.{judged};
+ghost use Rattle.coll_history.specs.Code.{rows_view, requests_view, FailsText};
+ghost use Rattle.coll_history.specs.Requests.{requests};
+ghost use Rattle.coll_history.specs.Sound.{IsSound};
+
+use crate::command::Told;
+use crate::cutting::lines;
+use crate::fault::ScriptFault;
+use crate::reader::Reader;
+use crate::request::{Request, note};
+use std::alloc::{AllocError, Global};
+use std::marker::Model;
+
+/// What the lines of a text have said: the ranks, their communicators, and the commands in the order of
+/// their lines.
+#[derive(Debug, Drop)]
+pub struct History {
+    ranks: Option<u8>,
+    groups: Vec<Vec<u8>>,
+    opened: Option<u8>,
+    told: Vec<Told>,
+}
+
+impl Model for History {
+    ghost use Rattle.coll_history.specs.Histories.{History};
+    ghost use Rattle.coll_history.specs.Sound.{IsHistory};
+    ghost use Rattle.coll_history.specs.Code.{rows_view};
+
+    ghost Value = { History };
+
+    ghost view = { λ h. record { ranks = h.ranks; groups = rows_view h.groups.items; opened = h.opened; told = h.told.items } };
+
+    ghost invariant = { λ h. IsHistory 1048578 (record { ranks = h.ranks; groups = rows_view h.groups.items; opened = h.opened; told = h.told.items }) };
+}
+
+impl History {
+    /// The history that a text of at most [`coll_kinds::MAX_TEXT`] bytes tells, or its first fault of a line. Linear
+    /// in the text. What is judged after the last line is left to the caller.
+    ///
+    /// A fault is [`ScriptFault::Text`], or [`ScriptFault::NoMemory`] where memory was refused.
+    pub fn read(alloc: Global, text: &[u8]) -> Result<History, ScriptFault>
+        requires { length text.now ≤ max_text }
+        ensures { MatchResult result
+            (λ history. judged 1 beginning (lines_of text.now) ≡ Ok history)
+            (λ fault. FailsText fault (judged 1 beginning (lines_of text.now))) }
+    {
+        let lines = lines(alloc, text)?;
+        let mut reader = Reader::new(alloc);
+        let mut number = 1;
+        for bytes in &lines {
+            match reader.read_line(alloc, number, bytes) {
+                Ok(()) => number += 1,
+                Err(fault) => return Err(fault.in_line(number)),
+            }
+        }
+        Ok(History {
+            ranks: reader.ranks,
+            groups: reader.groups,
+            opened: reader.opened,
+            told: reader.told,
+        })
+    }
+
+    /// Whether the text says how many ranks there are.
+    pub fn has_ranks(&self) -> bool
+        ensures { result ≡ is_some self.now.ranks }
+    {
+        self.ranks.is_some()
+    }
+
+    /// How many ranks there are; 0 where the text doesn't say it.
+    pub fn ranks(&self) -> u8
+        ensures { result ≡ unwrap_or self.now.ranks 0 }
+    {
+        self.ranks.unwrap_or(0)
+    }
+
+    /// The members of each communicator, in the order of their member numbers.
+    pub fn groups(&self) -> &[Vec<u8>]
+        ensures groups { rows_view result.now ≡ self.now.groups }
+    {
+        &self.groups
+    }
+
+    /// The commands, in the order of their lines.
+    pub fn told(&self) -> &[Told]
+        ensures { result.now ≡ self.now.told }
+    {
+        &self.told
+    }
+
+    /// The requests of each rank. Linear in the commands.
+    pub fn requests<'a>(&'a self, alloc: Global) -> Result<Vec<Vec<Request<'a>>>, AllocError>
+        ensures view { IfOk result (λ ranks. requests_view ranks.items ≡ requests self.now) }
+        ensures sound { OnOk result (IsSound self.now) }
+    {
+        let mut ranks = none(alloc, self.ranks())?;
+        for told in &self.told {
+            note(alloc, &self.groups, told, &mut ranks[told.rank as usize])?;
+        }
+        Ok(ranks)
+    }
+}
+
+/// No requests of `n` ranks.
+fn none<'a>(alloc: Global, n: u8) -> Result<Vec<Vec<Request<'a>>>, AllocError>
+    ensures count { IfOk result (λ ranks. length ranks.items ≡ n) }
+    ensures none { IfOk result (λ ranks. AllByRecursion (λ requests. requests ≡ []) (requests_view ranks.items)) }
+{
+    let mut ranks = Vec::new(alloc);
+    for _ in 0..n {
+        ranks.push(Vec::new(alloc))?;
+    }
+    Ok(ranks)
+}

@@ -1,0 +1,28 @@
+//! What holds of all texts: laws of the definitions, each the contract of a function without a body.
+
+ghost use Rattle.std.specs.Prelude.{◌≡◌, ℕ, ◌+◌, ◌≤◌, ◌↔◌, false, List, ◌∷◌, length, Ok, Err, Some};
+ghost use Rattle.coll_history.specs.declared.command.Command.{Command};
+ghost use Rattle.coll_history.specs.declared.fault.Fault.{Fault};
+ghost use Rattle.coll_history.specs.Cutting.{lines_of};
+ghost use Rattle.coll_history.specs.Histories.{History, may_be_active, beginning};
+ghost use Rattle.coll_history.specs.Judging.{judged};
+ghost use Rattle.coll_history.specs.Writing.{Tells, text_of};
+ghost use Rattle.coll_history.specs.Laws.{IsFirst, EachStartIsOver};
+
+/// What is written is read: a text whose lines say a history, one after another, has no fault of a line
+/// and reads as that history.
+pub fn reads_what_is_written()
+    ensures { (first : List (List ℕ)) (lines : List (List (List ℕ))) (h : History) → Tells 1 beginning (first ∷ lines) h
+        → judged 1 beginning (lines_of (text_of (first ∷ lines))) ≡ Ok h }
+{}
+
+/// The fault of a text's lines is that of one line; those before it are accepted by themselves, and all
+/// lines that begin with these have the same fault.
+pub fn first_fault_is_first()
+    ensures { (lines : List (List ℕ)) (fault : Fault) → judged 1 beginning lines ≡ Err fault → IsFirst 1 beginning lines fault }
+{}
+
+/// A request is surely inactive exactly where it has had no start, or a wait has named it since its last.
+pub fn inactive_is_waited_for()
+    ensures { (q : ℕ) (commands : List Command) → (may_be_active q commands ≡ false) ↔ EachStartIsOver q commands }
+{}

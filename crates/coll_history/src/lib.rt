@@ -1,0 +1,52 @@
+//! The lines of a job text, read one after another up to the history that they tell: the ranks, their
+//! communicators, and the commands of each rank.
+//!
+//! A line is judged from its left, by the history of the lines before it, so the first rule that it
+//! breaks is its fault. Both are defined in `specs/Judging.antt` as a function of the bytes.
+//! [`History::read`] answers the fault of the first such line, or the history of all lines. Whether the
+//! requests of different ranks belong together is judged above this crate.
+//!
+//! | Module | Has |
+//! |---|---|
+//! | `cause` | `Cause`, which rule a text breaks |
+//! | `fault` | `Fault`, a cause and its line; `ScriptFault`, and the fault of a line |
+//! | `cutting`, `words` | lines and words; `Words`, the words of a line that are still to be read |
+//! | `command`, `given`, `named` | `Command`, what it gives and which requests it names; `Told`, a command in its line |
+//! | `signatures`, `communicators`, `values`, `requests` | readers of a line's words, from the left |
+//! | `verb`, `commands`, `lines` | what a line says |
+//! | `section`, `reader` | what is kept of a section and of a text while its lines are read |
+//! | `history`, `request` | `History`, what the lines have said, and `Request` |
+//! | `laws` | what holds of all texts |
+#![tactic(auto)]
+
+mod cause;
+mod command;
+mod commands;
+mod communicators;
+mod cutting;
+mod fault;
+mod given;
+mod history;
+pub mod laws;
+mod lines;
+mod named;
+mod reader;
+mod request;
+mod requests;
+mod section;
+mod signatures;
+mod values;
+mod verb;
+mod words;
+
+pub use cause::Cause;
+pub use command::{Command, Told};
+pub use cutting::line_count;
+pub use fault::{Fault, ScriptFault};
+pub use given::Given;
+pub use history::History;
+pub use named::Named;
+pub use request::Request;
+
+#[cfg(test)]
+mod tests;

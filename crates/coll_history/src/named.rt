@@ -1,0 +1,89 @@
+ghost use Rattle.std.specs.Prelude.{◌≡◌, ◌==◌, ◌<◌, length, slice_index, IsTrue, IfOk};
+ghost use Rattle.std.specs.List.{range_with_len};
+
+use std::alloc::{AllocError, Global};
+use std::marker::Model;
+
+/// The requests that a command names, by their numbers.
+#[derive(Debug, Drop)]
+pub struct Named {
+    which: Which,
+}
+
+#[derive(Debug, Drop)]
+enum Which {
+    These(Vec<u32>),
+    /// The first requests of the section, so many of them: all that a `waitall` without words can see.
+    First(u32),
+}
+
+impl Model for Named {
+    ghost use Rattle.std.specs.Prelude.{ℕ, List};
+
+    ghost Value = { List ℕ };
+
+    ghost use Rattle.coll_history.specs.Naming.{numbers};
+
+    ghost view = { λ n. numbers n.which };
+}
+
+impl Named {
+    /// Takes no memory.
+    pub fn these(requests: Vec<u32>) -> Named
+        ensures { result ≡ requests.items }
+    {
+        Named {
+            which: Which::These(requests),
+        }
+    }
+
+    /// The requests below `count`. Constant time, and takes no memory.
+    pub fn first(count: u32) -> Named
+        ensures { result ≡ range_with_len 0 count }
+    {
+        Named {
+            which: Which::First(count),
+        }
+    }
+
+    /// How many requests these are.
+    pub fn len(&self) -> usize
+        ensures { result ≡ length self.now }
+    {
+        match &self.which {
+            Which::These(requests) => requests.len(),
+            Which::First(count) => *count as usize,
+        }
+    }
+
+    /// The request at that index.
+    pub fn get(&self, index: usize) -> usize
+        requires { index < length self.now }
+        ensures { result ≡ slice_index self.now index }
+    {
+        match &self.which {
+            Which::These(requests) => requests[index] as usize,
+            Which::First(_) => index,
+        }
+    }
+
+    /// Whether they were given as the first `count` requests.
+    pub(crate) fn is_first(&self, count: usize) -> bool
+        ensures { IsTrue result → self.now ≡ range_with_len 0 count }
+    {
+        match &self.which {
+            Which::These(_) => false,
+            Which::First(first) => *first as usize == count,
+        }
+    }
+
+    /// The same requests once more. Linear in the requests that were given one by one.
+    pub fn copied(&self, alloc: Global) -> Result<Named, AllocError>
+        ensures { IfOk result (λ named. named ≡ self.now) }
+    {
+        match &self.which {
+            Which::These(requests) => Ok(Named::these(Vec::from_slice(alloc, requests)?)),
+            Which::First(count) => Ok(Named::first(*count)),
+        }
+    }
+}

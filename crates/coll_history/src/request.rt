@@ -1,0 +1,88 @@
+ghost use Rattle.std.specs.Prelude.{◌≡◌, ◌≤◌, [], map, length, OnOk};
+ghost use Rattle.std.specs.List.{AllByRecursion};
+ghost use Rattle.coll_history.specs.Requests.{request, requests_after, started};
+ghost use Rattle.coll_history.specs.Code.{rows_view, request_view, IsNamed};
+
+use crate::command::{Command, Told};
+use crate::communicators::group_of;
+use coll_kinds::{Signature, member_of};
+use std::alloc::{AllocError, Global};
+
+/// A request of a rank.
+#[derive(Debug, Drop)]
+pub struct Request<'a> {
+    /// The number, from 1 on, of the line that made it.
+    pub line: u32,
+    /// The communicator that it is on: 0 for the one of all ranks, then in the order of their lines.
+    pub comm: u8,
+    /// The number that the rank has within the communicator, from 0 on.
+    pub member: u8,
+    /// The signature, with the mode.
+    pub sig: Signature,
+    /// The bytes given at each start, in the order of the starts.
+    pub starts: Vec<&'a [u8]>,
+}
+
+impl<'a> Request<'a> {
+    /// A request of a rank that a line makes. It has had no start.
+    fn new(
+        alloc: Global,
+        groups: &[Vec<u8>],
+        line: u32,
+        rank: u8,
+        comm: u8,
+        sig: Signature,
+    ) -> Request<'a>
+        requires { AllByRecursion (λ group. length group ≤ 64) (rows_view groups.now) }
+        ensures { request_view result ≡ request (rows_view groups.now) line rank comm sig [] }
+    {
+        let member = member_of(rank, group_of(groups, comm)).unwrap_or(0) as u8;
+        Request {
+            line,
+            comm,
+            member,
+            sig,
+            starts: Vec::new(alloc),
+        }
+    }
+
+    /// Notes a start with these bytes.
+    fn start(&mut self, given: &'a [u8]) -> Result<(), AllocError>
+        ensures { OnOk result (request_view self.new ≡ started given.now (request_view self.old)) }
+    {
+        self.starts.push(given)?;
+        Ok(())
+    }
+}
+
+/// Takes what a line says of the requests of its rank. The cost is that of the line.
+pub(crate) fn note<'a>(
+    alloc: Global,
+    groups: &[Vec<u8>],
+    told: &'a Told,
+    requests: &mut Vec<Request<'a>>,
+) -> Result<(), AllocError>
+    requires groups { AllByRecursion (λ group. length group ≤ 64) (rows_view groups.now) }
+    requires known { IsNamed (length requests.old.items) told.now.command }
+    ensures { OnOk result (map request_view requests.new.items
+        ≡ requests_after (rows_view groups.now) told.now.line told.now.rank told.now.command (map request_view requests.old.items)) }
+{
+    match &told.command {
+        Command::Post { comm, sig, given } => {
+            let mut made = Request::new(alloc, groups, told.line, told.rank, *comm, *sig);
+            made.start(given.as_slice())?;
+            requests.push(made)?;
+        }
+        Command::Init { comm, sig } => {
+            requests.push(Request::new(alloc, groups, told.line, told.rank, *comm, *sig))?;
+        }
+        Command::Start { req, given } => requests[*req as usize].start(given.as_slice())?,
+        Command::Wait(_) => {}
+        Command::Test(_) => {}
+        Command::Free(_) => {}
+        Command::WaitAny(_) => {}
+        Command::WaitSome(_) => {}
+        Command::WaitAll(_) => {}
+    }
+    Ok(())
+}

@@ -1,0 +1,70 @@
+//! The words that name requests.
+
+ghost use Rattle.std.specs.Prelude.{◌≡◌, ℕ, ◌<◌, ◌≤◌, length, slice_index};
+ghost use Rattle.coll_history.specs.Reading.{numbers};
+ghost use Rattle.coll_history.specs.Histories.{History, said_by};
+ghost use Rattle.coll_history.specs.Lines.{request_in, made, startable, one};
+ghost use Rattle.coll_history.specs.declared.cause.Cause.TheVariants.{NamedTwice};
+ghost use Rattle.coll_history.specs.Code.{posting_view, IsKept, Reads, ReadsSo};
+
+use crate::cause::Cause;
+use crate::fault::LineFault;
+use crate::section::{Entry, Section};
+use crate::words::{Words, request_in};
+use std::alloc::Global;
+
+/// The one request that the words name, of `count` requests.
+pub(crate) fn one(count: usize, words: &mut Words) -> Result<u32, Cause>
+    requires { count ≤ 4096 }
+    ensures { (h : History) (rank : ℕ) → length (made h rank) ≡ count → Reads (λ q. q) result words.new (one h rank words.old) }
+{
+    let q = words.request(count)?;
+    words.end()?;
+    Ok(q)
+}
+
+/// The requests that the words name, at least one and none twice. `stamps` has for each request of the
+/// section the last line that named it so, each before this one. Linear in the line.
+pub(crate) fn requests(
+    alloc: Global,
+    stamps: &mut [u32],
+    line: u32,
+    words: &mut Words,
+) -> Result<Vec<u32>, LineFault>
+    requires few { length stamps.old ≤ 4096 }
+    requires earlier { (q : ℕ) → q < length stamps.old → slice_index stamps.old q < line }
+    ensures read { ReadsSo (λ qs. qs.items) result words.new (numbers (request_in (length stamps.old)) NamedTwice words.old) }
+    ensures stamps { (q : ℕ) → q < length stamps.old → slice_index stamps.new q ≤ line }
+{
+    if words.is_empty() {
+        return Err(LineFault::Broken(Cause::BadWords));
+    }
+    let count = stamps.len();
+    let mut named = Vec::new(alloc);
+    for word in words.take_rest() {
+        let q = request_in(count, word)?;
+        if stamps[q as usize] == line {
+            return Err(LineFault::Broken(Cause::NamedTwice));
+        }
+        stamps[q as usize] = line;
+        named.push(q)?;
+    }
+    Ok(named)
+}
+
+/// The request of the next word, which a start or a free may name, and its number.
+#[tactic(auto, unfolding(crate::specs::Lines::startable))]
+pub(crate) fn startable<'s>(
+    section: &'s Section,
+    words: &mut Words,
+) -> Result<(u32, &'s Entry), Cause>
+    requires { length section.now.entries.items ≤ 4096 }
+    ensures { (next : ℕ) (h : History) (rank : ℕ) → IsKept next (said_by rank h.told) section.now
+        → Reads (λ p. (p.0, posting_view p.1.now)) result words.new (startable h rank words.old) }
+{
+    let q = words.request(section.entries.len())?;
+    if !section.is_startable(q) {
+        return Err(Cause::NotStartable);
+    }
+    Ok((q, &section.entries[q as usize]))
+}

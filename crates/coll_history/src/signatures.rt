@@ -1,0 +1,98 @@
+//! The words of a signature.
+
+ghost use Rattle.std.specs.Prelude.{◌≡◌, ◌^◌, ok_or, cond, is_none, None, Some, Ok};
+ghost use Rattle.coll_kinds.specs.Checks.{is_barrier, broken};
+ghost use Rattle.coll_kinds.specs.declared.datatype.Datatype.TheVariants.{Byte};
+ghost use Rattle.coll_history.specs.declared.cause.Cause.TheVariants.{BadSignature};
+ghost use Rattle.coll_kinds.specs.Words.{kind_of, operation_of, datatype_of};
+ghost use Rattle.coll_history.specs.Reading.{and_then, give, must};
+ghost use Rattle.coll_history.specs.Lines.{next, number_within, fields, signature};
+ghost use Rattle.coll_history.specs.Code.{Asks, Reads};
+
+use crate::cause::Cause;
+use crate::words::Words;
+use coll_kinds::{Datatype, Kind, Mode, Op, Signature};
+
+/// A signature that `n` members may use, for a request of that mode. Of the rules that the words break it
+/// tells the first.
+#[tactic(auto, unfolding(crate::specs::Lines::signature))]
+pub(crate) fn signature(mode: Mode, n: u8, words: &mut Words) -> Result<Signature, Cause>
+    ensures { Reads (λ sig. sig) result words.new (signature mode n words.old) }
+{
+    let kind = Kind::from_word(words.next()?).ok_or(Cause::BadSignature)?;
+    let sig = fields(mode, kind, words)?;
+    check(sig, n)?;
+    Ok(sig)
+}
+
+/// Asks that `n` members may use the signature.
+fn check(sig: Signature, n: u8) -> Result<(), Cause>
+    ensures { Asks result (must (is_none (broken sig n)) BadSignature) }
+{
+    match sig.check(n) {
+        Ok(()) => Ok(()),
+        Err(_) => Err(Cause::BadSignature),
+    }
+}
+
+/// What stands behind the word of a kind.
+#[tactic(auto, unfolding(crate::specs::Lines::fields))]
+fn fields(mode: Mode, kind: Kind, words: &mut Words) -> Result<Signature, Cause>
+    ensures { Reads (λ sig. sig) result words.new (fields mode kind words.old) }
+{
+    let root = root(kind.has_root(), words)?;
+    let op = operation(kind.has_operation(), words)?;
+    let ty = datatype(is_barrier(kind), words)?;
+    let count = count(is_barrier(kind), words)?;
+    Ok(Signature {
+        kind,
+        mode,
+        root,
+        op,
+        ty,
+        count,
+    })
+}
+
+fn root(has_root: bool, words: &mut Words) -> Result<u8, Cause>
+    ensures { Reads (λ root. root) result words.new (cond has_root (next (λ w. ok_or (number_within 0 256 w) BadSignature)) (give 0) words.old) }
+{
+    if !has_root {
+        return Ok(0);
+    }
+    Ok(words.number_within(0, 256, Cause::BadSignature)? as u8)
+}
+
+fn operation(has_operation: bool, words: &mut Words) -> Result<Option<Op>, Cause>
+    ensures { Reads (λ op. op) result words.new (cond has_operation (next (λ w. and_then (ok_or (operation_of w) BadSignature) (λ op. Ok (Some op)))) (give None) words.old) }
+{
+    if !has_operation {
+        return Ok(None);
+    }
+    let op = Op::from_word(words.next()?).ok_or(Cause::BadSignature)?;
+    Ok(Some(op))
+}
+
+fn datatype(is_barrier: bool, words: &mut Words) -> Result<Datatype, Cause>
+    ensures { Reads (λ ty. ty) result words.new (cond is_barrier (give Byte) (next (λ w. ok_or (datatype_of w) BadSignature)) words.old) }
+{
+    if is_barrier {
+        return Ok(Datatype::Byte);
+    }
+    Datatype::from_word(words.next()?).ok_or(Cause::BadSignature)
+}
+
+fn count(is_barrier: bool, words: &mut Words) -> Result<u32, Cause>
+    ensures { Reads (λ count. count) result words.new (cond is_barrier (give 0) (next (λ w. ok_or (number_within 0 (2 ^ 32) w) BadSignature)) words.old) }
+{
+    if is_barrier {
+        return Ok(0);
+    }
+    words.number_within(0, 1 << 32, Cause::BadSignature)
+}
+
+fn is_barrier(kind: Kind) -> bool
+    ensures { result ≡ is_barrier kind }
+{
+    kind == Kind::Barrier
+}
