@@ -80,11 +80,12 @@ impl Bench {
 
     /// Plans what all members post.
     pub fn plan(&mut self) -> Result<(), Refusal> {
-        if self.members > 64 {
+        let members = self.members;
+        if members > 64 {
             return Err(Refusal::Torn);
         }
-        for member in 0..self.members {
-            let plan = plan(self.alloc, self.sig, self.members, member)?;
+        for member in 0..members {
+            let plan = plan(self.alloc, self.sig, members, member)?;
             let bytes = vec![in self.alloc; 1; plan.given_len()]?;
             self.offers.push(Offer { plan, bytes })?;
         }

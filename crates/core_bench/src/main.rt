@@ -66,6 +66,9 @@ fn run(rt: &HostRuntime, kind: Kind, members: u8, others: u32, turns: u32) -> an
         return Ok(());
     }
     let calls = u128::from(turns) * u128::from(members);
+    if calls == 0 {
+        return Ok(());
+    }
     let actions = u128::from(turns) * u128::from(steps) + 1;
     println!(rt;
         "{kind} {members} {others} {steps} post {} step {} retire {}",
