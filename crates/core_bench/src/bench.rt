@@ -122,6 +122,11 @@ impl Bench {
         Err(Refusal::Torn)
     }
 
+    /// Does the same in one call.
+    pub fn settle(&mut self) -> Result<u64, Refusal> {
+        self.core.settle()
+    }
+
     /// Completes all requests.
     pub fn retire(&mut self) -> Result<(), Refusal> {
         let mut rank = 0;

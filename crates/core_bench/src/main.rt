@@ -1,6 +1,6 @@
 //! Runs each kind of collective on the engine's core, among 4 and among 64 members, beside 1 and beside 4,000 requests
-//! that wait, and prints how many actions it took. With a word on the command line it also times posts, steps and
-//! completions over 100 turns, in nanoseconds a call.
+//! that wait, and prints how many actions it took. With a word on the command line it also times posts, steps (with their
+//! combinations), settling and completions over 100 turns, in nanoseconds a call, or for each action.
 #![tactic(auto)]
 
 mod bench;
@@ -46,7 +46,7 @@ fn main(rt: HostRuntime) -> anyhow::Result<()> {
 /// Prints one line for the kind, the members and the other requests.
 fn run(rt: &HostRuntime, kind: Kind, members: u8, others: u32, turns: u32) -> anyhow::Result<()> {
     let mut bench = Bench::new(rt.alloc(), kind, members, others)?;
-    let mut times = [0, 0, 0];
+    let mut times = [0, 0, 0, 0];
     let mut steps: u64 = 0;
     for _turn in 0..turns {
         bench.plan()?;
@@ -60,6 +60,12 @@ fn run(rt: &HostRuntime, kind: Kind, members: u8, others: u32, turns: u32) -> an
         times[0] = posted.wrapping_add(times[0]);
         times[1] = stepped.wrapping_sub(posted).wrapping_add(times[1]);
         times[2] = retired.wrapping_sub(stepped).wrapping_add(times[2]);
+        bench.plan()?;
+        bench.post()?;
+        let start = Instant::now(rt)?;
+        bench.settle()?;
+        times[3] = start.elapsed(rt)?.as_nanos().wrapping_add(times[3]);
+        bench.retire()?;
     }
     if turns == 1 {
         println!(rt; "{kind} {members} {others} {steps}")?;
@@ -71,9 +77,10 @@ fn run(rt: &HostRuntime, kind: Kind, members: u8, others: u32, turns: u32) -> an
     }
     let actions = u128::from(turns) * u128::from(steps) + 1;
     println!(rt;
-        "{kind} {members} {others} {steps} post {} step {} retire {}",
+        "{kind} {members} {others} {steps} post {} step {} settle {} retire {}",
         times[0] / calls,
         times[1] / actions,
+        times[3] / actions,
         times[2] / calls
     )?;
     Ok(())
