@@ -1,6 +1,6 @@
 //! An engine with one collective that is posted, stepped and completed again and again.
 
-use coll_core::{Config, Core, Offer, Stepped};
+use coll_core::{Config, Core, DoneWork, Offer, Stepped, Work};
 use coll_kinds::{Datatype, Kind, Mode, Op, Refusal, Signature, Ticket};
 use coll_plans::plan;
 use std::alloc::Global;
@@ -41,33 +41,80 @@ fn numbers(alloc: Global, below: u8) -> Result<Vec<u8>, Refusal> {
     Ok(all)
 }
 
+// The calls of the core, with nothing that they promise: what they do is counted when the program runs.
+
+fn post(core: &mut Core, rank: u8, comm: u32, offer: Offer) -> Result<Ticket, Refusal> {
+    match core.post(rank, comm, offer) {
+        Ok(ticket) => Ok(ticket),
+        Err(refused) => Err(refused.why),
+    }
+}
+
+fn settle(core: &mut Core) -> Result<u64, Refusal> {
+    core.settle()
+}
+
+fn retire(core: &mut Core, rank: u8, ticket: Ticket) -> Result<bool, Refusal> {
+    Ok(core.retire(rank, ticket)?.is_some())
+}
+
+/// One action, whose combination is computed where it is one. False where nothing is ready.
+fn act(core: &mut Core) -> Result<bool, Refusal> {
+    match core.step()? {
+        Stepped::Quiet => Ok(false),
+        Stepped::Moved => Ok(true),
+        Stepped::Finished => Ok(true),
+        Stepped::Out(work) => finish(core, work),
+    }
+}
+
+fn finish(core: &mut Core, work: Work) -> Result<bool, Refusal> {
+    match work.run() {
+        Ok(done) => commit(core, done),
+        Err(refused) => Err(refused.why),
+    }
+}
+
+fn commit(core: &mut Core, done: DoneWork) -> Result<bool, Refusal> {
+    core.commit(done)?;
+    Ok(true)
+}
+
+/// An engine for 64 ranks, with a communicator of so many members and one of two ranks.
+fn open(alloc: Global, members: u8) -> Result<Core, Refusal> {
+    let mut groups = Vec::new(alloc);
+    groups.push(numbers(alloc, members)?)?;
+    groups.push(numbers(alloc, 2)?)?;
+    let config = Config {
+        ranks: 64,
+        groups,
+        slots: 4_096,
+        places: 65_536,
+        wear: 4_294_967_295,
+        starts: 1,
+        trace: 2,
+    };
+    Core::open(alloc, config)
+}
+
+/// A barrier of two, at one of them.
+fn waiting(alloc: Global) -> Result<Offer, Refusal> {
+    let plan = plan(alloc, signature(Kind::Barrier), 2, 0)?;
+    Ok(Offer {
+        plan,
+        bytes: Vec::new(alloc),
+    })
+}
+
 impl Bench {
     /// An engine with a communicator of so many members, and so many barriers that one of two ranks has posted.
     pub fn new(alloc: Global, kind: Kind, members: u8, others: u32) -> Result<Bench, Refusal> {
-        let mut groups = Vec::new(alloc);
-        groups.push(numbers(alloc, members)?)?;
-        groups.push(numbers(alloc, 2)?)?;
-        let config = Config {
-            ranks: 64,
-            groups,
-            slots: 4_096,
-            places: 65_536,
-            wear: 4_294_967_295,
-            starts: 1,
-            trace: 2,
-        };
-        let mut core = Core::open(alloc, config)?;
+        let mut core = open(alloc, members)?;
         for _other in 0..others {
-            let plan = plan(alloc, signature(Kind::Barrier), 2, 0)?;
-            let offer = Offer {
-                plan,
-                bytes: Vec::new(alloc),
-            };
-            if let Err(refused) = core.post(0, 1, offer) {
-                return Err(refused.why);
-            }
+            let offer = waiting(alloc)?;
+            post(&mut core, 0, 1, offer)?;
         }
-        core.settle()?;
+        settle(&mut core)?;
         Ok(Bench {
             alloc,
             core,
@@ -94,29 +141,28 @@ impl Bench {
 
     /// Posts it at all members, the last first.
     pub fn post(&mut self) -> Result<(), Refusal> {
-        while let Some(offer) = self.offers.pop() {
-            let rank = offer.plan.member();
-            match self.core.post(rank, 0, offer) {
-                Ok(ticket) => self.tickets.push(ticket)?,
-                Err(refused) => return Err(refused.why),
-            }
+        for _member in 0..self.members {
+            self.post_last()?;
         }
+        Ok(())
+    }
+
+    /// Posts the last offer.
+    fn post_last(&mut self) -> Result<(), Refusal> {
+        let Some(offer) = self.offers.pop() else {
+            return Err(Refusal::Torn);
+        };
+        let rank = offer.plan.member();
+        let ticket = post(&mut self.core, rank, 0, offer)?;
+        self.tickets.push(ticket)?;
         Ok(())
     }
 
     /// Steps until nothing is ready, and computes what is handed out: how many actions that were.
     pub fn steps(&mut self) -> Result<u64, Refusal> {
         for count in 0..1_000_000 {
-            match self.core.step()? {
-                Stepped::Quiet => return Ok(count),
-                Stepped::Moved => {}
-                Stepped::Finished => {}
-                Stepped::Out(work) => match work.run() {
-                    Ok(done) => {
-                        self.core.commit(done)?;
-                    }
-                    Err(refused) => return Err(refused.why),
-                },
+            if !act(&mut self.core)? {
+                return Ok(count);
             }
         }
         Err(Refusal::Torn)
@@ -124,18 +170,24 @@ impl Bench {
 
     /// Does the same in one call.
     pub fn settle(&mut self) -> Result<u64, Refusal> {
-        self.core.settle()
+        settle(&mut self.core)
     }
 
     /// Completes all requests.
     pub fn retire(&mut self) -> Result<(), Refusal> {
-        let mut rank = 0;
-        while let Some(ticket) = self.tickets.pop() {
-            match self.core.retire(rank, ticket)? {
-                Some(_) => {}
-                None => return Err(Refusal::Torn),
-            }
-            rank = rank.wrapping_add(1);
+        for rank in 0..self.members {
+            self.retire_last(rank)?;
+        }
+        Ok(())
+    }
+
+    /// Completes the last request, which is that rank's.
+    fn retire_last(&mut self, rank: u8) -> Result<(), Refusal> {
+        let Some(ticket) = self.tickets.pop() else {
+            return Err(Refusal::Torn);
+        };
+        if !retire(&mut self.core, rank, ticket)? {
+            return Err(Refusal::Torn);
         }
         Ok(())
     }

@@ -2,10 +2,10 @@
 
 use crate::random::Random;
 use crate::seat::{STARTS, Seat, Stage};
-use coll_core::{Config, Core, Offer, Stepped, Work};
-use coll_kinds::{Datatype, Kind, Mode, Op, Refusal, Signature};
+use coll_core::{Config, Core, DoneWork, Offer, Outcome, Stepped, Work};
+use coll_kinds::{Datatype, Kind, Mode, Op, Refusal, Signature, Ticket};
 use coll_ops::plain_value;
-use coll_plans::plan;
+use coll_plans::{Plan, plan};
 use std::alloc::Global;
 
 /// How many collectives each communicator has.
@@ -235,65 +235,66 @@ impl Job {
         };
         let stage = match seat.stage {
             Stage::New => self.enter(index, &seat)?,
-            Stage::Idle(ticket) => {
-                if seat.starts < STARTS {
-                    let bytes = contribution(self.alloc, &seat, seat.member)?;
-                    match self.core.start(seat.rank, ticket, bytes) {
-                        Ok(()) => Stage::Active(ticket),
-                        Err(refused) => return Err(refused.why),
-                    }
-                } else {
-                    self.core.free(seat.rank, ticket)?;
-                    Stage::Over
-                }
-            }
-            Stage::Active(ticket) => match self.core.retire(seat.rank, ticket)? {
-                Some(outcome) => {
-                    if outcome.start != seat.starts
-                        || outcome.bytes != value_at(self.alloc, &seat)?
-                    {
-                        return Err(Refusal::Torn);
-                    }
-                    self.outcomes = self.outcomes.wrapping_add(1);
-                    self.count_start(index);
-                    match seat.sig.mode {
-                        Mode::Once => Stage::Over,
-                        Mode::Persistent => Stage::Idle(ticket),
-                    }
-                }
-                None => Stage::Active(ticket),
-            },
+            Stage::Idle(ticket) => self.leave_idle(&seat, ticket)?,
+            Stage::Active(ticket) => self.complete(index, &seat, ticket)?,
             Stage::Over => Stage::Over,
         };
         self.set_stage(index, stage);
         Ok(())
     }
 
-    /// Posts or initialises a seat's request, where its member's earlier ones have been.
-    fn enter(&mut self, index: usize, seat: &Seat) -> Result<Stage, Refusal> {
-        if seat.place > 0 && index > 0 {
-            if let Some(earlier) = self.seats.get(index - 1) {
-                if earlier.stage == Stage::New {
-                    return Ok(Stage::New);
-                }
-            }
+    /// Starts an inactive request, or frees it where it has had its starts.
+    fn leave_idle(&mut self, seat: &Seat, ticket: Ticket) -> Result<Stage, Refusal> {
+        if seat.starts < STARTS {
+            let bytes = contribution(self.alloc, seat, seat.member)?;
+            start(&mut self.core, seat.rank, ticket, bytes)?;
+            return Ok(Stage::Active(ticket));
         }
-        if seat.member >= seat.size || seat.size > 64 {
+        free(&mut self.core, seat.rank, ticket)?;
+        Ok(Stage::Over)
+    }
+
+    /// Completes an active request, if it is Done, and compares its outcome.
+    fn complete(&mut self, index: usize, seat: &Seat, ticket: Ticket) -> Result<Stage, Refusal> {
+        let Some(outcome) = retire(&mut self.core, seat.rank, ticket)? else {
+            return Ok(Stage::Active(ticket));
+        };
+        let value = value_at(self.alloc, seat)?;
+        if outcome.start != seat.starts || outcome.bytes != value {
             return Err(Refusal::Torn);
         }
-        let plan = plan(self.alloc, seat.sig, seat.size, seat.member)?;
+        self.outcomes = self.outcomes.wrapping_add(1);
+        self.count_start(index);
+        Ok(match seat.sig.mode {
+            Mode::Once => Stage::Over,
+            Mode::Persistent => Stage::Idle(ticket),
+        })
+    }
+
+    /// Posts or initialises a seat's request, where its member's earlier ones have been.
+    fn enter(&mut self, index: usize, seat: &Seat) -> Result<Stage, Refusal> {
+        if seat.place > 0 && self.is_new(index.wrapping_sub(1)) {
+            return Ok(Stage::New);
+        }
+        let plan = plan_of(self.alloc, seat)?;
         match seat.sig.mode {
             Mode::Once => {
                 let bytes = contribution(self.alloc, seat, seat.member)?;
-                match self.core.post(seat.rank, seat.comm, Offer { plan, bytes }) {
-                    Ok(ticket) => Ok(Stage::Active(ticket)),
-                    Err(refused) => Err(refused.why),
-                }
+                let ticket = post(&mut self.core, seat, plan, bytes)?;
+                Ok(Stage::Active(ticket))
             }
-            Mode::Persistent => match self.core.init(seat.rank, seat.comm, plan) {
-                Ok(ticket) => Ok(Stage::Idle(ticket)),
-                Err(refused) => Err(refused.why),
-            },
+            Mode::Persistent => {
+                let ticket = init(&mut self.core, seat, plan)?;
+                Ok(Stage::Idle(ticket))
+            }
+        }
+    }
+
+    /// A seat whose request is neither posted nor initialised.
+    fn is_new(&self, index: usize) -> bool {
+        match self.seats.get(index) {
+            Some(seat) => seat.stage == Stage::New,
+            None => false,
         }
     }
 
@@ -311,11 +312,8 @@ impl Job {
 
     /// A step; a combination is held.
     fn step(&mut self) -> Result<(), Refusal> {
-        match self.core.step()? {
-            Stepped::Quiet => {}
-            Stepped::Moved => {}
-            Stepped::Finished => {}
-            Stepped::Out(work) => self.held.push(work)?,
+        if let Some(work) = step(&mut self.core)? {
+            self.held.push(work)?;
         }
         Ok(())
     }
@@ -326,14 +324,75 @@ impl Job {
             return Ok(());
         };
         if self.random.below(4) == 0 {
-            return self.core.abandon(work);
-        }
-        match work.run() {
-            Ok(done) => {
-                self.core.commit(done)?;
-                Ok(())
-            }
-            Err(refused) => Err(refused.why),
+            abandon(&mut self.core, work)
+        } else {
+            finish(&mut self.core, work)
         }
     }
+}
+
+// The calls of the core, with nothing that they promise: what they do is compared when the job runs.
+
+/// The plan of a seat; Torn where its member isn't one of at most 64.
+fn plan_of(alloc: Global, seat: &Seat) -> Result<Plan, Refusal> {
+    if seat.member >= seat.size || seat.size > 64 {
+        return Err(Refusal::Torn);
+    }
+    plan(alloc, seat.sig, seat.size, seat.member)
+}
+
+fn post(core: &mut Core, seat: &Seat, plan: Plan, bytes: Vec<u8>) -> Result<Ticket, Refusal> {
+    match core.post(seat.rank, seat.comm, Offer { plan, bytes }) {
+        Ok(ticket) => Ok(ticket),
+        Err(refused) => Err(refused.why),
+    }
+}
+
+fn init(core: &mut Core, seat: &Seat, plan: Plan) -> Result<Ticket, Refusal> {
+    match core.init(seat.rank, seat.comm, plan) {
+        Ok(ticket) => Ok(ticket),
+        Err(refused) => Err(refused.why),
+    }
+}
+
+fn start(core: &mut Core, rank: u8, ticket: Ticket, bytes: Vec<u8>) -> Result<(), Refusal> {
+    match core.start(rank, ticket, bytes) {
+        Ok(()) => Ok(()),
+        Err(refused) => Err(refused.why),
+    }
+}
+
+fn free(core: &mut Core, rank: u8, ticket: Ticket) -> Result<(), Refusal> {
+    core.free(rank, ticket)
+}
+
+fn retire(core: &mut Core, rank: u8, ticket: Ticket) -> Result<Option<Outcome>, Refusal> {
+    core.retire(rank, ticket)
+}
+
+/// A step, with the combination that it hands out.
+fn step(core: &mut Core) -> Result<Option<Work>, Refusal> {
+    match core.step()? {
+        Stepped::Quiet => Ok(None),
+        Stepped::Moved => Ok(None),
+        Stepped::Finished => Ok(None),
+        Stepped::Out(work) => Ok(Some(work)),
+    }
+}
+
+fn abandon(core: &mut Core, work: Work) -> Result<(), Refusal> {
+    core.abandon(work)
+}
+
+/// Computes a combination and commits it.
+fn finish(core: &mut Core, work: Work) -> Result<(), Refusal> {
+    match work.run() {
+        Ok(done) => commit(core, done),
+        Err(refused) => Err(refused.why),
+    }
+}
+
+fn commit(core: &mut Core, done: DoneWork) -> Result<(), Refusal> {
+    core.commit(done)?;
+    Ok(())
 }
