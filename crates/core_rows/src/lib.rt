@@ -1,4 +1,4 @@
-//! Worked rows of the engine's core, as tests: each a short story of a few ranks, with what its calls answer.
+//! Random jobs on the engine's core, as a test, and the core's calls in short forms for worked rows.
 //!
 //! | Module | Has |
 //! |---|---|
@@ -8,10 +8,6 @@
 //! | `seat` | `Seat`, one member's part of one of its collectives |
 //! | `random` | `Random`, numbers that look random |
 //! | `job_tests` | random jobs, each outcome compared with the value computed directly |
-//! | `once_tests` | posts, steps, completions |
-//! | `persistent_tests` | initialisations, starts, frees |
-//! | `refusal_tests` | what is refused |
-//! | `work_tests` | combinations that are handed out |
 #![tactic(auto)]
 
 mod driver;
@@ -26,11 +22,3 @@ pub use signatures::{barrier, bcast, reduction};
 
 #[cfg(test)]
 mod job_tests;
-#[cfg(test)]
-mod once_tests;
-#[cfg(test)]
-mod persistent_tests;
-#[cfg(test)]
-mod refusal_tests;
-#[cfg(test)]
-mod work_tests;
