@@ -1,4 +1,4 @@
-//! An engine with its calls in short forms. They promise nothing: what the calls do stands in the rows.
+//! An engine with its calls in short forms, for worked rows, none of which is run yet. They promise nothing.
 
 use coll_core::{Config, Core, DoneWork, Offer, Outcome, Phase, Stepped, Work};
 use coll_kinds::{Refusal, Signature, Ticket};
