@@ -3,8 +3,12 @@
 #include <stdio.h>
 #include <time.h>
 
+#ifndef BYTES
 #define BYTES 65536
+#endif
+#ifndef TURNS
 #define TURNS 256
+#endif
 
 static uint8_t left[BYTES] __attribute__((aligned(16)));
 static uint8_t right[BYTES] __attribute__((aligned(16)));

@@ -1,6 +1,6 @@
 #!/usr/bin/env python3
 """Compares `combine` with the same loops in C at -O3, over every operation and type: microseconds for 256 turns over two
-rows of 64 KiB, the best of five runs each, and their ratio. Both have to give the same results.
+rows of 64 KiB, the best of five runs each, and their ratio. Both have to give the same results, on rows of 1 MiB too.
 
 Run it at the top of the repository after `rt run` in crates/combine_bench has built the program. It needs gcc.
 """
@@ -21,13 +21,32 @@ def rows(command):
     """(operation, type) -> (results, least microseconds) of five runs."""
     best = {}
     for _ in range(5):
-        for line in subprocess.run(command, check=True, capture_output=True, text=True).stdout.splitlines():
+        for line in output(command):
             op, ty, first, took, last = line.split()
             known = best.get((op, ty))
             if known and known[0] != (first, last):
                 sys.exit(f"{op} {ty}: two runs differ")
             best[op, ty] = ((first, last), min(int(took), known[1]) if known else int(took))
     return best
+
+
+def is_bitwise_byte(line):
+    """C has no type of its own for the bytes that bitwise operations take."""
+    return line.split()[1] == "byte"
+
+
+def compare_long_rows(folder):
+    """The checksums of one combination of rows of 1 MiB."""
+    loops = os.path.join(folder, "long")
+    subprocess.run(["gcc", *FLAGS, "-DBYTES=1048576", "-DTURNS=1", os.path.join(HERE, "combine.c"), "-o", loops], check=True)
+    wanted = [" ".join(line.split()[:3]) for line in output([loops])]
+    given = [line for line in output([PROGRAM]) if not is_bitwise_byte(line)]
+    if given != wanted:
+        sys.exit("on rows of 1 MiB the results differ")
+
+
+def output(command):
+    return subprocess.run(command, check=True, capture_output=True, text=True).stdout.splitlines()
 
 
 def main():
@@ -37,6 +56,7 @@ def main():
         loops = os.path.join(folder, "combine")
         subprocess.run(["gcc", *FLAGS, os.path.join(HERE, "combine.c"), "-o", loops], check=True)
         plain = rows([loops])
+        compare_long_rows(folder)
     proved = rows([PROGRAM, "times"])
     print(f"{'operation':10}{'type':6}{'C':>8}{'proved':>8}{'C/proved':>10}")
     for (op, ty), (results, took) in plain.items():

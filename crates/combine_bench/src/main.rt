@@ -1,6 +1,6 @@
-//! Runs `combine` over every operation and type, on rows of 64 KiB, and prints a checksum of each result. With a word
-//! on the command line it also times 256 turns of each, in microseconds. `bench/combine.py` compares both with the
-//! same loops in C.
+//! Runs `combine` over every operation and type, on rows of 1 MiB, and prints a checksum of each result. With a word on
+//! the command line it times 256 turns of each on rows of 64 KiB, in microseconds. `bench/combine.py` compares both with
+//! the same loops in C, whose checksums are also what is stored beside this program.
 #![tactic(auto)]
 
 mod rows;
@@ -13,32 +13,38 @@ use std::time::Instant;
 /// How often each operation is timed.
 const TURNS: u32 = 256;
 
+/// Blocks of eight bytes in a row of 64 KiB, and of 1 MiB.
+const TIMED_BLOCKS: u32 = 8_192;
+
+const LONG_BLOCKS: u32 = 131_072;
+
 fn main(rt: HostRuntime) -> anyhow::Result<()> {
-    let turns = if env::args(&rt)?.count() > 1 {
-        TURNS
-    } else {
-        1
-    };
+    let is_timed = env::args(&rt)?.count() > 1;
     for op in Op::ALL {
         for ty in Datatype::ALL {
-            if op.is_allowed_on(ty) {
-                run(&rt, op, ty, turns)?;
+            if op.is_allowed_on(ty) && is_timed {
+                time(&rt, op, ty)?;
+            } else if op.is_allowed_on(ty) {
+                show(&rt, op, ty)?;
             }
         }
     }
     Ok(())
 }
 
-/// Prints one line for the operation and the type.
-fn run(rt: &HostRuntime, op: Op, ty: Datatype, turns: u32) -> anyhow::Result<()> {
-    let mut rows = Rows::new(rt.alloc())?;
+/// Prints the checksum of one combination of long rows.
+fn show(rt: &HostRuntime, op: Op, ty: Datatype) -> anyhow::Result<()> {
+    let checksum = Rows::new(rt.alloc(), LONG_BLOCKS)?.combine(op, ty);
+    println!(rt; "{op} {ty} {checksum}")?;
+    Ok(())
+}
+
+/// Prints the checksum of one combination, the time of many, and the checksum behind them.
+fn time(rt: &HostRuntime, op: Op, ty: Datatype) -> anyhow::Result<()> {
+    let mut rows = Rows::new(rt.alloc(), TIMED_BLOCKS)?;
     let checksum = rows.combine(op, ty);
-    if turns == 1 {
-        println!(rt; "{op} {ty} {checksum}")?;
-        return Ok(());
-    }
     let start = Instant::now(rt)?;
-    for _ in 0..turns {
+    for _ in 0..TURNS {
         rows.turn(op, ty);
     }
     let took = start.elapsed(rt)?;

@@ -2,9 +2,6 @@ use coll_kinds::{Datatype, Op};
 use coll_ops::combine;
 use std::alloc::{AllocError, Global};
 
-/// Blocks of eight bytes in a row of 64 KiB.
-const BLOCKS: u32 = 8192;
-
 /// Two rows of bytes that are mixed well, and a third for their combination.
 #[derive(Drop)]
 pub(crate) struct Rows {
@@ -14,11 +11,12 @@ pub(crate) struct Rows {
 }
 
 impl Rows {
-    pub(crate) fn new(alloc: Global) -> Result<Self, AllocError> {
+    /// Rows of so many blocks of eight bytes.
+    pub(crate) fn new(alloc: Global, blocks: u32) -> Result<Self, AllocError> {
         Ok(Rows {
-            left: row(alloc, 1)?,
-            right: row(alloc, 2)?,
-            out: row(alloc, 3)?,
+            left: row(alloc, blocks, 1)?,
+            right: row(alloc, blocks, 2)?,
+            out: row(alloc, blocks, 3)?,
         })
     }
 
@@ -53,11 +51,11 @@ impl Rows {
     }
 }
 
-/// A row of bytes made from the seed by a linear congruence.
-fn row(alloc: Global, seed: u64) -> Result<Vec<u8>, AllocError> {
+/// A row of so many blocks of eight bytes, made from the seed by a linear congruence.
+fn row(alloc: Global, blocks: u32, seed: u64) -> Result<Vec<u8>, AllocError> {
     let mut row = Vec::new(alloc);
     let mut x = seed;
-    for _ in 0..BLOCKS {
+    for _ in 0..blocks {
         x = x
             .wrapping_mul(6_364_136_223_846_793_005)
             .wrapping_add(1_442_695_040_888_963_407);
