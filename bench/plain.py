@@ -54,6 +54,16 @@ def wide_posts():
     return one_post_each(8, "allreduce sum i8 65500", 65500)
 
 
+def few_members():
+    """One allreduce of 64,000 elements over 8 ranks: 512,000 elements are given and got."""
+    return one_post_each(8, "allreduce sum i8 64000", 64000)
+
+
+def many_members():
+    """As many elements in all, over 64 ranks of 8,000 each: the time depends on the elements, not on the members."""
+    return one_post_each(64, "allreduce sum i8 8000", 8000)
+
+
 def one_allgather():
     """An allgather of 8,000 elements over 64 ranks: 64 rows of 512,000 elements come out."""
     return one_post_each(64, "allgather u8 8000", 8000)
@@ -68,6 +78,8 @@ TEXTS = [
     ("4,096 posts over 64 ranks", many_posts),
     ("4,096 requests over 64 ranks and 16 communicators", many_communicators),
     ("allreduce of 65,500 elements over 8 ranks", wide_posts),
+    ("allreduce of 64,000 elements over 8 ranks", few_members),
+    ("allreduce of 8,000 elements over 64 ranks", many_members),
     ("allgather of 8,000 elements over 64 ranks", one_allgather),
     ("rsblock of 510 elements over 32 ranks", one_rsblock),
 ]
