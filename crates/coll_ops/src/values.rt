@@ -136,20 +136,6 @@ mod tests {
     use std::process::Abort;
     use std::test::Fail;
 
-    const KINDS: [Kind; 11] = [
-        Kind::Barrier,
-        Kind::Bcast,
-        Kind::Gather,
-        Kind::Scatter,
-        Kind::Allgather,
-        Kind::Alltoall,
-        Kind::Reduce,
-        Kind::Allreduce,
-        Kind::Rsblock,
-        Kind::Scan,
-        Kind::Exscan,
-    ];
-
     fn signature(kind: Kind, root: u8, op: Op, ty: Datatype) -> Signature {
         Signature {
             kind,
@@ -203,7 +189,7 @@ mod tests {
     #[test]
     fn each_member_gets_its_value(rt: HostRuntime) -> Result<(), Fail> {
         let alloc = rt.alloc();
-        for kind in KINDS {
+        for kind in Kind::ALL {
             for n in 0..=5 {
                 for root in 0..if kind.has_root() { n } else { 1 } {
                     for (op, ty) in [(Op::Sum, Datatype::I16), (Op::LastNz, Datatype::U8)] {

@@ -10,20 +10,6 @@ use coll_kinds::Kind;
 use std::env;
 use std::time::Instant;
 
-const KINDS: [Kind; 11] = [
-    Kind::Barrier,
-    Kind::Bcast,
-    Kind::Gather,
-    Kind::Scatter,
-    Kind::Allgather,
-    Kind::Alltoall,
-    Kind::Reduce,
-    Kind::Allreduce,
-    Kind::Rsblock,
-    Kind::Scan,
-    Kind::Exscan,
-];
-
 /// How often each collective is timed.
 const TURNS: u32 = 100;
 
@@ -33,7 +19,7 @@ fn main(rt: HostRuntime) -> anyhow::Result<()> {
     } else {
         1
     };
-    for kind in KINDS {
+    for kind in Kind::ALL {
         for members in [4, 64] {
             for others in [1, 4_000] {
                 run(&rt, kind, members, others, turns)?;

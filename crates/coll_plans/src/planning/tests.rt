@@ -8,20 +8,6 @@ use coll_sched::Action;
 use std::alloc::Global;
 use std::process::Abort;
 
-const ALL: [Kind; 11] = [
-    Kind::Barrier,
-    Kind::Bcast,
-    Kind::Gather,
-    Kind::Scatter,
-    Kind::Allgather,
-    Kind::Alltoall,
-    Kind::Reduce,
-    Kind::Allreduce,
-    Kind::Rsblock,
-    Kind::Scan,
-    Kind::Exscan,
-];
-
 const OPERATIONS: [(Op, Datatype); 4] = [
     (Op::Sum, Datatype::I32),
     (Op::LastNz, Datatype::I16),
@@ -177,7 +163,7 @@ fn compare_kind(
 
 // Every kind, with each root where it has one.
 fn compare_all(rt: &impl Abort, alloc: Global, n: u8) {
-    for kind in ALL {
+    for kind in Kind::ALL {
         let roots = if kind.has_root() { n } else { 1 };
         for root in 0..roots {
             assert_eq!(rt;
@@ -208,7 +194,7 @@ fn lock_step_of_sixty_four(rt: HostRuntime) {
 
 #[test]
 fn plan_exchanges(rt: HostRuntime) {
-    for kind in ALL {
+    for kind in Kind::ALL {
         let sig = signature(kind, 0, Op::Sum, Datatype::I32, 1);
         let direct = matches!(
             kind,
@@ -323,7 +309,7 @@ fn count_messages(rt: &impl Abort, alloc: Global, sig: Signature, n: u8) -> Resu
 // docs/SCHEDULES.md has these numbers.
 #[test]
 fn messages_of_each_kind(rt: HostRuntime) {
-    for kind in ALL {
+    for kind in Kind::ALL {
         for n in [1, 2, 3, 4, 5, 6, 7, 8, 9, 17, 33, 63, 64] {
             let roots = if kind.has_root() { n } else { 1 };
             for root in 0..roots {
