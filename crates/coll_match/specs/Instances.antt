@@ -57,4 +57,6 @@ mail t k = mail_of (standing t k)
 
 -- once this member has left, every member has given to the instance and has no active request
 abbrev pub IsLast : List (Key × Held) → Key → ℕ → Type 0
-IsLast t k leaver = (member : ℕ) → member < size t k → (given t k member ≢ None) × (put (seats t k) leaver None member ≡ None)
+IsLast t k leaver = (member : ℕ)
+    → member < size t k
+    → (given t k member ≢ None) × (put (seats t k) leaver None member ≡ None)

@@ -12,7 +12,11 @@ abbrev one : List (Key × Held)
 one = (
   key 0,
   record {
-    shares = record { gift = Some (7 ∷ []); slot = Some 5 } ∷ record { gift = Some (8 ∷ []); slot = None } ∷ record { gift = None; slot = None } ∷ [];
+    shares =
+        record { gift = Some (7 ∷ []); slot = Some 5 }
+        ∷ record { gift = Some (8 ∷ []); slot = None }
+        ∷ record { gift = None; slot = None }
+        ∷ [];
     letters = (record { from = 0; to = 2; round = 1 }, 9 ∷ []) ∷ [];
   },
 ) ∷ []
@@ -21,16 +25,23 @@ stands : (members one (key 0) ≡ Some 3) × (members one (key 1) ≡ None)
 stands = (refl, refl)
 
 -- what a member gave stays when it has left; another start is another instance
-gave : (given one (key 0) 0 ≡ Some (7 ∷ [])) × (given one (key 0) 1 ≡ Some (8 ∷ [])) × (given one (key 0) 2 ≡ None) × (given one (key 1) 0 ≡ None)
+gave : (given one (key 0) 0 ≡ Some (7 ∷ []))
+    × (given one (key 0) 1 ≡ Some (8 ∷ []))
+    × (given one (key 0) 2 ≡ None)
+    × (given one (key 1) 0 ≡ None)
 gave = (refl, refl, refl, refl)
 
 sits : (seats one (key 0) 0 ≡ Some 5) × (seats one (key 0) 1 ≡ None)
 sits = (refl, refl)
 
 -- a message goes by its sender, its receiver and its round
-sent : (mail one (key 0) 0 2 1 ≡ Some (9 ∷ [])) × (mail one (key 0) 0 2 0 ≡ None) × (mail one (key 0) 2 0 1 ≡ None) × (mail one (key 1) 0 2 1 ≡ None)
+sent : (mail one (key 0) 0 2 1 ≡ Some (9 ∷ []))
+    × (mail one (key 0) 0 2 0 ≡ None)
+    × (mail one (key 0) 2 0 1 ≡ None)
+    × (mail one (key 1) 0 2 1 ≡ None)
 sent = (refl, refl, refl, refl)
 
 -- a change of one key leaves the others
-changed : (put_key (members one) (key 0) None (key 0) ≡ None) × (put_key (members one) (key 1) (Some 2) (key 0) ≡ Some 3)
+changed : (put_key (members one) (key 0) None (key 0) ≡ None)
+    × (put_key (members one) (key 1) (Some 2) (key 0) ≡ Some 3)
 changed = (refl, refl)

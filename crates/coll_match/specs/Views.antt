@@ -9,4 +9,5 @@ abbrev pub part_of : Share → Part
 part_of share = record { gift = option_map (λ (bytes : Vec ℕ Global). bytes.items) share.given; slot = share.slot }
 
 abbrev pub held_of : List Share → List (Address × Vec ℕ Global) → Held
-held_of shares letters = record { shares = map part_of shares; letters = map (λ (e : Address × Vec ℕ Global). (e.0, e.1.items)) letters }
+held_of shares letters =
+    record { shares = map part_of shares; letters = map (λ (e : Address × Vec ℕ Global). (e.0, e.1.items)) letters }

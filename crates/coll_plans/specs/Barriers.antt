@@ -1,5 +1,5 @@
--- The barrier by dissemination (MPI 4.1, 6.3): in the step at distance s each member sends an empty message to the member s
--- further, counted round, and receives one of the member s before
+-- The barrier by dissemination (MPI 4.1, 6.3): in the step at distance s each member sends an empty message to the
+-- member s further, counted round, and receives one of the member s before
 use Rattle.std.specs.Prelude.{ℕ, zero, suc, ◌+◌, ◌-◌, ◌%◌, ◌^◌, List, [], ◌∷◌}
 use Rattle.coll_kinds.specs.declared.signature.Signature.{Signature}
 use Rattle.coll_sched.specs.declared.action.Action.TheVariants.{Send, Recv}

@@ -1,5 +1,6 @@
--- The greatest power of two that n members reach are the corners of a cube. Each corner stands for one member, or for two
--- neighbours where there are more members than corners, and its lowest member acts for it; corners stand in member order.
+-- The greatest power of two that n members reach are the corners of a cube. Each corner stands for one
+-- member, or for two neighbours where there are more members than corners, and its lowest member acts for it;
+-- corners stand in member order.
 use Rattle.std.specs.Prelude.{ℕ, zero, suc, ◌+◌, ◌-◌, ◌/◌, ◌%◌, ◌^◌, ◌==◌, cond, nat_lt}
 use Rattle.coll_plans.specs.declared.pairing.Pairing.{Pairing}
 use Rattle.coll_plans.specs.declared.pairing.Pairing.TheVariants.{Lower, Upper, Alone}

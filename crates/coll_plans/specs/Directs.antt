@@ -1,5 +1,5 @@
--- The families of the direct collectives (MPI 4.1, 6.5 to 6.8, 6.10.1): one exchange, in which each sends straight to whoever
--- needs its bytes
+-- The families of the direct collectives (MPI 4.1, 6.5 to 6.8, 6.10.1): one exchange, in which each sends
+-- straight to whoever needs its bytes
 use Rattle.std.specs.Prelude.{ℕ, zero, suc, ◌+◌, ◌-◌, ◌*◌, ◌≤◌, ◌==◌, cond, List, [], ◌∷◌, unwrap_or}
 use Rattle.coll_kinds.specs.declared.operation.Op.{Op}
 use Rattle.coll_kinds.specs.declared.operation.Op.TheVariants.{Sum}
@@ -35,21 +35,27 @@ all_blocks at n b = record { at = at; len = n * b }
 
 -- each sends its block of b bytes to the root, which has the blocks of all behind its own
 abbrev pub gather_by : ℕ → ℕ → ℕ → Family
-gather_by root n b = family_with (λ r. cond (r == root) (b + n * b) b) (λ r. front b) (λ r. cond (r == root) (all_blocks b n b) nothing)
+gather_by root n b =
+    family_with (λ r. cond (r == root) (b + n * b) b) (λ r. front b) (λ r. cond (r == root) (all_blocks b n b) nothing)
     (exchange (ToRoot root) (one_block b) (blocks_from b b) n ∷ [])
 
 -- the root sends each its block, which all have before whatever they give
 abbrev pub scatter_by : ℕ → ℕ → ℕ → Family
-scatter_by root n b = family_with (λ r. cond (r == root) (b + n * b) b) (λ r. cond (r == root) (all_blocks b n b) nothing) (λ r. front b)
+scatter_by root n b =
+    family_with (λ r. cond (r == root) (b + n * b) b) (λ r. cond (r == root) (all_blocks b n b) nothing) (λ r. front b)
     (exchange (FromRoot root) (blocks_from b b) (one_block b) n ∷ [])
 
 -- each sends its block to each, and has the blocks of all behind its own
 abbrev pub allgather_by : ℕ → ℕ → Family
-allgather_by n b = family_with (λ r. b + n * b) (λ r. front b) (λ r. all_blocks b n b) (exchange ToAll (one_block b) (blocks_from b b) n ∷ [])
+allgather_by n b =
+    family_with (λ r. b + n * b) (λ r. front b) (λ r. all_blocks b n b)
+      (exchange ToAll (one_block b) (blocks_from b b) n ∷ [])
 
 -- each sends each its block, and has the n blocks that it gets behind the n that it gives
 abbrev pub alltoall_by : ℕ → ℕ → Family
-alltoall_by n b = family_with (λ r. n * b + n * b) (λ r. all_blocks 0 n b) (λ r. all_blocks (n * b) n b) (exchange ToAll (blocks_from 0 b) (blocks_from (n * b) b) n ∷ [])
+alltoall_by n b =
+    family_with (λ r. n * b + n * b) (λ r. all_blocks 0 n b) (λ r. all_blocks (n * b) n b)
+      (exchange ToAll (blocks_from 0 b) (blocks_from (n * b) b) n ∷ [])
 
 -- every member combines block k with what the block behind it has become
 abbrev pub combine_at : Op → Datatype → Blocks → ℕ → Column

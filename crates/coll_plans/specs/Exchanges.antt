@@ -1,5 +1,5 @@
--- One round of direct exchange: each member sends straight to those whom its bytes are for, keeps what is for itself, and
--- receives of those who have bytes for it
+-- One round of direct exchange: each member sends straight to those whom its bytes are for, keeps what is for itself,
+-- and receives of those who have bytes for it
 use Rattle.std.specs.Prelude.{ℕ, zero, suc, ◌+◌, ◌*◌, ◌==◌, Bool, true, false, cond, List, [], ◌∷◌, ◌++◌}
 use Rattle.coll_sched.specs.declared.region.Region.{Region}
 use Rattle.coll_sched.specs.declared.action.Action.{Action}

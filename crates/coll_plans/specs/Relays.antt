@@ -1,5 +1,5 @@
--- A long bcast along a chain (MPI 4.1, 6.4): the block goes from the root to the next member and so on round, in segments, and
--- while a member passes on one segment it gets the next.
+-- A long bcast along a chain (MPI 4.1, 6.4): the block goes from the root to the next member and so on round, in
+-- segments, and while a member passes on one segment it gets the next.
 use Rattle.std.specs.Prelude.{ℕ, zero, suc, ◌+◌, ◌-◌, ◌*◌, ◌/◌, ◌==◌, ◌&&◌, min, nat_le, nat_lt, Bool, cond, List, [], ◌∷◌}
 use Rattle.coll_kinds.specs.declared.signature.Signature.{Signature}
 use Rattle.coll_kinds.specs.Lengths.{block_len}
@@ -29,11 +29,17 @@ is_passing n s j v = nat_lt (v + 1) n && (nat_le v j && nat_lt j (v + s))
 
 -- what it receives: the segment that the member before passes on
 abbrev pub receipt_of : ℕ → ℕ → ℕ → ℕ → ℕ → List Action
-receipt_of b n root j v = cond (nat_lt 0 v && is_passing n (segment_count b) j (v - 1)) (Recv (member_at n root (v - 1)) (segment b (j - (v - 1))) ∷ []) []
+receipt_of b n root j v =
+    cond (nat_lt 0 v && is_passing n (segment_count b) j (v - 1))
+      (Recv (member_at n root (v - 1)) (segment b (j - (v - 1))) ∷ [])
+      []
 
 -- the round of the member with number v
 abbrev pub relay_of : ℕ → ℕ → ℕ → ℕ → ℕ → List Action
-relay_of b n root j v = cond (is_passing n (segment_count b) j v) (Send (member_at n root (v + 1)) (segment b (j - v)) ∷ receipt_of b n root j v) (receipt_of b n root j v)
+relay_of b n root j v =
+    cond (is_passing n (segment_count b) j v)
+      (Send (member_at n root (v + 1)) (segment b (j - v)) ∷ receipt_of b n root j v)
+      (receipt_of b n root j v)
 
 abbrev pub relay : ℕ → ℕ → ℕ → ℕ → Column
 relay b n root j r = relay_of b n root j (from_root n root r)
@@ -48,7 +54,9 @@ abbrev pub relay_count : ℕ → ℕ → ℕ
 relay_count n b = n - 2 + segment_count b
 
 abbrev pub chain_family : Signature → ℕ → Family
-chain_family sig n = family_of (block_len sig) (λ r. cond (r == sig.root) (front (block_len sig)) nothing) (λ r. front (block_len sig)) (relaying (block_len sig) n sig.root 0 (relay_count n (block_len sig)))
+chain_family sig n =
+    family_of (block_len sig) (λ r. cond (r == sig.root) (front (block_len sig)) nothing) (λ r. front (block_len sig))
+      (relaying (block_len sig) n sig.root 0 (relay_count n (block_len sig)))
 
 -- a bcast goes along the chain from so many bytes on
 abbrev pub long_len : ℕ

@@ -40,10 +40,13 @@ nothing_came : join LastNz I32 4 2 1 ≡ []
 nothing_came = refl
 
 -- in an exscan the first that came is copied, and the later ones join it
-first_is_copied : join_both LastNz I32 4 1 3 ≡ Copy (behind 4) (third 4) ∷ Combine LastNz I32 (behind 4) (front 4) (front 4) ∷ []
+first_is_copied :
+    join_both LastNz I32 4 1 3 ≡ Copy (behind 4) (third 4) ∷ Combine LastNz I32 (behind 4) (front 4) (front 4) ∷ []
 first_is_copied = refl
 
-later_are_joined : join_both LastNz I32 4 2 3 ≡ Combine LastNz I32 (behind 4) (third 4) (third 4) ∷ Combine LastNz I32 (behind 4) (front 4) (front 4) ∷ []
+later_are_joined :
+    join_both LastNz I32 4 2 3
+    ≡ Combine LastNz I32 (behind 4) (third 4) (third 4) ∷ Combine LastNz I32 (behind 4) (front 4) (front 4) ∷ []
 later_are_joined = refl
 
 -- of three members that give 3, 0, 5 the last nonzero row up to the member's own, and before it

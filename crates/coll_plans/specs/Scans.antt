@@ -1,6 +1,6 @@
--- Scan and exscan by doubling of ranges (MPI 4.1, 6.11): before the step at distance s each member holds the combination of
--- the s rows that end with its own, or of all rows up to its own where there are fewer. It sends that to the member s above,
--- and combines what it receives of the member s below in front of its own.
+-- Scan and exscan by doubling of ranges (MPI 4.1, 6.11): before the step at distance s each member holds the
+-- combination of the s rows that end with its own, or of all rows up to its own where there are fewer. It sends that
+-- to the member s above, and combines what it receives of the member s below in front of its own.
 use Rattle.std.specs.Prelude.{ℕ, zero, suc, ◌+◌, ◌-◌, ◌^◌, ◌==◌, nat_lt, nat_le, Bool, cond, List, [], ◌∷◌, unwrap_or}
 use Rattle.coll_kinds.specs.declared.operation.Op.{Op}
 use Rattle.coll_kinds.specs.declared.operation.Op.TheVariants.{Sum}
@@ -54,7 +54,9 @@ scan_by op ty n b = family_of (b + b) (λ r. front b) (λ r. front b) (doubling 
 
 -- in an exscan with the rows before its own, of which member 0 has none
 abbrev pub exscan_by : Op → Datatype → ℕ → ℕ → Family
-exscan_by op ty n b = family_of (b + b + b) (λ r. front b) (λ r. cond (r == 0) nothing (third b)) (doubling b n (join_both op ty b) 0 (depth n))
+exscan_by op ty n b =
+    family_of (b + b + b) (λ r. front b) (λ r. cond (r == 0) nothing (third b))
+      (doubling b n (join_both op ty b) 0 (depth n))
 
 abbrev pub scan_family : Signature → ℕ → Family
 scan_family sig n = scan_by (unwrap_or sig.op Sum) sig.ty n (block_len sig)

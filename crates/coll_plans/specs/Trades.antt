@@ -1,6 +1,6 @@
--- Allreduce by recursive doubling in member order (MPI 4.1, 6.9.6): the upper member of each pair gives its row to the lower one.
--- Then the corners of a cube trade across one dimension after the other, and after k trades each holds the combination of
--- the rows of its 2 ^ k neighbours. At last the lower members of the pairs tell the upper ones.
+-- Allreduce by recursive doubling in member order (MPI 4.1, 6.9.6): the upper member of each pair gives its row to
+-- the lower one. Then the corners of a cube trade across one dimension after the other, and after k trades each holds
+-- the combination of the rows of its 2 ^ k neighbours. At last the lower members of the pairs tell the upper ones.
 use Rattle.std.specs.Prelude.{ℕ, zero, suc, ◌+◌, ◌-◌, ◌%◌, ◌^◌, ◌==◌, cond, nat_lt, List, [], ◌∷◌, ◌++◌, unwrap_or}
 use Rattle.coll_kinds.specs.declared.operation.Op.{Op}
 use Rattle.coll_kinds.specs.declared.operation.Op.TheVariants.{Sum}
@@ -40,7 +40,10 @@ trades b p Alone = swap b p
 
 -- what came of a higher corner joins behind, of a lower one in front
 abbrev pub joined : Op → Datatype → ℕ → ℕ → ℕ → List Action
-joined op ty b q s = cond (nat_lt (q % (s + s)) s) (Combine op ty (front b) (behind b) (front b) ∷ []) (Combine op ty (behind b) (front b) (front b) ∷ [])
+joined op ty b q s =
+    cond (nat_lt (q % (s + s)) s)
+      (Combine op ty (front b) (behind b) (front b) ∷ [])
+      (Combine op ty (behind b) (front b) (front b) ∷ [])
 
 abbrev pub joins_by : Op → Datatype → ℕ → ℕ → ℕ → Pairing → List Action
 joins_by op ty b q s Lower = joined op ty b q s
@@ -79,7 +82,9 @@ abbrev pub exchanging : Op → Datatype → ℕ → ℕ → ℕ → List Column
 exchanging op ty b e d = give b e ∷ pair_up op ty b e ∷ (trading op ty b e 0 d ++ (tell b e ∷ []))
 
 abbrev pub allreduce_family : Signature → ℕ → Family
-allreduce_family sig n = family_of (block_len sig + block_len sig) (λ r. front (block_len sig)) (λ r. front (block_len sig)) (exchanging (unwrap_or sig.op Sum) sig.ty (block_len sig) (extra n) (dimension n))
+allreduce_family sig n =
+    family_of (block_len sig + block_len sig) (λ r. front (block_len sig)) (λ r. front (block_len sig))
+      (exchanging (unwrap_or sig.op Sum) sig.ty (block_len sig) (extra n) (dimension n))
 
 -- the most exchanges: a trade for each dimension, and two more where some corner stands for two members
 abbrev pub most_trades : ℕ → ℕ

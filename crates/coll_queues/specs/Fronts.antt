@@ -4,7 +4,8 @@ use Rattle.coll_kinds.specs.declared.signature.Signature.{Signature}
 use Rattle.coll_queues.specs.Lists.{Lists}
 
 abbrev pub lists_of : List ℕ → List Signature → List ℕ → ℕ → Lists
-lists_of group signatures lengths room = record { group = group; lists = map (λ n. take n signatures) lengths; room = room }
+lists_of group signatures lengths room =
+    record { group = group; lists = map (λ n. take n signatures) lengths; room = room }
 
 pub record AreFronts (group : List ℕ) (signatures : List Signature) (lengths : List ℕ) : Type 0 where
   pub few : length group ≤ 64

@@ -19,7 +19,8 @@ first_or from (Some sig) rest = Some (from, sig)
 -- the lowest of n members, from one on, whose list has the place, and its signature there
 abbrev pub first_there : (ℕ → List Signature) → ℕ → ℕ → ℕ → Option (ℕ × Signature)
 first_there lists place from zero = None
-first_there lists place from (suc n) = first_or from (slice_get (lists from) place) (first_there lists place (from + 1) n)
+first_there lists place from (suc n) =
+    first_or from (slice_get (lists from) place) (first_there lists place (from + 1) n)
 
 -- the signature at a place
 abbrev pub signed_in : Lists → ℕ → Option Signature

@@ -18,12 +18,17 @@ unless fits why = if fits then None else Some why
 
 -- of a call that names a member by its rank
 abbrev pub member_refusal : Postings → ℕ → ℕ → Option Refusal
-member_refusal q comm rank = first_of (unless (nat_lt comm (length (groups_of q))) (BadComm comm) ∷ unless (is_some (member_of q comm rank)) (NotMember rank) ∷ [])
+member_refusal q comm rank =
+    first_of (
+      unless (nat_lt comm (length (groups_of q))) (BadComm comm)
+      ∷ unless (is_some (member_of q comm rank)) (NotMember rank)
+      ∷ [])
 
 -- another signature stands at the place: whose is the first, and what it is
 abbrev pub mismatch_with : List ℕ → ℕ → Signature → Option (ℕ × Signature) → Option Refusal
 mismatch_with group place sig None = None
-mismatch_with group place sig (Some first) = unless (same_signature first.1 sig) (Mismatch place (slice_index group first.0) first.1)
+mismatch_with group place sig (Some first) =
+    unless (same_signature first.1 sig) (Mismatch place (slice_index group first.0) first.1)
 
 abbrev pub mismatch : Postings → ℕ → ℕ → Signature → Option Refusal
 mismatch q comm place sig = mismatch_with (group q comm) place sig (first_there (posts q comm) place 0 (size q comm))

@@ -20,7 +20,11 @@ abbrev sum : Signature
 sum = record { kind = Allreduce; mode = Once; root = 0; op = Some Sum; ty = I32; count = 1 }
 
 abbrev two_members : Postings
-two_members = record { comms = record { group = 5 ∷ 3 ∷ []; lists = [] ∷ (bcast ∷ barrier ∷ []) ∷ []; room = 4 } ∷ []; places = 2 }
+two_members =
+    record {
+      comms = record { group = 5 ∷ 3 ∷ []; lists = [] ∷ (bcast ∷ barrier ∷ []) ∷ []; room = 4 } ∷ [];
+      places = 2;
+    }
 
 next_places : (place_of two_members 0 5 ≡ 0) × (place_of two_members 0 3 ≡ 2)
 next_places = (refl, refl)
@@ -35,14 +39,19 @@ late_member = refl
 mismatch_names_the_first : judge_refusal two_members 0 5 sum ≡ Some (Mismatch 0 3 bcast)
 mismatch_names_the_first = refl
 
-mode_counts : judge_refusal two_members 0 5 (record { kind = Bcast; mode = Persistent; root = 0; op = None; ty = I32; count = 1 }) ≡ Some (Mismatch 0 3 bcast)
+mode_counts :
+    judge_refusal two_members 0 5 (record { kind = Bcast; mode = Persistent; root = 0; op = None; ty = I32; count = 1 })
+    ≡ Some (Mismatch 0 3 bcast)
 mode_counts = refl
 
 full_list : judge_refusal two_members 0 3 bcast ≡ Some PlacesUsed
 full_list = refl
 
-others : (judge_refusal two_members 1 5 bcast ≡ Some (BadComm 1)) × (judge_refusal two_members 0 4 bcast ≡ Some (NotMember 4))
+others : (judge_refusal two_members 1 5 bcast ≡ Some (BadComm 1))
+    × (judge_refusal two_members 0 4 bcast ≡ Some (NotMember 4))
 others = (refl, refl)
 
-root_first : judge_refusal two_members 0 5 (record { kind = Bcast; mode = Once; root = 2; op = None; ty = I32; count = 1 }) ≡ Some (BadSignature Root)
+root_first :
+    judge_refusal two_members 0 5 (record { kind = Bcast; mode = Once; root = 2; op = None; ty = I32; count = 1 })
+    ≡ Some (BadSignature Root)
 root_first = refl

@@ -8,7 +8,9 @@ use Rattle.coll_queues.specs.Postings.{Postings, lists_at, posts, signed, size}
 pub record IsAgreed (l : Lists) : Type 0 where
   pub few : length l.group ≤ 64
   pub outside : (member : ℕ) → length l.group ≤ member → posts_in l member ≡ []
-  pub signed : (member place : ℕ) (sig : Signature) → slice_get (posts_in l member) place ≡ Some sig → signed_in l place ≡ Some sig
+  pub signed : (member place : ℕ) (sig : Signature)
+      → slice_get (posts_in l member) place ≡ Some sig
+      → signed_in l place ≡ Some sig
 
 -- of each communicator
 abbrev pub AreAgreed : List Lists → Type 0
@@ -22,7 +24,9 @@ DoAgree q = (comm member other place : ℕ) (one two : Signature) → slice_get 
 pub record IsSound (q : Postings) : Type 0 where
   pub agree : DoAgree q
   -- a place's signature is that of every list which has the place
-  pub signs : (comm member place : ℕ) (sig : Signature) → slice_get (posts q comm member) place ≡ Some sig → signed q comm place ≡ Some sig
+  pub signs : (comm member place : ℕ) (sig : Signature)
+      → slice_get (posts q comm member) place ≡ Some sig
+      → signed q comm place ≡ Some sig
   -- a communicator has at most 64 members, and only they have posted
   pub few : (comm : ℕ) → size q comm ≤ 64
   pub outside : (comm member : ℕ) → size q comm ≤ member → posts q comm member ≡ []

@@ -27,7 +27,13 @@ writes (Recv of into) = into ∷ []
 abbrev pub Fits : ℕ → Action → Type 0
 Fits size (Send to from) = Inside size from
 Fits size (Copy from into) = Inside size from × Inside size into × (from.len ≡ into.len)
-Fits size (Combine op ty left right into) = Inside size left × Inside size right × Inside size into × (left.len ≡ into.len) × (right.len ≡ into.len) × IsTrue (allowed op ty) × (into.len % width ty ≡ 0)
+Fits size (Combine op ty left right into) = Inside size left
+    × Inside size right
+    × Inside size into
+    × (left.len ≡ into.len)
+    × (right.len ≡ into.len)
+    × IsTrue (allowed op ty)
+    × (into.len % width ty ≡ 0)
 Fits size (Recv of into) = Inside size into
 
 -- where the action's kind stands in a round: Send, Copy, Combine, Recv
@@ -47,7 +53,8 @@ OtherPeer _ _ = Unit {0}
 abbrev pub AllApart : List Region → List Region → Type 0
 AllApart gs hs = AllByRecursion (λ g. AllByRecursion (λ h. Apart g h) hs) gs
 
--- an action, and a later one of its round: in order, with other peers, and neither writes what the other reads or writes
+-- an action, and a later one of its round: in order, with other peers,
+-- and neither writes what the other reads or writes
 pub record Follows (a b : Action) : Type 0 where
   pub in_order : order a ≤ order b
   pub other_peer : OtherPeer a b
@@ -64,7 +71,8 @@ EachFollows (a ∷ rest) = AllByRecursion (Follows a) rest × EachFollows rest
 abbrev pub wrote : (ℕ → List ℕ) → List ℕ → Action → List ℕ → List ℕ
 wrote msgs mine (Send to from) buf = buf
 wrote msgs mine (Copy from into) buf = written buf into (read_of mine from)
-wrote msgs mine (Combine op ty left right into) buf = written buf into (combined op ty (read_of mine left) (read_of mine right))
+wrote msgs mine (Combine op ty left right into) buf =
+    written buf into (combined op ty (read_of mine left) (read_of mine right))
 wrote msgs mine (Recv of into) buf = written buf into (msgs of)
 
 -- the buffer after these actions, one after another

@@ -48,7 +48,9 @@ laid_in p bytes = written (replicate p.size 0) p.input bytes
 -- T(j) at r: the buffer of member r before round j, where every read of a round is of the buffers before it
 abbrev pub lock_step : Family → (ℕ → List ℕ) → ℕ → ℕ → List ℕ
 lock_step f given zero r = laid_in (f r) (given r)
-lock_step f given (suc j) r = wrote_all (λ p. sent r (actions_at f j p) (lock_step f given j p)) (lock_step f given j r) (actions_at f j r) (lock_step f given j r)
+lock_step f given (suc j) r =
+    wrote_all (λ p. sent r (actions_at f j p) (lock_step f given j p)) (lock_step f given j r) (actions_at f j r)
+      (lock_step f given j r)
 
 -- the messages to member r in round j
 abbrev pub messages : Family → (ℕ → List ℕ) → ℕ → ℕ → ℕ → List ℕ
@@ -85,7 +87,10 @@ pub record IsLawful (n : ℕ) (f : Family) : Type 0 where
   pub schedules : (r : ℕ) → r < n → IsSchedule (f r)
   pub same_rounds : (r p : ℕ) → r < n → p < n → length (f r).rounds ≡ length (f p).rounds
   pub peers : (j r : ℕ) → r < n → AllByRecursion (IsAmong n) (actions_at f j r)
-  pub aligned : (j r p : ℕ) → r < n → p < n → len_of (in_link p (actions_at f j r)) ≡ len_of (out_link r (actions_at f j p))
+  pub aligned : (j r p : ℕ)
+      → r < n
+      → p < n
+      → len_of (in_link p (actions_at f j r)) ≡ len_of (out_link r (actions_at f j p))
 
 -- the numbers of c members from k on
 abbrev pub members : ℕ → ℕ → List ℕ

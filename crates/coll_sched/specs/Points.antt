@@ -1,4 +1,5 @@
--- Points of a schedule, each a round and an index in it: how a member goes on from one, and the actions that it hasn't done there
+-- Points of a schedule, each a round and an index in it: how a member goes on from one,
+-- and the actions that it hasn't done there
 use Rattle.std.specs.Prelude.{◌≡◌, ℕ, zero, suc, ◌+◌, ◌-◌, ◌<◌, ◌≤◌, ◌⊎◌, List, [], ◌∷◌, length, slice_get, unwrap_or, Some}
 use Rattle.coll_sched.specs.declared.action.Action.{Action}
 use Rattle.coll_sched.specs.Schedules.{Parts}
@@ -11,7 +12,8 @@ use Rattle.coll_sched.specs.Tracks.{Tracks}
 abbrev pub actions_of : Parts → ℕ → List Action
 actions_of p j = unwrap_or (slice_get p.rounds j) []
 
--- the point k, i is the point j, x itself, or it begins a later round: round j is done, and the d rounds between are empty
+-- the point k, i is the point j, x itself, or it begins a later round: round j is done,
+-- and the d rounds between are empty
 abbrev pub Over : Parts → ℕ → ℕ → ℕ → ℕ → Type 0
 Over p j x k i =
     ((k ≡ j) × (i ≡ x))
@@ -53,8 +55,17 @@ Ends = (p : Parts) (k i : ℕ) → IsPoint p k i → EndsRemaining p k i
 
 -- member r at another point
 abbrev pub at_point : World → ℕ → Progress → ℕ → ℕ → World
-at_point w r p k i = record { given = w.given; progress = put w.progress r (Some (record { round = k; index = i; buf = p.buf })); mail = w.mail }
+at_point w r p k i =
+    record {
+      given = w.given;
+      progress = put w.progress r (Some (record { round = k; index = i; buf = p.buf }));
+      mail = w.mail;
+    }
 
 -- what holds of a running instance holds on
 abbrev pub GoesOver : Type 0
-GoesOver = (n : ℕ) (f : Family) (w : World) (r : ℕ) (p : Progress) (k i : ℕ) → Tracks n f w → w.progress r ≡ Some p → Over (f r) p.round p.index k i → Tracks n f (at_point w r p k i)
+GoesOver = (n : ℕ) (f : Family) (w : World) (r : ℕ) (p : Progress) (k i : ℕ)
+    → Tracks n f w
+    → w.progress r ≡ Some p
+    → Over (f r) p.round p.index k i
+    → Tracks n f (at_point w r p k i)

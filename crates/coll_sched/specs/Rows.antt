@@ -19,7 +19,11 @@ read_in_place = refl
 
 -- two members exchange their bytes, both at once, and each keeps the other's
 abbrev swapping : Family
-swapping r = record { size = 2; input = byte_at 0; output = byte_at 1; rounds = (Send (cond (r == 0) 1 0) (byte_at 0) ∷ Recv (cond (r == 0) 1 0) (byte_at 1) ∷ []) ∷ [] }
+swapping r =
+    record {
+      size = 2; input = byte_at 0; output = byte_at 1;
+      rounds = (Send (cond (r == 0) 1 0) (byte_at 0) ∷ Recv (cond (r == 0) 1 0) (byte_at 1) ∷ []) ∷ [];
+    }
 
 abbrev gave : ℕ → List ℕ
 gave r = cond (r == 0) (7 ∷ []) (9 ∷ [])
@@ -32,7 +36,11 @@ swapped_at_second = refl
 
 -- a Copy and a Recv of one round: the Copy reads the byte of before the round
 abbrev shifting : Family
-shifting r = record { size = 2; input = byte_at 0; output = byte_at 0; rounds = (Send 0 (byte_at 0) ∷ Copy (byte_at 0) (byte_at 1) ∷ []) ∷ (Copy (byte_at 1) (byte_at 0) ∷ []) ∷ [] }
+shifting r =
+    record {
+      size = 2; input = byte_at 0; output = byte_at 0;
+      rounds = (Send 0 (byte_at 0) ∷ Copy (byte_at 0) (byte_at 1) ∷ []) ∷ (Copy (byte_at 1) (byte_at 0) ∷ []) ∷ [];
+    }
 
 one_exchange : exchanges (shifting 0).rounds ≡ 1
 one_exchange = refl
@@ -50,5 +58,7 @@ last_is_shared = refl
 empty_shares_nothing : shares (record { at = 0; len = 2 }) (record { at = 1; len = 0 }) ≡ false
 empty_shares_nothing = refl
 
-second_writes : writers (byte_at 1) (Copy (byte_at 2) (byte_at 0) ∷ Copy (byte_at 3) (byte_at 1) ∷ []) ≡ Copy (byte_at 3) (byte_at 1) ∷ []
+second_writes :
+    writers (byte_at 1) (Copy (byte_at 2) (byte_at 0) ∷ Copy (byte_at 3) (byte_at 1) ∷ [])
+    ≡ Copy (byte_at 3) (byte_at 1) ∷ []
 second_writes = refl

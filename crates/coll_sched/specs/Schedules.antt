@@ -7,7 +7,8 @@ use Rattle.coll_sched.specs.declared.action.Action.TheVariants.{Send, Copy, Comb
 use Rattle.coll_sched.specs.Regions.{Inside}
 use Rattle.coll_sched.specs.Actions.{Fits, EachFollows}
 
--- what a schedule consists of: its buffer's bytes, where the contribution is laid, where the outcome lies, and its rounds
+-- what a schedule consists of: its buffer's bytes, where the contribution is laid,
+-- where the outcome lies, and its rounds
 pub record Parts : Type 0 where
   pub size : ℕ
   pub input : Region

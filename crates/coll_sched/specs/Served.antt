@@ -20,7 +20,12 @@ pub record Serves (sig : Signature) (n : ℕ) (f : Family) : Type 0 where
   pub lawful : IsLawful n f
   pub takes_given : (r : ℕ) → r < n → (f r).input.len ≡ given_len sig n r
   pub gives_got : (r : ℕ) → r < n → (f r).output.len ≡ got_len sig n r
-  pub has_value : (given : List (List ℕ)) → AreGiven sig n given → ((r : ℕ) → r < n → AreBytes (row_of given r)) → (r : ℕ) → r < n → result_at f (row_of given) r ≡ value sig given r
+  pub has_value : (given : List (List ℕ))
+      → AreGiven sig n given
+      → ((r : ℕ) → r < n → AreBytes (row_of given r))
+      → (r : ℕ)
+      → r < n
+      → result_at f (row_of given) r ≡ value sig given r
   pub hears : (r p : ℕ) → r < n → needs sig n r p ≡ true → Heard f (length (f r).rounds) r p
 
 -- what a member of such a family has when it has done all its actions
@@ -30,4 +35,11 @@ pub record HoldsValue (sig : Signature) (n : ℕ) (f : Family) (w : World) (r : 
 
 -- a member that has done all its actions holds the collective's value, and all whom it needs have joined
 abbrev pub HeldValue : Type 0
-HeldValue = (sig : Signature) (n : ℕ) (f : Family) → Serves sig n f → (w : World) → Reached n f w → (r : ℕ) (p : Progress) → w.progress r ≡ Some p → p.round ≡ length (f r).rounds → HoldsValue sig n f w r p
+HeldValue = (sig : Signature) (n : ℕ) (f : Family)
+    → Serves sig n f
+    → (w : World)
+    → Reached n f w
+    → (r : ℕ) (p : Progress)
+    → w.progress r ≡ Some p
+    → p.round ≡ length (f r).rounds
+    → HoldsValue sig n f w r p

@@ -9,7 +9,8 @@ use Rattle.coll_sched.specs.Worlds.{Progress, World, filled}
 
 -- the buffer of member r with the writes of the first i actions of round j done
 abbrev pub moment : Family → (ℕ → List ℕ) → ℕ → ℕ → ℕ → List ℕ
-moment f given j i r = wrote_all (messages f given j r) (lock_step f given j r) (take i (actions_at f j r)) (lock_step f given j r)
+moment f given j i r =
+    wrote_all (messages f given j r) (lock_step f given j r) (take i (actions_at f j r)) (lock_step f given j r)
 
 -- how many Sends to r
 abbrev pub outs : ℕ → Action → ℕ
@@ -61,7 +62,8 @@ pub record IsLetter (f : Family) (given : ℕ → Option (List ℕ)) (q r j : �
 
 -- the messages that stand, with those taken, are those sent
 abbrev pub Balanced : Family → World → Type 0
-Balanced f w = (q r j : ℕ) → standing (w.mail q r j) + total (ins q) (done_at f w j r) ≡ total (outs r) (done_at f w j q)
+Balanced f w = (q r j : ℕ)
+    → standing (w.mail q r j) + total (ins q) (done_at f w j r) ≡ total (outs r) (done_at f w j q)
 
 -- an instance on its way: contributions of the right lengths, every member and message on the track, and the balance
 pub record Tracks (n : ℕ) (f : Family) (w : World) : Type 0 where

@@ -15,7 +15,8 @@ pub record Progress : Type 0 where
   pub index : ℕ
   pub buf : List ℕ
 
--- given: what each member gave; progress: of the members that have joined and not left; mail: by sender, receiver, round
+-- given: what each member gave; progress: of the members that have joined and not left; mail: by sender,
+-- receiver, round
 pub record World : Type 0 where
   pub given : ℕ → Option (List ℕ)
   pub progress : ℕ → Option Progress
@@ -35,15 +36,30 @@ filled f given r = unwrap_or (given r) (replicate (f r).input.len 0)
 
 -- member r has joined with these bytes
 abbrev pub joined : Family → World → ℕ → List ℕ → World
-joined f w r bytes = record { given = put w.given r (Some bytes); progress = put w.progress r (Some (record { round = 0; index = 0; buf = laid_in (f r) bytes })); mail = w.mail }
+joined f w r bytes =
+    record {
+      given = put w.given r (Some bytes);
+      progress = put w.progress r (Some (record { round = 0; index = 0; buf = laid_in (f r) bytes }));
+      mail = w.mail;
+    }
 
 -- member r goes one action on, with this buffer
 abbrev pub acted : World → ℕ → Progress → List ℕ → (ℕ → ℕ → ℕ → Option (List ℕ)) → World
-acted w r p buf mail = record { given = w.given; progress = put w.progress r (Some (record { round = p.round; index = suc p.index; buf = buf })); mail = mail }
+acted w r p buf mail =
+    record {
+      given = w.given;
+      progress = put w.progress r (Some (record { round = p.round; index = suc p.index; buf = buf }));
+      mail = mail;
+    }
 
 -- member r is at the beginning of its next round
 abbrev pub turned : World → ℕ → Progress → World
-turned w r p = record { given = w.given; progress = put w.progress r (Some (record { round = suc p.round; index = 0; buf = p.buf })); mail = w.mail }
+turned w r p =
+    record {
+      given = w.given;
+      progress = put w.progress r (Some (record { round = suc p.round; index = 0; buf = p.buf }));
+      mail = w.mail;
+    }
 
 -- member r has left
 abbrev pub left : World → ℕ → World
@@ -55,12 +71,32 @@ IsNext f w r p a = (w.progress r ≡ Some p) × (slice_get (actions_at f p.round
 
 -- one event: a join, one action, the end of a round, or a leave
 pub data Step (n : ℕ) (f : Family) : World → World → Type 0 where
-  join : {w : World} (r : ℕ) (bytes : List ℕ) → r < n → w.given r ≡ None → length bytes ≡ (f r).input.len → AreBytes bytes → Step n f w (joined f w r bytes)
-  send : {w : World} (r : ℕ) (p : Progress) (to : ℕ) (from : Region) → IsNext f w r p (Send to from) → Step n f w (acted w r p p.buf (put_mail w.mail r to p.round (Some (read_of p.buf from))))
-  compute : {w : World} (r : ℕ) (p : Progress) (a : Action) → IsNext f w r p a → IsLocal a → Step n f w (acted w r p (wrote (λ q. []) p.buf a p.buf) w.mail)
-  receive : {w : World} (r : ℕ) (p : Progress) (of : ℕ) (into : Region) (bytes : List ℕ) → IsNext f w r p (Recv of into) → w.mail of r p.round ≡ Some bytes → Step n f w (acted w r p (written p.buf into bytes) (put_mail w.mail of r p.round None))
-  turn : {w : World} (r : ℕ) (p : Progress) → w.progress r ≡ Some p → p.index ≡ length (actions_at f p.round r) → p.round < length (f r).rounds → Step n f w (turned w r p)
-  leave : {w : World} (r : ℕ) (p : Progress) → w.progress r ≡ Some p → p.round ≡ length (f r).rounds → Step n f w (left w r)
+  join : {w : World} (r : ℕ) (bytes : List ℕ)
+      → r < n
+      → w.given r ≡ None
+      → length bytes ≡ (f r).input.len
+      → AreBytes bytes
+      → Step n f w (joined f w r bytes)
+  send : {w : World} (r : ℕ) (p : Progress) (to : ℕ) (from : Region)
+      → IsNext f w r p (Send to from)
+      → Step n f w (acted w r p p.buf (put_mail w.mail r to p.round (Some (read_of p.buf from))))
+  compute : {w : World} (r : ℕ) (p : Progress) (a : Action)
+      → IsNext f w r p a
+      → IsLocal a
+      → Step n f w (acted w r p (wrote (λ q. []) p.buf a p.buf) w.mail)
+  receive : {w : World} (r : ℕ) (p : Progress) (of : ℕ) (into : Region) (bytes : List ℕ)
+      → IsNext f w r p (Recv of into)
+      → w.mail of r p.round ≡ Some bytes
+      → Step n f w (acted w r p (written p.buf into bytes) (put_mail w.mail of r p.round None))
+  turn : {w : World} (r : ℕ) (p : Progress)
+      → w.progress r ≡ Some p
+      → p.index ≡ length (actions_at f p.round r)
+      → p.round < length (f r).rounds
+      → Step n f w (turned w r p)
+  leave : {w : World} (r : ℕ) (p : Progress)
+      → w.progress r ≡ Some p
+      → p.round ≡ length (f r).rounds
+      → Step n f w (left w r)
 
 -- the worlds that lists of events lead to
 pub data Reached (n : ℕ) (f : Family) : World → Type 0 where

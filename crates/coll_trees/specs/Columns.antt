@@ -15,7 +15,8 @@ rounds_of (column ∷ rest) r = column r ∷ rounds_of rest r
 
 -- the family with these rounds, where a member's buffer has its own size
 abbrev pub family_with : (ℕ → ℕ) → (ℕ → Region) → (ℕ → Region) → List Column → Family
-family_with size input output columns r = record { size = size r; input = input r; output = output r; rounds = rounds_of columns r }
+family_with size input output columns r =
+    record { size = size r; input = input r; output = output r; rounds = rounds_of columns r }
 
 -- and in buffers of one size
 abbrev pub family_of : ℕ → (ℕ → Region) → (ℕ → Region) → List Column → Family

@@ -1,5 +1,6 @@
--- From all to member 0 by a binomial tree: in the step at distance s a member that is an odd multiple of s gives what it
--- holds to the member s below, which combines it behind its own. So each holds a range of neighbours, in ascending order.
+-- From all to member 0 by a binomial tree: in the step at distance s a member that is an odd multiple of s
+-- gives what it holds to the member s below, which combines it behind its own. So each holds a range of
+-- neighbours, in ascending order.
 use Rattle.std.specs.Prelude.{ℕ, zero, suc, ◌+◌, ◌-◌, ◌%◌, ◌^◌, ◌==◌, ◌&&◌, nat_lt, cond, List, [], ◌∷◌}
 use Rattle.coll_kinds.specs.declared.operation.Op.{Op}
 use Rattle.coll_kinds.specs.declared.datatype.Datatype.{Datatype}
@@ -41,4 +42,5 @@ folding op ty b n k (suc c) = move_at b n (2 ^ k) ∷ combine_at op ty b n (2 ^ 
 
 -- what member 0 holds goes to the root
 abbrev pub last_hop : ℕ → ℕ → Column
-last_hop b root r = cond (root == 0) [] (cond (r == 0) (Send root (front b) ∷ []) (cond (r == root) (Recv 0 (front b) ∷ []) []))
+last_hop b root r =
+    cond (root == 0) [] (cond (r == 0) (Send root (front b) ∷ []) (cond (r == root) (Recv 0 (front b) ∷ []) []))
