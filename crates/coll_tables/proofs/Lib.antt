@@ -16,6 +16,7 @@ pub mod Keys
 pub mod Listing
 pub mod Postings
 pub mod Remainders
+pub mod Rows
 pub mod Slots
 pub mod Sounds
 pub mod Standing

@@ -10,6 +10,7 @@ pub mod Machines  -- how a call accounts for steps of the machine
 pub mod OneSlots  -- a change of one slot of an arena
 pub mod Remaining  -- the actions that are left
 pub mod Requests  -- a live request
+pub mod Rows  -- the tables of a small engine, written out
 pub mod Shown  -- the tables that an arena, posting lists and instances show
 pub mod Sound  -- the condition of the tables
 pub mod Tables  -- the tables as functions, and their machine

@@ -4,6 +4,7 @@ ghost use Rattle.coll_tables.specs.Laws.{ActsLower, LittleLeft, NothingLeft, Acc
 ghost use Rattle.coll_tables.specs.Laws.{LockIsFree, OpenKeeps, PostKeeps, QuietIsFinished, ReceiveKeeps, RehomeKeeps, RetireKeeps, SendKeeps, StartKeeps};
 ghost use Rattle.coll_tables.specs.EngineLaws.{LockCore, OpenCore, ActingCore, ComputeCore, FreeCore, InitCore, LentCore, MoveCore, NewCore, PostCore, QuietCore, ReadyCore, ReceiveCore, RetireCore, RoomCore, SendCore, SendThenCore, SetCore, StartCore};
 ghost use Rattle.coll_tables.specs.EngineTests.{EntryCore, StartedCore, FoundCore, InitRefused, NamedRefused, PostRefused, StaleRefused};
+ghost use Rattle.coll_tables.specs.Rows.{RowsAreSound};
 
 use coll_arena::Arena;
 
@@ -110,6 +111,11 @@ pub fn nothing_left()
 /// All slots together have few actions left.
 pub fn little_left()
     ensures { LittleLeft }
+{}
+
+/// The condition can be met: the tables of a small engine, from its opening to the end of a scatter.
+pub fn rows_are_sound()
+    ensures { RowsAreSound }
 {}
 
 // ---- in the words of the engine's arena, posting lists and instances: each keeps the engine's condition, and is the

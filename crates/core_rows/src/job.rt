@@ -11,20 +11,6 @@ use std::alloc::Global;
 /// How many collectives each communicator has.
 const PLACES: usize = 6;
 
-const KINDS: [Kind; 11] = [
-    Kind::Barrier,
-    Kind::Bcast,
-    Kind::Gather,
-    Kind::Scatter,
-    Kind::Allgather,
-    Kind::Alltoall,
-    Kind::Reduce,
-    Kind::Allreduce,
-    Kind::Rsblock,
-    Kind::Scan,
-    Kind::Exscan,
-];
-
 const OPERATIONS: [(Op, Datatype); 4] = [
     (Op::Sum, Datatype::I32),
     (Op::LastNz, Datatype::I16),
@@ -45,7 +31,7 @@ pub struct Job {
 
 /// A random signature for that many members.
 fn signature(random: &mut Random, size: u8) -> Signature {
-    let kind = KINDS[random.below(11) % 11];
+    let kind = Kind::ALL[random.below(11) % 11];
     let (op, ty) = OPERATIONS[random.below(4) % 4];
     Signature {
         kind,

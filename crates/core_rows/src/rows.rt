@@ -1,0 +1,60 @@
+//! Worked rows of the core: calls with the answers that must come.
+//!
+//! | Module | Has |
+//! |---|---|
+//! | `signatures` | the signatures of the rows |
+//! | `setup` | `Setup`, what a row's engine is opened with |
+//! | `call` | `Call`, a call of a row |
+//! | `values` | `Values`, what an outcome or an operand has |
+//! | `answer` | `Answer`, what a call answered |
+//! | `calls` | the core's calls, each with its answer |
+//! | `driver` | `Driver`, an engine that makes the calls of a row |
+//! | `once_tests` | rows of posts |
+//! | `persistent_tests` | rows of initialisations and starts |
+//! | `refusal_tests` | rows of refusals |
+//! | `work_tests` | rows of combinations that were handed out |
+
+mod answer;
+mod call;
+mod calls;
+mod driver;
+mod once_tests;
+mod persistent_tests;
+mod refusal_tests;
+mod setup;
+mod signatures;
+mod values;
+mod work_tests;
+
+use answer::Answer;
+use call::Call;
+use coll_kinds::Refusal;
+use driver::Driver;
+use setup::Setup;
+use std::alloc::Global;
+
+/// A call, with the answer that must come.
+pub type Row = (Call, Answer);
+
+/// The first call of a list that was answered otherwise, by its index.
+#[derive(Clone, Copy, Debug, PartialEq, Eq)]
+pub struct Misfit {
+    pub index: usize,
+    pub got: Answer,
+}
+
+/// Makes the calls on a new engine. None where each was answered as it must be.
+///
+/// # Errors
+///
+/// The engine's refusal to open.
+pub fn first_misfit(alloc: Global, setup: &Setup, rows: &[Row]) -> Result<Option<Misfit>, Refusal> {
+    let mut driver = Driver::open(alloc, setup)?;
+    for (index, (call, want)) in rows.iter().enumerate() {
+        let got = driver.answer(*call);
+        if got != *want {
+            return Ok(Some(Misfit { index, got }));
+        }
+    }
+    Ok(None)
+}

@@ -1,0 +1,153 @@
+use crate::rows::answer::Answer;
+use crate::rows::call::Call;
+use crate::rows::setup::{ALONE, PAIR, Setup};
+use crate::rows::signatures::{PERSISTENT_SUM, SUM};
+use crate::rows::values::Values;
+use crate::rows::{Row, first_misfit};
+use coll_core::Phase;
+use coll_kinds::{ConfigField, Refusal, SignatureFault};
+use std::test::Fail;
+
+const ANOTHER_RANKS: &[Row] = &[
+    (Call::Post(0, SUM, &[1]), Answer::Accepted),
+    (Call::Retire(1, 0), Answer::Refused(Refusal::NotYours)),
+    (Call::Phase(1, 0), Answer::Refused(Refusal::NotYours)),
+    (Call::Free(1, 0), Answer::Refused(Refusal::NotYours)),
+    (Call::Start(1, 0, &[1]), Answer::Back(Refusal::NotYours, 4)),
+    (Call::Phase(0, 0), Answer::Phase(Phase::Pending)),
+    (Call::Free(0, 0), Answer::Refused(Refusal::NotPersistent)),
+];
+
+#[test]
+fn another_ranks_ticket(rt: HostRuntime) -> Result<(), Fail> {
+    assert_eq!(rt; first_misfit(rt.alloc(), &PAIR, ANOTHER_RANKS)?, None);
+    Ok(())
+}
+
+const ONE_SLOT: Setup = Setup {
+    slots: 1,
+    places: 2,
+    wear: 1,
+    ..ALONE
+};
+
+// Request 1 is never made, so its number stands for a ticket of a slot that the engine lacks.
+const STALE_AND_FULL: &[Row] = &[
+    (Call::Post(0, SUM, &[1]), Answer::Accepted),
+    (Call::Rest, Answer::Accepted),
+    (Call::Retire(0, 0), Answer::Outcome(0, 0, Values::One(1))),
+    (Call::Retire(0, 0), Answer::Refused(Refusal::Stale)),
+    (Call::Post(0, SUM, &[2]), Answer::Back(Refusal::Full, 4)),
+    (Call::Retire(0, 1), Answer::Refused(Refusal::Stale)),
+];
+
+#[test]
+fn stale_ticket_and_full(rt: HostRuntime) -> Result<(), Fail> {
+    assert_eq!(rt; first_misfit(rt.alloc(), &ONE_SLOT, STALE_AND_FULL)?, None);
+    Ok(())
+}
+
+// Each is also wrong in a later field, save the last.
+const MISFITS: [(Setup, ConfigField); 6] = [
+    (
+        Setup {
+            ranks: 65,
+            slots: 0,
+            ..PAIR
+        },
+        ConfigField::Ranks,
+    ),
+    (
+        Setup {
+            groups: &[&[0, 0]],
+            slots: 0,
+            ..PAIR
+        },
+        ConfigField::Groups,
+    ),
+    (
+        Setup {
+            slots: 0,
+            places: 0,
+            ..PAIR
+        },
+        ConfigField::Slots,
+    ),
+    (
+        Setup {
+            places: 0,
+            wear: 0,
+            ..PAIR
+        },
+        ConfigField::Places,
+    ),
+    (
+        Setup {
+            wear: 0,
+            starts: 0,
+            ..PAIR
+        },
+        ConfigField::Wear,
+    ),
+    (Setup { starts: 0, ..PAIR }, ConfigField::Starts),
+];
+
+#[test]
+fn bad_configs(rt: HostRuntime) {
+    for (setup, field) in MISFITS {
+        let opened = first_misfit(rt.alloc(), &setup, &[]);
+        assert_eq!(rt; opened, Err(Refusal::BadConfig { field }));
+    }
+}
+
+const WITH_ONE: Setup = Setup {
+    groups: &[&[0, 1], &[0]],
+    ..PAIR
+};
+
+const BAD_COMM: Refusal = Refusal::BadComm { comm: 2 };
+
+const NOT_MEMBER: Refusal = Refusal::NotMember { rank: 1 };
+
+const BAD_MODE: Refusal = Refusal::BadSignature {
+    cause: SignatureFault::Mode,
+};
+
+const BAD_GROUP: Refusal = Refusal::BadSignature {
+    cause: SignatureFault::Group,
+};
+
+const BAD_LENGTH: Refusal = Refusal::BadLength { want: 4, got: 8 };
+
+const OFFERS: &[Row] = &[
+    (
+        Call::Offer(0, 2, (SUM, 2, 0), &[1]),
+        Answer::Back(BAD_COMM, 4),
+    ),
+    (
+        Call::Offer(1, 1, (SUM, 2, 1), &[1]),
+        Answer::Back(NOT_MEMBER, 4),
+    ),
+    (
+        Call::Post(0, PERSISTENT_SUM, &[1]),
+        Answer::Back(BAD_MODE, 4),
+    ),
+    (Call::Init(0, SUM), Answer::Refused(BAD_MODE)),
+    (
+        Call::Offer(0, 0, (SUM, 3, 0), &[1]),
+        Answer::Back(BAD_GROUP, 4),
+    ),
+    (
+        Call::Offer(0, 0, (SUM, 2, 1), &[1]),
+        Answer::Back(BAD_GROUP, 4),
+    ),
+    (Call::Post(0, SUM, &[1, 2]), Answer::Back(BAD_LENGTH, 8)),
+    (Call::Lent, Answer::Lent(0)),
+    (Call::Quiet, Answer::Quiet(true)),
+];
+
+#[test]
+fn bad_offers(rt: HostRuntime) -> Result<(), Fail> {
+    assert_eq!(rt; first_misfit(rt.alloc(), &WITH_ONE, OFFERS)?, None);
+    Ok(())
+}

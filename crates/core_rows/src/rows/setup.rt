@@ -1,0 +1,61 @@
+use coll_core::Config;
+use coll_kinds::Refusal;
+use std::alloc::Global;
+
+/// What a row's engine is opened with.
+#[derive(Clone, Copy, Debug)]
+pub struct Setup {
+    pub ranks: u8,
+    /// The ranks of each communicator; communicator 0 has all.
+    pub groups: &'static [&'static [u8]],
+    pub slots: u32,
+    pub places: u32,
+    pub wear: u32,
+    pub starts: u32,
+}
+
+impl Setup {
+    /// The engine's configuration.
+    pub fn config(&self, alloc: Global) -> Result<Config, Refusal> {
+        let mut groups = Vec::new(alloc);
+        for group in self.groups {
+            groups.push(Vec::from_slice(alloc, group)?)?;
+        }
+        Ok(Config {
+            ranks: self.ranks,
+            groups,
+            slots: self.slots,
+            places: self.places,
+            wear: self.wear,
+            starts: self.starts,
+            trace: 64,
+        })
+    }
+}
+
+pub const ALONE: Setup = Setup {
+    ranks: 1,
+    groups: &[&[0]],
+    slots: 8,
+    places: 4,
+    wear: 8,
+    starts: 4,
+};
+
+pub const PAIR: Setup = Setup {
+    ranks: 2,
+    groups: &[&[0, 1]],
+    ..ALONE
+};
+
+pub const THREE: Setup = Setup {
+    ranks: 3,
+    groups: &[&[0, 1, 2]],
+    ..ALONE
+};
+
+pub const FIVE: Setup = Setup {
+    ranks: 5,
+    groups: &[&[0, 1, 2, 3, 4]],
+    ..ALONE
+};

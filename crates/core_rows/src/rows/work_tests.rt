@@ -1,0 +1,79 @@
+use crate::rows::answer::Answer;
+use crate::rows::call::Call;
+use crate::rows::setup::PAIR;
+use crate::rows::signatures::{MAX, SUM};
+use crate::rows::values::Values;
+use crate::rows::{Row, first_misfit};
+use coll_core::Phase;
+use coll_kinds::Refusal;
+use std::test::Fail;
+
+const OUT: Answer = Answer::Out(Values::One(1), Values::One(2));
+
+// A combination that is out stops its own request alone.
+const BESIDE_RUNNING: &[Row] = &[
+    (Call::Post(0, SUM, &[1]), Answer::Accepted),
+    (Call::Post(1, SUM, &[2]), Answer::Accepted),
+    (Call::StepsToWork, OUT),
+    (Call::Rest, Answer::Accepted),
+    (Call::Phase(0, 0), Answer::Phase(Phase::Pending)),
+    (Call::Phase(1, 1), Answer::Phase(Phase::Done)),
+    (Call::Quiet, Answer::Quiet(false)),
+    (Call::Commit, Answer::Finished),
+    (Call::Quiet, Answer::Quiet(true)),
+    (Call::Phase(0, 0), Answer::Phase(Phase::Done)),
+];
+
+#[test]
+fn settle_beside_running(rt: HostRuntime) -> Result<(), Fail> {
+    assert_eq!(rt; first_misfit(rt.alloc(), &PAIR, BESIDE_RUNNING)?, None);
+    Ok(())
+}
+
+// What was abandoned is handed out again by the next step.
+const ABANDONED: &[Row] = &[
+    (Call::Post(0, SUM, &[1]), Answer::Accepted),
+    (Call::Post(1, SUM, &[2]), Answer::Accepted),
+    (Call::StepsToWork, OUT),
+    (Call::Abandon, Answer::Accepted),
+    (Call::Lent, Answer::Lent(16)),
+    (Call::Step, OUT),
+    (Call::Commit, Answer::Finished),
+    (Call::Rest, Answer::Accepted),
+    (Call::Retire(0, 0), Answer::Outcome(0, 0, Values::One(3))),
+    (Call::Retire(1, 1), Answer::Outcome(0, 0, Values::One(3))),
+];
+
+// Another engine has the same ticket out, for another operation.
+const FOREIGN: &[Row] = &[
+    (Call::Post(0, SUM, &[1]), Answer::Accepted),
+    (Call::Post(1, SUM, &[2]), Answer::Accepted),
+    (Call::StepsToWork, OUT),
+    (Call::HoldForeign(MAX), OUT),
+    (Call::Commit, Answer::Refused(Refusal::Stale)),
+    (Call::HoldForeign(MAX), OUT),
+    (Call::Abandon, Answer::Refused(Refusal::Stale)),
+    (Call::Quiet, Answer::Quiet(false)),
+    (Call::Rest, Answer::Accepted),
+    (Call::Phase(0, 0), Answer::Phase(Phase::Pending)),
+];
+
+// A combination is accepted once.
+const SPENT: &[Row] = &[
+    (Call::Post(0, SUM, &[1]), Answer::Accepted),
+    (Call::Post(1, SUM, &[2]), Answer::Accepted),
+    (Call::StepsToWork, OUT),
+    (Call::Commit, Answer::Finished),
+    (Call::HoldForeign(SUM), OUT),
+    (Call::Abandon, Answer::Refused(Refusal::Stale)),
+    (Call::HoldForeign(SUM), OUT),
+    (Call::Commit, Answer::Refused(Refusal::Stale)),
+];
+
+#[test]
+fn abandoned_and_foreign_work(rt: HostRuntime) -> Result<(), Fail> {
+    assert_eq!(rt; first_misfit(rt.alloc(), &PAIR, ABANDONED)?, None);
+    assert_eq!(rt; first_misfit(rt.alloc(), &PAIR, FOREIGN)?, None);
+    assert_eq!(rt; first_misfit(rt.alloc(), &PAIR, SPENT)?, None);
+    Ok(())
+}
