@@ -1,7 +1,7 @@
 pub mod Lists
 mod Again
 mod SaidAgain
-mod Gifts
+pub mod Gifts
 mod Cuts
 mod Texts
 mod First
@@ -17,3 +17,4 @@ mod Readers
 pub mod JudgedLines
 mod Requested
 mod Soundly
+mod Commanded

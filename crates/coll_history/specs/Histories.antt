@@ -1,6 +1,6 @@
 -- What the lines of a text have said so far, and what follows from it.
-use Rattle.std.specs.Prelude.{ℕ, ◌==◌, Bool, true, false, not, ◌&&◌, ◌||◌, List, [], ◌∷◌, length, map, filter, filter_map, fold, Option, Some, None, slice_index_or, if◌then◌else◌}
-use Rattle.std.specs.List.{list_any}
+use Rattle.std.specs.Prelude.{ℕ, ◌==◌, Bool, true, false, not, ◌&&◌, ◌||◌, List, [], ◌∷◌, ◌++◌, length, map, filter, filter_map, fold, Option, Some, None, slice_index_or, if◌then◌else◌}
+use Rattle.std.specs.List.{list_any, range_with_len}
 use Rattle.coll_kinds.specs.declared.kind.Mode.{Mode}
 use Rattle.coll_kinds.specs.declared.kind.Mode.TheVariants.{Once, Persistent}
 use Rattle.coll_kinds.specs.declared.signature.Signature.{Signature}
@@ -50,6 +50,11 @@ abbrev pub starts : ℕ → Command → Bool
 starts q (Start other given) = other == q
 starts q command = false
 
+-- whether it is a start of some request
+abbrev pub is_start : Command → Bool
+is_start (Start other given) = true
+is_start command = false
+
 abbrev pub frees : ℕ → Command → Bool
 frees q (Free other) = other == q
 frees q command = false
@@ -80,6 +85,10 @@ is_persistent Persistent = true
 -- a start or a free may name the request, which was posted so
 abbrev pub is_startable : ℕ → Posting → List Command → Bool
 is_startable q p commands = is_persistent p.sig.mode && not (list_any (frees q) commands) && not (may_be_active q commands)
+
+-- the commands of a rank, and behind the last line of its section an unwritten `waitall` of all its requests
+abbrev pub commands_of : History → ℕ → List Command
+commands_of h rank = said_by rank h.told ++ WaitAll (range_with_len 0 (length (postings (said_by rank h.told)))) ∷ []
 
 -- how many requests there are in all
 abbrev pub total : List Told → ℕ

@@ -1,9 +1,10 @@
-ghost use Rattle.std.specs.Prelude.{◌≡◌, ◌∷◌, [], length};
-ghost use Rattle.coll_history.specs.Histories.{postings};
+ghost use Rattle.std.specs.Prelude.{◌≡◌, ◌∷◌, [], length, is_some, IfOk};
+ghost use Rattle.coll_history.specs.Histories.{posting, postings, is_start};
 
 use crate::given::Given;
 use crate::named::Named;
 use coll_kinds::Signature;
+use std::alloc::{AllocError, Global};
 
 /// What a line of a section says.
 #[derive(Debug, Drop)]
@@ -39,6 +40,67 @@ pub enum Command {
 }
 
 impl Command {
+    /// The same command once more. Linear in what it gives and in the requests that it names one by one.
+    pub fn copied(&self, alloc: Global) -> Result<Command, AllocError>
+        ensures { IfOk result (λ command. command ≡ self.now) }
+    {
+        match self {
+            Command::Post { comm, sig, given } => Ok(Command::Post {
+                comm: *comm,
+                sig: *sig,
+                given: given.copied(alloc)?,
+            }),
+            Command::Init { comm, sig } => Ok(Command::Init {
+                comm: *comm,
+                sig: *sig,
+            }),
+            Command::Start { req, given } => Ok(Command::Start {
+                req: *req,
+                given: given.copied(alloc)?,
+            }),
+            Command::Wait(req) => Ok(Command::Wait(*req)),
+            Command::Test(req) => Ok(Command::Test(*req)),
+            Command::Free(req) => Ok(Command::Free(*req)),
+            Command::WaitAny(named) => Ok(Command::WaitAny(named.copied(alloc)?)),
+            Command::WaitSome(named) => Ok(Command::WaitSome(named.copied(alloc)?)),
+            Command::WaitAll(named) => Ok(Command::WaitAll(named.copied(alloc)?)),
+        }
+    }
+
+    /// Whether it makes a request.
+    pub fn is_posting(&self) -> bool
+        ensures { result ≡ is_some (posting self.now) }
+    {
+        match self {
+            Command::Post { .. } => true,
+            Command::Init { .. } => true,
+            Command::Start { .. } => false,
+            Command::Wait(_) => false,
+            Command::Test(_) => false,
+            Command::Free(_) => false,
+            Command::WaitAny(_) => false,
+            Command::WaitSome(_) => false,
+            Command::WaitAll(_) => false,
+        }
+    }
+
+    /// Whether it is a start.
+    pub fn is_start(&self) -> bool
+        ensures { result ≡ is_start self.now }
+    {
+        match self {
+            Command::Post { .. } => false,
+            Command::Init { .. } => false,
+            Command::Start { .. } => true,
+            Command::Wait(_) => false,
+            Command::Test(_) => false,
+            Command::Free(_) => false,
+            Command::WaitAny(_) => false,
+            Command::WaitSome(_) => false,
+            Command::WaitAll(_) => false,
+        }
+    }
+
     /// How many requests it makes.
     pub(crate) fn made(&self) -> u32
         ensures { result ≡ length (postings (self.now ∷ [])) }

@@ -1,5 +1,6 @@
-ghost use Rattle.std.specs.Prelude.{◌≡◌};
+ghost use Rattle.std.specs.Prelude.{◌≡◌, IfOk};
 
+use std::alloc::{AllocError, Global};
 use std::marker::Model;
 
 /// The bytes that a rank gives to a request.
@@ -28,6 +29,13 @@ impl Given {
         ensures { result.now ≡ self.now }
     {
         &self.bytes
+    }
+
+    /// The same bytes once more. Linear in the bytes.
+    pub fn copied(&self, alloc: Global) -> Result<Given, AllocError>
+        ensures { IfOk result (λ given. given ≡ self.now) }
+    {
+        Ok(Given::from_vec(Vec::from_slice(alloc, &self.bytes)?))
     }
 
     /// Takes no memory.

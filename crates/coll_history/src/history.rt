@@ -2,15 +2,16 @@ ghost use Rattle.coll_kinds.specs.Limits.{max_text};
 ghost use Rattle.std.specs.Prelude.{◌≡◌, ◌≤◌, [], length, is_some, unwrap_or, Ok, IfOk, OnOk, MatchResult};
 ghost use Rattle.std.specs.List.{AllByRecursion};
 ghost use Rattle.coll_history.specs.Cutting.{lines_of};
-ghost use Rattle.coll_history.specs.Histories.{beginning};
+ghost use Rattle.coll_history.specs.Histories.{beginning, commands_of};
 ghost use Rattle.coll_history.specs.Judging.{judged};
 ghost use Rattle.coll_history.specs.Code.{rows_view, requests_view, FailsText};
 ghost use Rattle.coll_history.specs.Requests.{requests};
 ghost use Rattle.coll_history.specs.Sound.{IsSound};
 
-use crate::command::Told;
+use crate::command::{Command, Told};
 use crate::cutting::lines;
 use crate::fault::ScriptFault;
+use crate::named::Named;
 use crate::reader::Reader;
 use crate::request::{Request, note};
 use std::alloc::{AllocError, Global};
@@ -89,9 +90,27 @@ impl History {
 
     /// The commands, in the order of their lines.
     pub fn told(&self) -> &[Told]
-        ensures { result.now ≡ self.now.told }
+        ensures told { result.now ≡ self.now.told }
+        ensures few { length result.now ≤ 1048577 }
     {
         &self.told
+    }
+
+    /// The commands of a rank, in the order of their lines, and behind them the unwritten `waitall` of all its requests.
+    /// Linear in all commands, and in what those of the rank give.
+    pub fn commands(&self, alloc: Global, rank: u8) -> Result<Vec<Command>, AllocError>
+        ensures { IfOk result (λ commands. commands.items ≡ commands_of self.now rank) }
+    {
+        let mut commands = Vec::new(alloc);
+        let mut made = 0;
+        for told in &self.told {
+            if told.rank == rank {
+                made += told.command.made();
+                commands.push(told.command.copied(alloc)?)?;
+            }
+        }
+        commands.push(Command::WaitAll(Named::first(made)))?;
+        Ok(commands)
     }
 
     /// The requests of each rank. Linear in the commands.

@@ -1,4 +1,4 @@
-ghost use Rattle.std.specs.Prelude.{◌≡◌, ◌≤◌, [], map, length, OnOk};
+ghost use Rattle.std.specs.Prelude.{◌≡◌, ◌≤◌, [], map, length, IfOk, OnOk};
 ghost use Rattle.std.specs.List.{AllByRecursion};
 ghost use Rattle.coll_history.specs.Requests.{request, requests_after, started};
 ghost use Rattle.coll_history.specs.Code.{rows_view, request_view, IsNamed};
@@ -44,6 +44,19 @@ impl<'a> Request<'a> {
             sig,
             starts: Vec::new(alloc),
         }
+    }
+
+    /// The same request once more. Linear in its starts.
+    pub fn copied(&self, alloc: Global) -> Result<Request<'a>, AllocError>
+        ensures { IfOk result (λ request. request_view request ≡ request_view self.now) }
+    {
+        Ok(Request {
+            line: self.line,
+            comm: self.comm,
+            member: self.member,
+            sig: self.sig,
+            starts: Vec::from_slice(alloc, &self.starts)?,
+        })
     }
 
     /// Notes a start with these bytes.

@@ -4,11 +4,12 @@ use Rattle.std.specs.Prelude.{IfSome}
 use Rattle.std.specs.Io.KnownBytes.{Appends}
 use Rattle.std.proofs.lemmas.Bool.{cases_lt}
 use Rattle.std.proofs.lemmas.List.{take_all, length-take}
-use Rattle.coll_text.specs.declared.fault.Fault.{Fault}
-use Rattle.coll_text.specs.Steps.{◌>>=◌}
-use Rattle.coll_script.specs.Jobs.{Job}
+use Rattle.coll_history.specs.declared.fault.Fault.{Fault}
+use Rattle.coll_history.specs.Reading.{and_then}
+use Rattle.coll_history.specs.Histories.{History}
+use Rattle.coll_script.specs.Jobs.{job_of}
 use Rattle.coll_script.specs.Meaning.{meaning, job_lines}
-use Rattle.coll_script.proofs.Reading.{job_of-long}
+use Rattle.coll_script.proofs.Reading.{script_of-long}
 use Rattle.coll_job.specs.declared.fault.JobFault.{JobFault}
 use Rattle.coll_job.specs.declared.fault.JobFault.TheVariants.{Read, Write, Text, Stalled, Refused, Memory, NoThread, Torn}
 use Rattle.coll_job.specs.Plain.{IsPlainFault, IsAnswerFault, WritesMeaning}
@@ -17,9 +18,9 @@ use Rattle.coll_job.specs.Plain.{IsPlainFault, IsAnswerFault, WritesMeaning}
 meaning-take : (input : List ℕ) → meaning (take 1048577 input) ≡ meaning input
 meaning-take input = elim (cases_lt 1048577 (length input)) [
   | inl lt ↦ (let len = length-take 1048577 input in
-      let one = job_of-long (take 1048577 input) (omega arith) in
-      let other = job_of-long input (omega arith) in
-      ap (λ (read : Result Job Fault). read >>= λ job. Ok (job_lines job)) (one ∙ sym other))
+      let one = script_of-long (take 1048577 input) (omega arith) in
+      let other = script_of-long input (omega arith) in
+      ap (λ (read : Result History Fault). and_then read (λ h. Ok (job_lines (job_of h)))) (one ∙ sym other))
   | inr le ↦ ap meaning (take_all 1048577 input le)
 ]
 

@@ -1,93 +1,132 @@
--- The job of a history after which nothing is found.
-use Rattle.std.proofs.Common.{◌≡◌, ℕ, ◌+◌, ◌≤◌, Bool, true, false, List, [], ◌∷◌, length, Option, Some, None, Ok, Err, refl, ap, subst, sym, ◌∙◌, arith}
-use Rattle.std.specs.Prelude.{slice_get, unwrap_or, is_some, IfSome}
-use Rattle.std.specs.List.{list_all, AllByRecursion}
-use Rattle.std.specs.Option.{option_map}
+-- The script of a history after which nothing is found.
+use Rattle.std.proofs.Common.{◌≡◌, ℕ, ◌+◌, ◌≤◌, ◌<◌, Bool, true, false, List, [], ◌∷◌, length, map, get_or, Option, Some, None, Ok, Err, refl, ap, subst, sym, ◌∙◌, arith, inl, inr}
+use Rattle.std.specs.Prelude.{slice_get, slice_index, unwrap_or, is_some, IfSome, Vec}
+use Rattle.std.specs.List.{list_all, AllByRecursion, range_with_len}
+use Rattle.std.proofs.lemmas.Bool.{cases_lt}
+use Rattle.std.proofs.lemmas.List.FromFn.{get_or-map-range_with_len, length-map-range_with_len}
+use Rattle.std.proofs.lemmas.Option.{slice_get_past, unwrap_or-slice_get, slice_get_within}
+use Rattle.coll_history.specs.declared.cause.Cause.TheVariants.{PlaceMismatch, PlaceMissing, StartMissing}
+use Rattle.coll_history.specs.Histories.{History}
+use Rattle.coll_history.specs.Requests.{Request, requests}
+use Rattle.coll_history.specs.declared.request.Request as rust
+use Rattle.coll_history.specs.Requests as history
+use Rattle.coll_history.specs.Code.{request_view, requests_view, rows_view}
+use Rattle.coll_history.proofs.Lists.{slice_get-view, AllByRecursion-weaker}
+use Rattle.std.specs.Global.{Global}
 use Rattle.std.proofs.lemmas.List.{length-map}
-use Rattle.std.proofs.lemmas.Option.{slice_get-map}
-use Rattle.coll_text.specs.declared.cause.Cause.TheVariants.{PlaceMismatch, PlaceMissing, StartMissing}
-use Rattle.coll_text.specs.Histories.{Request, Section, History}
 use Rattle.coll_kinds.specs.Groups.{member_of, IsGroup}
-use Rattle.coll_text.specs.Sound.{IsRequestOn, IsRequest, IsHistory}
+use Rattle.coll_history.specs.Sound.{IsRequest, IsSound}
 use Rattle.coll_script.specs.Postings.{requests_of, postings_from}
 use Rattle.coll_script.specs.Matching.{mismatch, have_places, have_starts}
-use Rattle.coll_script.specs.Jobs.{Job, job_from, matched, matched_job, completed_by, completed}
+use Rattle.coll_script.specs.Jobs.{job_of, all_postings, matched, belonging, completed_by, completed}
 use Rattle.coll_script.specs.Scripts.{IsOwned, IsJob}
 use Rattle.coll_script.proofs.Matches.{AreFitting-answered, AreMatched-all}
 
-each_request : (P : Request → Type 0) (o : Option Section) → IfSome o (λ s. AllByRecursion P s.requests) → AllByRecursion P (unwrap_or (option_map (λ (s : Section). s.requests) o) [])
-each_request P None h = tt
-each_request P (Some s) h = h
+-- ---- the requests of a rank
 
-few_of : (total : ℕ) (o : Option Section) → IfSome o (λ s. length s.requests ≤ total) → length (unwrap_or (option_map (λ (s : Section). s.requests) o) []) ≤ total
-few_of total None h = omega arith
-few_of total (Some s) h = h
+pub length-requests : (h : History) → length (requests h) ≡ unwrap_or h.ranks 0
+length-requests h = length-map-range_with_len (λ rank. history.requests_of h.groups rank h.told) 0 (unwrap_or h.ranks 0)
 
-requests_of-history : (h : History) (rank : ℕ) → unwrap_or (option_map (λ (s : Section). s.requests) (slice_get h.sections rank)) [] ≡ requests_of (job_from h).requests rank
-requests_of-history h rank = ap (λ (o : Option (List Request)). unwrap_or o []) (sym (slice_get-map (λ (s : Section). s.requests) h.sections rank))
+requests_of-history : (h : History) (rank : ℕ) → rank < unwrap_or h.ranks 0 → requests_of (requests h) rank ≡ history.requests_of h.groups rank h.told
+requests_of-history h rank lt =
+    unwrap_or-slice_get (requests h) rank [] ∙ get_or-map-range_with_len (λ k. history.requests_of h.groups k h.told) 0 (unwrap_or h.ranks 0) rank rank [] lt (omega arith)
 
-each_at : (h : History) → IsHistory h → (rank : ℕ) → AllByRecursion (IsRequest h.lines h.groups rank) (requests_of (job_from h).requests rank)
-each_at h is rank = subst (AllByRecursion (IsRequest h.lines h.groups rank)) (requests_of-history h rank) (each_request (IsRequest h.lines h.groups rank) (slice_get h.sections rank) (is.requests rank))
+requests_of-past : (h : History) (rank : ℕ) → unwrap_or h.ranks 0 ≤ rank → requests_of (requests h) rank ≡ []
+requests_of-past h rank le =
+    let len = length-requests h in
+    ap (λ (o : Option (List Request)). unwrap_or o []) (slice_get_past (requests h) rank (omega (arith, len, le)))
 
-member_on : (rank : ℕ) (p : Request) (o : Option (List ℕ)) → IfSome o (λ group. IsRequestOn group rank p) → IfSome o (λ group. member_of rank group ≡ Some p.member)
-member_on rank p None h = tt
-member_on rank p (Some group) h = h.member
+each_of : (P : List Request → Type 0) (h : History) (rank : ℕ) → P (history.requests_of h.groups rank h.told) → P [] → P (requests_of (requests h) rank)
+each_of P h rank here none = elim (cases_lt rank (unwrap_or h.ranks 0)) [
+  | inl lt ↦ subst P (sym (requests_of-history h rank lt)) here
+  | inr le ↦ subst P (sym (requests_of-past h rank le)) none
+]
 
-owned_from : (lines : ℕ) (groups : List (List ℕ)) (rank : ℕ) (requests : List Request) → lines ≤ 4294967295 → AllByRecursion (IsRequest lines groups rank) requests → AllByRecursion (IsOwned groups rank) requests
-owned_from lines groups rank [] le all = tt
-owned_from lines groups rank (p ∷ requests) le all =
-    let few = all.0.few in
-    (record { known = all.0.known; member = member_on rank p (slice_get groups p.comm) all.0.fits; few = omega (arith, few, le) }, owned_from lines groups rank requests le all.1)
+owned_from : (groups : List (List ℕ)) (rank : ℕ) (requests : List Request) → AllByRecursion (IsRequest 1048577 groups rank) requests → AllByRecursion (IsOwned groups rank) requests
+owned_from groups rank [] all = tt
+owned_from groups rank (p ∷ requests) all =
+    let is = all.0 in
+    let few = is.few in (
+      record {
+        known = slice_get_within groups p.comm is.group is.known;
+        member = subst (λ (o : Option (List ℕ)). IfSome o (λ group. member_of rank group ≡ Some p.member)) (sym is.known) is.member;
+        few = omega (arith, few);
+      },
+      owned_from groups rank requests all.1,
+    )
 
-pub IsJob-history : (h : History) (last : ℕ) (made : Job) → IsHistory h → h.lines ≤ 4294967295 → matched_job last (job_from h) ≡ Ok made → IsJob (job_from h)
-IsJob-history h last made is lines e =
-    let len : length (job_from h).requests ≡ length h.sections = length-map h.sections _ in
-    let groups : AllByRecursion (IsGroup (length (job_from h).requests)) h.groups = subst (λ n. AllByRecursion (IsGroup n) h.groups) (sym len) is.groups in
+pub IsJob-history : (h made : History) (last : ℕ) → IsSound h → belonging last h ≡ Ok made → IsJob (job_of h)
+IsJob-history h made last is e =
+    let len : length (requests h) ≡ unwrap_or h.ranks 0 = length-requests h in
+    let groups : AllByRecursion (IsGroup (length (requests h))) h.groups = subst (λ n. AllByRecursion (IsGroup n) h.groups) (sym len) is.groups in
     let few_ranks = is.few_ranks in
-    let few = is.few in
+    let each : (rank : ℕ) → AllByRecursion (IsRequest 1048577 h.groups rank) (requests_of (requests h) rank) = λ rank. each_of (AllByRecursion (IsRequest 1048577 h.groups rank)) h rank (is.requests rank) tt in
     record {
       few_groups = is.few_groups;
       few_ranks = omega (arith, len, few_ranks);
       groups = groups;
-      few_requests = λ rank. (let most : length (requests_of (job_from h).requests rank) ≤ h.total = subst (λ (l : List Request). length l ≤ h.total) (requests_of-history h rank) (few_of h.total (slice_get h.sections rank) (is.few_requests rank)) in omega (arith, most, few));
-      owned = λ rank. owned_from h.lines h.groups rank (requests_of (job_from h).requests rank) lines (each_at h is rank);
-      matched = AreMatched-all (length (job_from h).requests) h.lines h.groups (job_from h).requests 0 h.groups (λ k. (let at : 0 + k ≡ k = omega arith in ap (slice_get h.groups) at)) groups (each_at h is) (AreFitting-answered last (job_from h) made e);
+      few_requests = λ rank. each_of (λ (l : List Request). length l ≤ 4096) h rank (is.few_requests rank) (omega arith);
+      owned = λ rank. owned_from h.groups rank (requests_of (requests h) rank) (each rank);
+      matched = AreMatched-all (length (requests h)) 1048577 h.groups (requests h) 0 h.groups (λ k. (let at : 0 + k ≡ k = omega arith in ap (slice_get h.groups) at)) groups each (AreFitting-answered last h made e);
     }
 
 -- ---- what is judged after the last line
 
-pub judged-mismatch : (last line : ℕ) (job : Job) (all : List (List (List Request))) (found : Option ℕ) → all ≡ postings_from job.requests 0 job.groups → found ≡ mismatch all → found ≡ Some line
-    → matched_job last job ≡ Err (record { line = line; cause = PlaceMismatch })
-judged-mismatch last line job all found is tested e =
-    ap (λ (a : List (List (List Request))). matched last a job (mismatch a)) (sym is) ∙ ap (matched last all job) (sym tested ∙ e)
+pub judged-mismatch : (last line : ℕ) (h : History) (all : List (List (List Request))) (found : Option ℕ) → all ≡ all_postings (job_of h) → found ≡ mismatch all → found ≡ Some line
+    → belonging last h ≡ Err (record { line = line; cause = PlaceMismatch })
+judged-mismatch last line h all found is tested e =
+    ap (λ (a : List (List (List Request))). matched last a h (mismatch a)) (sym is) ∙ ap (matched last all h) (sym tested ∙ e)
 
-pub judged-places : (last : ℕ) (job : Job) (all : List (List (List Request))) (found : Option ℕ) (places : Bool) → all ≡ postings_from job.requests 0 job.groups → found ≡ mismatch all → found ≡ None
-    → places ≡ list_all have_places all → places ≡ false → matched_job last job ≡ Err (record { line = last; cause = PlaceMissing })
-judged-places last job all found places is tested e place fails =
+pub judged-places : (last : ℕ) (h : History) (all : List (List (List Request))) (found : Option ℕ) (places : Bool) → all ≡ all_postings (job_of h) → found ≡ mismatch all → found ≡ None
+    → places ≡ list_all have_places all → places ≡ false → belonging last h ≡ Err (record { line = last; cause = PlaceMissing })
+judged-places last h all found places is tested e place fails =
     let none : mismatch all ≡ None = sym tested ∙ e in
     let missing : list_all have_places all ≡ false = sym place ∙ fails in
-    ap (λ (a : List (List (List Request))). matched last a job (mismatch a)) (sym is) ∙ rw (none, missing) refl
+    ap (λ (a : List (List (List Request))). matched last a h (mismatch a)) (sym is) ∙ rw (none, missing) refl
 
-pub judged-starts : (last : ℕ) (job : Job) (all : List (List (List Request))) (found : Option ℕ) (places starts : Bool) → all ≡ postings_from job.requests 0 job.groups → found ≡ mismatch all → found ≡ None
-    → places ≡ list_all have_places all → places ≡ true → starts ≡ list_all have_starts all → starts ≡ false → matched_job last job ≡ Err (record { line = last; cause = StartMissing })
-judged-starts last job all found places starts is tested e place has start fails =
+pub judged-starts : (last : ℕ) (h : History) (all : List (List (List Request))) (found : Option ℕ) (places starts : Bool) → all ≡ all_postings (job_of h) → found ≡ mismatch all → found ≡ None
+    → places ≡ list_all have_places all → places ≡ true → starts ≡ list_all have_starts all → starts ≡ false → belonging last h ≡ Err (record { line = last; cause = StartMissing })
+judged-starts last h all found places starts is tested e place has start fails =
     let none : mismatch all ≡ None = sym tested ∙ e in
     let there : list_all have_places all ≡ true = sym place ∙ has in
     let missing : list_all have_starts all ≡ false = sym start ∙ fails in
-    ap (λ (a : List (List (List Request))). matched last a job (mismatch a)) (sym is) ∙ rw (none, there, missing) refl
+    ap (λ (a : List (List (List Request))). matched last a h (mismatch a)) (sym is) ∙ rw (none, there, missing) refl
 
-pub judged-whole : (last : ℕ) (job : Job) (all : List (List (List Request))) (found : Option ℕ) (places starts : Bool) → all ≡ postings_from job.requests 0 job.groups → found ≡ mismatch all → found ≡ None
-    → places ≡ list_all have_places all → places ≡ true → starts ≡ list_all have_starts all → starts ≡ true → matched_job last job ≡ Ok job
-judged-whole last job all found places starts is tested e place has start has_starts =
+pub judged-whole : (last : ℕ) (h : History) (all : List (List (List Request))) (found : Option ℕ) (places starts : Bool) → all ≡ all_postings (job_of h) → found ≡ mismatch all → found ≡ None
+    → places ≡ list_all have_places all → places ≡ true → starts ≡ list_all have_starts all → starts ≡ true → belonging last h ≡ Ok h
+judged-whole last h all found places starts is tested e place has start has_starts =
     let none : mismatch all ≡ None = sym tested ∙ e in
     let there : list_all have_places all ≡ true = sym place ∙ has in
     let all_there : list_all have_starts all ≡ true = sym start ∙ has_starts in
-    ap (λ (a : List (List (List Request))). matched last a job (mismatch a)) (sym is) ∙ rw (none, there, all_there) refl
+    ap (λ (a : List (List (List Request))). matched last a h (mismatch a)) (sym is) ∙ rw (none, there, all_there) refl
 
 -- the number of ranks is known
-pub completed-known : (h : History) (made : Job) → is_some h.ranks ≡ true → matched_job h.lines (job_from h) ≡ Ok made → completed h ≡ Ok made
-completed-known h made known e = known_from h.ranks known e
+pub completed-known : (h made : History) (last : ℕ) → is_some h.ranks ≡ true → belonging last h ≡ Ok made → completed last h ≡ Ok made
+completed-known h made last known e = known_from h.ranks known e
   where
-    known_from : (o : Option ℕ) → is_some o ≡ true → matched_job h.lines (job_from h) ≡ Ok made → completed_by o h ≡ Ok made
+    known_from : (o : Option ℕ) → is_some o ≡ true → belonging last h ≡ Ok made → completed_by o last h ≡ Ok made
     known_from None none e = absurd cc
     known_from (Some n) none e = e
+
+-- ---- what the code has read
+
+-- the requests of a rank, among those of all ranks
+pub requests_of-view : (ranks : List (Vec rust.Request Global)) (rank : ℕ) (mine : Vec rust.Request Global) → rank < length ranks → mine ≡ get_or ranks rank mine → map request_view mine.items ≡ requests_of (requests_view ranks) rank
+requests_of-view ranks rank mine lt is =
+    ap (λ (o : Option (List Request)). unwrap_or o []) (sym (slice_get-view (λ (requests : Vec rust.Request Global). map request_view requests.items) ranks rank mine lt is))
+
+pub postings-view : (h : History) (ranks others : List (Vec rust.Request Global)) (groups : List (Vec ℕ Global)) → ranks ≡ others → requests_view others ≡ requests h → rows_view groups ≡ h.groups
+    → postings_from (requests_view ranks) 0 (rows_view groups) ≡ all_postings (job_of h)
+postings-view h ranks others groups same view rows =
+    ap (λ (rs : List (Vec rust.Request Global)). postings_from (requests_view rs) 0 (rows_view groups)) same
+    ∙ ap (λ (rs : List (List Request)). postings_from rs 0 (rows_view groups)) view ∙ ap (postings_from (requests h) 0) rows
+
+-- the members of communicators are ranks
+pub members-view : (h : History) (ranks others : List (Vec rust.Request Global)) (groups : List (Vec ℕ Global)) → IsSound h → ranks ≡ others → requests_view others ≡ requests h → rows_view groups ≡ h.groups
+    → AllByRecursion (λ group. (m : ℕ) → m < length group → slice_index group m < length ranks) (rows_view groups)
+members-view h ranks others groups is same view rows =
+    let count : length ranks ≡ unwrap_or h.ranks 0 =
+    ap length same ∙ sym (length-map others (λ requests. map request_view requests.items)) ∙ ap length view ∙ length-requests h in
+    subst (AllByRecursion (λ (group : List ℕ). (m : ℕ) → m < length group → slice_index group m < length ranks)) (sym rows)
+    (AllByRecursion-weaker (IsGroup (unwrap_or h.ranks 0)) (λ (group : List ℕ). (m : ℕ) → m < length group → slice_index group m < length ranks)
+    (λ group it m lt. subst (λ n. slice_index group m < n) (sym count) (it.below m lt)) h.groups is.groups)

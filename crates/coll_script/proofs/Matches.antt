@@ -10,14 +10,17 @@ use Rattle.std.proofs.lemmas.Option.{slice_get-map, slice_get-get_or, unwrap_or-
 use Rattle.coll_kinds.specs.declared.signature.Signature.{Signature}
 use Rattle.coll_kinds.specs.Lengths.{given_len}
 use Rattle.coll_kinds.specs.Checks.{broken}
-use Rattle.coll_text.specs.declared.fault.Fault.{Fault}
-use Rattle.coll_text.specs.Histories.{Request}
+use Rattle.coll_history.specs.declared.fault.Fault.{Fault}
+use Rattle.coll_history.specs.Requests.{Request}
 use Rattle.coll_kinds.specs.Groups.{IsGroup}
-use Rattle.coll_text.specs.Sound.{IsRequestOn, IsRequest}
-use Rattle.coll_text.proofs.Lists.{AllByRecursion-at}
+use Rattle.coll_history.specs.Sound.{IsRequest}
+use Rattle.coll_history.proofs.Lists.{AllByRecursion-at}
 use Rattle.coll_script.specs.Postings.{is_on, posted_on, requests_of, postings, postings_from}
 use Rattle.coll_script.specs.Matching.{earliest, agrees, differing_from, differing, lower, least, mismatch, first_list, have_places, started_alike, have_starts}
-use Rattle.coll_script.specs.Jobs.{Job, matched, matched_job}
+use Rattle.coll_history.specs.Histories.{History}
+use Rattle.coll_kinds.specs.Groups.{member_of}
+use Rattle.coll_script.specs.declared.first.First.{First}
+use Rattle.coll_script.specs.Jobs.{job_of, all_postings, matched, belonging}
 use Rattle.coll_script.specs.Outcomes.{list_at, AreMatched}
 use Rattle.coll_kinds.proofs.Sameness.{same_signature-Decides}
 
@@ -54,20 +57,20 @@ fitting-from all line places starts found one other none has_places has_starts =
   starts = list_all-each have_starts all (other ∙ has_starts);
 }
 
-answered_by : (job made : Job) (f g : Fault) (places starts : Bool) → cond places (cond starts (Ok job) (Err f)) (Err g) ≡ Ok made → (places ≡ true) × (starts ≡ true)
-answered_by job made f g true true e = (refl, refl)
-answered_by job made f g true false e = absurd cc
-answered_by job made f g false starts e = absurd cc
+answered_by : (h made : History) (f g : Fault) (places starts : Bool) → cond places (cond starts (Ok h) (Err f)) (Err g) ≡ Ok made → (places ≡ true) × (starts ≡ true)
+answered_by h made f g true true e = (refl, refl)
+answered_by h made f g true false e = absurd cc
+answered_by h made f g false starts e = absurd cc
 
 -- the three tests of an answer
-answered : (last : ℕ) (all : List (List (List Request))) (job made : Job) (line : Option ℕ) → matched last all job line ≡ Ok made → (line ≡ None) × (list_all have_places all ≡ true) × (list_all have_starts all ≡ true)
-answered last all job made (Some line) e = absurd cc
-answered last all job made None e = let tests = answered_by job made _ _ (list_all have_places all) (list_all have_starts all) e in (refl, tests.0, tests.1)
+answered : (last : ℕ) (all : List (List (List Request))) (h made : History) (line : Option ℕ) → matched last all h line ≡ Ok made → (line ≡ None) × (list_all have_places all ≡ true) × (list_all have_starts all ≡ true)
+answered last all h made (Some line) e = absurd cc
+answered last all h made None e = let tests = answered_by h made _ _ (list_all have_places all) (list_all have_starts all) e in (refl, tests.0, tests.1)
 
-pub AreFitting-answered : (last : ℕ) (job made : Job) → matched_job last job ≡ Ok made → AreFitting (postings_from job.requests 0 job.groups)
-AreFitting-answered last job made e =
-    let all = postings_from job.requests 0 job.groups in
-    let tests = answered last all job made (mismatch all) e in
+pub AreFitting-answered : (last : ℕ) (h made : History) → belonging last h ≡ Ok made → AreFitting (all_postings (job_of h))
+AreFitting-answered last h made e =
+    let all = all_postings (job_of h) in
+    let tests = answered last all h made (mismatch all) e in
     fitting-from all (mismatch all) (list_all have_places all) (list_all have_starts all) refl refl refl tests.0 tests.1 tests.2
 
 -- ---- one communicator
@@ -76,7 +79,7 @@ agreeing : (b : Bool) (rest : List ℕ) (line : ℕ) → cond b rest (line ∷ r
 agreeing true rest line e = (refl, e)
 agreeing false rest line e = absurd cc
 
-agrees-at : (firsts : ℕ → Option Request) (place k : ℕ) (list : List Request) (p : Request) → differing_from firsts place list ≡ [] → slice_get list k ≡ Some p → agrees (firsts (place + k)) p.sig ≡ true
+agrees-at : (firsts : ℕ → Option First) (place k : ℕ) (list : List Request) (p : Request) → differing_from firsts place list ≡ [] → slice_get list k ≡ Some p → agrees (firsts (place + k)) p.sig ≡ true
 agrees-at firsts place k [] p none e = absurd cc
 agrees-at firsts place zero (q ∷ list) p none e =
     let same : q ≡ p = same_Some q p e in
@@ -86,7 +89,7 @@ agrees-at firsts place (suc k) (q ∷ list) p none e =
     let at : place + 1 + k ≡ place + suc k = omega arith in
     ap (λ i. agrees (firsts i) p.sig) (sym at) ∙ agrees-at firsts (place + 1) k list p (agreeing (agrees (firsts place) q.sig) (differing_from firsts (place + 1) list) q.line none).1 e
 
-agrees-same : (o : Option Request) (sig other : Signature) → agrees o sig ≡ true → agrees o other ≡ true → sig ≡ other
+agrees-same : (o : Option First) (sig other : Signature) → agrees o sig ≡ true → agrees o other ≡ true → sig ≡ other
 agrees-same None sig other one two = absurd cc
 agrees-same (Some first) sig other one two = sym ((same_signature-Decides first.sig sig).0 one) ∙ (same_signature-Decides first.sig other).0 two
 
@@ -125,8 +128,16 @@ pub list_at-postings : (requests : List (List Request)) (comm : ℕ) (group : Li
 list_at-postings requests comm group m lt =
     ap (λ (o : Option (List Request)). unwrap_or o []) (slice_get-map (λ rank. posted_on comm (requests_of requests rank)) group m ∙ ap (option_map (λ rank. posted_on comm (requests_of requests rank))) (slice_get-get_or group m 0 lt))
 
-fits-at : (groups : List (List ℕ)) (comm rank : ℕ) (group : List ℕ) (p : Request) → slice_get groups comm ≡ Some group → IfSome (slice_get groups p.comm) (λ g. IsRequestOn g rank p) → p.comm ≡ comm → IsRequestOn group rank p
-fits-at groups comm rank group p here fits same = subst (λ (o : Option (List ℕ)). IfSome o (λ g. IsRequestOn g rank p)) (ap (slice_get groups) same ∙ here) fits
+-- a request of a rank on the communicator of this group
+record IsRequestOn (group : List ℕ) (rank : ℕ) (p : Request) : Type 0 where
+  pub member : member_of rank group ≡ Some p.member
+  pub checked : broken p.sig (length group) ≡ None
+  pub given : AllByRecursion (λ given. length given ≡ given_len p.sig (length group) p.member) p.starts
+
+fits-at : (told : ℕ) (groups : List (List ℕ)) (comm rank : ℕ) (group : List ℕ) (p : Request) → slice_get groups comm ≡ Some group → IsRequest told groups rank p → p.comm ≡ comm → IsRequestOn group rank p
+fits-at told groups comm rank group p here is same =
+    let one : is.group ≡ group = same_Some is.group group (sym is.known ∙ ap (slice_get groups) same ∙ here) in
+    subst (λ (g : List ℕ). IsRequestOn g rank p) one (record { member = is.member; checked = is.checked; given = is.given })
 
 list_all-at : {X : Type 0} (f : X → Bool) (xs : List X) (i : ℕ) (x : X) → list_all f xs ≡ true → slice_get xs i ≡ Some x → f x ≡ true
 list_all-at f xs i x e some = AllByRecursion-at (λ y. f y ≡ true) xs i x (list_all-each f xs e) some
@@ -152,7 +163,7 @@ AreMatched-postings n lines groups requests comm group here is each none places 
           let mine : m < length group = omega (arith, lt, len) in
           let rank = slice_index group m in
           let found = posted-at (IsRequest lines groups rank) comm (requests_of requests rank) place p (each rank) (ap (λ (l : List Request). slice_get l place) (sym (list_at-postings requests comm group m mine)) ∙ other) in
-          let on = fits-at groups comm rank group p here found.0.fits found.1 in
+          let on = fits-at lines groups comm rank group p here found.0 found.1 in
           let member : p.member ≡ m = same_Some p.member m (sym on.member ∙ is.found m mine) in (
             p,
             other,

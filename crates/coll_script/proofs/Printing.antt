@@ -9,7 +9,7 @@ use Rattle.std.specs.Fmt.{signed_decimal}
 use Rattle.coll_kinds.specs.declared.datatype.Datatype.{Datatype}
 use Rattle.coll_kinds.specs.Elements.{width, element_at}
 use Rattle.coll_ops.specs.Combinations.{elements}
-use Rattle.coll_text.proofs.Gifts.{width-positive}
+use Rattle.coll_history.proofs.Gifts.{width-positive}
 use Rattle.coll_script.specs.Meaning.{element_text}
 use Rattle.coll_script.specs.Growing.{Extends}
 
@@ -52,6 +52,11 @@ ranks-more f n i out total lt so_far =
     let here : flat_map f (range_with_len i (n - i)) ≡ f i ++ others =
     ap (λ m. flat_map f (range_with_len i m)) left ∙ flat_map-cons f i (range_with_len (i + 1) (n - (i + 1))) in
     append_assoc out (f i) others ∙ ap (λ (xs : List ℕ). out ++ xs) (sym here) ∙ so_far
+
+pub ranks-done : (f : ℕ → List ℕ) (n i : ℕ) (out total : List ℕ) → n ≤ i → out ++ flat_map f (range_with_len i (n - i)) ≡ total → out ≡ total
+ranks-done f n i out total le so_far =
+    let none : n - i ≡ 0 = omega (arith, le) in
+    sym (append-nil out) ∙ ap (λ m. out ++ flat_map f (range_with_len i m)) (sym none) ∙ so_far
 
 -- ---- exits
 

@@ -4,7 +4,6 @@ use Rattle.std.specs.Prelude.{slice_get, unwrap_or, Vec}
 use Rattle.std.specs.Global.{Global}
 use Rattle.std.specs.List.{AllByRecursion}
 use Rattle.std.specs.Option.{option_map}
-use denote.Ref.{Bor}
 use Rattle.std.proofs.lemmas.List.{length-map}
 use Rattle.std.proofs.lemmas.Option.{slice_get-map, slice_get_within, unwrap_or-slice_get, same_Some}
 use Rattle.coll_kinds.specs.declared.signature.Signature.{Signature}
@@ -12,10 +11,11 @@ use Rattle.coll_kinds.specs.Lengths.{given_len}
 use Rattle.coll_kinds.specs.Checks.{broken}
 use Rattle.coll_ops.specs.Contributions.{AreGiven}
 use Rattle.coll_ops.specs.Values.{row_of}
-use Rattle.coll_text.specs.declared.request.Request as rust
-use Rattle.coll_text.specs.Histories.{Request}
-use Rattle.coll_text.specs.Views.{request_view, rows_view}
-use Rattle.coll_text.proofs.Lists.{slice_get-view, AllByRecursion-read}
+use Rattle.coll_history.specs.declared.request.Request as rust
+use Rattle.coll_history.specs.Requests.{Request}
+use denote.Ref.{Bor}
+use Rattle.coll_history.specs.Code.{request_view, rows_view, texts}
+use Rattle.coll_history.proofs.Lists.{slice_get-view, AllByRecursion-read}
 use Rattle.coll_script.specs.Matching.{first_list}
 use Rattle.coll_script.specs.Meaning.{given_by, given_at}
 use Rattle.coll_script.specs.Outcomes.{place_values, values_from, list_at, HaveStart, AreMatched}
@@ -23,31 +23,34 @@ use Rattle.coll_script.specs.PostingViews.{list_view, lists_view}
 use Rattle.coll_script.proofs.Matches.{slice_get-list_at}
 use Rattle.coll_script.proofs.Matched.{length-list_view}
 
-pub length-lists_view : (lists : List (Vec (Bor rust.Request) Global)) → length (lists_view lists) ≡ length lists
+pub length-lists_view : (lists : List (Vec rust.Request Global)) → length (lists_view lists) ≡ length lists
 length-lists_view lists = length-map lists _
 
 pub length-rows_view : (rows : List (Vec ℕ Global)) → length (rows_view rows) ≡ length rows
 length-rows_view rows = length-map rows _
 
-pub list_at-view : (lists : List (Vec (Bor rust.Request) Global)) (i : ℕ) (l : Vec (Bor rust.Request) Global) → i < length lists → l ≡ get_or lists i l → list_at (lists_view lists) i ≡ list_view l.items
-list_at-view lists i l lt is = ap (λ (o : Option (List Request)). unwrap_or o []) (slice_get-view (λ (v : Vec (Bor rust.Request) Global). list_view v.items) lists i l lt is)
+pub length-texts : (rows : List (Bor (List ℕ))) → length (texts rows) ≡ length rows
+length-texts rows = length-map rows _
+
+pub list_at-view : (lists : List (Vec rust.Request Global)) (i : ℕ) (l : Vec rust.Request Global) → i < length lists → l ≡ get_or lists i l → list_at (lists_view lists) i ≡ list_view l.items
+list_at-view lists i l lt is = ap (λ (o : Option (List Request)). unwrap_or o []) (slice_get-view (λ (v : Vec rust.Request Global). list_view v.items) lists i l lt is)
 
 -- the request of a member at a place where each has one with that start
-pub have_start-at : (lists : List (Vec (Bor rust.Request) Global)) (place start i : ℕ) (l : Vec (Bor rust.Request) Global) → HaveStart (lists_view lists) place start → i < length lists → l ≡ get_or lists i l
+pub have_start-at : (lists : List (Vec rust.Request Global)) (place start i : ℕ) (l : Vec rust.Request Global) → HaveStart (lists_view lists) place start → i < length lists → l ≡ get_or lists i l
     → (p : Request) × (slice_get (list_view l.items) place ≡ Some p) × (start < length p.starts)
 have_start-at lists place start i l have lt is =
     let within : i < length (lists_view lists) = rw (length-lists_view lists) lt in
     let p = have i within in
     (p.0, ap (λ (list : List Request). slice_get list place) (sym (list_at-view lists i l lt is)) ∙ p.1, p.2)
 
-pub place-within : (list : List (Bor rust.Request)) (place : ℕ) (p : Request) → slice_get (list_view list) place ≡ Some p → place < length list
+pub place-within : (list : List rust.Request) (place : ℕ) (p : Request) → slice_get (list_view list) place ≡ Some p → place < length list
 place-within list place p e =
     let lt = slice_get_within (list_view list) place p e in
     let len = length-list_view list in omega arith
 
 -- what is read there is that request
-pub request-at : (list : List (Bor rust.Request)) (place : ℕ) (p : Request) (q : Bor rust.Request) → slice_get (list_view list) place ≡ Some p → q ≡ get_or list place q → p ≡ request_view q.now
-request-at list place p q e is = same_Some p (request_view q.now) (sym e ∙ slice_get-view (λ (r : Bor rust.Request). request_view r.now) list place q (place-within list place p e) is)
+pub request-at : (list : List rust.Request) (place : ℕ) (p : Request) (q : rust.Request) → slice_get (list_view list) place ≡ Some p → q ≡ get_or list place q → p ≡ request_view q
+request-at list place p q e is = same_Some p (request_view q) (sym e ∙ slice_get-view request_view list place q (place-within list place p e) is)
 
 -- ---- lists that are matched
 

@@ -1,13 +1,14 @@
--- The job that a text describes.
-use Rattle.std.specs.Prelude.{ℕ, nat_lt, List, length, map, Option, Some, None, Result, Ok, Err, if◌then◌else◌}
+-- The script of a text: the history that its lines tell, in which the requests of all ranks belong together.
+use Rattle.std.specs.Prelude.{ℕ, nat_lt, List, length, Option, Some, None, Result, Ok, Err, if◌then◌else◌}
 use Rattle.std.specs.List.{list_all}
-use Rattle.coll_text.specs.declared.cause.Cause.{Cause}
-use Rattle.coll_text.specs.declared.cause.Cause.TheVariants.{TooLong, MissingRanks, PlaceMismatch, PlaceMissing, StartMissing}
-use Rattle.coll_text.specs.declared.fault.Fault.{Fault}
-use Rattle.coll_text.specs.Steps.{◌>>=◌}
-use Rattle.coll_text.specs.Cutting.{lines_of}
-use Rattle.coll_text.specs.Histories.{Request, History, start}
-use Rattle.coll_text.specs.Judging.{judged}
+use Rattle.coll_history.specs.declared.cause.Cause.{Cause}
+use Rattle.coll_history.specs.declared.cause.Cause.TheVariants.{TooLong, MissingRanks, PlaceMismatch, PlaceMissing, StartMissing}
+use Rattle.coll_history.specs.declared.fault.Fault.{Fault}
+use Rattle.coll_history.specs.Reading.{and_then}
+use Rattle.coll_history.specs.Cutting.{lines_of}
+use Rattle.coll_history.specs.Histories.{History, beginning}
+use Rattle.coll_history.specs.Requests.{Request, requests}
+use Rattle.coll_history.specs.Judging.{fault_at, judged}
 use Rattle.coll_script.specs.Postings.{postings_from}
 use Rattle.coll_script.specs.Matching.{mismatch, have_places, have_starts}
 
@@ -16,31 +17,33 @@ pub record Job : Type 0 where
   pub groups : List (List ℕ)
   pub requests : List (List Request)
 
-abbrev pub fault : {A : Type 0} → ℕ → Cause → Result A Fault
-fault line cause = Err (record { line = line; cause = cause })
+abbrev pub job_of : History → Job
+job_of h = record { groups = h.groups; requests = requests h }
+
+-- the posting lists of all communicators
+abbrev pub all_postings : Job → List (List (List Request))
+all_postings job = postings_from job.requests 0 job.groups
 
 -- what is judged after so many lines, in this order: whether signatures differ at some place, whether a member lacks one,
 -- and whether members have different numbers of starts at one
-abbrev pub matched : ℕ → List (List (List Request)) → Job → Option ℕ → Result Job Fault
-matched last all job (Some line) = fault line PlaceMismatch
-matched last all job None =
-    if list_all have_places all then (if list_all have_starts all then Ok job else fault last StartMissing)
-    else fault last PlaceMissing
+abbrev pub matched : ℕ → List (List (List Request)) → History → Option ℕ → Result History Fault
+matched last all h (Some line) = fault_at line PlaceMismatch
+matched last all h None =
+    if list_all have_places all then (if list_all have_starts all then Ok h else fault_at last StartMissing)
+    else fault_at last PlaceMissing
 
-abbrev pub job_from : History → Job
-job_from h = record { groups = h.groups; requests = map (λ s. s.requests) h.sections }
+abbrev pub belonging : ℕ → History → Result History Fault
+belonging last h = matched last (all_postings (job_of h)) h (mismatch (all_postings (job_of h)))
 
-abbrev pub matched_job : ℕ → Job → Result Job Fault
-matched_job last job =
-    matched last (postings_from job.requests 0 job.groups) job (mismatch (postings_from job.requests 0 job.groups))
+abbrev pub completed_by : Option ℕ → ℕ → History → Result History Fault
+completed_by None last h = fault_at last MissingRanks
+completed_by (Some n) last h = belonging last h
 
-abbrev pub completed_by : Option ℕ → History → Result Job Fault
-completed_by None h = fault h.lines MissingRanks
-completed_by (Some n) h = matched_job h.lines (job_from h)
+abbrev pub completed : ℕ → History → Result History Fault
+completed last h = completed_by h.ranks last h
 
-abbrev pub completed : History → Result Job Fault
-completed h = completed_by h.ranks h
-
--- the job of a text, or the text's fault
-unfoldable pub job_of : List ℕ → Result Job Fault
-job_of text = if nat_lt 1048576 (length text) then fault 1 TooLong else judged start (lines_of text) >>= completed
+-- the script of a text, or the text's fault
+unfoldable pub script_of : List ℕ → Result History Fault
+script_of text =
+    if nat_lt 1048576 (length text) then fault_at 1 TooLong
+    else and_then (judged 1 beginning (lines_of text)) (completed (length (lines_of text)))

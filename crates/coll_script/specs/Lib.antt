@@ -3,6 +3,7 @@ pub mod Postings
 pub mod Matching
 pub mod Jobs
 pub mod Meaning
+pub mod Configs
 pub mod Rows
 -- a script, and what holds of every one
 pub mod PostingViews

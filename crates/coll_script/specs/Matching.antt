@@ -1,28 +1,37 @@
 -- Requests at one place of a communicator belong together, so they must have the same signature and mode.
 use Rattle.std.specs.Prelude.{ℕ, ◌+◌, ◌==◌, nat_lt, Bool, true, false, ◌&&◌, List, [], ◌∷◌, length, flat_map, Option, Some, None, slice_get, unwrap_or, if◌then◌else◌}
 use Rattle.std.specs.List.{list_all}
+use Rattle.std.specs.Option.{option_map}
 use Rattle.coll_kinds.specs.declared.signature.Signature.{Signature}
 use Rattle.coll_kinds.specs.Sameness.{same_signature}
-use Rattle.coll_text.specs.Histories.{Request}
+use Rattle.coll_history.specs.Requests.{Request}
+use Rattle.coll_script.specs.declared.first.First.{First}
 
--- of two requests, where there are any, the one of the earlier line
-abbrev pub earlier : Option Request → Option Request → Option Request
+-- what the requests at a place are compared with
+abbrev pub first_of : Request → First
+first_of p = record { line = p.line; sig = p.sig }
+
+abbrev pub first_at : List Request → ℕ → Option First
+first_at list place = option_map first_of (slice_get list place)
+
+-- of two, where there are any, the one of the earlier line
+abbrev pub earlier : Option First → Option First → Option First
 earlier None q = q
 earlier (Some p) None = Some p
 earlier (Some p) (Some q) = if nat_lt q.line p.line then Some q else Some p
 
--- the earliest of a request, if there is one, and of those at a place of some posting lists
-abbrev pub earliest : Option Request → ℕ → List (List Request) → Option Request
+-- the earliest of one, if there is one, and of those at a place of some posting lists
+abbrev pub earliest : Option First → ℕ → List (List Request) → Option First
 earliest first place [] = first
-earliest first place (list ∷ lists) = earliest (earlier first (slice_get list place)) place lists
+earliest first place (list ∷ lists) = earliest (earlier first (first_at list place)) place lists
 
--- a request has the signature of the earliest at its place
-abbrev pub agrees : Option Request → Signature → Bool
+-- the earliest at a place has this signature
+abbrev pub agrees : Option First → Signature → Bool
 agrees None sig = false
 agrees (Some first) sig = same_signature first.sig sig
 
 -- the lines of a member's requests, from a place on, that differ from the earliest at their places
-abbrev pub differing_from : (ℕ → Option Request) → ℕ → List Request → List ℕ
+abbrev pub differing_from : (ℕ → Option First) → ℕ → List Request → List ℕ
 differing_from firsts place [] = []
 differing_from firsts place (p ∷ list) =
     if agrees (firsts place) p.sig then differing_from firsts (place + 1) list

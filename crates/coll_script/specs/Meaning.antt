@@ -6,11 +6,11 @@ use Rattle.coll_kinds.specs.declared.datatype.Datatype.{Datatype}
 use Rattle.coll_kinds.specs.Elements.{width}
 use Rattle.coll_ops.specs.Combinations.{elements}
 use Rattle.coll_ops.specs.Values.{value}
-use Rattle.coll_text.specs.declared.fault.Fault.{Fault}
-use Rattle.coll_text.specs.Steps.{◌>>=◌}
-use Rattle.coll_text.specs.Histories.{Request}
+use Rattle.coll_history.specs.declared.fault.Fault.{Fault}
+use Rattle.coll_history.specs.Reading.{and_then}
+use Rattle.coll_history.specs.Requests.{Request}
 use Rattle.coll_script.specs.Postings.{posted_on, requests_of, postings}
-use Rattle.coll_script.specs.Jobs.{Job, job_of}
+use Rattle.coll_script.specs.Jobs.{Job, job_of, script_of}
 
 -- the decimal text of an element, behind a space
 abbrev pub element_text : ℤ → List ℕ
@@ -69,4 +69,4 @@ job_lines job = flat_map (rank_lines job) (range_with_len 0 (length job.requests
 
 -- the output lines of a text, or its fault
 abbrev pub meaning : List ℕ → Result (List ℕ) Fault
-meaning text = job_of text >>= λ job. Ok (job_lines job)
+meaning text = and_then (script_of text) (λ h. Ok (job_lines (job_of h)))

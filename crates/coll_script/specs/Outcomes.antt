@@ -5,8 +5,8 @@ use Rattle.std.specs.Global.{Global}
 use Rattle.coll_kinds.specs.Lengths.{given_len}
 use Rattle.coll_kinds.specs.Checks.{broken}
 use Rattle.coll_ops.specs.Values.{value}
-use Rattle.coll_text.specs.Histories.{Request}
-use Rattle.coll_text.specs.Views.{rows_view}
+use Rattle.coll_history.specs.Requests.{Request}
+use Rattle.coll_history.specs.Code.{rows_view}
 use Rattle.coll_script.specs.Matching.{first_list}
 use Rattle.coll_script.specs.Meaning.{given_at}
 

@@ -1,6 +1,6 @@
 -- The posting lists of a communicator: for each member, in member order, its requests there, in the order of their places.
 use Rattle.std.specs.Prelude.{ℕ, ◌+◌, ◌==◌, Bool, List, [], ◌∷◌, map, filter, slice_get, unwrap_or}
-use Rattle.coll_text.specs.Histories.{Request}
+use Rattle.coll_history.specs.Requests.{Request}
 
 abbrev pub is_on : ℕ → Request → Bool
 is_on comm p = p.comm == comm

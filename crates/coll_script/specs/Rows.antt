@@ -2,16 +2,11 @@
 use Rattle.std.specs.Prelude.{◌≡◌, ℕ, List, [], ◌∷◌, ◌++◌, Result, Ok, Err, codes, map, flat_map, refl}
 use Rattle.std.specs.Fmt.{digits}
 use Rattle.std.specs.Int.{int_wrap}
-use Rattle.coll_text.specs.declared.cause.Cause.{Cause}
-use Rattle.coll_text.specs.declared.cause.Cause.TheVariants.{MissingRanks, PlaceMismatch, PlaceMissing, StartMissing}
-use Rattle.coll_text.specs.declared.fault.Fault.{Fault}
-use Rattle.coll_text.specs.Signatures.{type_and_count_at, fields_at, signature_at}
-use Rattle.coll_text.specs.Communicators.{group_at, communicator_at}
-use Rattle.coll_text.specs.Posts.{given_at, usable_at, post_at, init_at}
-use Rattle.coll_text.specs.Requests.{one_at, startable_at, start_at}
-use Rattle.coll_text.specs.Lines.{ranks_at, comm_at, section_at, said_by}
-use Rattle.coll_text.specs.Judging.{judged_line}
-use Rattle.coll_script.specs.Jobs.{job_of}
+use Rattle.coll_history.specs.declared.cause.Cause.{Cause}
+use Rattle.coll_history.specs.declared.cause.Cause.TheVariants.{MissingRanks, PlaceMismatch, PlaceMissing, StartMissing}
+use Rattle.coll_history.specs.declared.fault.Fault.{Fault}
+use Rattle.coll_history.specs.Lines.{line, ranks, comm, section, command, post, init, start, startable, signature, fields, values}
+use Rattle.coll_script.specs.Jobs.{script_of}
 use Rattle.coll_script.specs.Meaning.{meaning}
 
 -- lines, each with a line feed
@@ -23,31 +18,31 @@ fault line cause = Err (record { line = line; cause = cause })
 
 -- a text of no bytes has one line
 empty_text : meaning [] ≡ fault 1 MissingRanks
-unfolding job_of judged_line said_by
+unfolding script_of line ranks comm section command post init start startable signature fields values
 empty_text = refl
 
 sum_of_three : meaning (text (codes "ranks 3" ∷ codes "rank 0" ∷ codes "post 0 allreduce sum i32 1 : 1" ∷ codes "rank 1" ∷ codes "post 0 allreduce sum i32 1 : 2"
     ∷ codes "rank 2" ∷ codes "post 0 allreduce sum i32 1 : 3" ∷ []))
     ≡ Ok (text (codes "rank 0 req 0 start 0 : 6" ∷ codes "rank 1 req 0 start 0 : 6" ∷ codes "rank 2 req 0 start 0 : 6" ∷ []))
-unfolding digits int_wrap job_of judged_line said_by ranks_at section_at post_at communicator_at usable_at signature_at fields_at type_and_count_at given_at
+unfolding digits int_wrap script_of line ranks comm section command post init start startable signature fields values
 sum_of_three = refl
 
 -- comments and empty lines are skipped, and -1 and 7 are values; there need be no line feed at the end
 comments_and_leading_zeros : meaning (text (codes "# x" ∷ codes "ranks 1" ∷ [] ∷ codes "rank 0" ∷ []) ++ codes "post 0 bcast 0 i8 2 : -1 007") ≡ Ok (text (codes "rank 0 req 0 start 0 : -1 7" ∷ []))
-unfolding digits job_of judged_line said_by ranks_at section_at post_at communicator_at usable_at signature_at fields_at type_and_count_at given_at
+unfolding digits script_of line ranks comm section command post init start startable signature fields values
 comments_and_leading_zeros = refl
 
 -- on a communicator of ranks 1 and 0, in that order, rank 1 is the root
 member_numbers : meaning (text (codes "ranks 2" ∷ codes "comm 1 0" ∷ codes "rank 0" ∷ codes "post 1 bcast 0 u8 1" ∷ codes "rank 1" ∷ codes "post 1 bcast 0 u8 1 : 9" ∷ []))
     ≡ Ok (text (codes "rank 0 req 0 start 0 : 9" ∷ codes "rank 1 req 0 start 0 : 9" ∷ []))
-unfolding digits job_of judged_line said_by ranks_at comm_at group_at section_at post_at communicator_at usable_at signature_at fields_at type_and_count_at given_at
+unfolding digits script_of line ranks comm section command post init start startable signature fields values
 member_numbers = refl
 
 -- a request that is started twice has two lines, one that isn't started has none
-starts : meaning (text (codes "ranks 1" ∷ codes "rank 0" ∷ codes "init 0 bcast 0 u8 1" ∷ codes "init 0 barrier" ∷ codes "start 0 : 3" ∷ codes "wait 0" ∷ codes "start 0 : 4" ∷ []))
+started_twice : meaning (text (codes "ranks 1" ∷ codes "rank 0" ∷ codes "init 0 bcast 0 u8 1" ∷ codes "init 0 barrier" ∷ codes "start 0 : 3" ∷ codes "wait 0" ∷ codes "start 0 : 4" ∷ []))
     ≡ Ok (text (codes "rank 0 req 0 start 0 : 3" ∷ codes "rank 0 req 0 start 1 : 4" ∷ []))
-unfolding digits job_of judged_line said_by ranks_at section_at init_at communicator_at usable_at signature_at fields_at type_and_count_at startable_at one_at start_at given_at
-starts = refl
+unfolding digits script_of line ranks comm section command post init start startable signature fields values
+started_twice = refl
 
 -- faults that are judged after all lines: signatures, modes, places, starts
 ends : map meaning (text (codes "ranks 2" ∷ codes "rank 0" ∷ codes "post 0 bcast 0 i32 1 : 7" ∷ codes "rank 1" ∷ codes "post 0 allreduce sum i32 1 : 7" ∷ [])
@@ -55,5 +50,5 @@ ends : map meaning (text (codes "ranks 2" ∷ codes "rank 0" ∷ codes "post 0 b
     ∷ text (codes "ranks 2" ∷ codes "rank 0" ∷ codes "post 0 bcast 0 i32 0" ∷ [])
     ∷ text (codes "ranks 2" ∷ codes "rank 0" ∷ codes "init 0 barrier" ∷ codes "start 0" ∷ codes "rank 1" ∷ codes "init 0 barrier" ∷ []) ∷ [])
     ≡ fault 5 PlaceMismatch ∷ fault 5 PlaceMismatch ∷ fault 3 PlaceMissing ∷ fault 6 StartMissing ∷ []
-unfolding job_of judged_line said_by ranks_at section_at init_at post_at communicator_at usable_at signature_at fields_at type_and_count_at startable_at one_at start_at given_at
+unfolding script_of line ranks comm section command post init start startable signature fields values
 ends = refl

@@ -5,16 +5,16 @@ ghost use Rattle.std.specs.List.{AllByRecursion, range_with_len};
 ghost use Rattle.coll_kinds.specs.Checks.{broken};
 ghost use Rattle.coll_ops.specs.Contributions.{AreGiven};
 ghost use Rattle.coll_ops.specs.Values.{value};
-ghost use Rattle.coll_text.specs.Views.{request_view, rows_view};
+ghost use Rattle.coll_history.specs.Code.{request_view, rows_view};
 ghost use Rattle.coll_script.specs.Matching.{first_list};
 ghost use Rattle.coll_script.specs.Meaning.{given_at};
 ghost use Rattle.coll_script.specs.PostingViews.{lists_view, all_lists_view};
 ghost use Rattle.coll_script.specs.Outcomes.{place_values, group_values, place_view, group_view, values_view, HaveStart, AreMatched};
 
 use crate::postings::Postings;
+use coll_history::Request;
 use coll_kinds::{Refusal, Signature};
 use coll_ops::plain_values;
-use coll_text::Request;
 use std::alloc::Global;
 
 /// A row of bytes for each member of a communicator.
@@ -23,7 +23,7 @@ pub(crate) type Rows = Vec<Vec<u8>>;
 /// What the members of a communicator give at a start of a place. Linear in the bytes.
 fn given_at(
     alloc: Global,
-    lists: &[Vec<&Request>],
+    lists: &[Vec<Request>],
     place: usize,
     start: usize,
 ) -> Result<Rows, Refusal>
@@ -33,7 +33,7 @@ fn given_at(
 {
     let mut rows = Vec::new(alloc);
     for list in lists {
-        rows.push(Vec::from_slice(alloc, &list[place].starts[start])?)?;
+        rows.push(Vec::from_slice(alloc, list[place].starts[start])?)?;
     }
     Ok(rows)
 }
@@ -42,7 +42,7 @@ fn given_at(
 fn start_values(
     alloc: Global,
     sig: Signature,
-    lists: &[Vec<&Request>],
+    lists: &[Vec<Request>],
     place: usize,
     start: usize,
 ) -> Result<Rows, Refusal>
@@ -60,7 +60,7 @@ fn start_values(
 /// The values at each start of a place.
 fn place_values(
     alloc: Global,
-    lists: &[Vec<&Request>],
+    lists: &[Vec<Request>],
     place: usize,
     request: &Request,
 ) -> Result<Vec<Rows>, Refusal>
@@ -77,7 +77,7 @@ fn place_values(
 }
 
 /// The values at each place of a communicator.
-fn group_values(alloc: Global, lists: &[Vec<&Request>]) -> Result<Vec<Vec<Rows>>, Refusal>
+fn group_values(alloc: Global, lists: &[Vec<Request>]) -> Result<Vec<Vec<Rows>>, Refusal>
     requires { AreMatched (length lists.now) (lists_view lists.now) }
     ensures ok { IfOk result (λ places. group_view places.items ≡ group_values (lists_view lists.now)) }
     ensures refusal { IsOkUnless result Refusal.NoMemory }
@@ -87,7 +87,7 @@ fn group_values(alloc: Global, lists: &[Vec<&Request>]) -> Result<Vec<Vec<Rows>>
         return Ok(places);
     }
     for (place, request) in lists[0].iter().enumerate() {
-        places.push(place_values(alloc, lists, place, *request)?)?;
+        places.push(place_values(alloc, lists, place, request)?)?;
     }
     Ok(places)
 }

@@ -1,15 +1,15 @@
 //! What is judged after the last line: whether the requests at each place belong together.
 
 ghost use Rattle.std.specs.Prelude.{◌≡◌, ◌≤◌, ℕ, length, flat_map, slice_get, None, IfOk, OnOk, if◌then◌else◌};
-ghost use Rattle.coll_script.specs.Matching.{earlier, earliest, agrees, differing_from, lower, least, mismatch, have_places, started_alike, have_starts};
+ghost use Rattle.coll_script.specs.Matching.{first_at, earlier, earliest, agrees, differing_from, lower, least, mismatch, have_places, started_alike, have_starts};
 ghost use Rattle.std.specs.List.{list_all};
-ghost use Rattle.coll_text.specs.Views.{request_view};
 ghost use Rattle.coll_script.specs.Keeping.{IsKept};
 ghost use Rattle.coll_script.specs.PostingViews.{list_view, lists_view, all_lists_view};
 
+use crate::first::{First, first_of};
 use crate::postings::Postings;
+use coll_history::Request;
 use coll_kinds::Signature;
-use coll_text::Request;
 use std::alloc::{AllocError, Global};
 
 /// The first line whose signature or mode differs from that of the earliest line at its communicator and
@@ -26,8 +26,8 @@ pub(crate) fn mismatch(alloc: Global, all: &[Postings]) -> Result<Option<u32>, A
 }
 
 /// The earliest request at each place of a communicator.
-fn earliest<'a>(alloc: Global, lists: &[Vec<&'a Request>]) -> Result<Vec<&'a Request>, AllocError>
-    ensures { IfOk result (λ firsts. (place : ℕ) → slice_get (list_view firsts.items) place ≡ earliest None place (lists_view lists.now)) }
+fn earliest(alloc: Global, lists: &[Vec<Request>]) -> Result<Vec<First>, AllocError>
+    ensures { IfOk result (λ firsts. (place : ℕ) → slice_get firsts.items place ≡ earliest None place (lists_view lists.now)) }
 {
     let mut firsts = Vec::new(alloc);
     for list in lists {
@@ -37,37 +37,33 @@ fn earliest<'a>(alloc: Global, lists: &[Vec<&'a Request>]) -> Result<Vec<&'a Req
 }
 
 /// Puts those of a member's requests into the list of the earliest that are earlier.
-fn keep_earlier<'a>(list: &[&'a Request], firsts: &mut Vec<&'a Request>) -> Result<(), AllocError>
-    ensures { OnOk result ((place : ℕ) → slice_get (list_view firsts.new.items) place
-        ≡ earlier (slice_get (list_view firsts.old.items) place) (slice_get (list_view list.now) place)) }
+fn keep_earlier(list: &[Request], firsts: &mut Vec<First>) -> Result<(), AllocError>
+    ensures { OnOk result ((place : ℕ) → slice_get firsts.new.items place
+        ≡ earlier (slice_get firsts.old.items place) (first_at (list_view list.now) place)) }
 {
     for (place, request) in list.iter().enumerate() {
-        keep_at(place, *request, firsts)?;
+        keep_at(place, first_of(request), firsts)?;
     }
     Ok(())
 }
 
 /// Puts a request into the list at that place, if it is earlier or the first there.
-fn keep_at<'a>(
-    place: usize,
-    request: &'a Request,
-    firsts: &mut Vec<&'a Request>,
-) -> Result<(), AllocError>
+fn keep_at(place: usize, first: First, firsts: &mut Vec<First>) -> Result<(), AllocError>
     requires { place ≤ length firsts.old.items }
-    ensures { OnOk result (IsKept place (request_view request.now) (list_view firsts.old.items) (list_view firsts.new.items)) }
+    ensures { OnOk result (IsKept place first firsts.old.items firsts.new.items) }
 {
     if place == firsts.len() {
-        firsts.push(request)?;
-    } else if request.line < firsts[place].line {
-        firsts[place] = request;
+        firsts.push(first)?;
+    } else if first.line < firsts[place].line {
+        firsts[place] = first;
     }
     Ok(())
 }
 
 /// The least of `line` and of the lines of a communicator's requests that differ from the first ones at
 /// their places.
-fn differing(firsts: &[&Request], lists: &[Vec<&Request>], line: Option<u32>) -> Option<u32>
-    ensures { result ≡ least line (flat_map (differing_from (slice_get (list_view firsts.now)) 0) (lists_view lists.now)) }
+fn differing(firsts: &[First], lists: &[Vec<Request>], line: Option<u32>) -> Option<u32>
+    ensures { result ≡ least line (flat_map (differing_from (slice_get firsts.now) 0) (lists_view lists.now)) }
 {
     let mut line = line;
     for list in lists {
@@ -77,8 +73,8 @@ fn differing(firsts: &[&Request], lists: &[Vec<&Request>], line: Option<u32>) ->
 }
 
 /// The same of one member's requests.
-fn differing_in(firsts: &[&Request], list: &[&Request], line: Option<u32>) -> Option<u32>
-    ensures { result ≡ least line (differing_from (slice_get (list_view firsts.now)) 0 (list_view list.now)) }
+fn differing_in(firsts: &[First], list: &[Request], line: Option<u32>) -> Option<u32>
+    ensures { result ≡ least line (differing_from (slice_get firsts.now) 0 (list_view list.now)) }
 {
     let mut line = line;
     for (place, request) in list.iter().enumerate() {
@@ -88,8 +84,8 @@ fn differing_in(firsts: &[&Request], list: &[&Request], line: Option<u32>) -> Op
 }
 
 /// Whether the first request at a place has this signature.
-fn agrees(firsts: &[&Request], place: usize, sig: Signature) -> bool
-    ensures { result ≡ agrees (slice_get (list_view firsts.now) place) sig }
+fn agrees(firsts: &[First], place: usize, sig: Signature) -> bool
+    ensures { result ≡ agrees (slice_get firsts.now place) sig }
 {
     match firsts.get(place) {
         Some(first) => first.sig.is_same(sig),
@@ -122,7 +118,7 @@ pub(crate) fn all_have_places(all: &[Postings]) -> bool
 }
 
 /// Whether each member of a communicator has as many requests there as the first.
-fn have_places(lists: &[Vec<&Request>]) -> bool
+fn have_places(lists: &[Vec<Request>]) -> bool
     ensures { result ≡ have_places (lists_view lists.now) }
 {
     for list in lists {
@@ -147,7 +143,7 @@ pub(crate) fn all_have_starts(all: &[Postings]) -> bool
 }
 
 /// Whether the members of a communicator have started their requests equally often, place by place.
-fn have_starts(lists: &[Vec<&Request>]) -> bool
+fn have_starts(lists: &[Vec<Request>]) -> bool
     ensures { result ≡ have_starts (lists_view lists.now) }
 {
     for list in lists {
@@ -158,7 +154,7 @@ fn have_starts(lists: &[Vec<&Request>]) -> bool
     true
 }
 
-fn started_alike(first: &[&Request], list: &[&Request]) -> bool
+fn started_alike(first: &[Request], list: &[Request]) -> bool
     ensures { result ≡ started_alike (list_view first.now) (list_view list.now) }
 {
     for place in 0..first.len().min(list.len()) {

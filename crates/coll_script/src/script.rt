@@ -1,56 +1,79 @@
-ghost use Rattle.std.specs.Prelude.{◌≡◌, ◌<◌, ◌≤◌, length, Err, IfOk, IsOkUnless};
+ghost use Rattle.std.specs.Prelude.{◌≡◌, ◌<◌, ◌≤◌, length, Err, IfOk, OnOk, IsOkUnless};
 ghost use Rattle.coll_kinds.specs.Limits.{max_text};
-ghost use Rattle.coll_text.specs.Steps.{GivesText};
-ghost use Rattle.coll_text.specs.Sound.{IsHistory};
-ghost use Rattle.coll_text.specs.Views.{history_of};
-ghost use Rattle.coll_script.specs.Jobs.{job_of, job_from, matched_job, completed};
+ghost use Rattle.coll_history.specs.Code.{GivesText};
+ghost use Rattle.coll_history.specs.Histories.{commands_of};
+ghost use Rattle.coll_script.specs.Configs.{sizes_of};
+ghost use Rattle.coll_script.specs.Jobs.{job_of, script_of, belonging, completed};
 ghost use Rattle.coll_script.specs.Meaning.{job_lines};
+ghost use Rattle.coll_script.specs.Scripts.{IsJob};
 
 use crate::evaluation::all_values;
 use crate::matching::{all_have_places, all_have_starts, mismatch};
 use crate::postings::all_postings;
 use crate::rank_lines::print_rank;
+use crate::sizes::{Sizes, sizes_of};
+use coll_history::{Cause, Command, Fault, History, ScriptFault, line_count};
 use coll_kinds::{MAX_TEXT, Refusal};
-use coll_text::{Cause, Draft, Fault, ScriptFault, Section};
-use std::alloc::Global;
+use std::alloc::{AllocError, Global};
 use std::marker::Model;
 
-/// The job of a text without a fault: the members of each communicator, and what each rank has said.
+/// The history of a text without a fault, in which the requests of all ranks belong together.
 #[derive(Debug, Drop)]
 pub struct Script {
-    groups: Vec<Vec<u8>>,
-    sections: Vec<Section>,
+    history: History,
 }
 
 impl Model for Script {
-    ghost use Rattle.coll_script.specs.Jobs.{Job};
+    ghost use Rattle.coll_history.specs.Histories.{History};
 
-    ghost Value = { Job };
+    ghost Value = { History };
 
-    ghost use Rattle.coll_text.specs.Views.{rows_view};
-    ghost use Rattle.coll_script.specs.PostingViews.{requests_view};
+    ghost use Rattle.coll_script.specs.Jobs.{job_of};
     ghost use Rattle.coll_script.specs.Scripts.{IsJob};
 
-    ghost view = { λ s. record { groups = rows_view s.groups.items; requests = requests_view s.sections.items } };
+    ghost view = { λ s. s.history };
 
-    ghost invariant = { λ s. IsJob (record { groups = rows_view s.groups.items; requests = requests_view s.sections.items }) };
+    ghost invariant = { λ s. IsJob (job_of s.history) };
 }
 
 impl Script {
-    /// Reads a job text: its job, or the first rule that it breaks. Takes a text as it is, whatever its
+    /// Reads a job text: its script, or the first rule that it breaks. Takes a text as it is, whatever its
     /// bytes. The cost is linear in the text, and for each communicator in the requests of its members.
     ///
     /// A fault is [`ScriptFault::Text`], or [`ScriptFault::NoMemory`] where memory was refused.
     pub fn read(alloc: Global, text: &[u8]) -> Result<Script, ScriptFault>
-        ensures read { GivesText (λ script. script) result (job_of text.now) }
+        ensures read { GivesText (λ script. script) result (script_of text.now) }
         // It is told so whatever the memory is.
         ensures long { max_text < length text.now → result ≡ Err (ScriptFault.Text (record { line = 1; cause = Cause.TooLong })) }
     {
         if text.len() > MAX_TEXT {
             return Err(fault(1, Cause::TooLong));
         }
-        let draft = Draft::read(alloc, text)?;
-        completed(alloc, draft)
+        let history = History::read(alloc, text)?;
+        let last = line_count(alloc, text)?;
+        completed(alloc, last as u32, history)
+    }
+
+    /// What the lines have said: the ranks, their communicators, and the commands of all ranks in order.
+    pub fn history(&self) -> &History
+        ensures { result.now ≡ self.now }
+    {
+        &self.history
+    }
+
+    /// The commands of a rank, in the order of their lines, and behind them the unwritten `waitall` of all its requests,
+    /// which each rank has, also one that says nothing. Linear in all commands, and in what those of the rank give.
+    pub fn commands(&self, alloc: Global, rank: u8) -> Result<Vec<Command>, AllocError>
+        ensures { IfOk result (λ commands. commands.items ≡ commands_of self.now rank) }
+    {
+        self.history.commands(alloc, rank)
+    }
+
+    /// How large an engine is opened to run the job. Linear in the commands.
+    pub fn config(&self) -> Sizes
+        ensures { result ≡ sizes_of self.now.told }
+    {
+        sizes_of(self.history.told())
     }
 
     /// The output lines of the job, in rising rank, request and start: the value of each start, computed
@@ -58,14 +81,15 @@ impl Script {
     /// output and in the bytes that the members give, and for each communicator in the requests of its
     /// members.
     pub fn plain_lines(&self, alloc: Global) -> Result<Vec<u8>, Refusal>
-        ensures ok { IfOk result (λ out. out.items ≡ job_lines self.now) }
+        ensures ok { IfOk result (λ out. out.items ≡ job_lines (job_of self.now)) }
         ensures refusal { IsOkUnless result Refusal.NoMemory }
     {
-        let all = all_postings(alloc, &self.sections, &self.groups)?;
+        let ranks = self.history.requests(alloc)?;
+        let all = all_postings(alloc, &ranks, self.history.groups())?;
         let values = all_values(alloc, &all)?;
         let mut out = Vec::new(alloc);
-        for (rank, section) in self.sections.iter().enumerate() {
-            print_rank(alloc, rank as u8, &section.requests, &values, &mut out)?;
+        for (rank, requests) in ranks.iter().enumerate() {
+            print_rank(alloc, rank as u8, requests, &values, &mut out)?;
         }
         Ok(out)
     }
@@ -77,36 +101,32 @@ fn fault(line: u32, cause: Cause) -> ScriptFault
     ScriptFault::Text(Fault { line, cause })
 }
 
-/// The job of a draft, or what is judged after the last line.
-fn completed(alloc: Global, draft: Draft) -> Result<Script, ScriptFault>
-    requires read { IsHistory (history_of draft) }
-    requires few { draft.lines ≤ 1048577 }
-    ensures { GivesText (λ script. script) result (completed (history_of draft)) }
+/// The script of a history of so many lines, or what is judged after the last one.
+fn completed(alloc: Global, last: u32, history: History) -> Result<Script, ScriptFault>
+    ensures { GivesText (λ script. script) result (completed last history) }
 {
-    if draft.ranks.is_none() {
-        return Err(fault(draft.lines, Cause::MissingRanks));
+    if !history.has_ranks() {
+        return Err(fault(last, Cause::MissingRanks));
     }
-    check(alloc, &draft)?;
-    Ok(Script {
-        groups: draft.groups,
-        sections: draft.sections,
-    })
+    check(alloc, last, &history)?;
+    Ok(Script { history })
 }
 
 /// Asks that the requests at each place belong together.
-fn check(alloc: Global, draft: &Draft) -> Result<(), ScriptFault>
-    requires { IsHistory (history_of draft.now) }
-    ensures { GivesText (λ _. job_from (history_of draft.now)) result (matched_job draft.now.lines (job_from (history_of draft.now))) }
+fn check(alloc: Global, last: u32, history: &History) -> Result<(), ScriptFault>
+    ensures fault { GivesText (λ _. history.now) result (belonging last history.now) }
+    ensures job { OnOk result (IsJob (job_of history.now)) }
 {
-    let all = all_postings(alloc, &draft.sections, &draft.groups)?;
+    let ranks = history.requests(alloc)?;
+    let all = all_postings(alloc, &ranks, history.groups())?;
     if let Some(line) = mismatch(alloc, &all)? {
         return Err(fault(line, Cause::PlaceMismatch));
     }
     if !all_have_places(&all) {
-        return Err(fault(draft.lines, Cause::PlaceMissing));
+        return Err(fault(last, Cause::PlaceMissing));
     }
     if !all_have_starts(&all) {
-        return Err(fault(draft.lines, Cause::StartMissing));
+        return Err(fault(last, Cause::StartMissing));
     }
     Ok(())
 }

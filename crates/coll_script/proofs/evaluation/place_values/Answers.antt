@@ -3,13 +3,13 @@ use Rattle.std.specs.Prelude.{ℕ}
 use Rattle.std.specs.List.{range_with_len}
 use Rattle.std.specs.Global.{Global}
 use Rattle.coll_ops.specs.Values.{value}
-use Rattle.coll_text.specs.Views.{rows_view, request_view}
+use Rattle.coll_history.specs.Code.{rows_view, request_view}
 use Rattle.coll_script.specs.Meaning.{given_at}
 use Rattle.coll_script.specs.Outcomes.{start_values, place_view}
 use Rattle.coll_script.specs.PostingViews.{lists_view}
 use Rattle.coll_script.proofs.Loops.{map_range-more}
 use Rattle.coll_script.proofs.Posted.{map-push}
-use Rattle.coll_script.proofs.Valued.{length-lists_view, length-rows_view, HaveStart-matched, broken-matched, AreGiven-matched}
+use Rattle.coll_script.proofs.Valued.{length-lists_view, length-texts, HaveStart-matched, broken-matched, AreGiven-matched}
 use Rattle.coll_script.proofs.evaluation.place_values.Goals as goal
 
 pub start_values-requires-clause-checked : goal.start_values-requires-clause-checked
@@ -17,12 +17,12 @@ start_values-requires-clause-checked c = broken-matched (length c.args.lists.now
 
 pub start_values-requires-clause-starts : goal.start_values-requires-clause-starts
 start_values-requires-clause-starts c =
-    let len = length-rows_view c.args.request.now.starts.items in
+    let len = length-texts c.args.request.now.starts.items in
     HaveStart-matched (length c.args.lists.now) c.args.place c.loop-start.start (lists_view c.args.lists.now) (request_view c.args.request.now) c.requires.matched c.requires.there (omega (arith, c.loop-start-test.true, c.len-start-end.ensures, c.args.request.now.starts.ok, len))
 
 pub start_values-requires-clause-given : goal.start_values-requires-clause-given
 start_values-requires-clause-given c =
-    let len = length-rows_view c.args.request.now.starts.items in
+    let len = length-texts c.args.request.now.starts.items in
     AreGiven-matched (length c.args.lists.now) c.args.place c.loop-start.start (lists_view c.args.lists.now) (request_view c.args.request.now) c.requires.matched c.requires.there (omega (arith, c.loop-start-test.true, c.len-start-end.ensures, c.args.request.now.starts.ok, len))
 
 pub loop-start-preserved : goal.loop-start-preserved

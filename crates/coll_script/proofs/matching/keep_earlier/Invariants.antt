@@ -3,4 +3,4 @@ use Rattle.coll_script.proofs.Matched.{KeepsUpTo}
 use Rattle.coll_script.proofs.matching.keep_earlier.Given as goal
 
 abbrev pub invariant-loop-place : goal.invariant-loop-place
-invariant-loop-place l = KeepsUpTo l.place (list_view l.list) (list_view l.initial.firsts.items) (list_view l.firsts.items)
+invariant-loop-place l = KeepsUpTo l.place (list_view l.list) l.initial.firsts.items l.firsts.items

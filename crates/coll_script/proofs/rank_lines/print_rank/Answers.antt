@@ -3,8 +3,8 @@ use Rattle.std.specs.Prelude.{slice_get, slice_index, unwrap_or, Option}
 use Rattle.std.specs.Global.{Global}
 use Rattle.std.specs.List.{AllByRecursion}
 use Rattle.std.proofs.lemmas.List.{length-map, length-set, length-take}
-use Rattle.coll_text.specs.Views.{request_view}
-use Rattle.coll_text.proofs.Lists.{slice_get-view}
+use Rattle.coll_history.specs.Code.{request_view}
+use Rattle.coll_history.proofs.Lists.{slice_get-view}
 use Rattle.coll_script.specs.Postings.{posted_on}
 use Rattle.coll_script.specs.Outcomes.{place_view, group_view, values_view}
 use Rattle.coll_script.specs.Prints.{printed_request, values_at, HasValues}

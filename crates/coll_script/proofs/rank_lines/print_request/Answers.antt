@@ -2,8 +2,8 @@ use Rattle.std.proofs.Common.{◌≡◌, ◌<◌, ◌++◌, ℕ, [], List, Vec, 
 use Rattle.std.specs.Prelude.{unwrap_or, Option}
 use Rattle.std.specs.Global.{Global}
 use Rattle.coll_ops.specs.Values.{row_of}
-use Rattle.coll_text.specs.Views.{rows_view}
-use Rattle.coll_text.proofs.Lists.{slice_get-view, AllByRecursion-read}
+use Rattle.coll_history.specs.Code.{rows_view}
+use Rattle.coll_history.proofs.Lists.{slice_get-view, AllByRecursion-read}
 use Rattle.coll_script.specs.Meaning.{outcome_line}
 use Rattle.coll_script.specs.Outcomes.{place_view}
 use Rattle.coll_script.proofs.Loops.{text-more}

@@ -1,0 +1,54 @@
+ghost use Rattle.std.specs.Prelude.{◌≡◌, ◌≤◌, ◌*◌, length, count_by, is_some};
+ghost use Rattle.coll_history.specs.Histories.{posting, is_start};
+ghost use Rattle.coll_script.specs.Configs.{sizes_of};
+
+use coll_history::Told;
+
+/// How large an engine is opened to run a job, beside its ranks and its communicators.
+#[derive(Clone, Copy, Debug, PartialEq, Eq)]
+pub struct Sizes {
+    /// The most live requests at one time.
+    pub slots: u32,
+    /// The most posts and initialisations of one member on one communicator.
+    pub places: u32,
+    /// How many requests one slot is given to, one after the other.
+    pub wear: u32,
+    /// The most starts of one request.
+    pub starts: u32,
+    /// The most entries of the trace.
+    pub trace: u32,
+}
+
+/// What these commands need. Linear in them.
+pub(crate) fn sizes_of(told: &[Told]) -> Sizes
+    requires { length told.now ≤ 1048577 }
+    ensures { result ≡ sizes_of told.now }
+{
+    let made = made(told);
+    let begun = made + started(told);
+    Sizes {
+        slots: made.max(1),
+        places: made.max(1),
+        wear: u32::MAX,
+        starts: 1_048_576,
+        trace: (2 * begun).max(2),
+    }
+}
+
+/// How many requests they make.
+fn made(told: &[Told]) -> u32
+    requires { length told.now ≤ 1048577 }
+    ensures count { result ≡ count_by (λ t. is_some (posting t.command)) told.now }
+    ensures few { result ≤ 1048577 }
+{
+    told.iter().filter(|told| told.command.is_posting()).count() as u32
+}
+
+/// How many starts they have.
+fn started(told: &[Told]) -> u32
+    requires { length told.now ≤ 1048577 }
+    ensures count { result ≡ count_by (λ t. is_start t.command) told.now }
+    ensures few { result ≤ 1048577 }
+{
+    told.iter().filter(|told| told.command.is_start()).count() as u32
+}
