@@ -20,5 +20,6 @@ pub mod Rows
 pub mod Slots
 pub mod Sounds
 pub mod Standing
+pub mod StartRows
 pub mod Stepping
 pub mod Whole

@@ -19,18 +19,18 @@ use Rattle.coll_tables.specs.Tables.{Tables}
 use Rattle.coll_tables.specs.Changes.{posting, leaving}
 use Rattle.coll_tables.specs.Calls.{Acts, Away, Comes, IsLast, New, Retiring, Wakes}
 use Rattle.coll_tables.specs.Sound.{IsSound, ready, done, next}
-use Rattle.coll_tables.specs.Rows.{scatter, at, byte, moved, unused, root, posted, sender, sent, copier, copied, left, late, posted_late, receiver, received_late, RootPosts, RootSends, RootCopies, RootLeaves, OtherPosts, OtherReceives, OtherLeaves, RowsAreSound}
+use Rattle.coll_tables.specs.Rows.{scatter, both, laid, kept, at, byte, moved, unused, root, posted, sender, sent, copier, copied, left, late, posted_late, receiver, received_late, RootPosts, RootSends, RootCopies, RootLeaves, OtherPosts, OtherReceives, OtherLeaves, RowsAreSound}
 use Rattle.coll_tables.proofs.Accepting.{accepted_post}
 use Rattle.coll_tables.proofs.Actions.{compute_keeps, receive_keeps, send_keeps}
 use Rattle.coll_tables.proofs.Finished.{open_keeps}
 use Rattle.coll_tables.proofs.Whole.{post_keeps, retire_keeps, last_retire_keeps}
 
-away : (v : Tables) (list : ListName) → Away v 0 (moved v list)
-away v list j other = put_other v.home 0 (number_of list) j other
+pub away : (v : Tables) (slot : ℕ) (list : ListName) → Away v slot (moved v slot list)
+away v slot list j other = put_other v.home slot (number_of list) j other
 
 -- ---- the schedules
 
-gives : laid_in (family scatter 2 0) (7 ∷ 8 ∷ []) ≡ 0 ∷ 7 ∷ 8 ∷ []
+gives : laid_in (family scatter 2 0) both ≡ laid
 unfolding family
 gives = refl
 
@@ -66,7 +66,7 @@ other_ends : 1 ≡ length (family scatter 2 1).rounds
 unfolding family
 other_ends = refl
 
-root_gets : 7 ∷ [] ≡ read_of (7 ∷ 7 ∷ 8 ∷ []) (family scatter 2 0).output
+root_gets : 7 ∷ [] ≡ read_of kept (family scatter 2 0).output
 unfolding family
 root_gets = refl
 
@@ -74,7 +74,7 @@ other_gets : 8 ∷ [] ≡ read_of (8 ∷ []) (family scatter 2 1).output
 unfolding family
 other_gets = refl
 
-two_bytes : AreBytes (7 ∷ 8 ∷ [])
+two_bytes : AreBytes both
 two_bytes zero = omega arith
 two_bytes (suc zero) = omega arith
 two_bytes (suc (suc i)) = omega arith
@@ -84,17 +84,17 @@ no_bytes i = omega arith
 
 -- ---- rank 0
 
-opens : IsSound unused
+pub opens : IsSound unused
 opens = open_keeps two_ranks (λ slot. number_of Free) (omega arith) (λ i low. refl)
 
 new_root : New unused 0 root 0 Once (plan scatter 0) × (2 ≡ given_len scatter 2 0)
 new_root =
-    accepted_post unused 0 0 0 (plan scatter 0) (7 ∷ 8 ∷ []) opens (omega arith) refl (omega arith) (omega arith) refl
+    accepted_post unused 0 0 0 (plan scatter 0) both opens (omega arith) refl (omega arith) (omega arith) refl
 
 root_comes :
-    Comes (posting unused 0 root (moved unused Ready)) 0 root (7 ∷ 8 ∷ []) (at 0 0 (0 ∷ 7 ∷ 8 ∷ [])) (moved unused Ready)
+    Comes (posting unused 0 root (moved unused 0 Ready)) 0 root both (at 0 0 laid) (moved unused 0 Ready)
 root_comes = record {
-  from = at 0 0 (laid_in (family scatter 2 0) (7 ∷ 8 ∷ []));
+  from = at 0 0 (laid_in (family scatter 2 0) both);
   joining = record { here = refl; inactive = refl; long = new_root.1; are = two_bytes; start = refl };
   buf = sym gives;
   over = inl (refl, refl);
@@ -104,12 +104,12 @@ root_comes = record {
 
 root_posts : RootPosts
 root_posts =
-    post_keeps unused 0 root 0 (plan scatter 0) (7 ∷ 8 ∷ []) (at 0 0 (0 ∷ 7 ∷ 8 ∷ [])) (moved unused Ready) opens
-    new_root.0 refl (away unused Ready) root_comes
+    post_keeps unused 0 root 0 (plan scatter 0) both (at 0 0 laid) (moved unused 0 Ready) opens
+    new_root.0 refl (away unused 0 Ready) root_comes
 
-root_sends_one : Acts posted 0 sender (Send 1 (byte 2)) (at 0 1 (0 ∷ 7 ∷ 8 ∷ [])) (moved posted Ready)
+root_sends_one : Acts posted 0 sender (Send 1 (byte 2)) (at 0 1 laid) (moved posted 0 Ready)
 root_sends_one =
-    record { here = refl; list = inl refl; next_is = sends; over = inl (refl, refl); away = away posted Ready }
+    record { here = refl; list = inl refl; next_is = sends; over = inl (refl, refl); away = away posted 0 Ready }
 
 -- no slot is noted for rank 1 yet
 nobody_waits : (j : ℕ) → Wakes sent (key 0) 1 j → ⊥
@@ -117,25 +117,25 @@ nobody_waits j h = none-some j h.seat
 
 root_sends : RootSends
 root_sends =
-    (send_keeps posted 0 sender 1 (byte 2) (at 0 1 (0 ∷ 7 ∷ 8 ∷ [])) (moved posted Ready) root_posts.0 root_sends_one refl
+    (send_keeps posted 0 sender 1 (byte 2) (at 0 1 laid) (moved posted 0 Ready) root_posts.0 root_sends_one refl
     (ready (Copy (byte 1) (byte 0)) refl refl copies tt)).0 nobody_waits
 
-root_copies_one : Acts sent 0 copier (Copy (byte 1) (byte 0)) (at 1 0 (7 ∷ 7 ∷ 8 ∷ [])) (moved sent (Done 0))
+root_copies_one : Acts sent 0 copier (Copy (byte 1) (byte 0)) (at 1 0 kept) (moved sent 0 (Done 0))
 root_copies_one =
-    record { here = refl; list = inl refl; next_is = copies; over = copied_all; away = away sent (Done 0) }
+    record { here = refl; list = inl refl; next_is = copies; over = copied_all; away = away sent 0 (Done 0) }
 
 root_copies : RootCopies
 root_copies =
-    compute_keeps sent 0 copier (Copy (byte 1) (byte 0)) (at 1 0 (7 ∷ 7 ∷ 8 ∷ [])) (moved sent (Done 0)) root_sends.0
+    compute_keeps sent 0 copier (Copy (byte 1) (byte 0)) (at 1 0 kept) (moved sent 0 (Done 0)) root_sends.0
     root_copies_one tt refl (done refl refl root_ends)
 
-root_retires : Retiring copied 0 (went copier (at 1 0 (7 ∷ 7 ∷ 8 ∷ []))) 0 (7 ∷ []) (moved copied Free)
+root_retires : Retiring copied 0 (went copier (at 1 0 kept)) 0 (7 ∷ []) (moved copied 0 Free)
 root_retires = record {
   here = refl;
   list = refl;
   accepted = refl;
   bytes_is = root_gets;
-  away = away copied Free;
+  away = away copied 0 Free;
   left = inl (refl, omega arith);
 }
 
@@ -145,7 +145,7 @@ not_last h = (h 1 (omega arith)).0 refl
 
 root_leaves : RootLeaves
 root_leaves =
-    retire_keeps copied 0 (went copier (at 1 0 (7 ∷ 7 ∷ 8 ∷ []))) 0 (7 ∷ []) (moved copied Free) root_copies.0
+    retire_keeps copied 0 (went copier (at 1 0 kept)) 0 (7 ∷ []) (moved copied 0 Free) root_copies.0
     root_retires not_last
 
 -- ---- rank 1
@@ -154,7 +154,7 @@ new_late : New left 0 late 1 Once (plan scatter 1) × (0 ≡ given_len scatter 2
 new_late =
     accepted_post left 0 0 1 (plan scatter 1) [] root_leaves.0 (omega arith) refl (omega arith) (omega arith) refl
 
-late_comes : Comes (posting left 0 late (moved left Ready)) 0 late [] (at 0 0 (0 ∷ [])) (moved left Ready)
+late_comes : Comes (posting left 0 late (moved left 0 Ready)) 0 late [] (at 0 0 (0 ∷ [])) (moved left 0 Ready)
 late_comes = record {
   from = at 0 0 (laid_in (family scatter 2 1) []);
   joining = record { here = refl; inactive = refl; long = new_late.1; are = no_bytes; start = refl };
@@ -166,42 +166,42 @@ late_comes = record {
 
 other_posts : OtherPosts
 other_posts =
-    post_keeps left 0 late 1 (plan scatter 1) [] (at 0 0 (0 ∷ [])) (moved left Ready) root_leaves.0 new_late.0 refl
-    (away left Ready) late_comes
+    post_keeps left 0 late 1 (plan scatter 1) [] (at 0 0 (0 ∷ [])) (moved left 0 Ready) root_leaves.0 new_late.0 refl
+    (away left 0 Ready) late_comes
 
-other_receives_one : Acts posted_late 0 receiver (Recv 0 (byte 0)) (at 1 0 (8 ∷ [])) (moved posted_late (Done 0))
+other_receives_one : Acts posted_late 0 receiver (Recv 0 (byte 0)) (at 1 0 (8 ∷ [])) (moved posted_late 0 (Done 0))
 other_receives_one = record {
   here = refl;
   list = inl refl;
   next_is = receives;
   over = received_all;
-  away = away posted_late (Done 0);
+  away = away posted_late 0 (Done 0);
 }
 
 other_receives : OtherReceives
 other_receives =
-    receive_keeps posted_late 0 receiver 0 (byte 0) (8 ∷ []) (at 1 0 (8 ∷ [])) (moved posted_late (Done 0)) other_posts.0
-    other_receives_one refl refl (done refl refl other_ends)
+    receive_keeps posted_late 0 receiver 0 (byte 0) (8 ∷ []) (at 1 0 (8 ∷ [])) (moved posted_late 0 (Done 0))
+    other_posts.0 other_receives_one refl refl (done refl refl other_ends)
 
-other_retires : Retiring received_late 0 (went receiver (at 1 0 (8 ∷ []))) 1 (8 ∷ []) (moved received_late Worn)
+other_retires : Retiring received_late 0 (went receiver (at 1 0 (8 ∷ []))) 1 (8 ∷ []) (moved received_late 0 Worn)
 other_retires = record {
   here = refl;
   list = refl;
   accepted = refl;
   bytes_is = other_gets;
-  away = away received_late Worn;
+  away = away received_late 0 Worn;
   left = inr (refl, refl);
 }
 
 -- both have given, and no slot is noted
-last : IsLast (leaving received_late 0 (went receiver (at 1 0 (8 ∷ []))) (moved received_late Worn)) (key 0)
-last zero low = ((λ none. none-some (7 ∷ 8 ∷ []) (sym none)), refl)
+last : IsLast (leaving received_late 0 (went receiver (at 1 0 (8 ∷ []))) (moved received_late 0 Worn)) (key 0)
+last zero low = ((λ none. none-some both (sym none)), refl)
 last (suc zero) low = ((λ none. none-some [] (sym none)), refl)
 last (suc (suc m)) low = absurd (omega arith)
 
 other_leaves : OtherLeaves
 other_leaves =
-    last_retire_keeps received_late 0 (went receiver (at 1 0 (8 ∷ []))) 1 (8 ∷ []) (moved received_late Worn)
+    last_retire_keeps received_late 0 (went receiver (at 1 0 (8 ∷ []))) 1 (8 ∷ []) (moved received_late 0 Worn)
     other_receives.0 other_retires last
 
 pub rows_are_sound : RowsAreSound

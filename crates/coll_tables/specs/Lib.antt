@@ -13,4 +13,5 @@ pub mod Requests  -- a live request
 pub mod Rows  -- the tables of a small engine, written out
 pub mod Shown  -- the tables that an arena, posting lists and instances show
 pub mod Sound  -- the condition of the tables
+pub mod StartRows  -- the same with a persistent collective
 pub mod Tables  -- the tables as functions, and their machine

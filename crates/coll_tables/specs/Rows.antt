@@ -35,11 +35,21 @@ at round index buf = record { round = round; index = index; buf = buf }
 abbrev pub byte : ℕ → Region
 byte place = record { at = place; len = 1 }
 
--- slot 0 goes to a list
-abbrev pub moved : Tables → ListName → ℕ → ℕ
-moved v list = put v.home 0 (number_of list)
+-- the lists with a slot moved to another
+abbrev pub moved : Tables → ℕ → ListName → ℕ → ℕ
+moved v slot list = put v.home slot (number_of list)
 
 -- ---- rank 0 gives 7 for itself and 8 for rank 1
+
+abbrev pub both : List ℕ
+both = 7 ∷ 8 ∷ []
+
+-- its buffer at its first action, and behind its last
+abbrev pub laid : List ℕ
+laid = 0 ∷ both
+
+abbrev pub kept : List ℕ
+kept = 7 ∷ both
 
 abbrev pub unused : Tables
 unused = opened two_ranks (λ slot. number_of Free)
@@ -48,23 +58,22 @@ abbrev pub root : Live
 root = newcomer unused 0 0 (plan scatter 0)
 
 abbrev pub posted : Tables
-posted =
-    joining (posting unused 0 root (moved unused Ready)) 0 root (7 ∷ 8 ∷ []) (at 0 0 (0 ∷ 7 ∷ 8 ∷ [])) (moved unused Ready)
+posted = joining (posting unused 0 root (moved unused 0 Ready)) 0 root both (at 0 0 laid) (moved unused 0 Ready)
 
 abbrev pub sender : Live
-sender = begun root (at 0 0 (0 ∷ 7 ∷ 8 ∷ []))
+sender = begun root (at 0 0 laid)
 
 abbrev pub sent : Tables
-sent = acting posted 0 sender (at 0 1 (0 ∷ 7 ∷ 8 ∷ [])) (delivered posted sender 1 (byte 2)) (moved posted Ready)
+sent = acting posted 0 sender (at 0 1 laid) (delivered posted sender 1 (byte 2)) (moved posted 0 Ready)
 
 abbrev pub copier : Live
-copier = went sender (at 0 1 (0 ∷ 7 ∷ 8 ∷ []))
+copier = went sender (at 0 1 laid)
 
 abbrev pub copied : Tables
-copied = acting sent 0 copier (at 1 0 (7 ∷ 7 ∷ 8 ∷ [])) sent.mail (moved sent (Done 0))
+copied = acting sent 0 copier (at 1 0 kept) sent.mail (moved sent 0 (Done 0))
 
 abbrev pub left : Tables
-left = leaving copied 0 (went copier (at 1 0 (7 ∷ 7 ∷ 8 ∷ []))) (moved copied Free)
+left = leaving copied 0 (went copier (at 1 0 kept)) (moved copied 0 Free)
 
 -- ---- rank 1, in the slot's second and last generation
 
@@ -72,17 +81,17 @@ abbrev pub late : Live
 late = newcomer left 0 1 (plan scatter 1)
 
 abbrev pub posted_late : Tables
-posted_late = joining (posting left 0 late (moved left Ready)) 0 late [] (at 0 0 (0 ∷ [])) (moved left Ready)
+posted_late = joining (posting left 0 late (moved left 0 Ready)) 0 late [] (at 0 0 (0 ∷ [])) (moved left 0 Ready)
 
 abbrev pub receiver : Live
 receiver = begun late (at 0 0 (0 ∷ []))
 
 abbrev pub received_late : Tables
 received_late =
-    acting posted_late 0 receiver (at 1 0 (8 ∷ [])) (received posted_late receiver 0) (moved posted_late (Done 0))
+    acting posted_late 0 receiver (at 1 0 (8 ∷ [])) (received posted_late receiver 0) (moved posted_late 0 (Done 0))
 
 abbrev pub over : Tables
-over = dissolving (leaving received_late 0 (went receiver (at 1 0 (8 ∷ []))) (moved received_late Worn)) (key 0)
+over = dissolving (leaving received_late 0 (went receiver (at 1 0 (8 ∷ []))) (moved received_late 0 Worn)) (key 0)
 
 -- ---- what they have, computed
 
@@ -123,7 +132,7 @@ message_is_kept = refl
 message_is_taken : received_late.mail (key 0) 0 1 0 ≡ None
 message_is_taken = refl
 
-gift_is_kept : received_late.given (key 0) 0 ≡ Some (7 ∷ 8 ∷ [])
+gift_is_kept : received_late.given (key 0) 0 ≡ Some both
 gift_is_kept = refl
 
 nothing_is_kept : over.given (key 0) 0 ≡ None
@@ -134,7 +143,7 @@ nothing_is_kept = refl
 abbrev pub RootPosts : Type 0
 RootPosts =
     IsSound posted
-    × StepsTo two_ranks (machine unused) (Post 0 0 (plan scatter 0) (7 ∷ 8 ∷ [])) (Ticketed (ticket 0 1)) (machine posted)
+    × StepsTo two_ranks (machine unused) (Post 0 0 (plan scatter 0) both) (Ticketed (ticket 0 1)) (machine posted)
 
 abbrev pub RootSends : Type 0
 RootSends = IsSound sent × MayFinish two_ranks (machine posted) (machine sent)

@@ -5,6 +5,7 @@ ghost use Rattle.coll_tables.specs.Laws.{LockIsFree, OpenKeeps, PostKeeps, Quiet
 ghost use Rattle.coll_tables.specs.EngineLaws.{LockCore, OpenCore, ActingCore, ComputeCore, FreeCore, InitCore, LentCore, MoveCore, NewCore, PostCore, QuietCore, ReadyCore, ReceiveCore, RetireCore, RoomCore, SendCore, SendThenCore, SetCore, StartCore};
 ghost use Rattle.coll_tables.specs.EngineTests.{EntryCore, StartedCore, FoundCore, InitRefused, NamedRefused, PostRefused, StaleRefused};
 ghost use Rattle.coll_tables.specs.Rows.{RowsAreSound};
+ghost use Rattle.coll_tables.specs.StartRows.{StartRowsAreSound};
 
 use coll_arena::Arena;
 
@@ -116,6 +117,11 @@ pub fn little_left()
 /// The condition can be met: the tables of a small engine, from its opening to the end of a scatter.
 pub fn rows_are_sound()
     ensures { RowsAreSound }
+{}
+
+/// So can it with a persistent collective, a request that waits and is woken, and a combination that goes out.
+pub fn start_rows_are_sound()
+    ensures { StartRowsAreSound }
 {}
 
 // ---- in the words of the engine's arena, posting lists and instances: each keeps the engine's condition, and is the
