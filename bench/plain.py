@@ -74,6 +74,12 @@ def one_rsblock():
     return one_post_each(32, "rsblock sum i64 510", 32 * 510)
 
 
+def many_waits():
+    """104,000 lines that wait for one of some requests, near the limit of a text."""
+    lines = ["ranks 1", "rank 0", "post 0 barrier", "post 0 barrier"] + ["waitany 0"] * 104_000
+    return "\n".join(lines) + "\n"
+
+
 TEXTS = [
     ("4,096 posts over 64 ranks", many_posts),
     ("4,096 requests over 64 ranks and 16 communicators", many_communicators),
@@ -82,6 +88,7 @@ TEXTS = [
     ("allreduce of 8,000 elements over 64 ranks", many_members),
     ("allgather of 8,000 elements over 64 ranks", one_allgather),
     ("rsblock of 510 elements over 32 ranks", one_rsblock),
+    ("104,000 waits of one rank", many_waits),
 ]
 
 
@@ -101,6 +108,8 @@ def timed(name, text):
 
 
 if __name__ == "__main__":
+    if not os.access(PROGRAM, os.X_OK):
+        sys.exit("plain.py: the program isn't built; build it by ./colljob plain < examples/sum_of_three.job")
     if len(sys.argv) > 1:
         name, text = TEXTS[int(sys.argv[1])]
         sys.exit(timed(name, text()))

@@ -4,6 +4,9 @@ mod Loops
 mod Posted
 mod Matched
 mod Matches
+mod Earliest
+mod Differing
+mod Lacking
 mod Ending
 mod Valued
 mod Printing

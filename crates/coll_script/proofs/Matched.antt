@@ -16,7 +16,6 @@ use Rattle.coll_history.specs.Requests.{Request}
 use Rattle.coll_script.specs.declared.first.First.{First}
 use Rattle.coll_script.specs.Matching.{first_of, first_at, earlier, earliest, agrees, differing_from, lower, least, started_alike, first_list}
 use Rattle.coll_script.specs.Keeping.{IsKept}
-use Rattle.coll_script.proofs.Posted.{map-map}
 use Rattle.coll_script.proofs.Slots.{slice_get-set_same, slice_get-set_other, slice_get-push_same}
 
 -- ---- views of lists

@@ -1,6 +1,6 @@
 -- Where nothing is found after the last line, the requests at each place accord.
 use Rattle.std.proofs.Common.{◌≡◌, ℕ, zero, suc, ◌+◌, ◌<◌, Bool, true, false, cond, eqb, List, [], ◌∷◌, ◌++◌, length, get_or, Option, Some, None, Ok, Err, refl, ap, subst, sym, ◌∙◌, arith}
-use Rattle.std.specs.Prelude.{slice_get, slice_index, unwrap_or, flat_map, IfSome}
+use Rattle.std.specs.Prelude.{slice_get, slice_index, unwrap_or, flat_map}
 use Rattle.std.specs.List.{list_all, AllByRecursion}
 use Rattle.std.specs.Option.{option_map}
 use Rattle.std.proofs.lemmas.Bool.{eqb-true, and_parts}
@@ -26,7 +26,7 @@ use Rattle.coll_kinds.proofs.Sameness.{same_signature-Decides}
 
 -- ---- nothing is found
 
-least-none : (o : Option ℕ) (lines : List ℕ) → least o lines ≡ None → (o ≡ None) × (lines ≡ [])
+pub least-none : (o : Option ℕ) (lines : List ℕ) → least o lines ≡ None → (o ≡ None) × (lines ≡ [])
 least-none o [] e = (e, refl)
 least-none None (line ∷ lines) e = absurd (let found = (least-none (Some line) lines e).0 in cc)
 least-none (Some l) (line ∷ lines) e = absurd (let found = (least-none (lower (Some l) line) lines e).0 in cc)
@@ -39,7 +39,7 @@ flat_map-nil : {X Y : Type 0} (f : X → List Y) (xs : List X) → flat_map f xs
 flat_map-nil f [] e = tt
 flat_map-nil f (x ∷ xs) e = let parts = append-nil_parts (f x) (flat_map f xs) (sym (flat_map-cons f x xs) ∙ e) in (parts.0, flat_map-nil f xs parts.1)
 
-list_all-each : {X : Type 0} (p : X → Bool) (xs : List X) → list_all p xs ≡ true → AllByRecursion (λ x. p x ≡ true) xs
+pub list_all-each : {X : Type 0} (p : X → Bool) (xs : List X) → list_all p xs ≡ true → AllByRecursion (λ x. p x ≡ true) xs
 list_all-each p [] e = tt
 list_all-each p (x ∷ xs) e = let parts = and_parts (p x) (list_all p xs) e in (parts.0, list_all-each p xs parts.1)
 
@@ -89,7 +89,7 @@ agrees-at firsts place (suc k) (q ∷ list) p none e =
     let at : place + 1 + k ≡ place + suc k = omega arith in
     ap (λ i. agrees (firsts i) p.sig) (sym at) ∙ agrees-at firsts (place + 1) k list p (agreeing (agrees (firsts place) q.sig) (differing_from firsts (place + 1) list) q.line none).1 e
 
-agrees-same : (o : Option First) (sig other : Signature) → agrees o sig ≡ true → agrees o other ≡ true → sig ≡ other
+pub agrees-same : (o : Option First) (sig other : Signature) → agrees o sig ≡ true → agrees o other ≡ true → sig ≡ other
 agrees-same None sig other one two = absurd cc
 agrees-same (Some first) sig other one two = sym ((same_signature-Decides first.sig sig).0 one) ∙ (same_signature-Decides first.sig other).0 two
 
@@ -104,7 +104,7 @@ sig-same lists m k first p none lt one other =
     let there = AllByRecursion-at _ lists 0 (first_list lists) each (slice_get-list_at lists 0 (omega arith)) in
     agrees-same (earliest None (0 + k) lists) p.sig first.sig (agrees-at (λ place. earliest None place lists) 0 k (list_at lists m) p here other) (agrees-at (λ place. earliest None place lists) 0 k (first_list lists) first there one)
 
-starts-same : (first list : List Request) (k : ℕ) (p q : Request) → started_alike first list ≡ true → slice_get first k ≡ Some p → slice_get list k ≡ Some q → length q.starts ≡ length p.starts
+pub starts-same : (first list : List Request) (k : ℕ) (p q : Request) → started_alike first list ≡ true → slice_get first k ≡ Some p → slice_get list k ≡ Some q → length q.starts ≡ length p.starts
 starts-same [] list k p q e one other = absurd cc
 starts-same (a ∷ first) [] k p q e one other = absurd cc
 starts-same (a ∷ first) (b ∷ list) zero p q e one other =
@@ -139,7 +139,7 @@ fits-at told groups comm rank group p here is same =
     let one : is.group ≡ group = same_Some is.group group (sym is.known ∙ ap (slice_get groups) same ∙ here) in
     subst (λ (g : List ℕ). IsRequestOn g rank p) one (record { member = is.member; checked = is.checked; given = is.given })
 
-list_all-at : {X : Type 0} (f : X → Bool) (xs : List X) (i : ℕ) (x : X) → list_all f xs ≡ true → slice_get xs i ≡ Some x → f x ≡ true
+pub list_all-at : {X : Type 0} (f : X → Bool) (xs : List X) (i : ℕ) (x : X) → list_all f xs ≡ true → slice_get xs i ≡ Some x → f x ≡ true
 list_all-at f xs i x e some = AllByRecursion-at (λ y. f y ≡ true) xs i x (list_all-each f xs e) some
 
 -- the posting lists of a communicator whose requests fit

@@ -28,7 +28,7 @@ use Rattle.coll_script.proofs.Matches.{list_at-postings}
 
 -- ---- the lines of a request
 
-row_of-range : (n i : ℕ) (f : ℕ → List ℕ) → i < n → row_of (map f (range_with_len 0 n)) i ≡ f i
+pub row_of-range : (n i : ℕ) (f : ℕ → List ℕ) → i < n → row_of (map f (range_with_len 0 n)) i ≡ f i
 row_of-range n i f lt = unwrap_or-slice_get (map f (range_with_len 0 n)) i [] ∙ get_or-map-range_with_len f 0 n i i [] lt (omega arith)
 
 lines-range : (line : ℕ → List ℕ → List ℕ) (f : ℕ → List (List ℕ)) (member : ℕ) (n k : ℕ)

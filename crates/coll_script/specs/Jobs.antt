@@ -1,7 +1,6 @@
 -- The script of a text: the history that its lines tell, in which the requests of all ranks belong together.
-use Rattle.std.specs.Prelude.{ℕ, nat_lt, List, length, Option, Some, None, Result, Ok, Err, if◌then◌else◌}
+use Rattle.std.specs.Prelude.{ℕ, nat_lt, List, length, Option, Some, None, Result, Ok, if◌then◌else◌}
 use Rattle.std.specs.List.{list_all}
-use Rattle.coll_history.specs.declared.cause.Cause.{Cause}
 use Rattle.coll_history.specs.declared.cause.Cause.TheVariants.{TooLong, MissingRanks, PlaceMismatch, PlaceMissing, StartMissing}
 use Rattle.coll_history.specs.declared.fault.Fault.{Fault}
 use Rattle.coll_history.specs.Reading.{and_then}

@@ -2,6 +2,7 @@
 pub mod Postings
 pub mod Matching
 pub mod Jobs
+pub mod Belonging
 pub mod Meaning
 pub mod Configs
 pub mod Rows

@@ -1,12 +1,16 @@
 -- The values of a job, as they are computed before they are printed: for each communicator, place, start and member.
-use Rattle.std.specs.Prelude.{◌≡◌, ℕ, ◌+◌, ◌<◌, ◌≤◌, List, [], ◌∷◌, length, map, slice_get, unwrap_or, Some, None, Vec}
+use Rattle.std.specs.Prelude.{◌≡◌, ℕ, Bool, true, false, ◌+◌, ◌<◌, ◌≤◌, List, [], ◌∷◌, length, map, slice_get, unwrap_or, Some, None, Vec}
 use Rattle.std.specs.List.{range_with_len, AllByRecursion}
 use Rattle.std.specs.Global.{Global}
+use Rattle.coll_kinds.specs.declared.kind.Kind.{Kind}
+use Rattle.coll_kinds.specs.declared.kind.Kind.TheVariants.{Barrier, Bcast, Allgather, Allreduce}
 use Rattle.coll_kinds.specs.Lengths.{given_len}
 use Rattle.coll_kinds.specs.Checks.{broken}
 use Rattle.coll_ops.specs.Values.{value}
 use Rattle.coll_history.specs.Requests.{Request}
 use Rattle.coll_history.specs.Code.{rows_view}
+use Rattle.coll_script.specs.declared.values.Values.{Values}
+use Rattle.coll_script.specs.declared.values.Values.TheVariants.{Same, Each}
 use Rattle.coll_script.specs.Matching.{first_list}
 use Rattle.coll_script.specs.Meaning.{given_at}
 
@@ -25,14 +29,26 @@ values_from lists place (p ∷ requests) = place_values lists place p ∷ values
 abbrev pub group_values : List (List Request) → List (List (List (List ℕ)))
 group_values lists = values_from lists 0 (first_list lists)
 
--- the values at the starts of a place, without where they lie in memory
-abbrev pub place_view : List (Vec (Vec ℕ Global) Global) → List (List (List ℕ))
-place_view starts = map (λ rows. rows_view rows.items) starts
+-- all members get the same
+abbrev pub is_shared : Kind → Bool
+is_shared Barrier = true
+is_shared Bcast = true
+is_shared Allgather = true
+is_shared Allreduce = true
+is_shared kind = false
 
-abbrev pub group_view : List (Vec (Vec (Vec ℕ Global) Global) Global) → List (List (List (List ℕ)))
+-- the values at a start, and at the starts of a place, without where they lie in memory
+abbrev pub members_view : Values → List (List ℕ)
+members_view (Same value members) = map (λ member. value.items) (range_with_len 0 members)
+members_view (Each rows) = rows_view rows.items
+
+abbrev pub place_view : List Values → List (List (List ℕ))
+place_view starts = map members_view starts
+
+abbrev pub group_view : List (Vec Values Global) → List (List (List (List ℕ)))
 group_view places = map (λ starts. place_view starts.items) places
 
-abbrev pub values_view : List (Vec (Vec (Vec (Vec ℕ Global) Global) Global) Global) → List (List (List (List (List ℕ))))
+abbrev pub values_view : List (Vec (Vec Values Global) Global) → List (List (List (List (List ℕ))))
 values_view groups = map (λ places. group_view places.items) groups
 
 -- a request of member m of n stands where the first member's request stands

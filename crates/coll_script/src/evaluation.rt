@@ -9,16 +9,16 @@ ghost use Rattle.coll_history.specs.Code.{request_view, rows_view};
 ghost use Rattle.coll_script.specs.Matching.{first_list};
 ghost use Rattle.coll_script.specs.Meaning.{given_at};
 ghost use Rattle.coll_script.specs.PostingViews.{lists_view, all_lists_view};
-ghost use Rattle.coll_script.specs.Outcomes.{place_values, group_values, place_view, group_view, values_view, HaveStart, AreMatched};
+ghost use Rattle.coll_script.specs.Outcomes.{place_values, group_values, members_view, place_view, group_view, values_view, HaveStart, AreMatched};
 
 use crate::postings::Postings;
+use crate::values::Values;
 use coll_history::Request;
 use coll_kinds::{Refusal, Signature};
-use coll_ops::plain_values;
 use std::alloc::Global;
 
 /// A row of bytes for each member of a communicator.
-pub(crate) type Rows = Vec<Vec<u8>>;
+type Rows = Vec<Vec<u8>>;
 
 /// What the members of a communicator give at a start of a place. Linear in the bytes.
 fn given_at(
@@ -45,16 +45,16 @@ fn start_values(
     lists: &[Vec<Request>],
     place: usize,
     start: usize,
-) -> Result<Rows, Refusal>
+) -> Result<Values, Refusal>
     requires few { length lists.now ≤ 64 }
     requires checked { broken sig (length lists.now) ≡ None }
     requires starts { HaveStart (lists_view lists.now) place start }
     requires given { AreGiven sig (length lists.now) (given_at (lists_view lists.now) place start) }
-    ensures ok { IfOk result (λ values. rows_view values.items ≡ map (value sig (given_at (lists_view lists.now) place start)) (range_with_len 0 (length lists.now))) }
+    ensures ok { IfOk result (λ values. members_view values ≡ map (value sig (given_at (lists_view lists.now) place start)) (range_with_len 0 (length lists.now))) }
     ensures refusal { IsOkUnless result Refusal.NoMemory }
 {
     let given = given_at(alloc, lists, place, start)?;
-    plain_values(alloc, sig, lists.len() as u8, &given)
+    Values::new(alloc, sig, lists.len() as u8, &given)
 }
 
 /// The values at each start of a place.
@@ -63,7 +63,7 @@ fn place_values(
     lists: &[Vec<Request>],
     place: usize,
     request: &Request,
-) -> Result<Vec<Rows>, Refusal>
+) -> Result<Vec<Values>, Refusal>
     requires matched { AreMatched (length lists.now) (lists_view lists.now) }
     requires there { slice_get (first_list (lists_view lists.now)) place ≡ Some (request_view request.now) }
     ensures ok { IfOk result (λ starts. place_view starts.items ≡ place_values (lists_view lists.now) place (request_view request.now)) }
@@ -77,7 +77,7 @@ fn place_values(
 }
 
 /// The values at each place of a communicator.
-fn group_values(alloc: Global, lists: &[Vec<Request>]) -> Result<Vec<Vec<Rows>>, Refusal>
+fn group_values(alloc: Global, lists: &[Vec<Request>]) -> Result<Vec<Vec<Values>>, Refusal>
     requires { AreMatched (length lists.now) (lists_view lists.now) }
     ensures ok { IfOk result (λ places. group_view places.items ≡ group_values (lists_view lists.now)) }
     ensures refusal { IsOkUnless result Refusal.NoMemory }
@@ -94,7 +94,7 @@ fn group_values(alloc: Global, lists: &[Vec<Request>]) -> Result<Vec<Vec<Rows>>,
 
 /// The values of all communicators, by place, start and member. Linear in the bytes that are given and
 /// got.
-pub(crate) fn all_values(alloc: Global, all: &[Postings]) -> Result<Vec<Vec<Vec<Rows>>>, Refusal>
+pub(crate) fn all_values(alloc: Global, all: &[Postings]) -> Result<Vec<Vec<Vec<Values>>>, Refusal>
     requires { AllByRecursion (λ lists. AreMatched (length lists) lists) (all_lists_view all.now) }
     ensures ok { IfOk result (λ groups. values_view groups.items ≡ map group_values (all_lists_view all.now)) }
     ensures refusal { IsOkUnless result Refusal.NoMemory }

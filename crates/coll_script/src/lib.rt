@@ -11,18 +11,21 @@
 //! | `first`, `matching` | whether the requests at each place belong together |
 //! | `script` | `Script`, the history of a text in which the requests of all ranks belong together |
 //! | `sizes` | `Sizes`, how large an engine is opened to run the job |
-//! | `evaluation` | the values of a job |
+//! | `values`, `evaluation` | `Values` of all members at a start, and those of a whole job |
+//! | `laws` | what holds of all texts |
 //! | `outcome`, `rank_lines` | the lines of an outcome, a request and a rank |
 #![tactic(auto)]
 
 mod evaluation;
 mod first;
+pub mod laws;
 mod matching;
 mod outcome;
 mod postings;
 mod rank_lines;
 mod script;
 mod sizes;
+mod values;
 
 pub use coll_history::{Cause, Command, Fault, Given, History, Named, ScriptFault};
 pub use outcome::print_outcome;

@@ -7,8 +7,8 @@ ghost use Rattle.coll_history.specs.Code.{request_view};
 ghost use Rattle.coll_script.specs.Outcomes.{place_view, values_view};
 ghost use Rattle.coll_script.specs.Prints.{printed_request, printed_behind, HaveValues};
 
-use crate::evaluation::Rows;
 use crate::outcome::print_outcome;
+use crate::values::Values;
 use coll_history::Request;
 use coll_kinds::{MAX_COMMUNICATORS, Refusal};
 use std::alloc::Global;
@@ -19,7 +19,7 @@ pub(crate) fn print_rank(
     alloc: Global,
     rank: u8,
     requests: &[Request],
-    values: &[Vec<Vec<Rows>>],
+    values: &[Vec<Vec<Values>>],
     out: &mut Vec<u8>,
 ) -> Result<(), Refusal>
     requires groups { length values.now ≤ max_communicators }
@@ -51,7 +51,7 @@ fn print_request(
     rank: u8,
     number: u32,
     request: &Request,
-    starts: &[Rows],
+    starts: &[Values],
     out: &mut Vec<u8>,
 ) -> Result<(), Refusal>
     requires few { length starts.now ≤ 4294967295 }
@@ -60,7 +60,7 @@ fn print_request(
     ensures refusal { IsOkUnless result Refusal.NoMemory }
 {
     for (start, rows) in starts.iter().enumerate() {
-        let value = &rows[usize::from(request.member)];
+        let value = rows.of(usize::from(request.member));
         print_outcome(alloc, rank, number, start as u32, request.sig, value, out)?;
     }
     Ok(())

@@ -18,6 +18,56 @@ fn lines_of_a_text(rt: HostRuntime) -> Result<(), Fail> {
     Ok(())
 }
 
+const COMMANDS: &str =
+    "ranks 1\nrank 0\ninit 0 barrier\npost 0 barrier\nstart 0\nwaitany 1 0\ntest 0\n\
+    waitsome 1\nwaitall\nwait 1\nfree 0\n";
+
+fn word(command: &Command) -> &'static str {
+    match command {
+        Command::Post { .. } => "post ",
+        Command::Init { .. } => "init ",
+        Command::Start { .. } => "start ",
+        Command::Wait(_) => "wait ",
+        Command::Test(_) => "test ",
+        Command::Free(_) => "free ",
+        Command::WaitAny(_) => "waitany ",
+        Command::WaitSome(_) => "waitsome ",
+        Command::WaitAll(_) => "waitall ",
+    }
+}
+
+#[test]
+fn commands_of_a_rank(rt: HostRuntime) -> Result<(), Fail> {
+    let script = Script::read(rt.alloc(), COMMANDS.as_bytes())?;
+    let commands = script.commands(rt.alloc(), 0)?;
+    let mut words = String::new(rt.alloc());
+    for command in &commands {
+        words.push_str(word(command))?;
+    }
+    assert_eq!(rt;
+        words.as_str(),
+        "init post start waitany test waitsome waitall wait free waitall "
+    );
+    Ok(())
+}
+
+#[test]
+fn sizes_of_a_job(rt: HostRuntime) -> Result<(), Fail> {
+    let script = Script::read(rt.alloc(), COMMANDS.as_bytes())?;
+    let sizes = script.config();
+    assert_eq!(rt;
+        sizes,
+        Sizes {
+            slots: 2,
+            places: 2,
+            wear: u32::MAX,
+            starts: 1_048_576,
+            trace: 6,
+        }
+    );
+    Ok(())
+}
+
 #[test]
 fn line_of_an_outcome(rt: HostRuntime) -> Result<(), Fail> {
     let sig = Signature {

@@ -1,11 +1,9 @@
-use Rattle.std.proofs.Common.{◌≡◌, Vec, length, map, ap, sym, ◌∙◌, refl, arith}
-use Rattle.std.specs.Prelude.{ℕ}
+use Rattle.std.proofs.Common.{◌≡◌, length, map, ap, sym, ◌∙◌, refl, arith}
 use Rattle.std.specs.List.{range_with_len}
-use Rattle.std.specs.Global.{Global}
 use Rattle.coll_ops.specs.Values.{value}
-use Rattle.coll_history.specs.Code.{rows_view, request_view}
+use Rattle.coll_history.specs.Code.{request_view}
 use Rattle.coll_script.specs.Meaning.{given_at}
-use Rattle.coll_script.specs.Outcomes.{start_values, place_view}
+use Rattle.coll_script.specs.Outcomes.{start_values, members_view, place_view}
 use Rattle.coll_script.specs.PostingViews.{lists_view}
 use Rattle.coll_script.proofs.Loops.{map_range-more}
 use Rattle.coll_script.proofs.Posted.{map-push}
@@ -29,8 +27,8 @@ pub loop-start-preserved : goal.loop-start-preserved
 loop-start-preserved c =
     let p = request_view c.args.request.now in
     let lists = lists_view c.args.lists.now in
-    let made : rows_view c.in_ok-start_values.field-0.items ≡ start_values lists c.args.place p c.loop-start.start =
+    let made : members_view c.in_ok-start_values.field-0 ≡ start_values lists c.args.place p c.loop-start.start =
     c.in_ok-start_values.ensures.ok ∙ ap (λ n. map (value p.sig (given_at lists c.args.place c.loop-start.start)) (range_with_len 0 n)) (sym (length-lists_view c.args.lists.now)) in
-    rw (c.in_ok-push.ensures.items, map-push (λ (rows : Vec (Vec ℕ Global) Global). rows_view rows.items) c.loop-start.starts.items c.in_ok-start_values.field-0 (rows_view c.in_ok-start_values.field-0.items) refl)
-    (map_range-more (start_values lists c.args.place p) (length c.args.request.now.starts.items) c.loop-start.start (place_view c.loop-start.starts.items) _ (rows_view c.in_ok-start_values.field-0.items)
+    rw (c.in_ok-push.ensures.items, map-push members_view c.loop-start.starts.items c.in_ok-start_values.field-0 (members_view c.in_ok-start_values.field-0) refl)
+    (map_range-more (start_values lists c.args.place p) (length c.args.request.now.starts.items) c.loop-start.start (place_view c.loop-start.starts.items) _ (members_view c.in_ok-start_values.field-0)
     (omega (arith, c.loop-start-test.true, c.len-start-end.ensures, c.args.request.now.starts.ok)) made c.loop-start.invariant)

@@ -6,6 +6,7 @@ use Rattle.std.proofs.lemmas.List.{length-map, length-set, length-take}
 use Rattle.coll_history.specs.Code.{request_view}
 use Rattle.coll_history.proofs.Lists.{slice_get-view}
 use Rattle.coll_script.specs.Postings.{posted_on}
+use Rattle.coll_script.specs.declared.values.Values.{Values}
 use Rattle.coll_script.specs.Outcomes.{place_view, group_view, values_view}
 use Rattle.coll_script.specs.Prints.{printed_request, values_at, HasValues}
 use Rattle.coll_script.proofs.Matched.{drop-view}
@@ -45,7 +46,7 @@ index-requires c =
     let place_is : get_or c.loop-number.places c.from-comm.result 0 ≡ length (posted_on p.comm (take c.loop-number.number requests)) = ap (slice_index c.loop-number.places) c.from-comm.ensures ∙ c.loop-number.invariant.counted p.comm comm_known in
     let group : unwrap_or (slice_get (values_view c.args.values.now) p.comm) [] ≡ group_view c.index-values-comm.result.items =
     ap (λ k. unwrap_or (slice_get (values_view c.args.values.now) k) []) (sym c.from-comm.ensures)
-    ∙ ap (λ (o : Option (List (List (List (List ℕ))))). unwrap_or o []) (slice_get-view (λ (places : Vec (Vec (Vec (Vec ℕ Global) Global) Global) Global). group_view places.items) c.args.values.now c.from-comm.result c.index-values-comm.result comm_lt c.index-values-comm.is) in
+    ∙ ap (λ (o : Option (List (List (List (List ℕ))))). unwrap_or o []) (slice_get-view (λ (places : Vec (Vec Values Global) Global). group_view places.items) c.args.values.now c.from-comm.result c.index-values-comm.result comm_lt c.index-values-comm.is) in
     let place_lt : length (posted_on p.comm (take c.loop-number.number requests)) < length (group_view c.index-values-comm.result.items) = subst (λ (g : List (List (List (List ℕ)))). length (posted_on p.comm (take c.loop-number.number requests)) < length g) group has.below in
     let len_group : length (group_view c.index-values-comm.result.items) ≡ length c.index-values-comm.result.items = length-map c.index-values-comm.result.items _ in
     omega (arith, place_is, place_lt, len_group, c.index-values-comm.result.ok)
@@ -63,14 +64,14 @@ print_request-requires-clause-few c =
     let place_is : get_or c.loop-number.places c.from-comm.result 0 ≡ length (posted_on p.comm (take c.loop-number.number requests)) = ap (slice_index c.loop-number.places) c.from-comm.ensures ∙ c.loop-number.invariant.counted p.comm comm_known in
     let group : unwrap_or (slice_get (values_view c.args.values.now) p.comm) [] ≡ group_view c.index-values-comm.result.items =
     ap (λ k. unwrap_or (slice_get (values_view c.args.values.now) k) []) (sym c.from-comm.ensures)
-    ∙ ap (λ (o : Option (List (List (List (List ℕ))))). unwrap_or o []) (slice_get-view (λ (places : Vec (Vec (Vec (Vec ℕ Global) Global) Global) Global). group_view places.items) c.args.values.now c.from-comm.result c.index-values-comm.result comm_lt c.index-values-comm.is) in
+    ∙ ap (λ (o : Option (List (List (List (List ℕ))))). unwrap_or o []) (slice_get-view (λ (places : Vec (Vec Values Global) Global). group_view places.items) c.args.values.now c.from-comm.result c.index-values-comm.result comm_lt c.index-values-comm.is) in
     let place_lt : length (posted_on p.comm (take c.loop-number.number requests)) < length (group_view c.index-values-comm.result.items) = subst (λ (g : List (List (List (List ℕ)))). length (posted_on p.comm (take c.loop-number.number requests)) < length g) group has.below in
     let len_group : length (group_view c.index-values-comm.result.items) ≡ length c.index-values-comm.result.items = length-map c.index-values-comm.result.items _ in
     let within : get_or c.loop-number.places c.from-comm.result 0 < length c.index-values-comm.result.items = omega (arith, place_is, place_lt, len_group) in
     let starts : values_at (values_view c.args.values.now) p.comm (length (posted_on p.comm (take c.loop-number.number requests))) ≡ place_view c.deref.result.now =
     ap (λ (g : List (List (List (List ℕ)))). unwrap_or (slice_get g (length (posted_on p.comm (take c.loop-number.number requests)))) []) group
     ∙ ap (λ k. unwrap_or (slice_get (group_view c.index-values-comm.result.items) k) []) (sym place_is)
-    ∙ ap (λ (o : Option (List (List (List ℕ)))). unwrap_or o []) (slice_get-view (λ (s : Vec (Vec (Vec ℕ Global) Global) Global). place_view s.items) c.index-values-comm.result.items (get_or c.loop-number.places c.from-comm.result 0) c.index.result.now within c.index.ensures)
+    ∙ ap (λ (o : Option (List (List (List ℕ)))). unwrap_or o []) (slice_get-view (λ (s : Vec Values Global). place_view s.items) c.index-values-comm.result.items (get_or c.loop-number.places c.from-comm.result 0) c.index.result.now within c.index.ensures)
     ∙ ap place_view (sym c.deref.ensures.value) in
     let few : length (place_view c.deref.result.now) ≤ 4294967295 = subst (λ (v : List (List (List ℕ))). length v ≤ 4294967295) starts has.few in
     let len : length (place_view c.deref.result.now) ≡ length c.deref.result.now = length-map c.deref.result.now _ in
@@ -89,14 +90,14 @@ print_request-requires-clause-members c =
     let place_is : get_or c.loop-number.places c.from-comm.result 0 ≡ length (posted_on p.comm (take c.loop-number.number requests)) = ap (slice_index c.loop-number.places) c.from-comm.ensures ∙ c.loop-number.invariant.counted p.comm comm_known in
     let group : unwrap_or (slice_get (values_view c.args.values.now) p.comm) [] ≡ group_view c.index-values-comm.result.items =
     ap (λ k. unwrap_or (slice_get (values_view c.args.values.now) k) []) (sym c.from-comm.ensures)
-    ∙ ap (λ (o : Option (List (List (List (List ℕ))))). unwrap_or o []) (slice_get-view (λ (places : Vec (Vec (Vec (Vec ℕ Global) Global) Global) Global). group_view places.items) c.args.values.now c.from-comm.result c.index-values-comm.result comm_lt c.index-values-comm.is) in
+    ∙ ap (λ (o : Option (List (List (List (List ℕ))))). unwrap_or o []) (slice_get-view (λ (places : Vec (Vec Values Global) Global). group_view places.items) c.args.values.now c.from-comm.result c.index-values-comm.result comm_lt c.index-values-comm.is) in
     let place_lt : length (posted_on p.comm (take c.loop-number.number requests)) < length (group_view c.index-values-comm.result.items) = subst (λ (g : List (List (List (List ℕ)))). length (posted_on p.comm (take c.loop-number.number requests)) < length g) group has.below in
     let len_group : length (group_view c.index-values-comm.result.items) ≡ length c.index-values-comm.result.items = length-map c.index-values-comm.result.items _ in
     let within : get_or c.loop-number.places c.from-comm.result 0 < length c.index-values-comm.result.items = omega (arith, place_is, place_lt, len_group) in
     let starts : values_at (values_view c.args.values.now) p.comm (length (posted_on p.comm (take c.loop-number.number requests))) ≡ place_view c.deref.result.now =
     ap (λ (g : List (List (List (List ℕ)))). unwrap_or (slice_get g (length (posted_on p.comm (take c.loop-number.number requests)))) []) group
     ∙ ap (λ k. unwrap_or (slice_get (group_view c.index-values-comm.result.items) k) []) (sym place_is)
-    ∙ ap (λ (o : Option (List (List (List ℕ)))). unwrap_or o []) (slice_get-view (λ (s : Vec (Vec (Vec ℕ Global) Global) Global). place_view s.items) c.index-values-comm.result.items (get_or c.loop-number.places c.from-comm.result 0) c.index.result.now within c.index.ensures)
+    ∙ ap (λ (o : Option (List (List (List ℕ)))). unwrap_or o []) (slice_get-view (λ (s : Vec Values Global). place_view s.items) c.index-values-comm.result.items (get_or c.loop-number.places c.from-comm.result 0) c.index.result.now within c.index.ensures)
     ∙ ap place_view (sym c.deref.ensures.value) in
     subst (AllByRecursion (λ (rows : List (List ℕ)). p.member < length rows)) starts has.members
 
@@ -113,7 +114,7 @@ overflow_add-places c =
     let place_is : get_or c.loop-number.places c.from-comm.result 0 ≡ length (posted_on p.comm (take c.loop-number.number requests)) = ap (slice_index c.loop-number.places) c.from-comm.ensures ∙ c.loop-number.invariant.counted p.comm comm_known in
     let group : unwrap_or (slice_get (values_view c.args.values.now) p.comm) [] ≡ group_view c.index-values-comm.result.items =
     ap (λ k. unwrap_or (slice_get (values_view c.args.values.now) k) []) (sym c.from-comm.ensures)
-    ∙ ap (λ (o : Option (List (List (List (List ℕ))))). unwrap_or o []) (slice_get-view (λ (places : Vec (Vec (Vec (Vec ℕ Global) Global) Global) Global). group_view places.items) c.args.values.now c.from-comm.result c.index-values-comm.result comm_lt c.index-values-comm.is) in
+    ∙ ap (λ (o : Option (List (List (List (List ℕ))))). unwrap_or o []) (slice_get-view (λ (places : Vec (Vec Values Global) Global). group_view places.items) c.args.values.now c.from-comm.result c.index-values-comm.result comm_lt c.index-values-comm.is) in
     let place_lt : length (posted_on p.comm (take c.loop-number.number requests)) < length (group_view c.index-values-comm.result.items) = subst (λ (g : List (List (List (List ℕ)))). length (posted_on p.comm (take c.loop-number.number requests)) < length g) group has.below in
     let len_group : length (group_view c.index-values-comm.result.items) ≡ length c.index-values-comm.result.items = length-map c.index-values-comm.result.items _ in
     let most = length-take c.loop-number.number requests in
@@ -143,14 +144,14 @@ loop-number-preserved c =
     let place_is : get_or c.loop-number.places c.from-comm.result 0 ≡ length (posted_on p.comm (take c.loop-number.number requests)) = ap (slice_index c.loop-number.places) c.from-comm.ensures ∙ c.loop-number.invariant.counted p.comm comm_known in
     let group : unwrap_or (slice_get (values_view c.args.values.now) p.comm) [] ≡ group_view c.index-values-comm.result.items =
     ap (λ k. unwrap_or (slice_get (values_view c.args.values.now) k) []) (sym c.from-comm.ensures)
-    ∙ ap (λ (o : Option (List (List (List (List ℕ))))). unwrap_or o []) (slice_get-view (λ (places : Vec (Vec (Vec (Vec ℕ Global) Global) Global) Global). group_view places.items) c.args.values.now c.from-comm.result c.index-values-comm.result comm_lt c.index-values-comm.is) in
+    ∙ ap (λ (o : Option (List (List (List (List ℕ))))). unwrap_or o []) (slice_get-view (λ (places : Vec (Vec Values Global) Global). group_view places.items) c.args.values.now c.from-comm.result c.index-values-comm.result comm_lt c.index-values-comm.is) in
     let place_lt : length (posted_on p.comm (take c.loop-number.number requests)) < length (group_view c.index-values-comm.result.items) = subst (λ (g : List (List (List (List ℕ)))). length (posted_on p.comm (take c.loop-number.number requests)) < length g) group has.below in
     let len_group : length (group_view c.index-values-comm.result.items) ≡ length c.index-values-comm.result.items = length-map c.index-values-comm.result.items _ in
     let within : get_or c.loop-number.places c.from-comm.result 0 < length c.index-values-comm.result.items = omega (arith, place_is, place_lt, len_group) in
     let starts : values_at (values_view c.args.values.now) p.comm (length (posted_on p.comm (take c.loop-number.number requests))) ≡ place_view c.deref.result.now =
     ap (λ (g : List (List (List (List ℕ)))). unwrap_or (slice_get g (length (posted_on p.comm (take c.loop-number.number requests)))) []) group
     ∙ ap (λ k. unwrap_or (slice_get (group_view c.index-values-comm.result.items) k) []) (sym place_is)
-    ∙ ap (λ (o : Option (List (List (List ℕ)))). unwrap_or o []) (slice_get-view (λ (s : Vec (Vec (Vec ℕ Global) Global) Global). place_view s.items) c.index-values-comm.result.items (get_or c.loop-number.places c.from-comm.result 0) c.index.result.now within c.index.ensures)
+    ∙ ap (λ (o : Option (List (List (List ℕ)))). unwrap_or o []) (slice_get-view (λ (s : Vec Values Global). place_view s.items) c.index-values-comm.result.items (get_or c.loop-number.places c.from-comm.result 0) c.index.result.now within c.index.ensures)
     ∙ ap place_view (sym c.deref.ensures.value) in
     let front = drop-view request_view c.args.requests.now c.loop-number.number c.index-requests-number.result c.loop-number-test.true c.index-requests-number.is in
     let lt : c.loop-number.number < length requests = rw length-map c.loop-number-test.true in

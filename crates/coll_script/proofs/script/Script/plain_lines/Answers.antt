@@ -1,4 +1,4 @@
-use Rattle.std.proofs.Common.{◌≡◌, ◌≤◌, ◌++◌, ℕ, [], List, Vec, length, map, ap, subst, sym, ◌∙◌, arith}
+use Rattle.std.proofs.Common.{◌≡◌, ◌++◌, ℕ, [], List, Vec, length, map, ap, subst, sym, ◌∙◌, arith}
 use Rattle.std.specs.Global.{Global}
 use Rattle.std.proofs.lemmas.List.{length-map}
 use Rattle.coll_history.specs.declared.request.Request as rust
@@ -10,7 +10,7 @@ use Rattle.coll_script.specs.PostingViews.{all_lists_view}
 use Rattle.coll_script.specs.Jobs.{job_of, all_postings}
 use Rattle.coll_script.specs.Outcomes.{group_values, values_view}
 use Rattle.coll_script.specs.Prints.{printed_behind, HaveValues}
-use Rattle.coll_script.specs.Meaning.{rank_lines, job_lines}
+use Rattle.coll_script.specs.Meaning.{rank_lines}
 use Rattle.coll_script.specs.Scripts.{IsJob}
 use Rattle.coll_script.proofs.Ending.{requests_of-view, postings-view}
 use Rattle.coll_script.proofs.Printing.{ranks-more, ranks-done}

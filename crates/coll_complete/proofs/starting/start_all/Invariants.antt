@@ -1,0 +1,14 @@
+use Rattle.std.proofs.Common.{◌≡◌, take, vec_len}
+use Rattle.std.specs.List.{zip}
+use Rattle.coll_core.specs.Cores.{seen, setting}
+use Rattle.coll_complete.specs.Starting.{StartsAll, lists_of, unused}
+use Rattle.coll_complete.proofs.starting.start_all.Given as goal
+
+abbrev pub invariant-loop-at : goal.invariant-loop-at
+invariant-loop-at l = record {
+  set : setting l.core ≡ setting l.initial.core;
+  starts : StartsAll (setting l.initial.core) l.rank (seen l.initial.core)
+      (take l.at (zip l.requests (lists_of l.initial.given.items))) (seen l.core);
+  given : lists_of l.given.items ≡ unused l.at (lists_of l.initial.given.items);
+  long : vec_len l.given ≡ vec_len l.initial.given;
+}

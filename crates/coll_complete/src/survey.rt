@@ -1,0 +1,83 @@
+//! What a list of requests has.
+
+ghost use Rattle.std.specs.Prelude.{◌≡◌, ◌&&◌, ◌||◌, IfOk, None, Some, position, if◌then◌else◌};
+ghost use Rattle.std.specs.List.{list_all, list_any};
+ghost use Rattle.std.specs.Option.{option_or};
+ghost use Rattle.std.specs.Result.{result_err};
+ghost use Rattle.coll_core.specs.Cores.{seen, setting};
+ghost use Rattle.coll_complete.specs.Requests.{active_by, done_by, is_active, is_done, is_settled, list_refusal, phase_at, refusal_at, settled_by};
+
+use crate::request::Request;
+use coll_core::{Core, Phase};
+use coll_kinds::Refusal;
+
+/// What a list of requests has.
+#[derive(Clone, Copy)]
+pub(crate) struct Survey {
+    /// The lowest position of a Done request.
+    pub(crate) done: Option<usize>,
+    /// Whether a request is Pending or Done.
+    pub(crate) active: bool,
+    /// Whether no request is Pending.
+    pub(crate) settled: bool,
+}
+
+/// How far a request is; none where it is null.
+fn phase(core: &Core, rank: u8, request: &Request) -> Result<Option<Phase>, Refusal>
+    ensures refused { result_err result ≡ refusal_at (setting core.now) (seen core.now).state rank request.now }
+    ensures phase { IfOk result (λ phase. phase ≡ phase_at (seen core.now) request.now) }
+{
+    let Some(ticket) = request.ticket() else {
+        return Ok(None);
+    };
+    match core.phase(rank, ticket) {
+        Ok(phase) => Ok(Some(phase)),
+        Err(why) => Err(why),
+    }
+}
+
+impl Survey {
+    /// Looks at each request in rising position.
+    ///
+    /// # Errors
+    ///
+    /// Stale where a ticket names no live request, NotYours where it names another rank's: that of the first such one.
+    pub(crate) fn of(core: &Core, rank: u8, requests: &[Request]) -> Result<Survey, Refusal>
+        ensures refused { result_err result ≡ list_refusal (setting core.now) (seen core.now).state rank requests.now }
+        ensures done { IfOk result (λ survey. survey.done ≡ position (is_done (seen core.now)) requests.now) }
+        ensures active { IfOk result (λ survey. survey.active ≡ list_any (is_active (seen core.now)) requests.now) }
+        ensures settled { IfOk result (λ survey. survey.settled ≡ list_all (is_settled (seen core.now)) requests.now) }
+    {
+        let mut survey = Survey {
+            done: None,
+            active: false,
+            settled: true,
+        };
+        for (position, request) in requests.iter().enumerate() {
+            match phase(core, rank, request) {
+                Ok(phase) => survey.add(position, phase),
+                Err(why) => return Err(why),
+            }
+        }
+        Ok(survey)
+    }
+
+    /// Notes how far the request at the next position is.
+    fn add(&mut self, position: usize, phase: Option<Phase>)
+        ensures done { self.new.done ≡ option_or self.old.done (if done_by phase then Some position else None) }
+        ensures active { self.new.active ≡ (self.old.active || active_by phase) }
+        ensures settled { self.new.settled ≡ (self.old.settled && settled_by phase) }
+    {
+        match phase {
+            None | Some(Phase::Idle) => {}
+            Some(Phase::Pending) => {
+                self.active = true;
+                self.settled = false;
+            }
+            Some(Phase::Done) => {
+                self.done = self.done.or(Some(position));
+                self.active = true;
+            }
+        }
+    }
+}
