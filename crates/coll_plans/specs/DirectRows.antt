@@ -13,9 +13,9 @@ use Rattle.coll_plans.specs.Directs.{one_block, blocks_from, gather_by, scatter_
 root_gathers :
     exchange (ToRoot 1) (one_block 1) (blocks_from 1 1) 3 1
     ≡ Copy (record { at = 0; len = 1 }) (record { at = 2; len = 1 })
-      ∷ Recv 0 (record { at = 1; len = 1 })
-      ∷ Recv 2 (record { at = 3; len = 1 })
-      ∷ []
+    ∷ Recv 0 (record { at = 1; len = 1 })
+    ∷ Recv 2 (record { at = 3; len = 1 })
+    ∷ []
 root_gathers = refl
 
 -- the others send theirs

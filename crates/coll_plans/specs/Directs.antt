@@ -49,13 +49,13 @@ scatter_by root n b =
 abbrev pub allgather_by : ℕ → ℕ → Family
 allgather_by n b =
     family_with (λ r. b + n * b) (λ r. front b) (λ r. all_blocks b n b)
-      (exchange ToAll (one_block b) (blocks_from b b) n ∷ [])
+    (exchange ToAll (one_block b) (blocks_from b b) n ∷ [])
 
 -- each sends each its block, and has the n blocks that it gets behind the n that it gives
 abbrev pub alltoall_by : ℕ → ℕ → Family
 alltoall_by n b =
     family_with (λ r. n * b + n * b) (λ r. all_blocks 0 n b) (λ r. all_blocks (n * b) n b)
-      (exchange ToAll (blocks_from 0 b) (blocks_from (n * b) b) n ∷ [])
+    (exchange ToAll (blocks_from 0 b) (blocks_from (n * b) b) n ∷ [])
 
 -- every member combines block k with what the block behind it has become
 abbrev pub combine_at : Op → Datatype → Blocks → ℕ → Column

@@ -31,15 +31,15 @@ is_passing n s j v = nat_lt (v + 1) n && (nat_le v j && nat_lt j (v + s))
 abbrev pub receipt_of : ℕ → ℕ → ℕ → ℕ → ℕ → List Action
 receipt_of b n root j v =
     cond (nat_lt 0 v && is_passing n (segment_count b) j (v - 1))
-      (Recv (member_at n root (v - 1)) (segment b (j - (v - 1))) ∷ [])
-      []
+    (Recv (member_at n root (v - 1)) (segment b (j - (v - 1))) ∷ [])
+    []
 
 -- the round of the member with number v
 abbrev pub relay_of : ℕ → ℕ → ℕ → ℕ → ℕ → List Action
 relay_of b n root j v =
     cond (is_passing n (segment_count b) j v)
-      (Send (member_at n root (v + 1)) (segment b (j - v)) ∷ receipt_of b n root j v)
-      (receipt_of b n root j v)
+    (Send (member_at n root (v + 1)) (segment b (j - v)) ∷ receipt_of b n root j v)
+    (receipt_of b n root j v)
 
 abbrev pub relay : ℕ → ℕ → ℕ → ℕ → Column
 relay b n root j r = relay_of b n root j (from_root n root r)
@@ -56,7 +56,7 @@ relay_count n b = n - 2 + segment_count b
 abbrev pub chain_family : Signature → ℕ → Family
 chain_family sig n =
     family_of (block_len sig) (λ r. cond (r == sig.root) (front (block_len sig)) nothing) (λ r. front (block_len sig))
-      (relaying (block_len sig) n sig.root 0 (relay_count n (block_len sig)))
+    (relaying (block_len sig) n sig.root 0 (relay_count n (block_len sig)))
 
 -- a bcast goes along the chain from so many bytes on
 abbrev pub long_len : ℕ

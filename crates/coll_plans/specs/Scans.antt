@@ -56,7 +56,7 @@ scan_by op ty n b = family_of (b + b) (λ r. front b) (λ r. front b) (doubling 
 abbrev pub exscan_by : Op → Datatype → ℕ → ℕ → Family
 exscan_by op ty n b =
     family_of (b + b + b) (λ r. front b) (λ r. cond (r == 0) nothing (third b))
-      (doubling b n (join_both op ty b) 0 (depth n))
+    (doubling b n (join_both op ty b) 0 (depth n))
 
 abbrev pub scan_family : Signature → ℕ → Family
 scan_family sig n = scan_by (unwrap_or sig.op Sum) sig.ty n (block_len sig)

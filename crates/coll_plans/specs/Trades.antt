@@ -42,8 +42,8 @@ trades b p Alone = swap b p
 abbrev pub joined : Op → Datatype → ℕ → ℕ → ℕ → List Action
 joined op ty b q s =
     cond (nat_lt (q % (s + s)) s)
-      (Combine op ty (front b) (behind b) (front b) ∷ [])
-      (Combine op ty (behind b) (front b) (front b) ∷ [])
+    (Combine op ty (front b) (behind b) (front b) ∷ [])
+    (Combine op ty (behind b) (front b) (front b) ∷ [])
 
 abbrev pub joins_by : Op → Datatype → ℕ → ℕ → ℕ → Pairing → List Action
 joins_by op ty b q s Lower = joined op ty b q s
@@ -84,7 +84,7 @@ exchanging op ty b e d = give b e ∷ pair_up op ty b e ∷ (trading op ty b e 0
 abbrev pub allreduce_family : Signature → ℕ → Family
 allreduce_family sig n =
     family_of (block_len sig + block_len sig) (λ r. front (block_len sig)) (λ r. front (block_len sig))
-      (exchanging (unwrap_or sig.op Sum) sig.ty (block_len sig) (extra n) (dimension n))
+    (exchanging (unwrap_or sig.op Sum) sig.ty (block_len sig) (extra n) (dimension n))
 
 -- the most exchanges: a trade for each dimension, and two more where some corner stands for two members
 abbrev pub most_trades : ℕ → ℕ

@@ -20,9 +20,9 @@ unless fits why = if fits then None else Some why
 abbrev pub member_refusal : Postings → ℕ → ℕ → Option Refusal
 member_refusal q comm rank =
     first_of (
-      unless (nat_lt comm (length (groups_of q))) (BadComm comm)
-      ∷ unless (is_some (member_of q comm rank)) (NotMember rank)
-      ∷ [])
+    unless (nat_lt comm (length (groups_of q))) (BadComm comm)
+    ∷ unless (is_some (member_of q comm rank)) (NotMember rank)
+    ∷ [])
 
 -- another signature stands at the place: whose is the first, and what it is
 abbrev pub mismatch_with : List ℕ → ℕ → Signature → Option (ℕ × Signature) → Option Refusal

@@ -50,7 +50,7 @@ abbrev pub lock_step : Family → (ℕ → List ℕ) → ℕ → ℕ → List �
 lock_step f given zero r = laid_in (f r) (given r)
 lock_step f given (suc j) r =
     wrote_all (λ p. sent r (actions_at f j p) (lock_step f given j p)) (lock_step f given j r) (actions_at f j r)
-      (lock_step f given j r)
+    (lock_step f given j r)
 
 -- the messages to member r in round j
 abbrev pub messages : Family → (ℕ → List ℕ) → ℕ → ℕ → ℕ → List ℕ

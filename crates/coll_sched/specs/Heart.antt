@@ -16,12 +16,12 @@ pub record Holds (n : ℕ) (f : Family) (w : World) : Type 0 where
       → w.progress r ≡ Some p
       → p.round ≡ length (f r).rounds
       → (read_of p.buf (f r).output ≡ result_at f (filled f w.given) r)
-          × ((s : ℕ) → Heard f (length (f r).rounds) r s → w.given s ≢ None)
+      × ((s : ℕ) → Heard f (length (f r).rounds) r s → w.given s ≢ None)
   -- the operands of a Combine about to be done are those of lock-step
   pub operands : (r : ℕ) (p : Progress) (op : Op) (ty : Datatype) (a b into : Region)
       → IsNext f w r p (Combine op ty a b into)
       → (read_of p.buf a ≡ read_of (lock_step f (filled f w.given) p.round r) a)
-          × (read_of p.buf b ≡ read_of (lock_step f (filled f w.given) p.round r) b)
+      × (read_of p.buf b ≡ read_of (lock_step f (filled f w.given) p.round r) b)
   -- what a step asks for: the buffer has its size, a message has the length of its region,
   -- and a Send finds no message under its key
   pub sizes : (r : ℕ) (p : Progress) → w.progress r ≡ Some p → length p.buf ≡ (f r).size
@@ -44,9 +44,9 @@ IsQuiet f w =
     (r : ℕ) (p : Progress)
     → w.progress r ≡ Some p
     → (p.round ≡ length (f r).rounds)
-      ⊎ ((of : ℕ) × (into : Region)
-        × (slice_get (actions_at f p.round r) p.index ≡ Some (Recv of into))
-        × (w.mail of r p.round ≡ None))
+    ⊎ ((of : ℕ) × (into : Region)
+    × (slice_get (actions_at f p.round r) p.index ≡ Some (Recv of into))
+    × (w.mail of r p.round ≡ None))
 
 -- once all have joined, quiet means finished
 abbrev pub Finishes : Type 0

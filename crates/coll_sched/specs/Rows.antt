@@ -21,7 +21,9 @@ read_in_place = refl
 abbrev swapping : Family
 swapping r =
     record {
-      size = 2; input = byte_at 0; output = byte_at 1;
+      size = 2;
+      input = byte_at 0;
+      output = byte_at 1;
       rounds = (Send (cond (r == 0) 1 0) (byte_at 0) ∷ Recv (cond (r == 0) 1 0) (byte_at 1) ∷ []) ∷ [];
     }
 
@@ -38,7 +40,9 @@ swapped_at_second = refl
 abbrev shifting : Family
 shifting r =
     record {
-      size = 2; input = byte_at 0; output = byte_at 0;
+      size = 2;
+      input = byte_at 0;
+      output = byte_at 0;
       rounds = (Send 0 (byte_at 0) ∷ Copy (byte_at 0) (byte_at 1) ∷ []) ∷ (Copy (byte_at 1) (byte_at 0) ∷ []) ∷ [];
     }
 

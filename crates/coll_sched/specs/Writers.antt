@@ -26,6 +26,6 @@ RestsOnWriters =
     (n : ℕ) (f : Family) → IsLawful n f → (given : ℕ → List ℕ) → ((r : ℕ) → r < n → length (given r) ≡ (f r).input.len)
     → (j r : ℕ) → r < n → (g : Region) → Inside (f r).size g
     → read_of (lock_step f given (suc j) r) g
-      ≡ read_of
-          (wrote_all (messages f given j r) (lock_step f given j r) (writers g (actions_at f j r)) (lock_step f given j r))
-          g
+    ≡ read_of
+    (wrote_all (messages f given j r) (lock_step f given j r) (writers g (actions_at f j r)) (lock_step f given j r))
+    g
