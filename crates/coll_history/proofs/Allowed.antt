@@ -1,15 +1,13 @@
 -- What a line that is accepted says could be said after the lines before it.
-use Rattle.std.proofs.Common.{◌≡◌, ℕ, zero, suc, ◌+◌, ◌*◌, ◌/◌, ◌<◌, Bool, true, false, cond, ltb, eqb, List, [], ◌∷◌, ◌++◌, length, map, Option, Some, None, Result, Ok, Err, refl, sym, ap, subst, ◌∙◌, arith}
-use Rattle.std.specs.Prelude.{ℤ, pos, is_some, is_none, flat_map, unwrap_or, slice_get, ok_or, codes, IfSome}
+use Rattle.std.proofs.Common.{◌≡◌, ℕ, zero, suc, ◌+◌, ◌*◌, ◌/◌, ◌<◌, Bool, true, false, cond, ltb, eqb, List, [], ◌∷◌, ◌++◌, length, Option, Some, None, Result, Ok, Err, refl, sym, ap, subst, ◌∙◌, arith}
+use Rattle.std.specs.Prelude.{ℤ, pos, is_some, is_none, flat_map, unwrap_or, slice_get, ok_or, IfSome}
 use Rattle.std.specs.List.{AllByRecursion, list_all, range_with_len}
-use Rattle.std.specs.Str.{bytes_eq}
 use Rattle.std.proofs.lemmas.Bool.{eqb-true, ltb-true}
 use Rattle.std.proofs.lemmas.List.{length-append}
 use Rattle.std.proofs.lemmas.List.Concat.{flat_map-cons}
 use Rattle.std.proofs.lemmas.Option.{slice_get_within, get_or_from_slice_get}
 use Rattle.coll_kinds.specs.declared.datatype.Datatype.{Datatype}
 use Rattle.coll_kinds.specs.declared.datatype.Datatype.TheVariants.{I8, I16, I32, I64, U8, U16, U32, U64, Byte}
-use Rattle.coll_kinds.specs.declared.kind.Kind.{Kind}
 use Rattle.coll_kinds.specs.declared.kind.Mode.{Mode}
 use Rattle.coll_kinds.specs.declared.kind.Mode.TheVariants.{Once, Persistent}
 use Rattle.coll_kinds.specs.declared.signature.Signature.{Signature}
@@ -24,10 +22,10 @@ use Rattle.coll_history.specs.declared.command.Command.{Command}
 use Rattle.coll_history.specs.declared.command.Command.TheVariants.{Post, Init, Start, Wait, Test, Free, WaitAny, WaitSome, WaitAll}
 use Rattle.coll_history.specs.declared.verb.Verb.{Verb}
 use Rattle.coll_history.specs.declared.verb.Verb.TheVariants as verb
-use Rattle.coll_history.specs.Reading.{Reading, and_then, ◌>>=◌, give, known, must, end, numbers_from, numbers}
+use Rattle.coll_history.specs.Reading.{Reading, and_then, ◌>>=◌, give, known, must, end, numbers_from}
 use Rattle.coll_history.specs.Histories.{History, Posting, posting, group_of, said_by, is_startable, total}
 use Rattle.coll_history.specs.Lines.{next, request_in, communicator, fields, signature, due, colon, values, room, post, init, made, startable, start, free, one, some, all, wait, test, waitany, waitsome, waitall}
-use Rattle.coll_history.specs.Sound.{IsPosting, IsStart, MaySay}
+use Rattle.coll_history.specs.Sound.{IsPosting, MaySay}
 use Rattle.coll_history.specs.Code.{read_by}
 use Rattle.coll_history.proofs.Gifts.{given_len-whole}
 

@@ -18,3 +18,4 @@ pub mod JudgedLines
 mod Requested
 mod Soundly
 mod Commanded
+pub mod Growing

@@ -1,5 +1,5 @@
 -- The words that name requests, one after another.
-use Rattle.std.proofs.Common.{◌≡◌, ℕ, ◌+◌, ◌<◌, ◌≤◌, false, true, ◌||◌, eqb, List, [], ◌∷◌, ◌++◌, length, get_or, set, map, drop, Result, Ok, Err, Bor, refl, ap, sym, ◌∙◌, arith, inl, inr, add-one}
+use Rattle.std.proofs.Common.{◌≡◌, ℕ, ◌+◌, ◌<◌, ◌≤◌, false, true, ◌||◌, eqb, List, [], ◌∷◌, ◌++◌, length, get_or, set, drop, Result, Ok, Err, Bor, refl, ap, sym, ◌∙◌, arith, inl, inr, add-one}
 use Rattle.std.proofs.Math.Seq.{drop-cons}
 use Rattle.std.proofs.Math.Bool.{or-false}
 use Rattle.std.proofs.lemmas.Bool.{cases_eq, eq-eqb, ne_eqb, or_right}

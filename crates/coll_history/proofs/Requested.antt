@@ -1,12 +1,12 @@
 -- The requests of a rank behind one more line, and what holds of them.
-use Rattle.std.proofs.Common.{◌≡◌, ◌≢◌, ℕ, zero, suc, ◌+◌, ◌<◌, ◌≤◌, eqb, List, [], ◌∷◌, ◌++◌, length, map, get_or, set, refl, sym, ap, ◌∙◌, arith, Option, Some, None}
+use Rattle.std.proofs.Common.{◌≡◌, ◌≢◌, ℕ, zero, suc, ◌<◌, eqb, List, [], ◌∷◌, ◌++◌, length, map, get_or, set, refl, sym, ap, ◌∙◌, arith}
 use Rattle.std.specs.Prelude.{filter, fold}
 use Rattle.std.proofs.lemmas.Bool.{eq-eqb, ne_eqb}
 use Rattle.std.proofs.lemmas.List.{append-nil}
 use Rattle.std.proofs.lemmas.List.Sums.{fold-append}
 use Rattle.std.proofs.lemmas.List.Elements.{filter-append}
 use Rattle.coll_history.specs.declared.command.Told.{Told}
-use Rattle.coll_history.specs.Requests.{Request, changed_at, requests_after, requests_of}
+use Rattle.coll_history.specs.Requests.{changed_at, requests_after, requests_of}
 
 pub requests-own : (groups : List (List ℕ)) (told : List Told) (t : Told) → requests_of groups t.rank (told ++ t ∷ []) ≡ requests_after groups t.line t.rank t.command (requests_of groups t.rank told)
 requests-own groups told t =

@@ -1,5 +1,5 @@
 -- What holds of the requests of a history that was read.
-use Rattle.std.proofs.Common.{◌≡◌, ◌≢◌, ℕ, zero, suc, ◌+◌, ◌<◌, ◌≤◌, List, [], ◌∷◌, ◌++◌, length, map, get_or, take, drop, Vec, refl, sym, ap, subst, ◌∙◌, arith, append_assoc, Option, Some, None, inl, inr}
+use Rattle.std.proofs.Common.{◌≡◌, ℕ, zero, suc, ◌+◌, ◌<◌, ◌≤◌, List, [], ◌∷◌, ◌++◌, length, map, get_or, take, drop, Vec, refl, sym, ap, subst, ◌∙◌, arith, append_assoc, Option, Some, None, inl, inr}
 use Rattle.std.specs.Prelude.{slice_get, unwrap_or, IfSome}
 use Rattle.std.specs.Global.{Global}
 use Rattle.std.specs.Option.{option_map}
@@ -9,7 +9,6 @@ use Rattle.std.proofs.lemmas.List.{append-nil, length-append, length-map, map-ap
 use Rattle.std.proofs.lemmas.List.Elements.{filter_map-append}
 use Rattle.std.proofs.lemmas.Option.{get_or_from_slice_get, slice_get-map, slice_get_within, same_Some}
 use Rattle.coll_kinds.specs.declared.signature.Signature.{Signature}
-use Rattle.coll_kinds.specs.Checks.{broken}
 use Rattle.coll_kinds.specs.Lengths.{given_len}
 use Rattle.coll_kinds.specs.Groups.{member_of}
 use Rattle.coll_history.specs.declared.command.Command.{Command}
@@ -19,10 +18,10 @@ use Rattle.coll_history.specs.Histories.{History, Posting, posting, postings, sa
 use Rattle.coll_history.specs.Requests.{Request, request, started, changed_at, requests_after, requests_of}
 use Rattle.coll_history.specs.declared.request.Request as rust_request
 use Rattle.coll_history.specs.Code.{request_view, requests_view, IsNamed}
-use Rattle.coll_history.specs.Sound.{IsPosting, IsStart, MaySay, AreSaid, IsHistory, IsRequest, IsSound}
+use Rattle.coll_history.specs.Sound.{IsPosting, MaySay, AreSaid, IsHistory, IsRequest, IsSound}
 use Rattle.coll_history.proofs.Lists.{AllByRecursion-push, AllByRecursion-weaker, drop-more, take-more}
 use Rattle.coll_history.proofs.Keeping.{said-own, said-other, IfSome-weaker}
-use Rattle.coll_history.proofs.Readers.{count, count-le}
+use Rattle.coll_history.proofs.Readers.{count-le}
 use Rattle.coll_history.proofs.Requested.{requests-own, requests-other}
 
 abbrev posting_of : Request → Posting

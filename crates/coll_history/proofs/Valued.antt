@@ -3,9 +3,8 @@ use Rattle.std.proofs.Common.{◌≡◌, ℕ, ◌+◌, ◌<◌, ◌≤◌, Bool,
 use Rattle.std.specs.Prelude.{pos, flat_map, is_some, unwrap_or}
 use Rattle.std.specs.List.{list_all}
 use Rattle.std.specs.Option.{option_map}
-use Rattle.std.proofs.lemmas.List.{take_at, append-nil, length-map}
+use Rattle.std.proofs.lemmas.List.{take_at, append-nil}
 use Rattle.coll_kinds.specs.declared.datatype.Datatype.{Datatype}
-use Rattle.coll_kinds.specs.declared.datatype.Datatype.TheVariants.{I8, I16, I32, I64, U8, U16, U32, U64, Byte}
 use Rattle.coll_kinds.specs.Elements.{element_bytes, width}
 use Rattle.coll_kinds.specs.Texts.{value_of, padded_bytes}
 use Rattle.coll_history.specs.declared.cause.Cause.{Cause}

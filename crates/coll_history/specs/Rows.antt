@@ -1,7 +1,5 @@
 -- Worked rows, computed.
-use Rattle.std.specs.Prelude.{◌≡◌, ℕ, List, [], ◌∷◌, ◌++◌, Option, Some, None, Result, Ok, Err, codes, map, flat_map, refl}
-use Rattle.std.specs.Fmt.{digits}
-use Rattle.std.specs.Int.{int_wrap}
+use Rattle.std.specs.Prelude.{◌≡◌, ℕ, List, [], ◌∷◌, Option, Some, None, Result, Ok, Err, codes, map, refl}
 use Rattle.coll_kinds.specs.declared.datatype.Datatype.TheVariants.{I8}
 use Rattle.coll_kinds.specs.declared.operation.Op.TheVariants.{Sum}
 use Rattle.coll_kinds.specs.declared.kind.Kind.TheVariants.{Allreduce}

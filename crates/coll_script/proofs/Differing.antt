@@ -14,7 +14,7 @@ use Rattle.coll_script.proofs.Earliest.{earliest-is, earliest-le, earliest-some}
 
 -- ---- numbers of a list
 
-abbrev Among : ℕ → List ℕ → Type 0
+abbrev pub Among : ℕ → List ℕ → Type 0
 Among x [] = ⊥
 Among x (y ∷ ys) = (x ≡ y) ⊎ Among x ys
 
@@ -122,7 +122,7 @@ differing_from-in firsts place (q ∷ list) (suc k) p is fails =
 -- ---- the first line that differs
 
 -- a request that doesn't agree with the earliest is among those that differ
-among-all : (all : List (List (List Request))) (comm : ℕ) (lists : List (List Request)) (place : ℕ) (p : Request) → slice_get all comm ≡ Some lists → StandsAt lists place p → agrees (earliest None place lists) p.sig ≡ false
+pub among-all : (all : List (List (List Request))) (comm : ℕ) (lists : List (List Request)) (place : ℕ) (p : Request) → slice_get all comm ≡ Some lists → StandsAt lists place p → agrees (earliest None place lists) p.sig ≡ false
     → Among p.line (flat_map differing all)
 among-all all comm lists place p is stands fails =
     let at : 0 + place ≡ place = omega arith in
@@ -153,7 +153,7 @@ differs-from all comm lists place p is stands fails =
     ]
 
 -- of two with different signatures at one place, one doesn't agree
-one-differs : (o : Option First) (p q : Request) → (p.sig ≡ q.sig → ⊥) → (agrees o p.sig ≡ false) ⊎ (agrees o q.sig ≡ false)
+pub one-differs : (o : Option First) (p q : Request) → (p.sig ≡ q.sig → ⊥) → (agrees o p.sig ≡ false) ⊎ (agrees o q.sig ≡ false)
 one-differs o p q ne = turn (agrees o p.sig) (agrees o q.sig) refl refl
   where
     turn : (a b : Bool) → agrees o p.sig ≡ a → agrees o q.sig ≡ b → (agrees o p.sig ≡ false) ⊎ (agrees o q.sig ≡ false)

@@ -27,16 +27,16 @@ use Rattle.coll_script.proofs.Matches.{AreFitting-answered, AreMatched-all}
 pub length-requests : (h : History) → length (requests h) ≡ unwrap_or h.ranks 0
 length-requests h = length-map-range_with_len (λ rank. history.requests_of h.groups rank h.told) 0 (unwrap_or h.ranks 0)
 
-requests_of-history : (h : History) (rank : ℕ) → rank < unwrap_or h.ranks 0 → requests_of (requests h) rank ≡ history.requests_of h.groups rank h.told
+pub requests_of-history : (h : History) (rank : ℕ) → rank < unwrap_or h.ranks 0 → requests_of (requests h) rank ≡ history.requests_of h.groups rank h.told
 requests_of-history h rank lt =
     unwrap_or-slice_get (requests h) rank [] ∙ get_or-map-range_with_len (λ k. history.requests_of h.groups k h.told) 0 (unwrap_or h.ranks 0) rank rank [] lt (omega arith)
 
-requests_of-past : (h : History) (rank : ℕ) → unwrap_or h.ranks 0 ≤ rank → requests_of (requests h) rank ≡ []
+pub requests_of-past : (h : History) (rank : ℕ) → unwrap_or h.ranks 0 ≤ rank → requests_of (requests h) rank ≡ []
 requests_of-past h rank le =
     let len = length-requests h in
     ap (λ (o : Option (List Request)). unwrap_or o []) (slice_get_past (requests h) rank (omega (arith, len, le)))
 
-each_of : (P : List Request → Type 0) (h : History) (rank : ℕ) → P (history.requests_of h.groups rank h.told) → P [] → P (requests_of (requests h) rank)
+pub each_of : (P : List Request → Type 0) (h : History) (rank : ℕ) → P (history.requests_of h.groups rank h.told) → P [] → P (requests_of (requests h) rank)
 each_of P h rank here none = elim (cases_lt rank (unwrap_or h.ranks 0)) [
   | inl lt ↦ subst P (sym (requests_of-history h rank lt)) here
   | inr le ↦ subst P (sym (requests_of-past h rank le)) none

@@ -11,3 +11,4 @@ mod Ending
 mod Valued
 mod Printing
 mod Printed
+mod Final

@@ -75,7 +75,7 @@ position-at rank group m e =
 
 -- ---- the values at a place
 
-postings_from-get : (requests : List (List Request)) (comm : ℕ) (groups : List (List ℕ)) (k : ℕ) → slice_get (postings_from requests comm groups) k ≡ option_map (postings requests (comm + k)) (slice_get groups k)
+pub postings_from-get : (requests : List (List Request)) (comm : ℕ) (groups : List (List ℕ)) (k : ℕ) → slice_get (postings_from requests comm groups) k ≡ option_map (postings requests (comm + k)) (slice_get groups k)
 postings_from-get requests comm [] k = refl
 postings_from-get requests comm (group ∷ groups) zero = let at : comm ≡ comm + 0 = omega arith in ap (λ c. Some (postings requests c group)) at
 postings_from-get requests comm (group ∷ groups) (suc k) = let at : comm + 1 + k ≡ comm + suc k = omega arith in postings_from-get requests (comm + 1) groups k ∙ ap (λ c. option_map (postings requests c) (slice_get groups k)) at

@@ -1,4 +1,4 @@
-use Rattle.std.proofs.Common.{◌≡◌, length, arith, sym}
+use Rattle.std.proofs.Common.{◌≡◌, length, arith}
 use Rattle.coll_history.specs.Code.{history_of}
 use Rattle.coll_history.specs.Lines.{made}
 use Rattle.coll_history.proofs.Readers.{section-kept, length-entries}

@@ -1,8 +1,6 @@
-use Rattle.std.proofs.Common.{◌≡◌, List, ℕ, Ok, length, ap, refl, sym, ◌∙◌}
+use Rattle.std.proofs.Common.{List, ℕ, Ok, length, ap, refl, sym, ◌∙◌}
 use Rattle.coll_history.specs.declared.command.Command.TheVariants.{Post}
-use Rattle.coll_history.specs.Histories.{group_of}
-use Rattle.coll_history.specs.Lines.{communicator, due}
-use Rattle.coll_history.specs.Code.{history_of, rows_view}
+use Rattle.coll_history.specs.Code.{history_of}
 use Rattle.coll_history.proofs.Allowed.{post-reads}
 use Rattle.coll_history.proofs.commands.post.Goals as goal
 

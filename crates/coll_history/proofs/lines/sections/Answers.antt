@@ -1,4 +1,4 @@
-use Rattle.std.proofs.Common.{◌≡◌, ◌+◌, ap, ◌∙◌, refl, arith, length}
+use Rattle.std.proofs.Common.{◌+◌, ap, ◌∙◌, refl}
 use Rattle.std.proofs.lemmas.List.{length-append}
 use Rattle.coll_history.proofs.Lists.{AllByRecursion-push}
 use Rattle.coll_history.proofs.Keeping.{IsKept-none}

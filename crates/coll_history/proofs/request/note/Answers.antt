@@ -1,4 +1,4 @@
-use Rattle.std.proofs.Common.{◌≡◌, ◌<◌, List, ℕ, length, ap, ◌∙◌}
+use Rattle.std.proofs.Common.{List, ℕ, ap, ◌∙◌}
 use Rattle.coll_history.specs.Requests.{started}
 use Rattle.coll_history.specs.Code.{request_view}
 use Rattle.coll_history.proofs.Requested.{map-changed_at}

@@ -1,4 +1,4 @@
-use Rattle.std.proofs.Common.{◌≡◌, ℕ, List, Bor, None, refl, rules, arith}
+use Rattle.std.proofs.Common.{ℕ, List, Bor, rules, arith}
 use Rattle.std.proofs.lemmas.List.{length-map}
 use Rattle.coll_history.specs.Code.{texts}
 use Rattle.coll_history.proofs.Valued.{is_value, with_front-more, with_front-stops, with_front-none, with_front-all}

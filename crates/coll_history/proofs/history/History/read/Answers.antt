@@ -1,9 +1,8 @@
-use Rattle.std.proofs.Common.{◌≡◌, ℕ, ◌+◌, ◌<◌, ◌≤◌, List, [], length, drop, Bor, refl, ap, subst, sym, ◌∙◌, arith}
+use Rattle.std.proofs.Common.{◌≡◌, ℕ, ◌+◌, ◌<◌, ◌≤◌, List, length, Bor, ap, ◌∙◌, arith}
 use Rattle.coll_history.specs.Cutting.{lines_of}
-use Rattle.coll_history.specs.Histories.{History, beginning}
+use Rattle.coll_history.specs.Histories.{History}
 use Rattle.coll_history.specs.Judging.{judged}
 use Rattle.coll_history.specs.Code.{texts, history_of}
-use Rattle.coll_history.proofs.Lists.{drop-past}
 use Rattle.coll_history.proofs.Sounds.{IsHistory-later}
 use Rattle.coll_history.proofs.JudgedLines.{length-texts, get_or-texts, judged-more, judged-stops, length-lines_of}
 use Rattle.coll_history.proofs.history.History.read.Goals as goal

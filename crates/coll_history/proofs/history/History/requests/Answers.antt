@@ -1,4 +1,4 @@
-use Rattle.std.proofs.Common.{◌≡◌, ℕ, zero, suc, ◌+◌, ◌<◌, ◌≤◌, List, [], ◌∷◌, ◌++◌, length, map, get_or, set, take, drop, Vec, Some, refl, sym, ap, subst, ◌∙◌, arith}
+use Rattle.std.proofs.Common.{◌≡◌, ℕ, zero, suc, ◌+◌, ◌<◌, List, [], ◌∷◌, ◌++◌, length, map, get_or, take, refl, sym, ap, subst, ◌∙◌, arith}
 use Rattle.std.specs.Prelude.{IfSome, slice_get, unwrap_or}
 use Rattle.std.specs.List.{AllByRecursion, range_with_len}
 use Rattle.std.proofs.lemmas.List.{length-set, length-map}
@@ -8,7 +8,7 @@ use Rattle.coll_history.specs.Histories.{History}
 use Rattle.coll_history.specs.Requests.{Request, requests_after, requests_of}
 use Rattle.coll_history.specs.Sound.{IsHistory}
 use Rattle.coll_history.specs.Code.{rows_view, request_view, requests_view}
-use Rattle.coll_history.proofs.Lists.{AllByRecursion-some, take-all}
+use Rattle.coll_history.proofs.Lists.{take-all}
 use Rattle.coll_history.proofs.Keeping.{each-set}
 use Rattle.coll_history.proofs.Sounds.{few-members}
 use Rattle.coll_history.proofs.Requested.{requests-own, requests-other}

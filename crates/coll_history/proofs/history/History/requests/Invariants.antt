@@ -2,7 +2,7 @@ use Rattle.std.proofs.Common.{◌≡◌, ℕ, length, take, drop, map}
 use Rattle.std.specs.Prelude.{IfSome, slice_get, unwrap_or}
 use Rattle.coll_history.specs.Requests.{requests_of}
 use Rattle.coll_history.specs.Sound.{AreSaid}
-use Rattle.coll_history.specs.Code.{rows_view, request_view}
+use Rattle.coll_history.specs.Code.{request_view}
 use Rattle.coll_history.proofs.Soundly.{AreAll}
 use Rattle.coll_history.proofs.history.History.requests.Given as goal
 

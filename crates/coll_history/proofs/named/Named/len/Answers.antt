@@ -1,7 +1,6 @@
-use Rattle.std.proofs.Common.{◌≡◌, ap, length, List, ℕ, sym, ◌∙◌}
+use Rattle.std.proofs.Common.{◌≡◌, ap, sym, ◌∙◌}
 use Rattle.std.specs.List.{range_with_len}
 use Rattle.std.proofs.lemmas.List.FromFn.{length-range_with_len}
-use Rattle.coll_history.specs.declared.named.Which.{Which}
 use Rattle.coll_history.specs.Naming.{numbers}
 use Rattle.coll_history.proofs.named.Named.len.Goals as goal
 

@@ -1,5 +1,5 @@
-use Rattle.std.proofs.Common.{◌≡◌, ◌+◌, Some, [], ◌∷◌, ◌++◌, List, ℕ, refl, ap, ◌∙◌, arith}
-use Rattle.coll_history.specs.Code.{rows_view, begun}
+use Rattle.std.proofs.Common.{◌+◌, Some, [], ◌∷◌, ◌++◌, List, ℕ, refl, ap, ◌∙◌}
+use Rattle.coll_history.specs.Code.{rows_view}
 use Rattle.coll_history.proofs.Readers.{IsReader-begun, IsStamped-begun}
 use Rattle.coll_history.proofs.reader.Reader.begin.Goals as goal
 

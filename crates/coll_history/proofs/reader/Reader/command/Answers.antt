@@ -1,4 +1,4 @@
-use Rattle.std.proofs.Common.{◌≡◌, subst, sym, ap}
+use Rattle.std.proofs.Common.{subst, sym}
 use Rattle.coll_history.specs.Histories.{History}
 use Rattle.coll_history.specs.Code.{history_of}
 use Rattle.coll_history.proofs.Allowed.{Allows, read-allowed}

@@ -1,5 +1,4 @@
 use Rattle.std.proofs.Common.{◌+◌, refl, ap}
-use Rattle.coll_history.specs.declared.command.Told.{Told}
 use Rattle.coll_history.proofs.Readers.{IsReader-told, IsStamped-told}
 use Rattle.coll_history.proofs.reader.Reader.tell.Goals as goal
 

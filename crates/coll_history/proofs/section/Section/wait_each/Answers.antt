@@ -1,6 +1,4 @@
-use Rattle.std.proofs.Common.{◌≡◌, ◌<◌, ◌+◌, List, [], ◌∷◌, ◌++◌, ℕ, length, get_or, take, refl, ap, sym, ◌∙◌, subst, arith}
-use Rattle.std.proofs.Math.Seq.{take-length}
-use Rattle.std.proofs.lemmas.List.{length-take-le}
+use Rattle.std.proofs.Common.{◌≡◌, ◌<◌, ◌+◌, List, [], ◌∷◌, ◌++◌, ℕ, length, take, ap, subst, arith}
 use Rattle.coll_history.proofs.Lists.{AllByRecursion-read, take-more, take-all}
 use Rattle.coll_history.specs.declared.section.Entry.{Entry}
 use Rattle.coll_history.proofs.Keeping.{AreWaited, wait_each-kept}
