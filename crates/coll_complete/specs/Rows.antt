@@ -1,7 +1,7 @@
 -- Worked rows, computed. Rank 0 has an Idle request in slot 0, Pending ones in slots 1 and 5, and Done ones in slots 2 and
 -- 3; those in slots 0 and 3 are persistent. The request in slot 4 is rank 1's.
 use Rattle.std.specs.Prelude.{◌≡◌, ◌==◌, ◌||◌, Bool, true, false, ℕ, List, [], ◌∷◌, map, position, slice_index_or, Option, Some, None, refl}
-use Rattle.std.specs.List.{list_all, list_any}
+use Rattle.std.specs.List.{list_any}
 use Rattle.coll_kinds.specs.declared.kind.Mode.{Mode}
 use Rattle.coll_kinds.specs.declared.kind.Mode.TheVariants.{Once, Persistent}
 use Rattle.coll_kinds.specs.declared.refusal.Refusal.TheVariants.{Active, NotPersistent, NotYours, Stale}
@@ -10,7 +10,7 @@ use Rattle.coll_machine.specs.Settings.{Setting}
 use Rattle.coll_machine.specs.States.{Machine, Request}
 use Rattle.coll_complete.specs.Anys.{left_at}
 use Rattle.coll_complete.specs.Completing.{done_positions}
-use Rattle.coll_complete.specs.Requests.{free_refusal, is_active, is_done, is_settled, left_of, list_refusal}
+use Rattle.coll_complete.specs.Requests.{free_refusal, is_active, is_done, is_pending, left_of, list_refusal}
 use Rattle.coll_complete.specs.Starting.{unused}
 
 abbrev two_ranks : Setting
@@ -64,8 +64,8 @@ left_by_one = refl
 
 -- one Pending request keeps a test for all from true
 one_pending :
-    (list_all (is_settled engine) mixed ≡ false)
-    × (list_all (is_settled engine) (None ∷ at 2 ∷ at 0 ∷ []) ≡ true)
+    (list_any (is_pending engine) mixed ≡ true)
+    × (list_any (is_pending engine) (None ∷ at 2 ∷ at 0 ∷ []) ≡ false)
 one_pending = (refl, refl)
 
 none_active :

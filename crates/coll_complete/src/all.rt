@@ -1,12 +1,12 @@
 //! The test of a list for all requests.
 
-ghost use Rattle.std.specs.Prelude.{◌≡◌, ◌+◌, ◌≤◌, IfOk, OnErr, length, map, vec_capacity, vec_len};
+ghost use Rattle.std.specs.Prelude.{◌≡◌, ◌+◌, ◌≤◌, IfOk, OnErr, length, map, not, vec_capacity, vec_len};
 ghost use Rattle.std.specs.Bool.{OnFalse, OnTrue};
-ghost use Rattle.std.specs.List.{list_all};
+ghost use Rattle.std.specs.List.{list_any};
 ghost use Rattle.std.specs.Result.{result_err};
 ghost use Rattle.coll_core.specs.Cores.{seen, setting};
 ghost use Rattle.coll_complete.specs.Completing.{CompletesDone, Pushes};
-ghost use Rattle.coll_complete.specs.Requests.{AreDistinct, is_settled, left_of, list_refusal};
+ghost use Rattle.coll_complete.specs.Requests.{AreDistinct, is_pending, left_of, list_refusal};
 
 use crate::completing::complete_all;
 use crate::request::Request;
@@ -34,7 +34,7 @@ pub fn test_all(
     ensures err { OnErr result ((core.new ≡ core.old) × (requests.new ≡ requests.old) × (out.new ≡ out.old)) }
     ensures setting { setting core.new ≡ setting core.old }
     ensures capacity { vec_capacity out.new ≡ vec_capacity out.old }
-    ensures flag { IfOk result (λ flag. flag ≡ list_all (is_settled (seen core.old)) requests.old) }
+    ensures flag { IfOk result (λ flag. flag ≡ not (list_any (is_pending (seen core.old)) requests.old)) }
     ensures unfinished { IfOk result (λ flag. OnFalse flag ((core.new ≡ core.old) × (requests.new ≡ requests.old) × (out.new ≡ out.old))) }
     ensures completes { IfOk result (λ flag. OnTrue flag (Pushes out.old.items out.new.items (CompletesDone (setting core.old) rank requests.old (seen core.old) (seen core.new)))) }
     ensures requests { IfOk result (λ flag. OnTrue flag (requests.new ≡ map (left_of (seen core.old)) requests.old)) }
@@ -43,7 +43,7 @@ pub fn test_all(
         Ok(survey) => survey,
         Err(why) => return Err(why),
     };
-    if !survey.settled {
+    if survey.pending {
         return Ok(false);
     }
     complete_all(core, rank, requests, out);

@@ -37,8 +37,9 @@ pub use halted::Halted;
 pub use request::Request;
 pub use some::test_some;
 pub use starting::start_all;
+pub use survey::Survey;
 pub use tested::Tested;
-pub use testing::test;
+pub use testing::{rest, test};
 
 #[cfg(test)]
 mod tests;

@@ -1,11 +1,11 @@
 //! What a list of requests has.
 
-ghost use Rattle.std.specs.Prelude.{◌≡◌, ◌&&◌, ◌||◌, IfOk, None, Some, position, if◌then◌else◌};
-ghost use Rattle.std.specs.List.{list_all, list_any};
+ghost use Rattle.std.specs.Prelude.{◌≡◌, ◌||◌, IfOk, None, Some, position, if◌then◌else◌};
+ghost use Rattle.std.specs.List.{list_any};
 ghost use Rattle.std.specs.Option.{option_or};
 ghost use Rattle.std.specs.Result.{result_err};
 ghost use Rattle.coll_core.specs.Cores.{seen, setting};
-ghost use Rattle.coll_complete.specs.Requests.{active_by, done_by, is_active, is_done, is_settled, list_refusal, phase_at, refusal_at, settled_by};
+ghost use Rattle.coll_complete.specs.Requests.{active_by, done_by, is_active, is_done, is_pending, list_refusal, phase_at, refusal_at, pending_by};
 
 use crate::request::Request;
 use coll_core::{Core, Phase};
@@ -13,13 +13,13 @@ use coll_kinds::Refusal;
 
 /// What a list of requests has.
 #[derive(Clone, Copy)]
-pub(crate) struct Survey {
+pub struct Survey {
     /// The lowest position of a Done request.
-    pub(crate) done: Option<usize>,
+    pub done: Option<usize>,
     /// Whether a request is Pending or Done.
-    pub(crate) active: bool,
-    /// Whether no request is Pending.
-    pub(crate) settled: bool,
+    pub active: bool,
+    /// Whether a request is Pending.
+    pub pending: bool,
 }
 
 /// How far a request is; none where it is null.
@@ -42,16 +42,16 @@ impl Survey {
     /// # Errors
     ///
     /// Stale where a ticket names no live request, NotYours where it names another rank's: that of the first such one.
-    pub(crate) fn of(core: &Core, rank: u8, requests: &[Request]) -> Result<Survey, Refusal>
+    pub fn of(core: &Core, rank: u8, requests: &[Request]) -> Result<Survey, Refusal>
         ensures refused { result_err result ≡ list_refusal (setting core.now) (seen core.now).state rank requests.now }
         ensures done { IfOk result (λ survey. survey.done ≡ position (is_done (seen core.now)) requests.now) }
         ensures active { IfOk result (λ survey. survey.active ≡ list_any (is_active (seen core.now)) requests.now) }
-        ensures settled { IfOk result (λ survey. survey.settled ≡ list_all (is_settled (seen core.now)) requests.now) }
+        ensures pending { IfOk result (λ survey. survey.pending ≡ list_any (is_pending (seen core.now)) requests.now) }
     {
         let mut survey = Survey {
             done: None,
             active: false,
-            settled: true,
+            pending: false,
         };
         for (position, request) in requests.iter().enumerate() {
             match phase(core, rank, request) {
@@ -66,13 +66,13 @@ impl Survey {
     fn add(&mut self, position: usize, phase: Option<Phase>)
         ensures done { self.new.done ≡ option_or self.old.done (if done_by phase then Some position else None) }
         ensures active { self.new.active ≡ (self.old.active || active_by phase) }
-        ensures settled { self.new.settled ≡ (self.old.settled && settled_by phase) }
+        ensures pending { self.new.pending ≡ (self.old.pending || pending_by phase) }
     {
         match phase {
             None | Some(Phase::Idle) => {}
             Some(Phase::Pending) => {
                 self.active = true;
-                self.settled = false;
+                self.pending = true;
             }
             Some(Phase::Done) => {
                 self.done = self.done.or(Some(position));

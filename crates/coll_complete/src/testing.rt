@@ -1,11 +1,11 @@
 //! The test of one request.
 
-ghost use Rattle.std.specs.Prelude.{◌≡◌, IfOk, None, OnErr, OnOk, is_some, true};
+ghost use Rattle.std.specs.Prelude.{◌≡◌, IfOk, None, OnErr, OnOk, is_some, not, true};
 ghost use Rattle.std.specs.Result.{result_err};
 ghost use Rattle.coll_machine.specs.Runs.{Runs};
 ghost use Rattle.coll_core.specs.Cores.{seen, setting};
 ghost use Rattle.coll_complete.specs.Completing.{completion, completion_if};
-ghost use Rattle.coll_complete.specs.Requests.{is_done, is_settled, left_of, refusal_at, hold_after};
+ghost use Rattle.coll_complete.specs.Requests.{is_done, is_pending, left_of, refusal_at, hold_after};
 
 use crate::request::Request;
 use crate::tested::Tested;
@@ -22,7 +22,7 @@ pub fn test(core: &mut Core, rank: u8, request: &mut Request) -> Result<Tested, 
     ensures refused { result_err result ≡ refusal_at (setting core.old) (seen core.old).state rank request.old }
     ensures err { OnErr result ((core.new ≡ core.old) × (request.new ≡ request.old)) }
     ensures setting { setting core.new ≡ setting core.old }
-    ensures flag { IfOk result (λ tested. tested.flag ≡ is_settled (seen core.old) request.old) }
+    ensures flag { IfOk result (λ tested. tested.flag ≡ not (is_pending (seen core.old) request.old)) }
     ensures outcome { IfOk result (λ tested. is_some tested.outcome ≡ is_done (seen core.old) request.old) }
     ensures none { IfOk result (λ tested. tested.outcome ≡ None → core.new ≡ core.old) }
     ensures completes { IfOk result (λ tested. Runs (setting core.old) (seen core.old) (completion_if rank request.old tested.outcome) (seen core.new)) }
@@ -55,7 +55,7 @@ pub fn test(core: &mut Core, rank: u8, request: &mut Request) -> Result<Tested, 
 }
 
 /// What a caller has in place of a request that is completed: null for a once request.
-fn rest(core: &Core, ticket: Ticket) -> Request
+pub fn rest(core: &Core, ticket: Ticket) -> Request
     ensures { result ≡ hold_after (seen core.now).state ticket }
 {
     match core.about(ticket) {

@@ -1,0 +1,186 @@
+//! The calls of the rows, with their answers in short.
+
+use super::making::byte;
+use crate::all::test_all;
+use crate::any::{Any, test_any};
+use crate::distinct::are_distinct;
+use crate::freeing::request_free;
+use crate::halted::Halted;
+use crate::request::Request;
+use crate::some::test_some;
+use crate::starting::start_all;
+use crate::tested::Tested;
+use crate::testing::test;
+use coll_core::{Core, Outcome};
+use coll_kinds::Refusal;
+use std::alloc::Global;
+
+/// A call over a list, or over the first request of it.
+#[derive(Clone, Copy)]
+pub(super) enum Call {
+    Test,
+    Any,
+    All,
+    Some,
+    Start,
+    Free,
+}
+
+/// What a call answered.
+#[derive(Clone, Copy, Debug, PartialEq, Eq)]
+pub(super) enum Answer {
+    Flag(bool),
+    Undefined,
+    Unfinished,
+    At(usize),
+    Count(Option<usize>),
+    Ok,
+    Refused(Refusal),
+    Halted(usize, Refusal),
+}
+
+/// An outcome's value.
+fn value_of(outcome: &Outcome) -> u8 {
+    match outcome.bytes.first() {
+        Some(value) => *value,
+        None => 0,
+    }
+}
+
+/// Positions: of each outcome, with its value; of each list of bytes that came back, with 1 where it isn't empty.
+pub(super) type Noted = Vec<(usize, u8)>;
+
+fn ask_test(core: &mut Core, list: &mut [Request], noted: &mut Noted) -> Result<Answer, Refusal> {
+    let Some(request) = list.first_mut() else {
+        return Err(Refusal::Torn);
+    };
+    match test(core, 0, request) {
+        Ok(
+            Tested {
+                flag,
+                outcome: Some(outcome),
+            },
+        ) => {
+            noted.push((0, value_of(&outcome)))?;
+            Ok(Answer::Flag(flag))
+        }
+        Ok(
+            Tested {
+                flag,
+                outcome: None,
+            },
+        ) => Ok(Answer::Flag(flag)),
+        Err(why) => Ok(Answer::Refused(why)),
+    }
+}
+
+fn ask_any(core: &mut Core, list: &mut [Request], noted: &mut Noted) -> Result<Answer, Refusal> {
+    match test_any(core, 0, list) {
+        Ok(Any::Undefined) => Ok(Answer::Undefined),
+        Ok(Any::Unfinished) => Ok(Answer::Unfinished),
+        Ok(Any::At(position, outcome)) => {
+            noted.push((position, value_of(&outcome)))?;
+            Ok(Answer::At(position))
+        }
+        Err(why) => Ok(Answer::Refused(why)),
+    }
+}
+
+fn note_all(out: &[(usize, Outcome)], noted: &mut Noted) -> Result<(), Refusal> {
+    for (position, outcome) in out {
+        noted.push((*position, value_of(outcome)))?;
+    }
+    Ok(())
+}
+
+fn ask_all(
+    alloc: Global,
+    core: &mut Core,
+    list: &mut [Request],
+    noted: &mut Noted,
+) -> Result<Answer, Refusal> {
+    if !are_distinct(list) {
+        return Err(Refusal::Torn);
+    }
+    let mut out = Vec::with_capacity(alloc, list.len())?;
+    let answer = test_all(core, 0, list, &mut out);
+    note_all(&out, noted)?;
+    match answer {
+        Ok(flag) => Ok(Answer::Flag(flag)),
+        Err(why) => Ok(Answer::Refused(why)),
+    }
+}
+
+fn ask_some(
+    alloc: Global,
+    core: &mut Core,
+    list: &mut [Request],
+    noted: &mut Noted,
+) -> Result<Answer, Refusal> {
+    if !are_distinct(list) {
+        return Err(Refusal::Torn);
+    }
+    let mut out = Vec::with_capacity(alloc, list.len())?;
+    let answer = test_some(core, 0, list, &mut out);
+    note_all(&out, noted)?;
+    match answer {
+        Ok(count) => Ok(Answer::Count(count)),
+        Err(why) => Ok(Answer::Refused(why)),
+    }
+}
+
+fn note_back(back: &[Vec<u8>], noted: &mut Noted) -> Result<(), Refusal> {
+    for (position, bytes) in back.iter().enumerate() {
+        noted.push((position, u8::from(!bytes.is_empty())))?;
+    }
+    Ok(())
+}
+
+fn ask_start(
+    alloc: Global,
+    core: &mut Core,
+    list: &[Request],
+    noted: &mut Noted,
+) -> Result<Answer, Refusal> {
+    let mut given = Vec::new(alloc);
+    for _ in list {
+        given.push(byte(alloc, 1)?)?;
+    }
+    if given.len() != list.len() {
+        return Err(Refusal::Torn);
+    }
+    match start_all(core, 0, list, given) {
+        Ok(()) => Ok(Answer::Ok),
+        Err(Halted { at, why, back }) => {
+            note_back(&back, noted)?;
+            Ok(Answer::Halted(at, why))
+        }
+    }
+}
+
+fn ask_free(core: &mut Core, list: &mut [Request]) -> Result<Answer, Refusal> {
+    let Some(request) = list.first_mut() else {
+        return Err(Refusal::Torn);
+    };
+    match request_free(core, 0, request) {
+        Ok(()) => Ok(Answer::Ok),
+        Err(why) => Ok(Answer::Refused(why)),
+    }
+}
+
+pub(super) fn ask(
+    alloc: Global,
+    core: &mut Core,
+    call: Call,
+    list: &mut [Request],
+    noted: &mut Noted,
+) -> Result<Answer, Refusal> {
+    match call {
+        Call::Test => ask_test(core, list, noted),
+        Call::Any => ask_any(core, list, noted),
+        Call::All => ask_all(alloc, core, list, noted),
+        Call::Some => ask_some(alloc, core, list, noted),
+        Call::Start => ask_start(alloc, core, list, noted),
+        Call::Free => ask_free(core, list),
+    }
+}
