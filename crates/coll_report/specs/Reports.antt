@@ -1,0 +1,26 @@
+-- What a closed engine leaves.
+use Rattle.std.specs.Prelude.{List}
+use Rattle.coll_machine.specs.Settings.{Setting, AreGroups}
+use Rattle.coll_machine.specs.States.{State}
+use Rattle.coll_machine.specs.Entries.{Entry}
+use Rattle.coll_machine.specs.Traces.{LegalTrace}
+use Rattle.coll_trace.specs.Told.{IsIdle}
+use Rattle.coll_core.specs.declared.config.Config.{Config}
+use Rattle.coll_core.specs.Configs.{setting_by}
+use Rattle.coll_report.specs.declared.entry.Entry as rust_entry
+use Rattle.coll_report.specs.Views.{trace_seen}
+
+pub record Closed : Type 0 where
+  pub setting : Setting
+  pub entries : List Entry
+
+-- an engine opened with that configuration, and its entries
+abbrev pub closed_by : Config → List rust_entry.Entry → Closed
+closed_by config entries = record { setting = setting_by config; entries = trace_seen entries }
+
+-- the trace is a legal one of an engine with that setting, and nothing is active where it ends
+pub record IsClosed (r : Closed) : Type 0 where
+  pub groups : AreGroups r.setting  -- no rank is twice in a communicator
+  pub last : State
+  pub legal : LegalTrace r.setting r.entries last
+  pub idle : IsIdle last

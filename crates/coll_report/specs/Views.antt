@@ -1,0 +1,19 @@
+-- The code's entries and groups as those of the machine, without where they lie in memory.
+use Rattle.std.specs.Prelude.{ℕ, List, map, Vec}
+use Rattle.std.specs.Global.{Global}
+use Rattle.coll_machine.specs.Entries.{Entry, Posted, Inited, Started, Retired, Freed}
+use Rattle.coll_report.specs.declared.entry.Entry as rust_entry
+use Rattle.coll_report.specs.declared.entry.Entry.TheVariants as rust
+
+abbrev pub seen : rust_entry.Entry → Entry
+seen (rust.Posted rank t comm place sig bytes) = Posted rank t comm place sig bytes.items
+seen (rust.Inited rank t comm place sig) = Inited rank t comm place sig
+seen (rust.Started rank t start bytes) = Started rank t start bytes.items
+seen (rust.Retired rank t comm place start bytes) = Retired rank t comm place start bytes.items
+seen (rust.Freed rank t) = Freed rank t
+
+abbrev pub trace_seen : List rust_entry.Entry → List Entry
+trace_seen es = map seen es
+
+abbrev pub groups_seen : List (Vec ℕ Global) → List (List ℕ)
+groups_seen groups = map (λ group. group.items) groups

@@ -1,0 +1,26 @@
+//! The trace of an engine as data, and what it tells once the engine is closed.
+//!
+//! | Module | Has |
+//! |---|---|
+//! | `entry` | `Entry`, an accepted call |
+//! | `posts` | `Posts`, a walk along a rank's posts, initialisations and starts |
+//! | `command` | `Command`, what a rank is told to do |
+//! | `comparison` | `Comparison`, of a rank's entries with its commands |
+//! | `report` | `Report`, the trace of a closed engine |
+//! | `laws` | what holds of every closed engine |
+#![tactic(auto)]
+
+mod command;
+mod comparison;
+mod entry;
+pub mod laws;
+mod posts;
+mod report;
+#[cfg(test)]
+mod tests;
+
+pub use command::Command;
+pub use comparison::{Comparison, follows};
+pub use entry::Entry;
+pub use posts::Posts;
+pub use report::{Report, count_entries};

@@ -1,0 +1,9 @@
+pub mod Traced
+pub mod Spaced
+pub mod Halls
+pub mod Outcomes
+pub mod Ports
+pub mod Stalls
+pub mod Turns
+pub mod Looks
+pub mod Retirements

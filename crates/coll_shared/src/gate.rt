@@ -1,0 +1,19 @@
+/// What stands before and after each combination that is computed outside the lock, and may hold a thread up there.
+pub trait Gate {
+    /// Called before a piece is computed, with the lock free. Pieces are numbered from 0 in the order in which they were
+    /// handed out.
+    fn before(&self, piece: u64);
+
+    /// Called after its result was written, with the lock free.
+    fn after(&self, piece: u64);
+}
+
+/// A gate that does nothing.
+#[derive(Clone, Copy, Debug)]
+pub struct NoGate;
+
+impl Gate for NoGate {
+    fn before(&self, _piece: u64) {}
+
+    fn after(&self, _piece: u64) {}
+}

@@ -1,0 +1,42 @@
+//! One engine for many threads: what lies under its one lock, and the trace that attests what happened.
+//!
+//! | Module | Has |
+//! |---|---|
+//! | `tally` | `Tally`, a port's count of the entries that it made, and `Entries`, their ledger |
+//! | `receipt` | `Receipt`, which shows the entry that a call made |
+//! | `trace` | `Trace`, the entries so far, with room for those that they speak for |
+//! | `groups` | copies of what an engine is opened with |
+//! | `spaces` | `Spaces`, memory for the outcomes of live requests |
+//! | `gate` | `Gate`, which may hold a thread up before and after a combination |
+//! | `hall` | `Hall`, the lock round it, and the place to sleep |
+//! | `port` | `Port`, a rank's way into the engine |
+//! | `engine` | `Engine`, and `open`, which makes one |
+//! | `note` | `Note`, what a port waits for |
+//! | `spent` | `Spent`, what is left of a port |
+//! | `shared` | `Shared`, the core with its trace, and the calls on both |
+#![tactic(auto)]
+
+mod engine;
+mod gate;
+mod groups;
+mod hall;
+mod note;
+mod port;
+mod receipt;
+mod shared;
+mod spaces;
+mod spent;
+mod tally;
+mod trace;
+
+pub use engine::{Engine, open};
+pub use gate::{Gate, NoGate};
+pub use note::Note;
+pub use port::Port;
+pub use receipt::Receipt;
+pub use shared::Shared;
+pub use spent::Spent;
+pub use tally::{Entries, Tally};
+
+#[cfg(test)]
+mod tests;

@@ -1,0 +1,100 @@
+//! Notes of who sleeps for what, the marks of a stall and of the stop, and the count of pieces.
+
+ghost use Rattle.std.specs.Prelude.{◌≡◌, ◌↔◌, All, IsTrue, false, slice_set, true};
+ghost use Rattle.coll_shared.specs.Stalls.{IsDone, IsStalled, Rests};
+
+use crate::note::Note;
+use crate::shared::Shared;
+use crate::tally::Entries;
+use coll_core::{Core, Phase};
+use coll_kinds::Ticket;
+
+/// Whether the ticket names a request of the rank that can be completed.
+fn is_done(core: &Core, rank: u8, ticket: Ticket) -> bool
+    ensures { IsTrue result ↔ IsDone core.now rank ticket }
+{
+    match core.phase(rank, ticket) {
+        Ok(Phase::Idle) => false,
+        Ok(Phase::Pending) => false,
+        Ok(Phase::Done) => true,
+        Err(_) => false,
+    }
+}
+
+/// Whether the note is of a port that sleeps for what isn't the case, or has ended.
+fn rests(core: &Core, note: Note) -> bool
+    ensures { IsTrue result ↔ Rests core.now note }
+{
+    match note {
+        Note::Awake => false,
+        Note::Sleeps { rank, ticket } => !is_done(core, rank, ticket),
+        Note::Ended => true,
+    }
+}
+
+fn all_rest(core: &Core, notes: &[Note]) -> bool
+    ensures { IsTrue result ↔ All (Rests core.now) notes.now }
+{
+    notes.iter().all(|note| rests(core, *note))
+}
+
+impl<L: Entries> Shared<L> {
+    /// Whether nothing can go on: no request is ready, no combination is handed out, and each port has ended or sleeps
+    /// for a request that isn't Done. Linear in the ports.
+    pub fn stall_now(&self) -> bool
+        ensures { IsTrue result ↔ IsStalled self.now }
+    {
+        self.core.quiet() && all_rest(&self.core, &self.notes)
+    }
+
+    /// Notes what a port waits for. A number that is no rank is left out.
+    pub fn note(&mut self, rank: u8, note: Note)
+        ensures core { self.new.core ≡ self.old.core }
+        ensures entries { self.new.entries ≡ self.old.entries }
+        ensures notes { self.new.notes ≡ slice_set self.old.notes rank note }
+        ensures stalled { self.new.stalled ≡ self.old.stalled }
+    {
+        if (rank as usize) < self.notes.len() {
+            self.notes[rank as usize] = note;
+        }
+    }
+
+    /// Notes that a port sleeps for a request, unless nothing could go on then: the note is taken back, and the engine is
+    /// marked as stalled for good. Answers whether it may sleep.
+    pub(crate) fn lie_down(&mut self, rank: u8, ticket: Ticket) -> bool
+        ensures core { self.new.core ≡ self.old.core }
+        ensures entries { self.new.entries ≡ self.old.entries }
+    {
+        if self.stalled {
+            return false;
+        }
+        self.note(rank, Note::Sleeps { rank, ticket });
+        if !self.stall_now() {
+            return true;
+        }
+        self.note(rank, Note::Awake);
+        self.stalled = true;
+        false
+    }
+
+    /// Marks that progress threads are to end.
+    pub(crate) fn stop(&mut self)
+        ensures { self.new ≡ self.old }
+    {
+        self.stopped = true;
+    }
+
+    /// Whether progress threads are to end.
+    pub(crate) fn is_stopped(&self) -> bool {
+        self.stopped
+    }
+
+    /// The number of the next piece of work. At the greatest number it stays there.
+    pub(crate) fn next_piece(&mut self) -> u64
+        ensures { self.new ≡ self.old }
+    {
+        let piece = self.pieces;
+        self.pieces = self.pieces.saturating_add(1);
+        piece
+    }
+}

@@ -1,0 +1,57 @@
+//! Steps, and combinations that were handed out. None of these adds an entry.
+
+ghost use Rattle.std.specs.Prelude.{◌≡◌, ◌↔◌, [], IfErr, IfOk, IsOkUnless, IsTrue, Ok, OnErr, OnOk, is_ok};
+ghost use Rattle.coll_core.specs.declared.stepped.Stepped.TheVariants.{Quiet};
+ghost use Rattle.coll_core.specs.Steps.{CommitSteps, IsOut, Returns, Steps, ready};
+
+use crate::shared::Shared;
+use crate::tally::Entries;
+use coll_core::{DoneWork, Stepped, Work};
+use coll_kinds::Refusal;
+
+impl<L: Entries> Shared<L> {
+    /// The core's `step`.
+    ///
+    /// # Errors
+    ///
+    /// NoMemory, with nothing changed.
+    pub fn step(&mut self) -> Result<Stepped, Refusal>
+        ensures quiet { (result ≡ Ok Quiet) ↔ (ready self.old.core ≡ []) }
+        ensures steps { IfOk result (Steps self.old.core self.new.core) }
+        ensures entries { self.new.entries ≡ self.old.entries }
+        ensures err { OnErr result (self.new ≡ self.old) }
+        ensures refusal { IsOkUnless result Refusal.NoMemory }
+    {
+        self.core.step()
+    }
+
+    /// The core's `commit`.
+    ///
+    /// # Errors
+    ///
+    /// Stale, with nothing changed, unless the work is out.
+    pub fn commit(&mut self, done: DoneWork) -> Result<Stepped, Refusal>
+        ensures out { IsTrue (is_ok result) ↔ IsOut self.old.core done.piece }
+        ensures steps { IfOk result (CommitSteps self.old.core self.new.core done) }
+        ensures entries { self.new.entries ≡ self.old.entries }
+        ensures err { OnErr result (self.new ≡ self.old) }
+        ensures refused { IfErr result (λ why. why ≡ Refusal.Stale) }
+    {
+        self.core.commit(done)
+    }
+
+    /// The core's `abandon`.
+    ///
+    /// # Errors
+    ///
+    /// Stale, with nothing changed, unless the work is out.
+    pub fn abandon(&mut self, work: Work) -> Result<(), Refusal>
+        ensures out { IsTrue (is_ok result) ↔ IsOut self.old.core work }
+        ensures back { OnOk result (Returns self.old.core self.new.core work) }
+        ensures entries { self.new.entries ≡ self.old.entries }
+        ensures err { OnErr result (self.new ≡ self.old) }
+        ensures refused { IfErr result (λ why. why ≡ Refusal.Stale) }
+    {
+        self.core.abandon(work)
+    }
+}

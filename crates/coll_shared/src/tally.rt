@@ -1,0 +1,58 @@
+ghost use Rattle.std.specs.Prelude.{◌≡◌, ◌+◌, ◌<◌, ◌^◌, ℕ};
+
+use std::marker::{Brand, Model};
+use std::sync::ledger::{Book, Ledger, Share};
+
+/// The ledger of an engine's entries, in as many parts as there are ranks.
+pub trait Entries: Ledger {
+    /// How many ranks there are.
+    ghost ranks: { ℕ };
+}
+
+impl Entries for Brand {
+    ghost ranks = { 0 };
+}
+
+/// How many entries of the trace one port made. Contracts see it as that number, and the tallies of all ports add up to
+/// the length of the trace.
+#[derive(Drop)]
+pub struct Tally<L: Entries> {
+    share: Share<L>,
+    made: u64,
+}
+
+impl<L: Entries> Model for Tally<L> {
+    ghost Value = { ℕ };
+
+    ghost view = { λ t. t.made };
+
+    ghost invariant = { λ t. (t.share.parts ≡ 1) × (t.share.amount ≡ t.made) };
+}
+
+impl<L: Entries> Tally<L> {
+    /// Of a port that made none.
+    pub(crate) fn new(share: Share<L>) -> Self
+        requires { (share.parts ≡ 1) × (share.amount ≡ 0) }
+        ensures { result ≡ 0 }
+    {
+        Tally { share, made: 0 }
+    }
+
+    /// How many entries the port made.
+    pub fn made(&self) -> u64
+        ensures { result ≡ self.now }
+    {
+        self.made
+    }
+
+    /// One entry more.
+    pub(crate) fn count(&mut self, book: &mut Book<L>)
+        requires { book.old.total + 1 < 2 ^ 64 }
+        ensures made { self.new ≡ self.old + 1 }
+        ensures total { book.new.total ≡ book.old.total + 1 }
+    {
+        book.audit(&mut self.share);
+        book.add(&mut self.share, 1);
+        self.made += 1;
+    }
+}
