@@ -31,19 +31,19 @@ use Rattle.coll_history.proofs.Gifts.{given_len-whole}
 
 -- ---- a step that was read, and what followed it
 
-then-is : {A B E : Type 0} (r : Result A E) (rest : A → Result B E) (b : B) → and_then r rest ≡ Ok b → (a : A) × (r ≡ Ok a) × (rest a ≡ Ok b)
+pub then-is : {A B E : Type 0} (r : Result A E) (rest : A → Result B E) (b : B) → and_then r rest ≡ Ok b → (a : A) × (r ≡ Ok a) × (rest a ≡ Ok b)
 then-is (Ok a) rest b e = (a, refl, e)
 then-is (Err cause) rest b e = absurd cc
 
-bind-is : {A B : Type 0} (step : Reading A) (rest : A → Reading B) (words : List (List ℕ)) (b : B × List (List ℕ)) → (step >>= rest) words ≡ Ok b
+pub bind-is : {A B : Type 0} (step : Reading A) (rest : A → Reading B) (words : List (List ℕ)) (b : B × List (List ℕ)) → (step >>= rest) words ≡ Ok b
     → (a : A × List (List ℕ)) × (step words ≡ Ok a) × (rest a.0 a.1 ≡ Ok b)
 bind-is step rest words b e = then-is (step words) (λ a. rest a.0 a.1) b e
 
-known-is : {A : Type 0} (o : Option A) (cause : Cause) (words : List (List ℕ)) (a : A × List (List ℕ)) → known o cause words ≡ Ok a → o ≡ Some a.0
+pub known-is : {A : Type 0} (o : Option A) (cause : Cause) (words : List (List ℕ)) (a : A × List (List ℕ)) → known o cause words ≡ Ok a → o ≡ Some a.0
 known-is (Some x) cause words a e = cc
 known-is None cause words a e = absurd cc
 
-must-is : (b : Bool) (cause : Cause) (words : List (List ℕ)) (a : Unit {0} × List (List ℕ)) → must b cause words ≡ Ok a → b ≡ true
+pub must-is : (b : Bool) (cause : Cause) (words : List (List ℕ)) (a : Unit {0} × List (List ℕ)) → must b cause words ≡ Ok a → b ≡ true
 must-is true cause words a e = refl
 must-is false cause words a e = absurd cc
 
@@ -89,7 +89,7 @@ values-length count ty words a e =
 
 -- ---- posts
 
-communicator-is : (groups : List (List ℕ)) (rank : ℕ) (words : List (List ℕ)) (a : ℕ × List (List ℕ)) (sig : Signature) → communicator groups rank words ≡ Ok a
+pub communicator-is : (groups : List (List ℕ)) (rank : ℕ) (words : List (List ℕ)) (a : ℕ × List (List ℕ)) (sig : Signature) → communicator groups rank words ≡ Ok a
     → broken sig (length (group_of groups a.0)) ≡ None → IsPosting groups rank a.0 sig
 communicator-is groups rank words a sig e checked =
     let first = bind-is (next (λ w. ok_or (number_of w) BadNumber)) (λ comm. known (slice_get groups comm) BadCommunicator >>= λ group. known (member_of rank group) BadRank >>= λ member. give comm) words a e in
@@ -108,11 +108,11 @@ communicator-is groups rank words a sig e checked =
       checked = ap (λ (g : List ℕ). broken sig (length g)) (sym (get_or_from_slice_get groups a.0 group [] there)) ∙ checked;
     }
 
-none-is : {A : Type 0} (o : Option A) → is_none o ≡ true → o ≡ None
+pub none-is : {A : Type 0} (o : Option A) → is_none o ≡ true → o ≡ None
 none-is None e = refl
 none-is (Some x) e = absurd cc
 
-signature-checked : (mode : Mode) (n : ℕ) (words : List (List ℕ)) (a : Signature × List (List ℕ)) → signature mode n words ≡ Ok a → broken a.0 n ≡ None
+pub signature-checked : (mode : Mode) (n : ℕ) (words : List (List ℕ)) (a : Signature × List (List ℕ)) → signature mode n words ≡ Ok a → broken a.0 n ≡ None
 unfolding signature
 signature-checked mode n words a e =
     let first = bind-is (next (λ w. ok_or (kind_of w) BadSignature)) (λ kind. fields mode kind >>= λ sig. must (is_none (broken sig n)) BadSignature >>= λ checked. give sig) words a e in
@@ -133,7 +133,7 @@ last-is : (b : Bool) (cause : Cause) (c : Command) (words : List (List ℕ)) (a 
 last-is true cause c words a e = (refl, cc)
 last-is false cause c words a e = absurd cc
 
-room-is : (h : History) (c : Command) (words : List (List ℕ)) (a : Command × List (List ℕ)) → (room h >>= λ fits. give c) words ≡ Ok a → (c ≡ a.0) × (total h.told < 4096)
+pub room-is : (h : History) (c : Command) (words : List (List ℕ)) (a : Command × List (List ℕ)) → (room h >>= λ fits. give c) words ≡ Ok a → (c ≡ a.0) × (total h.told < 4096)
 room-is h c words a e = let last = last-is (ltb (total h.told) 4096) TooManyRequests c words a e in (last.1, ltb-true (total h.told) 4096 last.0)
 
 post-allowed : (h : History) (rank : ℕ) (words : List (List ℕ)) (a : Command × List (List ℕ)) → post h rank words ≡ Ok a → Allows h rank a.0
@@ -165,7 +165,7 @@ init-allowed h rank words a e =
 
 -- ---- starts and frees
 
-startable-is : (h : History) (rank : ℕ) (words : List (List ℕ)) (a : (ℕ × Posting) × List (List ℕ)) → startable h rank words ≡ Ok a → slice_get (made h rank) a.0.0 ≡ Some a.0.1
+pub startable-is : (h : History) (rank : ℕ) (words : List (List ℕ)) (a : (ℕ × Posting) × List (List ℕ)) → startable h rank words ≡ Ok a → slice_get (made h rank) a.0.0 ≡ Some a.0.1
 unfolding startable
 startable-is h rank words a e =
     let first = bind-is (next (request_in (length (made h rank)))) (λ q. known (slice_get (made h rank) q) UnknownRequest >>= λ p. must (is_startable q p (said_by rank h.told)) NotStartable >>= λ fits. give (q, p)) words a e in
@@ -209,7 +209,7 @@ request-below count w n e =
     let read = then-is (ok_or (number_of w) BadNumber) (λ q. cond (ltb q count) (Ok q) (Err UnknownRequest)) n e in
     below_from read.0 count n (ltb read.0 count) read.2 (ltb-true read.0 count)
 
-one-below : (h : History) (rank : ℕ) (words : List (List ℕ)) (a : ℕ × List (List ℕ)) → one h rank words ≡ Ok a → a.0 < length (made h rank)
+pub one-below : (h : History) (rank : ℕ) (words : List (List ℕ)) (a : ℕ × List (List ℕ)) → one h rank words ≡ Ok a → a.0 < length (made h rank)
 one-below h rank words a e =
     let first = bind-is (next (request_in (length (made h rank)))) (λ q. end >>= λ ended. give q) words a e in
     let second = bind-is end (λ ended. give first.0.0) first.0.1 a first.2 in
@@ -245,7 +245,7 @@ All-push : (count : ℕ) (qs : List ℕ) (q : ℕ) → AllByRecursion (λ n. n <
 All-push count [] q are lt = (lt, tt)
 All-push count (p ∷ qs) q are lt = (are.0, All-push count qs q are.1 lt)
 
-twice-not : {A : Type 0} (b : Bool) (cause : Cause) (r : Result A Cause) (a : A) → cond b (Err cause) r ≡ Ok a → r ≡ Ok a
+pub twice-not : {A : Type 0} (b : Bool) (cause : Cause) (r : Result A Cause) (a : A) → cond b (Err cause) r ≡ Ok a → r ≡ Ok a
 twice-not true cause r a e = absurd cc
 twice-not false cause r a e = e
 

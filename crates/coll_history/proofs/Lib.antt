@@ -10,6 +10,8 @@ mod Numbers
 mod Marks
 mod Keeping
 mod Allowed
+mod Sayable
+mod Accepted
 mod Sounds
 mod Waiting
 mod Valued

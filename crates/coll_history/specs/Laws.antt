@@ -2,9 +2,11 @@
 use Rattle.std.specs.Prelude.{◌≡◌, ℕ, ◌+◌, IsTrue, List, [], ◌∷◌, ◌++◌, length, Ok, Err}
 use Rattle.std.specs.List.{list_any}
 use Rattle.coll_history.specs.declared.fault.Fault.{Fault}
-use Rattle.coll_history.specs.Histories.{History, starts, waits_for}
+use Rattle.coll_history.specs.Cutting.{lines_of}
+use Rattle.coll_history.specs.Histories.{History, beginning, starts, waits_for}
 use Rattle.coll_history.specs.declared.command.Command.{Command}
 use Rattle.coll_history.specs.Judging.{judged}
+use Rattle.coll_history.specs.Writing.{Tells, text_of}
 
 -- the fault is that of one line; those before it are accepted by themselves, and all lines that begin with these have it
 pub record IsFirst (number : ℕ) (h : History) (lines : List (List ℕ)) (fault : Fault) : Type 0 where
@@ -15,6 +17,13 @@ pub record IsFirst (number : ℕ) (h : History) (lines : List (List ℕ)) (fault
   pub here : fault.line ≡ number + length before
   pub accepted : (next : History) × (judged number h before ≡ Ok next)
   pub whatever_follows : (others : List (List ℕ)) → judged number h (before ++ faulty ∷ others) ≡ Err fault
+
+-- the history can be said: there are lines that say it, one after another, and written so they read as it again
+pub record CanBeSaid (h : History) : Type 0 where
+  pub first : List (List ℕ)
+  pub others : List (List (List ℕ))
+  pub tells : Tells 1 beginning (first ∷ others) h
+  pub reads : judged 1 beginning (lines_of (text_of (first ∷ others))) ≡ Ok h
 
 -- surely inactive: it has had no start, or a wait has named it since its last one; that is, behind each start stands a wait
 abbrev pub EachStartIsOver : ℕ → List Command → Type 0

@@ -11,7 +11,9 @@ use Rattle.coll_history.specs.declared.fault.Fault.{Fault}
 use Rattle.coll_history.specs.declared.command.Command.TheVariants.{Init, Start, WaitAny, WaitAll}
 use Rattle.coll_history.specs.Histories.{History, beginning}
 use Rattle.coll_history.specs.Lines.{fields, signature, values, post, init, startable, start, free, ranks, comm, section, command, line}
+use Rattle.coll_history.specs.Cutting.{lines_of}
 use Rattle.coll_history.specs.Judging.{judged}
+use Rattle.coll_history.specs.Writing.{text_of}
 
 -- the line and the cause of a fault, if there is one
 abbrev fault_of : Result History Fault → Option (ℕ × Cause)
@@ -121,3 +123,28 @@ told : judged 1 beginning (codes "ranks 2" ∷ codes "comm 1" ∷ codes "rank 1"
     })
 unfolding line ranks comm section command post init start startable free signature fields values
 told = refl
+
+-- ---- what is accepted could have been said
+
+-- with blanks, a comment and leading zeros, and as it is written
+abbrev said : History
+said = record {
+  ranks = Some 2;
+  groups = (0 ∷ 1 ∷ []) ∷ [];
+  opened = Some 1;
+  told = record { line = 4; rank = 1; command = Init 0 sum } ∷ record { line = 5; rank = 1; command = Start 0 (5 ∷ 255 ∷ []) } ∷ [];
+}
+
+written_otherwise : judged 1 beginning (codes " ranks 02" ∷ codes "# two" ∷ codes "rank  01 " ∷ codes "init 00 allreduce sum i8 02" ∷ codes "start 0 : 05 -01" ∷ []) ≡ Ok said
+unfolding line ranks comm section command post init start startable free signature fields values
+written_otherwise = refl
+
+abbrev words_said : List (List (List ℕ))
+words_said =
+    (codes "ranks" ∷ codes "2" ∷ []) ∷ [] ∷ (codes "rank" ∷ codes "1" ∷ [])
+    ∷ (codes "init" ∷ codes "0" ∷ codes "allreduce" ∷ codes "sum" ∷ codes "i8" ∷ codes "2" ∷ [])
+    ∷ (codes "start" ∷ codes "0" ∷ codes ":" ∷ codes "5" ∷ codes "-1" ∷ []) ∷ []
+
+written_so : judged 1 beginning (lines_of (text_of words_said)) ≡ Ok said
+unfolding line ranks comm section command post init start startable free signature fields values
+written_so = refl

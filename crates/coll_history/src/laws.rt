@@ -7,13 +7,20 @@ ghost use Rattle.coll_history.specs.Cutting.{lines_of};
 ghost use Rattle.coll_history.specs.Histories.{History, may_be_active, beginning};
 ghost use Rattle.coll_history.specs.Judging.{judged};
 ghost use Rattle.coll_history.specs.Writing.{Tells, text_of};
-ghost use Rattle.coll_history.specs.Laws.{IsFirst, EachStartIsOver};
+ghost use Rattle.coll_history.specs.Laws.{IsFirst, CanBeSaid, EachStartIsOver};
 
 /// What is written is read: a text whose lines say a history, one after another, has no fault of a line
 /// and reads as that history.
 pub fn reads_what_is_written()
     ensures { (first : List (List ℕ)) (lines : List (List (List ℕ))) (h : History) → Tells 1 beginning (first ∷ lines) h
         → judged 1 beginning (lines_of (text_of (first ∷ lines))) ≡ Ok h }
+{}
+
+/// What is accepted could have been said: the history that a text's lines tell is one of which the law
+/// [`reads_what_is_written`] speaks. A text may write it otherwise, with blanks, comments or leading zeros; there are
+/// lines that say it, and these read as the same history.
+pub fn accepted_can_be_said()
+    ensures { (lines : List (List ℕ)) (h : History) → judged 1 beginning lines ≡ Ok h → CanBeSaid h }
 {}
 
 /// The fault of a text's lines is that of one line; those before it are accepted by themselves, and all

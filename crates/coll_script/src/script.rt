@@ -1,7 +1,9 @@
 ghost use Rattle.std.specs.Prelude.{◌≡◌, ◌<◌, ◌≤◌, length, Err, IfOk, OnOk, IsOkUnless};
 ghost use Rattle.coll_kinds.specs.Limits.{max_text};
-ghost use Rattle.coll_history.specs.Code.{GivesText};
-ghost use Rattle.coll_history.specs.Histories.{commands_of};
+ghost use Rattle.coll_history.specs.Code.{FailsText, GivesText};
+ghost use Rattle.coll_history.specs.Cutting.{lines_of};
+ghost use Rattle.coll_history.specs.Histories.{History, commands_of};
+ghost use Rattle.coll_history.specs.Judging.{fault_at};
 ghost use Rattle.coll_script.specs.Configs.{sizes_of};
 ghost use Rattle.coll_script.specs.Jobs.{job_of, script_of, belonging, completed};
 ghost use Rattle.coll_script.specs.Meaning.{job_lines};
@@ -50,8 +52,7 @@ impl Script {
             return Err(fault(1, Cause::TooLong));
         }
         let history = History::read(alloc, text)?;
-        let last = line_count(alloc, text)?;
-        completed(alloc, last as u32, history)
+        completed(alloc, text, history)
     }
 
     /// What the lines have said: the ranks, their communicators, and the commands of all ranks in order.
@@ -101,20 +102,33 @@ fn fault(line: u32, cause: Cause) -> ScriptFault
     ScriptFault::Text(Fault { line, cause })
 }
 
-/// The script of a history of so many lines, or what is judged after the last one.
-fn completed(alloc: Global, last: u32, history: History) -> Result<Script, ScriptFault>
-    ensures { GivesText (λ script. script) result (completed last history) }
+/// A fault of the whole text, which names its last line. Only such a fault has the lines counted. Linear in the text.
+fn fault_of_all(alloc: Global, text: &[u8], cause: Cause) -> ScriptFault
+    requires { length text.now ≤ max_text }
+    ensures { FailsText result (fault_at {A = History} (length (lines_of text.now)) cause) }
+{
+    match line_count(alloc, text) {
+        Ok(last) => fault(last as u32, cause),
+        Err(_) => ScriptFault::NoMemory,
+    }
+}
+
+/// The script of a text's history, or what is judged after the last line.
+fn completed(alloc: Global, text: &[u8], history: History) -> Result<Script, ScriptFault>
+    requires { length text.now ≤ max_text }
+    ensures { GivesText (λ script. script) result (completed (length (lines_of text.now)) history) }
 {
     if !history.has_ranks() {
-        return Err(fault(last, Cause::MissingRanks));
+        return Err(fault_of_all(alloc, text, Cause::MissingRanks));
     }
-    check(alloc, last, &history)?;
+    check(alloc, text, &history)?;
     Ok(Script { history })
 }
 
 /// Asks that the requests at each place belong together.
-fn check(alloc: Global, last: u32, history: &History) -> Result<(), ScriptFault>
-    ensures fault { GivesText (λ _. history.now) result (belonging last history.now) }
+fn check(alloc: Global, text: &[u8], history: &History) -> Result<(), ScriptFault>
+    requires { length text.now ≤ max_text }
+    ensures fault { GivesText (λ _. history.now) result (belonging (length (lines_of text.now)) history.now) }
     ensures job { OnOk result (IsJob (job_of history.now)) }
 {
     let ranks = history.requests(alloc)?;
@@ -123,10 +137,10 @@ fn check(alloc: Global, last: u32, history: &History) -> Result<(), ScriptFault>
         return Err(fault(line, Cause::PlaceMismatch));
     }
     if !all_have_places(&all) {
-        return Err(fault(last, Cause::PlaceMissing));
+        return Err(fault_of_all(alloc, text, Cause::PlaceMissing));
     }
     if !all_have_starts(&all) {
-        return Err(fault(last, Cause::StartMissing));
+        return Err(fault_of_all(alloc, text, Cause::StartMissing));
     }
     Ok(())
 }

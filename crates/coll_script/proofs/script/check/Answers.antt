@@ -1,6 +1,7 @@
-use Rattle.std.proofs.Common.{◌≡◌, List, Vec, ap, ◌∙◌}
+use Rattle.std.proofs.Common.{◌≡◌, List, length, Vec, ap, ◌∙◌}
 use Rattle.std.specs.Global.{Global}
 use Rattle.std.specs.List.{list_all}
+use Rattle.coll_history.specs.Cutting.{lines_of}
 use Rattle.coll_history.specs.declared.request.Request as rust
 use Rattle.coll_script.specs.PostingViews.{all_lists_view}
 use Rattle.coll_script.specs.Matching.{mismatch, have_places, have_starts}
@@ -21,5 +22,5 @@ returns-clause-job c =
     c.in_ok-line.ensures ∙ ap (λ (a : List (Vec (Vec rust.Request Global) Global)). mismatch (all_lists_view a)) c.deref-2.ensures.value in
     let places = c.all_have_places.ensures ∙ ap (λ (a : List (Vec (Vec rust.Request Global) Global)). list_all have_places (all_lists_view a)) c.deref-3.ensures.value in
     let starts = c.all_have_starts.ensures ∙ ap (λ (a : List (Vec (Vec rust.Request Global) Global)). list_all have_starts (all_lists_view a)) c.deref-4.ensures.value in
-    IsJob-history h h c.args.last c.in_ok-ranks.ensures.sound
-    (judged-whole c.args.last h (all_lists_view c.in_ok-all.all.items) c.in_ok-line.field-0 c.all_have_places.result c.all_have_starts.result all found c.in_default.is places c.if-not-all_have_places.false starts c.if-not-all_have_starts.false)
+    IsJob-history h h (length (lines_of c.args.text.now)) c.in_ok-ranks.ensures.sound
+    (judged-whole (length (lines_of c.args.text.now)) h (all_lists_view c.in_ok-all.all.items) c.in_ok-line.field-0 c.all_have_places.result c.all_have_starts.result all found c.in_default.is places c.if-not-all_have_places.false starts c.if-not-all_have_starts.false)
