@@ -52,7 +52,7 @@ pub record IsHall (core : Parts) (entries : List Entry) (spoken_for limit : ℕ)
   pub reserves : spoken_for ≡ reserved (setting core) (seen core).state
   pub spaced : AreSpaced (setting core) (seen core).state spaces
 
-pub hall_in : {config : Config} {p : Parts} {es : List Entry} {n : ℕ} {xs : List Space} → IsKept config p es n xs → IsHall p es n config.trace xs
+pub hall_in : {ranks : ℕ} {config : Config} {p : Parts} {es : List Entry} {n : ℕ} {xs : List Space} → IsKept ranks config p es n xs → IsHall p es n config.trace xs
 hall_in k = record { legal = k.legal; limit_is = k.limit_is; reserves = k.reserves; spaced = k.spaced }
 
 -- how the entries that are spoken for change is fixed by the entry
@@ -111,11 +111,11 @@ are_groups n [] all comm = nobody n
 are_groups n (group ∷ rest) all zero = (All-head (λ (group : Vec ℕ Global). IsFullGroup n group.items) group rest all).is_group
 are_groups n (group ∷ rest) all (suc comm) = are_groups n rest (All-tail (λ (group : Vec ℕ Global). IsFullGroup n group.items) group rest all) comm
 
-pub opened_kept : (p : Parts) (es : List Entry) (n : ℕ) (xs : List Space) (config copy : Config) → IsConfig config → setting_by copy ≡ setting_by config → setting p ≡ setting_by config → seen p ≡ idle → length xs ≡ config.slots → es ≡ [] → n ≡ 0
-    → IsKept copy p es n xs
-opened_kept p es n xs config copy fits same set new slots empty none =
+pub opened_kept : (ranks : ℕ) (p : Parts) (es : List Entry) (n : ℕ) (xs : List Space) (config copy : Config) → ranks ≡ config.ranks → IsConfig config → setting_by copy ≡ setting_by config → setting p ≡ setting_by config → seen p ≡ idle → length xs ≡ config.slots → es ≡ [] → n ≡ 0
+    → IsKept ranks copy p es n xs
+opened_kept ranks p es n xs config copy ranks_are fits same set new slots empty none =
     let h = opened_hall p es n xs copy (set ∙ sym same) new (slots ∙ ap (λ (g : Setting). g.slots) (sym same)) empty none in
-    record { opened = set ∙ sym same; groups = subst AreGroups (sym same) (are_groups config.ranks config.groups.items fits.groups.2); legal = h.legal; limit_is = h.limit_is; reserves = h.reserves; spaced = h.spaced }
+    record { ranks_are = ap (λ (g : Setting). g.ranks) same ∙ sym ranks_are; opened = set ∙ sym same; groups = subst AreGroups (sym same) (are_groups config.ranks config.groups.items fits.groups.2); legal = h.legal; limit_is = h.limit_is; reserves = h.reserves; spaced = h.spaced }
 
 -- what an answer of the core's about says
 abbrev as_about : Request → About
@@ -289,62 +289,62 @@ retired_entry old new rank t comm place begin bytes outcome pushed bytes_are = p
 
 -- ---- with the configuration
 
-pub kept : (config : Config) (p r : Parts) (es fs : List Entry) (n m : ℕ) (xs ys : List Space) → IsKept config p es n xs → setting r ≡ setting p → IsHall r fs m config.trace ys → IsKept config r fs m ys
-kept config p r es fs n m xs ys k same h = record { opened = same ∙ k.opened; groups = k.groups; legal = h.legal; limit_is = h.limit_is; reserves = h.reserves; spaced = h.spaced }
+pub kept : {ranks : ℕ} (config : Config) (p r : Parts) (es fs : List Entry) (n m : ℕ) (xs ys : List Space) → IsKept ranks config p es n xs → setting r ≡ setting p → IsHall r fs m config.trace ys → IsKept ranks config r fs m ys
+kept config p r es fs n m xs ys k same h = record { ranks_are = k.ranks_are; opened = same ∙ k.opened; groups = k.groups; legal = h.legal; limit_is = h.limit_is; reserves = h.reserves; spaced = h.spaced }
 
 -- ---- steps
 
 -- nothing that callers see
-kept_stays : (config : Config) (p r : Parts) (es : List Entry) (n : ℕ) (xs : List Space) → IsKept config p es n xs → setting r ≡ setting p → (seen r).state ≡ (seen p).state → IsKept config r es n xs
+kept_stays : {ranks : ℕ} (config : Config) (p r : Parts) (es : List Entry) (n : ℕ) (xs : List Space) → IsKept ranks config p es n xs → setting r ≡ setting p → (seen r).state ≡ (seen p).state → IsKept ranks config r es n xs
 kept_stays config p r es n xs k same state = kept config p r es es n n xs xs k same (hall_stays p r es n config.trace xs (hall_in k) same state)
 
-step_kept : (config : Config) (p r : Parts) (es : List Entry) (n : ℕ) (xs : List Space) (stepped : Stepped) → IsKept config p es n xs → Steps p r stepped → IsKept config r es n xs
-step_kept config p r es n xs Quiet k same = subst (λ q. IsKept config q es n xs) (sym same) k
-step_kept config p r es n xs Moved k a = kept_stays config p r es n xs k a.goes.set (ap (λ (m : Machine). m.state) a.goes.steps)
-step_kept config p r es n xs Finished k a = kept_stays config p r es n xs k a.goes.set (means (setting p) (seen p) (seen r) calls.Finish calls.Nothing a.goes.steps)
-step_kept config p r es n xs (Out w) k a = kept_stays config p r es n xs k a.stays.set (ap (λ (m : Machine). m.state) a.stays.same)
+step_kept : {ranks : ℕ} (config : Config) (p r : Parts) (es : List Entry) (n : ℕ) (xs : List Space) (stepped : Stepped) → IsKept ranks config p es n xs → Steps p r stepped → IsKept ranks config r es n xs
+step_kept {ranks} config p r es n xs Quiet k same = subst (λ q. IsKept ranks config q es n xs) (sym same) k
+step_kept {ranks} config p r es n xs Moved k a = kept_stays config p r es n xs k a.goes.set (ap (λ (m : Machine). m.state) a.goes.steps)
+step_kept {ranks} config p r es n xs Finished k a = kept_stays config p r es n xs k a.goes.set (means (setting p) (seen p) (seen r) calls.Finish calls.Nothing a.goes.steps)
+step_kept {ranks} config p r es n xs (Out w) k a = kept_stays config p r es n xs k a.stays.set (ap (λ (m : Machine). m.state) a.stays.same)
 
-commit_kept : (config : Config) (p r : Parts) (es : List Entry) (n : ℕ) (xs : List Space) (d : Made) (stepped : Stepped) → IsKept config p es n xs → CommitSteps p r d stepped → IsKept config r es n xs
-commit_kept config p r es n xs d Quiet k c = absurd c
-commit_kept config p r es n xs d Moved k c = kept_stays config p r es n xs k c.goes.set (ap (λ (m : Machine). m.state) c.goes.steps)
-commit_kept config p r es n xs d Finished k c = kept_stays config p r es n xs k c.goes.set (means (setting p) (seen p) (seen r) calls.Finish calls.Nothing c.goes.steps)
-commit_kept config p r es n xs d (Out w) k c = absurd c
+commit_kept : {ranks : ℕ} (config : Config) (p r : Parts) (es : List Entry) (n : ℕ) (xs : List Space) (d : Made) (stepped : Stepped) → IsKept ranks config p es n xs → CommitSteps p r d stepped → IsKept ranks config r es n xs
+commit_kept {ranks} config p r es n xs d Quiet k c = absurd c
+commit_kept {ranks} config p r es n xs d Moved k c = kept_stays config p r es n xs k c.goes.set (ap (λ (m : Machine). m.state) c.goes.steps)
+commit_kept {ranks} config p r es n xs d Finished k c = kept_stays config p r es n xs k c.goes.set (means (setting p) (seen p) (seen r) calls.Finish calls.Nothing c.goes.steps)
+commit_kept {ranks} config p r es n xs d (Out w) k c = absurd c
 
 -- calls that may be refused, as a whole
-pub step_ended : (config : Config) (p r : Parts) (es : List Entry) (n : ℕ) (xs : List Space) (o : Result Stepped Refusal) → IsKept config p es n xs → IfOk o (Steps p r) → OnErr o (r ≡ p) → IsKept config r es n xs
-step_ended config p r es n xs (Ok stepped) k ok err = step_kept config p r es n xs stepped k ok
-step_ended config p r es n xs (Err why) k ok err = subst (λ q. IsKept config q es n xs) (sym err) k
+pub step_ended : {ranks : ℕ} (config : Config) (p r : Parts) (es : List Entry) (n : ℕ) (xs : List Space) (o : Result Stepped Refusal) → IsKept ranks config p es n xs → IfOk o (Steps p r) → OnErr o (r ≡ p) → IsKept ranks config r es n xs
+step_ended {ranks} config p r es n xs (Ok stepped) k ok err = step_kept config p r es n xs stepped k ok
+step_ended {ranks} config p r es n xs (Err why) k ok err = subst (λ q. IsKept ranks config q es n xs) (sym err) k
 
-pub commit_ended : (config : Config) (p r : Parts) (es : List Entry) (n : ℕ) (xs : List Space) (d : Made) (o : Result Stepped Refusal) → IsKept config p es n xs → IfOk o (CommitSteps p r d) → OnErr o (r ≡ p) → IsKept config r es n xs
-commit_ended config p r es n xs d (Ok stepped) k ok err = commit_kept config p r es n xs d stepped k ok
-commit_ended config p r es n xs d (Err why) k ok err = subst (λ q. IsKept config q es n xs) (sym err) k
+pub commit_ended : {ranks : ℕ} (config : Config) (p r : Parts) (es : List Entry) (n : ℕ) (xs : List Space) (d : Made) (o : Result Stepped Refusal) → IsKept ranks config p es n xs → IfOk o (CommitSteps p r d) → OnErr o (r ≡ p) → IsKept ranks config r es n xs
+commit_ended {ranks} config p r es n xs d (Ok stepped) k ok err = commit_kept config p r es n xs d stepped k ok
+commit_ended {ranks} config p r es n xs d (Err why) k ok err = subst (λ q. IsKept ranks config q es n xs) (sym err) k
 
-pub abandon_ended : (config : Config) (p r : Parts) (es : List Entry) (n : ℕ) (xs : List Space) (w : Piece) (o : Result (Unit {0}) Refusal) → IsKept config p es n xs → OnOk o (Returns p r w) → OnErr o (r ≡ p) → IsKept config r es n xs
-abandon_ended config p r es n xs w (Ok x) k ok err = kept_stays config p r es n xs k ok.stays.set (ap (λ (m : Machine). m.state) ok.stays.same)
-abandon_ended config p r es n xs w (Err why) k ok err = subst (λ q. IsKept config q es n xs) (sym err) k
+pub abandon_ended : {ranks : ℕ} (config : Config) (p r : Parts) (es : List Entry) (n : ℕ) (xs : List Space) (w : Piece) (o : Result (Unit {0}) Refusal) → IsKept ranks config p es n xs → OnOk o (Returns p r w) → OnErr o (r ≡ p) → IsKept ranks config r es n xs
+abandon_ended {ranks} config p r es n xs w (Ok x) k ok err = kept_stays config p r es n xs k ok.stays.set (ap (λ (m : Machine). m.state) ok.stays.same)
+abandon_ended {ranks} config p r es n xs w (Err why) k ok err = subst (λ q. IsKept ranks config q es n xs) (sym err) k
 
 -- ---- refusals
 
-full_at : {config : Config} {p : Parts} {es : List Entry} {n : ℕ} {xs : List Space} (ns : List Note) (st : Bool) → IsKept config p es n xs → config.trace < length es + n + 2 → IsFull (record { core = p; entries = es; notes = ns; stalled = st })
-full_at {config} {p} {es} {n} {xs} ns st k lt =
+full_at : {ranks : ℕ} {config : Config} {p : Parts} {es : List Entry} {n : ℕ} {xs : List Space} (ns : List Note) (st : Bool) → IsKept ranks config p es n xs → config.trace < length es + n + 2 → IsFull (record { core = p; entries = es; notes = ns; stalled = st })
+full_at {ranks} {config} {p} {es} {n} {xs} ns st k lt =
     let limit : config.trace ≡ (setting p).trace = k.limit_is in
     let count : n ≡ reserved (setting p) (seen p).state = k.reserves in
     omega arith
 
-fits_at : {config : Config} {p : Parts} {es : List Entry} {n : ℕ} {xs : List Space} (ns : List Note) (st : Bool) → IsKept config p es n xs → IsFull (record { core = p; entries = es; notes = ns; stalled = st }) → config.trace < length es + n + 2
-fits_at {config} {p} {es} {n} {xs} ns st k lt =
+fits_at : {ranks : ℕ} {config : Config} {p : Parts} {es : List Entry} {n : ℕ} {xs : List Space} (ns : List Note) (st : Bool) → IsKept ranks config p es n xs → IsFull (record { core = p; entries = es; notes = ns; stalled = st }) → config.trace < length es + n + 2
+fits_at {ranks} {config} {p} {es} {n} {xs} ns st k lt =
     let limit : config.trace ≡ (setting p).trace = k.limit_is in
     let count : n ≡ reserved (setting p) (seen p).state = k.reserves in
     let less : (setting p).trace < length es + reserved (setting p) (seen p).state + 2 = lt in
     omega arith
 
-pub denies_full : {config : Config} {p : Parts} {es : List Entry} {n : ℕ} {xs : List Space} {ns : List Note} {st : Bool} {h : Hall} {call : calls.Call} {b : Bool} → IsKept config p es n xs → record { core = p; entries = es; notes = ns; stalled = st } ≡ h → IsTrue b ↔ (config.trace < length es + n + 2) → b ≡ true → Denies h call TraceFull
-denies_full {config} {p} {es} {n} {xs} {ns} {st} {h} {call} {b} k view test is = subst (λ (h : Hall). Denies h call TraceFull) view (inl (refl, full_at ns st k (test.0 is)))
+pub denies_full : {ranks : ℕ} {config : Config} {p : Parts} {es : List Entry} {n : ℕ} {xs : List Space} {ns : List Note} {st : Bool} {h : Hall} {call : calls.Call} {b : Bool} → IsKept ranks config p es n xs → record { core = p; entries = es; notes = ns; stalled = st } ≡ h → IsTrue b ↔ (config.trace < length es + n + 2) → b ≡ true → Denies h call TraceFull
+denies_full {ranks} {config} {p} {es} {n} {xs} {ns} {st} {h} {call} {b} k view test is = subst (λ (h : Hall). Denies h call TraceFull) view (inl (refl, full_at ns st k (test.0 is)))
 
-pub denies_memory : {config : Config} {p : Parts} {es : List Entry} {n : ℕ} {xs : List Space} {ns : List Note} {st : Bool} {h : Hall} {call : calls.Call} {why : Refusal} {b : Bool} → IsKept config p es n xs → record { core = p; entries = es; notes = ns; stalled = st } ≡ h → IsTrue b ↔ (config.trace < length es + n + 2) → b ≡ false
+pub denies_memory : {ranks : ℕ} {config : Config} {p : Parts} {es : List Entry} {n : ℕ} {xs : List Space} {ns : List Note} {st : Bool} {h : Hall} {call : calls.Call} {why : Refusal} {b : Bool} → IsKept ranks config p es n xs → record { core = p; entries = es; notes = ns; stalled = st } ≡ h → IsTrue b ↔ (config.trace < length es + n + 2) → b ≡ false
     → why ≡ NoMemory → Denies h call why
-denies_memory {config} {p} {es} {n} {xs} {ns} {st} {h} {call} {why} {b} k view test is none = subst (λ (h : Hall). Denies h call why) view (inr (λ full. false≢true (sym is ∙ test.1 (fits_at ns st k full)), inl none))
+denies_memory {ranks} {config} {p} {es} {n} {xs} {ns} {st} {h} {call} {why} {b} k view test is none = subst (λ (h : Hall). Denies h call why) view (inr (λ full. false≢true (sym is ∙ test.1 (fits_at ns st k full)), inl none))
 
-pub denies_core : {config : Config} {p : Parts} {es : List Entry} {n : ℕ} {xs : List Space} {ns : List Note} {st : Bool} {h : Hall} {call : calls.Call} {why : Refusal} {b : Bool} → IsKept config p es n xs → record { core = p; entries = es; notes = ns; stalled = st } ≡ h → IsTrue b ↔ (config.trace < length es + n + 2) → b ≡ false
+pub denies_core : {ranks : ℕ} {config : Config} {p : Parts} {es : List Entry} {n : ℕ} {xs : List Space} {ns : List Note} {st : Bool} {h : Hall} {call : calls.Call} {why : Refusal} {b : Bool} → IsKept ranks config p es n xs → record { core = p; entries = es; notes = ns; stalled = st } ≡ h → IsTrue b ↔ (config.trace < length es + n + 2) → b ≡ false
     → Refuses (setting p) (seen p) call why → Denies h call why
-denies_core {config} {p} {es} {n} {xs} {ns} {st} {h} {call} {why} {b} k view test is refuses = subst (λ (h : Hall). Denies h call why) view (inr (λ full. false≢true (sym is ∙ test.1 (fits_at ns st k full)), inr refuses))
+denies_core {ranks} {config} {p} {es} {n} {xs} {ns} {st} {h} {call} {why} {b} k view test is refuses = subst (λ (h : Hall). Denies h call why) view (inr (λ full. false≢true (sym is ∙ test.1 (fits_at ns st k full)), inr refuses))

@@ -6,3 +6,5 @@ pub mod Fitting
 pub mod Halls
 pub mod Seats
 pub mod Retirements
+pub mod Balances
+pub mod Closings

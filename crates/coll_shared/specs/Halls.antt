@@ -21,9 +21,11 @@ pub record Hall : Type 0 where
   pub notes : List Note  -- what each port waits for, by rank
   pub stalled : Bool  -- it was found that nothing can go on
 
--- what the lock keeps of an engine that was opened with that configuration, where so many entries are spoken for
-pub record IsKept (config : Config) (core : Parts) (entries : List Entry) (spoken_for : ℕ) (spaces : List Space)
+-- what the lock keeps of an engine of so many ranks that was opened with that configuration, where so many entries are
+-- spoken for
+pub record IsKept (ranks : ℕ) (config : Config) (core : Parts) (entries : List Entry) (spoken_for : ℕ) (spaces : List Space)
     : Type 0 where
+  pub ranks_are : config.ranks ≡ ranks
   pub opened : setting core ≡ setting_by config
   pub groups : AreGroups (setting_by config)  -- no rank is twice in a communicator
   -- the entries may come one after the other, lead to the core's state, and leave room for all that they speak for

@@ -7,3 +7,4 @@ pub mod Stalls
 pub mod Turns
 pub mod Looks
 pub mod Retirements
+pub mod Closings

@@ -12,6 +12,7 @@ use crate::hall::{Chore, Hall};
 use crate::port::Port;
 use crate::shared::Shared;
 use crate::tally::{Entries, Tally};
+use crate::vacant::Vacant;
 use coll_core::Config;
 use coll_kinds::Refusal;
 use std::alloc::Global;
@@ -21,7 +22,9 @@ use std::sync::{Arc, Condvar, Mutex, Wait};
 /// An engine that ranks share, each by its port.
 #[derive(Drop)]
 pub struct Engine<L: Entries> {
-    hall: Arc<Hall<L>>,
+    pub(crate) hall: Arc<Hall<L>>,
+    pub(crate) vacant: Vacant,
+    pub(crate) ghost ranks_are: { vacant ≡ L.ranks },
 }
 
 impl<L: Entries> Engine<L> {
@@ -80,8 +83,9 @@ pub fn open<L: Entries>(
             moved: Condvar::new(),
         },
     )?;
+    let vacant = Vacant::open(alloc, ranks)?;
     let ports = ports_of(alloc, &hall, &groups, ranks, rest)?;
-    Ok((Engine { hall }, ports))
+    Ok((Engine { hall, vacant }, ports))
 }
 
 /// A port for each rank.

@@ -11,11 +11,16 @@
 //! | `hall` | `Hall`, the lock round it, and the place to sleep |
 //! | `port` | `Port`, a rank's way into the engine |
 //! | `engine` | `Engine`, and `open`, which makes one |
+//! | `closing` | `close`, which ends an engine and makes its report |
+//! | `vacant` | `Vacant`, what is left of an engine that was closed |
+//! | `balance` | what a trace tells of its ranks when the engine is to be closed |
 //! | `note` | `Note`, what a port waits for |
 //! | `spent` | `Spent`, what is left of a port |
 //! | `shared` | `Shared`, the core with its trace, and the calls on both |
 #![tactic(auto)]
 
+mod balance;
+mod closing;
 mod engine;
 mod gate;
 mod groups;
@@ -28,7 +33,9 @@ mod spaces;
 mod spent;
 mod tally;
 mod trace;
+mod vacant;
 
+pub use closing::close;
 pub use engine::{Engine, open};
 pub use gate::{Gate, NoGate};
 pub use note::Note;

@@ -1,5 +1,6 @@
 //! What lies under the lock, and the questions on it.
 
+mod closing;
 mod completing;
 mod lists;
 mod posting;
@@ -49,7 +50,7 @@ impl<L: Entries> Model for Shared<L> {
 
     ghost view = { λ s. record { core = s.core; entries = s.trace.entries; notes = s.notes.items; stalled = s.stalled } };
 
-    ghost invariant = { λ s. IsKept s.config s.core s.trace.entries s.trace.reserved s.spaces.slots.items };
+    ghost invariant = { λ s. IsKept L.ranks s.config s.core s.trace.entries s.trace.reserved s.spaces.slots.items };
 }
 
 /// What a ticket names that the core just accepted.
@@ -82,7 +83,8 @@ impl<L: Entries> Shared<L> {
     ///
     /// BadConfig with the first field that is out of its range, then NoMemory.
     pub fn open(alloc: Global, config: Config, book: Book<L>) -> Result<Self, Refusal>
-        requires { book.total ≡ 0 }
+        requires total { book.total ≡ 0 }
+        requires ranks { L.ranks ≡ config.ranks }
         ensures setting { IfOk result (λ shared. setting shared.core ≡ setting_by config) }
         ensures idle { IfOk result (λ shared. seen shared.core ≡ idle) }
         ensures entries { IfOk result (λ shared. shared.entries ≡ []) }

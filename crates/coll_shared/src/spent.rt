@@ -2,6 +2,7 @@ ghost use Rattle.std.specs.Prelude.{◌≡◌};
 
 use crate::tally::{Entries, Tally};
 use std::marker::Model;
+use std::sync::ledger::Share;
 
 /// What is left of a port that was finished. Contracts see its rank and how many entries it made.
 #[derive(Drop)]
@@ -24,6 +25,15 @@ impl<L: Entries> Spent<L> {
         ensures { result ≡ (rank, tally) }
     {
         Spent { rank, tally }
+    }
+
+    /// The port's part of the ledger of entries.
+    pub(crate) fn into_share(self) -> Share<L>
+        ensures parts { result.parts ≡ 1 }
+        ensures amount { result.amount ≡ self.1 }
+    {
+        let Spent { tally, .. } = self;
+        tally.into_share()
     }
 
     /// The port's world rank.

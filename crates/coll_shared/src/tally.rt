@@ -45,6 +45,15 @@ impl<L: Entries> Tally<L> {
         self.made
     }
 
+    /// The port's part of the ledger.
+    pub(crate) fn into_share(self) -> Share<L>
+        ensures parts { result.parts ≡ 1 }
+        ensures amount { result.amount ≡ self }
+    {
+        let Tally { share, .. } = self;
+        share
+    }
+
     /// One entry more.
     pub(crate) fn count(&mut self, book: &mut Book<L>)
         requires { book.old.total + 1 < 2 ^ 64 }

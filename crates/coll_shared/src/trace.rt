@@ -1,13 +1,17 @@
-ghost use Rattle.std.specs.Prelude.{◌≡◌, ◌↔◌, ◌+◌, ◌<◌, ◌≤◌, ◌^◌, [], ◌∷◌, ◌++◌, length, IfErr, IsTrue, OnOk};
-ghost use Rattle.coll_report.specs.Views.{seen};
+ghost use Rattle.std.specs.Prelude.{◌≡◌, ◌↔◌, ◌+◌, ◌<◌, ◌≤◌, ◌^◌, ℕ, [], ◌∷◌, ◌++◌, length, IfErr, IfSome, IsNone, IsTrue, OnOk};
+ghost use Rattle.coll_report.specs.Views.{seen, trace_seen};
+ghost use Rattle.coll_shared.specs.Closings.{IsBalanced, ends_of};
 
+use crate::balance::{are_ends, first_unbalanced};
 use crate::receipt::Receipt;
+use crate::spent::Spent;
 use crate::tally::{Entries, Tally};
 use coll_kinds::Refusal;
 use coll_report::Entry;
 use std::alloc::Global;
 use std::marker::Model;
-use std::sync::ledger::Book;
+use std::mem;
+use std::sync::ledger::{Book, Share};
 
 /// The entries so far, with memory for those that they speak for.
 #[derive(Drop)]
@@ -95,5 +99,36 @@ impl<L: Entries> Trace<L> {
         let book = &mut self.book;
         mine.count(book);
         receipt
+    }
+
+    /// The first of so many ranks that has begun more than it completed.
+    pub(crate) fn first_unbalanced(&self, ranks: u8) -> Option<u8>
+        ensures none { IsNone result → (r : ℕ) → r < ranks → IsBalanced r self.now.entries }
+        ensures some { IfSome result (λ rank. IsBalanced rank self.now.entries → ⊥) }
+        ensures first { IfSome result (λ rank. (r : ℕ) → r < rank → IsBalanced r self.now.entries) }
+    {
+        first_unbalanced(&self.entries, ranks)
+    }
+
+    /// Whether these are the ends of one port of each rank, in their order, and each made as many entries as its rank has.
+    pub(crate) fn has_ends(&self, ranks: u8, ends: &[Spent<L>]) -> bool
+        ensures { IsTrue result ↔ (ends.now ≡ ends_of ranks self.now.entries) }
+    {
+        are_ends(&self.entries, ranks, ends)
+    }
+
+    /// Takes all entries, where all shares came back, and leaves none.
+    pub(crate) fn take(&mut self, alloc: Global, all: &mut Share<L>) -> Vec<Entry>
+        requires { all.old.parts ≡ L.parts }
+        ensures entries { trace_seen result.items ≡ self.old.entries }
+        ensures left { self.new.entries ≡ [] }
+        ensures reserved { self.new.reserved ≡ 0 }
+        ensures total { all.old.amount ≡ length self.old.entries }
+    {
+        let book = &mut self.book;
+        book.audit(all);
+        book.sub(all, self.entries.len() as u64);
+        self.reserved = 0;
+        mem::replace(&mut self.entries, Vec::new(alloc))
     }
 }

@@ -1,4 +1,4 @@
-ghost use Rattle.std.specs.Prelude.{◌≡◌};
+ghost use Rattle.std.specs.Prelude.{◌≡◌, IfOk};
 
 use crate::shared::Shared;
 use crate::tally::{Entries, Tally};
@@ -62,7 +62,9 @@ fn plan_of(alloc: Global, mode: Mode, members: u8) -> Result<Plan, Refusal> {
 }
 
 /// Two ranks: communicator 0 has both, 1 has rank 0 alone.
-fn config(alloc: Global) -> Result<Config, Refusal> {
+fn config(alloc: Global) -> Result<Config, Refusal>
+    ensures { IfOk result (λ config. config.ranks ≡ 2) }
+{
     let mut groups = Vec::new(alloc);
     groups.push(Vec::from_slice(alloc, &[0, 1])?)?;
     groups.push(Vec::from_slice(alloc, &[0])?)?;
@@ -276,6 +278,7 @@ fn holds_in<L: Entries>(
 ) -> Result<bool, Refusal>
     requires name { entries.name ≡ L.name }
     requires parts { (entries.parts ≡ L.parts) × (L.parts ≡ 1) }
+    requires ranks { L.ranks ≡ 2 }
 {
     let (book, share) = entries.open::<L>();
     let mut mine = Tally::new(share);

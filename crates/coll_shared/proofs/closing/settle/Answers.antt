@@ -1,0 +1,6 @@
+use Rattle.std.proofs.Common.{◌≡◌, ◌∙◌, length, refl, sym, ap}
+use Rattle.coll_shared.proofs.Closings.{ends_len}
+use Rattle.coll_shared.proofs.closing.settle.Goals as goal
+
+pub take_report-requires-clause-whole : goal.take_report-requires-clause-whole
+take_report-requires-clause-whole g c = c.merged-all.ensures.parts ∙ (c.args.spents.ok.0 ∙ (sym (ap length c.deref-2.ensures.value) ∙ (ends_len _ c.deref.result.now.entries _ (c.in_default.ensures.ends refl) ∙ (c.objection.ensures.ranks ∙ sym c.requires.parts))))

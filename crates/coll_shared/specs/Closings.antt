@@ -1,0 +1,51 @@
+-- When an engine can be closed.
+use Rattle.std.specs.Prelude.{◌≡◌, ◌≢◌, ◌==◌, ◌<◌, ◌⊎◌, ℕ, Bool, true, false, List, Some, map, count_by}
+use Rattle.std.specs.List.{range_with_len}
+use Rattle.coll_kinds.specs.declared.refusal.Refusal.{Refusal}
+use Rattle.coll_kinds.specs.declared.refusal.Refusal.TheVariants.{StillActive, Torn}
+use Rattle.coll_machine.specs.Entries.{Entry, Posted, Inited, Started, Retired, Freed}
+use Rattle.coll_machine.specs.States.{Request, State}
+use Rattle.coll_trace.specs.Told.{IsIdle}
+use Rattle.coll_core.specs.Cores.{seen, setting}
+use Rattle.coll_report.specs.Traces.{completes_by, entries_of}
+use Rattle.coll_shared.specs.Halls.{Hall}
+
+-- the entry is a post or a start by the rank: it makes a request active
+abbrev pub begins_by : ℕ → Entry → Bool
+begins_by r (Posted rank t comm place sig bytes) = rank == r
+begins_by r (Inited rank t comm place sig) = false
+begins_by r (Started rank t start bytes) = rank == r
+begins_by r (Retired rank t comm place start bytes) = false
+begins_by r (Freed rank t) = false
+
+-- as many requests of the rank were completed as were posted and started
+abbrev pub IsBalanced : ℕ → List Entry → Type 0
+IsBalanced r es = count_by (begins_by r) es ≡ count_by (completes_by r) es
+
+-- the rank has an active request
+pub record IsBusy (s : State) (rank : ℕ) : Type 0 where
+  pub slot : ℕ
+  pub request : Request
+  pub is : s.request slot ≡ Some request
+  pub rank_is : request.rank ≡ rank
+  pub active : request.active ≡ true
+
+-- and none below it has
+pub record IsFirstBusy (s : State) (rank : ℕ) : Type 0 where
+  pub busy : IsBusy s rank
+  pub first : (r : ℕ) → r < rank → IsBusy s r → ⊥
+
+-- the ends of one port of each rank, in their order, with as many entries as its rank has
+abbrev pub ends_of : ℕ → List Entry → List (ℕ × ℕ)
+ends_of ranks es = map (λ rank. (rank, entries_of rank es)) (range_with_len 0 ranks)
+
+-- why an engine can't be closed with these ends of ports: a rank has an active request, or else the ends aren't those of
+-- all ports
+abbrev pub Objects : Hall → List (ℕ × ℕ) → Refusal → Type 0
+Objects h ends why =
+    ((rank : ℕ) × (why ≡ StillActive rank) × IsFirstBusy (seen h.core).state rank)
+    ⊎ (IsIdle (seen h.core).state × (ends ≢ ends_of (setting h.core).ranks h.entries) × (why ≡ Torn))
+
+-- the refusals of a close
+abbrev pub IsClosing : Refusal → Type 0
+IsClosing why = ((rank : ℕ) × (why ≡ StillActive rank)) ⊎ (why ≡ Torn)
