@@ -1,6 +1,9 @@
 -- A text is judged line by line.
-use Rattle.std.proofs.Common.{◌≡◌, ℕ, ◌+◌, ◌-◌, ◌<◌, ◌≤◌, Bool, true, false, cond, List, ◌∷◌, length, get_or, take, drop, Bor, Result, Ok, Err, refl, ap, sym, ◌∙◌, arith}
-use Rattle.std.proofs.lemmas.List.{length-take, length-map, get_or-map}
+use Rattle.std.proofs.Common.{◌≡◌, ℕ, ◌+◌, ◌-◌, ◌<◌, ◌≤◌, Bool, true, false, cond, List, ◌∷◌, length, get_or, take, drop, Option, Some, None, Result, Ok, Err, refl, ap, sym, ◌∙◌, arith}
+use Rattle.std.specs.Iterator.{Yields}
+use Rattle.std.proofs.lemmas.Iterator.{YieldsList}
+use Rattle.std.proofs.lemmas.Iterator.Consumers.{YieldsList-turn, YieldsList-end}
+use Rattle.std.proofs.lemmas.List.{length-take}
 use Rattle.std.proofs.lemmas.List.Sums.{count_by-le-length}
 use Rattle.std.proofs.lemmas.List.Splits.{length-slice_split}
 use Rattle.coll_history.specs.declared.fault.LineFault.{LineFault}
@@ -10,15 +13,18 @@ use Rattle.coll_history.specs.Cutting.{words_of, is_line_feed, body_of, lines_of
 use Rattle.coll_history.specs.Histories.{History}
 use Rattle.coll_history.specs.Lines.{line}
 use Rattle.coll_history.specs.Judging.{judged}
-use Rattle.coll_history.specs.Code.{texts, FailsSo, FailsText, fault_in_line}
-use Rattle.coll_history.proofs.Lists.{drop-more}
+use Rattle.coll_history.specs.Code.{FailsSo, FailsText, fault_in_line}
+use Rattle.coll_history.proofs.Lists.{drop-more, drop-past}
 
--- the words or lines of a list are as many as its references
-pub length-texts : (words : List (Bor (List ℕ))) → length (texts words) ≡ length words
-length-texts words = length-map words _
+-- ---- a loop over what an iterator yields, of which it is known first how far it is
 
-pub get_or-texts : (words : List (Bor (List ℕ))) (n : ℕ) (d : Bor (List ℕ)) (lines : List (List ℕ)) → n < length words → texts words ≡ lines → (get_or words n d).now ≡ get_or lines n (get_or words n d).now
-get_or-texts words n d lines lt e = sym (get_or-map (λ (word : Bor (List ℕ)). word.now) words n d (get_or words n d).now lt) ∙ ap (λ (all : List (List ℕ)). get_or all n (get_or words n d).now) e
+module _ {S A B : Type 0} {steps : S → Option A → S → Type 0} {v : A → B} {s : S} {all : List B}
+    (xs : List A) (t : S) (so_far : Yields steps s xs t) (r : Option A) (u : S) (step : steps t r u) where
+  pub turn_of : (x : A) → r ≡ Some x → YieldsList steps v s all → (length xs < length all) × (v x ≡ get_or all (length xs) (v x))
+  turn_of x is yields = YieldsList-turn yields xs t so_far r u x is step
+
+  pub end_of : r ≡ None → YieldsList steps v s all → length xs ≡ length all
+  end_of is yields = (YieldsList-end yields xs t so_far r u is step).1
 
 -- a line that is accepted leads on to the next
 pub judged-more : (number : ℕ) (h next : History) (n : ℕ) (lines : List (List ℕ)) (bytes : List ℕ) (total : Result History Fault) → n < length lines → bytes ≡ get_or lines n bytes
@@ -34,6 +40,11 @@ judged-stops fault.NoMemory number h n lines bytes total lt is fails so_far = tt
 judged-stops (fault.Broken cause) number h n lines bytes total lt is fails so_far =
     let step : judged number h (bytes ∷ drop (n + 1) lines) ≡ Err (record { line = number; cause = cause }) = rw fails refl in
     sym so_far ∙ ap (judged number h) (drop-more lines n bytes lt is) ∙ step
+
+-- behind the last line the history is that of the text
+pub judged-ends : (number : ℕ) (h : History) (n : ℕ) (lines : List (List ℕ)) (total : Result History Fault)
+    → length lines ≤ n → judged number h (drop n lines) ≡ total → total ≡ Ok h
+judged-ends number h n lines total le so_far = sym so_far ∙ ap (judged number h) (drop-past lines n le)
 
 length-cond : (b : Bool) (n : ℕ) (text : List ℕ) → length (cond b (take n text) text) ≤ length text
 length-cond true n text = let len = length-take n text in omega arith

@@ -174,8 +174,7 @@ fn some(
     let count = reader.sections[rank as usize].entries.len();
     let stamps = &mut reader.stamps[rank as usize];
     stamps.resize(count, 0)?;
-    let named = requests(alloc, stamps, number, words)?;
-    Ok(Named::these(named))
+    requests(alloc, stamps, number, words)
 }
 
 /// The request of the next word, which a start or a free may name, and its number.

@@ -1,14 +1,14 @@
 //! How a text is cut into lines, and a line into words, without a copy of its bytes.
 
-ghost use Rattle.std.specs.Prelude.{◌≡◌, length, IfOk};
+ghost use Rattle.std.specs.Prelude.{◌≡◌, length, OnOk};
 ghost use Rattle.coll_history.specs.Cutting.{body_of, lines_of, words_of};
 ghost use Rattle.coll_history.specs.Code.{texts};
 
-use std::alloc::{AllocError, Global};
+use std::alloc::AllocError;
 
 /// The text without the line feed that it ends in, so that what is left between line feeds are its
 /// lines.
-fn body(text: &[u8]) -> &[u8]
+pub(crate) fn body(text: &[u8]) -> &[u8]
     ensures { result.now ≡ body_of text.now }
 {
     match text {
@@ -17,26 +17,21 @@ fn body(text: &[u8]) -> &[u8]
     }
 }
 
-/// The lines of a text. Linear in the text.
-pub(crate) fn lines<'a>(alloc: Global, text: &'a [u8]) -> Result<Vec<&'a [u8]>, AllocError>
-    ensures { IfOk result (λ lines. texts lines.items ≡ lines_of text.now) }
+/// Puts the words of a line in place of those that `words` has. Linear in the line; the room of earlier lines is used
+/// again, so that mostly no memory is asked for.
+pub(crate) fn cut<'a>(line: &'a [u8], words: &mut Vec<&'a [u8]>) -> Result<(), AllocError>
+    ensures { OnOk result (texts words.new.items ≡ words_of line.now) }
 {
-    body(text).split(|b| *b == b'\n').collect(alloc)
-}
-
-/// The words of a line. Linear in the line.
-pub(crate) fn words<'a>(alloc: Global, line: &'a [u8]) -> Result<Vec<&'a [u8]>, AllocError>
-    ensures { IfOk result (λ words. texts words.items ≡ words_of line.now) }
-{
-    line.split(|b| matches!(*b, b' ' | b'\t' | b'\r'))
-        .filter(|word| !word.is_empty())
-        .collect(alloc)
+    words.clear();
+    words.extend(
+        line.split(|b| matches!(*b, b' ' | b'\t' | b'\r'))
+            .filter(|word| !word.is_empty()),
+    )
 }
 
 /// How many lines a text has. Linear in the text.
-pub fn line_count(alloc: Global, text: &[u8]) -> Result<usize, AllocError>
-    ensures { IfOk result (λ count. count ≡ length (lines_of text.now)) }
+pub fn line_count(text: &[u8]) -> usize
+    ensures { result ≡ length (lines_of text.now) }
 {
-    let lines = lines(alloc, text)?;
-    Ok(lines.len())
+    body(text).split(|b| *b == b'\n').count()
 }

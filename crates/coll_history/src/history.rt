@@ -9,7 +9,7 @@ ghost use Rattle.coll_history.specs.Requests.{requests};
 ghost use Rattle.coll_history.specs.Sound.{IsSound};
 
 use crate::command::{Command, Told};
-use crate::cutting::lines;
+use crate::cutting::body;
 use crate::fault::ScriptFault;
 use crate::named::Named;
 use crate::reader::Reader;
@@ -50,11 +50,11 @@ impl History {
             (λ history. judged 1 beginning (lines_of text.now) ≡ Ok history)
             (λ fault. FailsText fault (judged 1 beginning (lines_of text.now))) }
     {
-        let lines = lines(alloc, text)?;
         let mut reader = Reader::new(alloc);
+        let mut words = Vec::new(alloc);
         let mut number = 1;
-        for bytes in &lines {
-            match reader.read_line(alloc, number, bytes) {
+        for bytes in body(text).split(|b| *b == b'\n') {
+            match reader.read_line(alloc, number, bytes, &mut words) {
                 Ok(()) => number += 1,
                 Err(fault) => return Err(fault.in_line(number)),
             }

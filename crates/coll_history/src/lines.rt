@@ -9,7 +9,7 @@ ghost use Rattle.coll_history.specs.Code.{texts, rows_view, history_of, begun, I
 use crate::cause::Cause;
 use crate::commands::command;
 use crate::communicators::group;
-use crate::cutting::words;
+use crate::cutting::cut;
 use crate::fault::LineFault;
 use crate::reader::Reader;
 use crate::section::Section;
@@ -21,12 +21,14 @@ use std::alloc::{AllocError, Global};
 const RANKS_LIMIT: u64 = 65;
 
 impl Reader {
-    /// Reads the line of that number. Linear in the line, and for the first one in the number of ranks.
-    pub(crate) fn read_line(
+    /// Reads the line of that number. Linear in the line, and for the first one in the number of ranks. Its words are
+    /// left in `words`, whose room the next line uses again.
+    pub(crate) fn read_line<'a>(
         &mut self,
         alloc: Global,
         number: u32,
-        bytes: &[u8],
+        bytes: &'a [u8],
+        words: &mut Vec<&'a [u8]>,
     ) -> Result<(), LineFault>
         requires reader { IsReader number self.old }
         requires stamped { IsStamped number self.old }
@@ -37,8 +39,8 @@ impl Reader {
         ensures reader { OnOk result (IsReader (number + 1) self.new) }
         ensures stamped { OnOk result (IsStamped (number + 1) self.new) }
     {
-        let words = words(alloc, bytes)?;
-        self.read_words(alloc, number, &words)
+        cut(bytes, words)?;
+        self.read_words(alloc, number, words)
     }
 
     /// Reads the line of that number, which has these words.

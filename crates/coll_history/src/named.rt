@@ -1,4 +1,4 @@
-ghost use Rattle.std.specs.Prelude.{◌≡◌, ◌==◌, ◌<◌, length, slice_index, IsTrue, IfOk};
+ghost use Rattle.std.specs.Prelude.{◌≡◌, ◌==◌, ◌<◌, ◌∷◌, [], length, slice_index, IsTrue, IfOk};
 ghost use Rattle.std.specs.List.{range_with_len};
 
 use std::alloc::{AllocError, Global};
@@ -12,6 +12,8 @@ pub struct Named {
 
 #[derive(Debug, Drop)]
 enum Which {
+    /// Most commands name one request: it takes no memory of its own.
+    One(u32),
     These(Vec<u32>),
     /// The first requests of the section, so many of them: all that a `waitall` without words can see.
     First(u32),
@@ -28,6 +30,15 @@ impl Model for Named {
 }
 
 impl Named {
+    /// Takes no memory.
+    pub fn one(request: u32) -> Named
+        ensures { result ≡ request ∷ [] }
+    {
+        Named {
+            which: Which::One(request),
+        }
+    }
+
     /// Takes no memory.
     pub fn these(requests: Vec<u32>) -> Named
         ensures { result ≡ requests.items }
@@ -51,6 +62,7 @@ impl Named {
         ensures { result ≡ length self.now }
     {
         match &self.which {
+            Which::One(_) => 1,
             Which::These(requests) => requests.len(),
             Which::First(count) => *count as usize,
         }
@@ -62,6 +74,7 @@ impl Named {
         ensures { result ≡ slice_index self.now index }
     {
         match &self.which {
+            Which::One(request) => *request as usize,
             Which::These(requests) => requests[index] as usize,
             Which::First(_) => index,
         }
@@ -72,6 +85,7 @@ impl Named {
         ensures { IsTrue result → self.now ≡ range_with_len 0 count }
     {
         match &self.which {
+            Which::One(_) => false,
             Which::These(_) => false,
             Which::First(first) => *first as usize == count,
         }
@@ -82,6 +96,7 @@ impl Named {
         ensures { IfOk result (λ named. named ≡ self.now) }
     {
         match &self.which {
+            Which::One(request) => Ok(Named::one(*request)),
             Which::These(requests) => Ok(Named::these(Vec::from_slice(alloc, requests)?)),
             Which::First(count) => Ok(Named::first(*count)),
         }

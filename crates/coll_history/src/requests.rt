@@ -1,14 +1,15 @@
 //! The words that name requests.
 
-ghost use Rattle.std.specs.Prelude.{◌≡◌, ℕ, ◌<◌, ◌≤◌, length, slice_index};
-ghost use Rattle.coll_history.specs.Reading.{numbers};
+ghost use Rattle.std.specs.Prelude.{◌≡◌, ℕ, ◌<◌, ◌≤◌, [], length, slice_index};
+ghost use Rattle.coll_history.specs.Reading.{numbers, numbers_from};
 ghost use Rattle.coll_history.specs.Histories.{History, said_by};
 ghost use Rattle.coll_history.specs.Lines.{request_in, made, startable, one};
 ghost use Rattle.coll_history.specs.declared.cause.Cause.TheVariants.{NamedTwice};
-ghost use Rattle.coll_history.specs.Code.{posting_view, IsKept, Reads, ReadsSo};
+ghost use Rattle.coll_history.specs.Code.{texts, posting_view, IsKept, Reads, ReadsSo, FindsSo};
 
 use crate::cause::Cause;
 use crate::fault::LineFault;
+use crate::named::Named;
 use crate::section::{Entry, Section};
 use crate::words::{Words, request_in};
 use std::alloc::Global;
@@ -24,24 +25,41 @@ pub(crate) fn one(count: usize, words: &mut Words) -> Result<u32, Cause>
 }
 
 /// The requests that the words name, at least one and none twice. `stamps` has for each request of the
-/// section the last line that named it so, each before this one. Linear in the line.
+/// section the last line that named it among others, each before this one. Linear in the line; where it names one
+/// request no memory is asked for.
 pub(crate) fn requests(
     alloc: Global,
     stamps: &mut [u32],
     line: u32,
     words: &mut Words,
+) -> Result<Named, LineFault>
+    requires few { length stamps.old ≤ 4096 }
+    requires earlier { (q : ℕ) → q < length stamps.old → slice_index stamps.old q < line }
+    ensures read { ReadsSo (λ named. named) result words.new (numbers (request_in (length stamps.old)) NamedTwice words.old) }
+    ensures stamps { (q : ℕ) → q < length stamps.old → slice_index stamps.new q ≤ line }
+{
+    match words.take_rest() {
+        [] => Err(LineFault::Broken(Cause::BadWords)),
+        [word] => Ok(Named::one(request_in(stamps.len(), word)?)),
+        words => Ok(Named::these(several(alloc, stamps, line, words)?)),
+    }
+}
+
+/// The requests that these words name, none twice.
+fn several(
+    alloc: Global,
+    stamps: &mut [u32],
+    line: u32,
+    words: &[&[u8]],
 ) -> Result<Vec<u32>, LineFault>
     requires few { length stamps.old ≤ 4096 }
     requires earlier { (q : ℕ) → q < length stamps.old → slice_index stamps.old q < line }
-    ensures read { ReadsSo (λ qs. qs.items) result words.new (numbers (request_in (length stamps.old)) NamedTwice words.old) }
+    ensures read { FindsSo (λ named. named.items) result (numbers_from (request_in (length stamps.old)) NamedTwice [] (texts words.now)) }
     ensures stamps { (q : ℕ) → q < length stamps.old → slice_index stamps.new q ≤ line }
 {
-    if words.is_empty() {
-        return Err(LineFault::Broken(Cause::BadWords));
-    }
     let count = stamps.len();
-    let mut named = Vec::new(alloc);
-    for word in words.take_rest() {
+    let mut named = Vec::with_capacity(alloc, words.len())?;
+    for word in words {
         let q = request_in(count, word)?;
         if stamps[q as usize] == line {
             return Err(LineFault::Broken(Cause::NamedTwice));

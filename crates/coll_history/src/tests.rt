@@ -3,7 +3,7 @@ use std::test::Fail;
 
 const TEXT: &str =
     "ranks 2\ncomm 1 0\nrank 1\ninit 0 allreduce sum i8 2\nstart 0 : 5 -1\nwaitany 0\nwaitall\n\
-    post 1 barrier\nwaitall\nfree 0\n";
+    post 1 barrier\nwaitall\nfree 0\nwaitsome 1 0\n";
 
 /// The commands are kept in the order of their lines, lists are kept, and a `waitall` without words is kept
 /// as the number of the requests so far.
@@ -16,8 +16,8 @@ fn commands_of_a_text(rt: HostRuntime) -> Result<(), Fail> {
         lines.push(told.line)?;
         kinds.push(kind_of(&told.command))?;
     }
-    assert_eq!(rt; lines.as_slice(), [4, 5, 6, 7, 8, 9, 10].as_slice());
-    assert_eq!(rt; kinds.as_slice(), [1, 2, 61, 81, 0, 82, 5].as_slice());
+    assert_eq!(rt; lines.as_slice(), [4, 5, 6, 7, 8, 9, 10, 11].as_slice());
+    assert_eq!(rt; kinds.as_slice(), [1, 2, 61, 81, 0, 82, 5, 72].as_slice());
     Ok(())
 }
 

@@ -47,12 +47,13 @@ fn colon(count: usize, words: &mut Words) -> Result<(), Cause>
 fn bytes(alloc: Global, ty: Datatype, words: &[&[u8]]) -> Result<Vec<u8>, LineFault>
     ensures { FindsSo (λ bytes. bytes.items) result (valued ty (texts words.now)) }
 {
-    let mut bytes = Vec::new(alloc);
+    let width = ty.width();
+    let mut bytes = Vec::with_capacity(alloc, words.len().saturating_mul(width))?;
     for word in words {
         let Some(element) = read_element(word, ty) else {
             return Err(LineFault::Broken(Cause::BadValue));
         };
-        bytes.extend_from_slice(&element[..ty.width()])?;
+        bytes.extend_from_slice(&element[..width])?;
     }
     Ok(bytes)
 }

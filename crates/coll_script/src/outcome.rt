@@ -49,7 +49,7 @@ fn print_line(head: &[u8], ty: Datatype, row: &[u8], out: &mut Vec<u8>) -> Resul
 {
     out.extend_from_slice(head)?;
     print_elements(ty, row, out)?;
-    out.extend_from_slice(b"\n")?;
+    out.push(b'\n')?;
     Ok(())
 }
 
@@ -61,7 +61,7 @@ fn print_elements(ty: Datatype, row: &[u8], out: &mut Vec<u8>) -> Result<(), Ref
     let width = ty.width();
     let mut rest = row;
     for _ in 0..row.len() / width {
-        out.extend_from_slice(b" ")?;
+        out.push(b' ')?;
         print_element(rest, ty, out)?;
         rest = rest.split_at(width).1;
     }

@@ -103,14 +103,11 @@ fn fault(line: u32, cause: Cause) -> ScriptFault
 }
 
 /// A fault of the whole text, which names its last line. Only such a fault has the lines counted. Linear in the text.
-fn fault_of_all(alloc: Global, text: &[u8], cause: Cause) -> ScriptFault
+fn fault_of_all(text: &[u8], cause: Cause) -> ScriptFault
     requires { length text.now ≤ max_text }
     ensures { FailsText result (fault_at {A = History} (length (lines_of text.now)) cause) }
 {
-    match line_count(alloc, text) {
-        Ok(last) => fault(last as u32, cause),
-        Err(_) => ScriptFault::NoMemory,
-    }
+    fault(line_count(text) as u32, cause)
 }
 
 /// The script of a text's history, or what is judged after the last line.
@@ -119,7 +116,7 @@ fn completed(alloc: Global, text: &[u8], history: History) -> Result<Script, Scr
     ensures { GivesText (λ script. script) result (completed (length (lines_of text.now)) history) }
 {
     if !history.has_ranks() {
-        return Err(fault_of_all(alloc, text, Cause::MissingRanks));
+        return Err(fault_of_all(text, Cause::MissingRanks));
     }
     check(alloc, text, &history)?;
     Ok(Script { history })
@@ -137,10 +134,10 @@ fn check(alloc: Global, text: &[u8], history: &History) -> Result<(), ScriptFaul
         return Err(fault(line, Cause::PlaceMismatch));
     }
     if !all_have_places(&all) {
-        return Err(fault_of_all(alloc, text, Cause::PlaceMissing));
+        return Err(fault_of_all(text, Cause::PlaceMissing));
     }
     if !all_have_starts(&all) {
-        return Err(fault_of_all(alloc, text, Cause::StartMissing));
+        return Err(fault_of_all(text, Cause::StartMissing));
     }
     Ok(())
 }

@@ -1,13 +1,16 @@
-use Rattle.std.proofs.Common.{◌≡◌, ℕ, ◌+◌, ◌<◌, ◌≤◌, List, length, Ok, refl, ap, sym, subst, ◌∙◌, arith}
+use Rattle.std.proofs.Common.{◌≡◌, ℕ, ◌+◌, ◌<◌, ◌≤◌, List, length, Result, Ok, Err, OnOk, refl, ap, sym, subst, ◌∙◌, arith}
 use Rattle.std.specs.Prelude.{slice_index}
 use Rattle.std.proofs.lemmas.List.{with_items_is}
-use Rattle.std.proofs.lemmas.Result.{err_from_is_err_and}
 use Rattle.coll_history.specs.declared.cause.Cause.TheVariants.{NamedTwice}
 use Rattle.coll_history.specs.Reading.{numbers}
 use Rattle.coll_history.specs.Lines.{request_in, made}
-use Rattle.coll_history.specs.Code.{history_of, FailsSo, AreStamps}
+use Rattle.coll_history.specs.Code.{history_of, ReadsSo, AreStamps}
 use Rattle.coll_history.proofs.Readers.{count, section-kept, length-entries, stamps-resized, stamps-at, IsStamped-set}
 use Rattle.coll_history.proofs.commands.some.Goals as goal
+
+if_ok : {A E X : Type 0} (r : Result A E) → X → OnOk r X
+if_ok (Ok value) x = x
+if_ok (Err fault) x = tt
 
 pub requests-requires-clause-few : goal.requests-requires-clause-few
 requests-requires-clause-few c =
@@ -20,21 +23,12 @@ requests-requires-clause-earlier c = λ q lt.
     let some : 0 < c.args.number = omega (arith, c.requires.reader.history.few_told) in
     stamps-resized c.args.number c.len-count.result _ c.index_mut-stamps.result.now.items c.deref_mut.result.now some (c.deref_mut.ensures.value ∙ c.in_ok-resize.ensures.items) are.1 q lt
 
-pub returns-in_err-named-clause-read : goal.returns-in_err-named-clause-read
-returns-in_err-named-clause-read c =
-    let p = err_from_is_err_and c.from_residual-in_err-named.result c.from_residual-in_err-named.ensures.1 in
-    let kept = section-kept c.args.number c.args.rank c.args.reader.now c.index.result.now c.requires.reader c.requires.rank c.index.ensures in
-    let count : length c.deref_mut.result.now ≡ length (made (history_of c.args.reader.now) c.args.rank) =
-    omega (arith, ap length c.deref_mut.ensures.value, c.in_ok-resize.ensures.len, c.len-count.ensures, length-entries c.args.number c.args.rank c.args.reader.now.told.items c.index.result.now kept.0) in
-    rw (p.1, p.2) (subst (λ n. FailsSo c.in_err-named.field-0.0 (numbers (request_in n) NamedTwice c.args.words.now)) count c.in_err-named.ensures.read)
-
 pub returns-clause-read : goal.returns-clause-read
 returns-clause-read c =
     let kept = section-kept c.args.number c.args.rank c.args.reader.now c.index.result.now c.requires.reader c.requires.rank c.index.ensures in
     let count : length c.deref_mut.result.now ≡ length (made (history_of c.args.reader.now) c.args.rank) =
     omega (arith, ap length c.deref_mut.ensures.value, c.in_ok-resize.ensures.len, c.len-count.ensures, length-entries c.args.number c.args.rank c.args.reader.now.told.items c.index.result.now kept.0) in
-    subst (λ n. numbers (request_in n) NamedTwice c.args.words.now ≡ Ok (c.in_ok-named.named.items, c.requests.new.words)) count c.in_ok-named.ensures.read
-    ∙ ap (λ (qs : List ℕ). Ok (qs, c.requests.new.words)) (sym c.these.ensures)
+    subst (λ n. ReadsSo (λ (qs : List ℕ). qs) c.requests.result c.requests.new.words (numbers (request_in n) NamedTwice c.args.words.now)) count c.requests.ensures.read
 
 pub returns-clause-stamped : goal.returns-clause-stamped
 returns-clause-stamped c =
@@ -44,5 +38,6 @@ returns-clause-stamped c =
     let items = with_items_is c.resize.new.self c.requests.new.stamps same in
     let few : length c.requests.new.stamps ≤ count c.args.rank c.args.reader.now.told.items =
     omega (arith, long, ap length c.deref_mut.ensures.value, c.in_ok-resize.ensures.len, c.len-count.ensures, length-entries c.args.number c.args.rank c.args.reader.now.told.items c.index.result.now kept.0) in
-    let below : (q : ℕ) → q < length c.requests.new.stamps → slice_index c.requests.new.stamps q < c.args.number + 1 = λ q lt. (let le = c.in_ok-named.ensures.stamps q (omega (arith, lt, long)) in omega (arith, le)) in
-    IsStamped-set c.args.number c.args.rank c.args.reader.now _ _ c.requires.stamped refl refl refl (subst (AreStamps (c.args.number + 1) (count c.args.rank c.args.reader.now.told.items)) (sym items) (few, below))
+    let below : (q : ℕ) → q < length c.requests.new.stamps → slice_index c.requests.new.stamps q < c.args.number + 1 = λ q lt. (let le = c.requests.ensures.stamps q (omega (arith, lt, long)) in omega (arith, le)) in
+    if_ok c.requests.result
+    (IsStamped-set c.args.number c.args.rank c.args.reader.now _ _ c.requires.stamped refl refl refl (subst (AreStamps (c.args.number + 1) (count c.args.rank c.args.reader.now.told.items)) (sym items) (few, below)))

@@ -5,12 +5,12 @@ use Rattle.coll_history.proofs.Valued.{is_value, with_front-more, with_front-sto
 use Rattle.coll_history.proofs.values.bytes.Goals as goal
 
 pub loop-word-init : goal.loop-word-init
-loop-word-init c = rw c.new-bytes.ensures.items (with_front-none _)
+loop-word-init c = rw c.in_ok-bytes.ensures.items (with_front-none _)
 
 pub loop-word-preserved : goal.loop-word-preserved
 loop-word-preserved c =
     let value = is_value c.args.ty _ c.in-Some.element c.read_element.result c.read_element.ensures c.in-Some.is in
-    rw (c.in_ok-extend_from_slice.ensures.items, c.width.ensures) (with_front-more c.loop-word.bytes.items c.args.ty c.args.words.now c.loop-word.word-index _ c.in-Some.element _ c.loop-word-test.true value c.loop-word.invariant)
+    rw (c.in_ok-extend_from_slice.ensures.items, c.width-width.ensures) (with_front-more c.loop-word.bytes.items c.args.ty c.args.words.now c.loop-word.word-index _ c.in-Some.element _ c.loop-word-test.true value c.loop-word.invariant)
 
 pub returns-in_default : goal.returns-in_default
 returns-in_default c =

@@ -1,4 +1,4 @@
-use Rattle.std.proofs.Common.{◌≡◌, ◌+◌, drop}
+use Rattle.std.proofs.Common.{◌≡◌, ◌+◌, length, drop}
 use Rattle.coll_history.specs.Cutting.{lines_of}
 use Rattle.coll_history.specs.Histories.{beginning}
 use Rattle.coll_history.specs.Judging.{judged}
@@ -7,8 +7,9 @@ use Rattle.coll_history.proofs.history.History.read.Given as goal
 
 abbrev pub invariant-loop-bytes : goal.invariant-loop-bytes
 invariant-loop-bytes l = record {
-  so_far : judged l.number (history_of l.reader) (drop l.bytes-index (lines_of l.text)) ≡ judged 1 beginning (lines_of l.text);
-  number : l.number ≡ l.bytes-index + 1;
+  so_far : judged l.number (history_of l.reader) (drop (length l.yielded) (lines_of l.text))
+      ≡ judged 1 beginning (lines_of l.text);
+  number : l.number ≡ length l.yielded + 1;
   reader : IsReader l.number l.reader;
   stamped : IsStamped l.number l.reader;
 }

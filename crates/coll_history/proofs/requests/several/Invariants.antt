@@ -2,12 +2,14 @@ use Rattle.std.proofs.Common.{◌≡◌, ℕ, ◌<◌, ◌≤◌, [], length, ge
 use Rattle.coll_history.specs.declared.cause.Cause.TheVariants.{NamedTwice}
 use Rattle.coll_history.specs.Reading.{numbers_from}
 use Rattle.coll_history.specs.Lines.{request_in}
+use Rattle.coll_history.specs.Code.{texts}
 use Rattle.coll_history.proofs.Numbers.{AreMarks}
-use Rattle.coll_history.proofs.requests.requests.Given as goal
+use Rattle.coll_history.proofs.requests.several.Given as goal
 
 abbrev pub invariant-loop-word : goal.invariant-loop-word
 invariant-loop-word l = record {
-  so_far : numbers_from (request_in (length l.fn.stamps)) NamedTwice l.named.items (drop l.word-index l.fn.words) ≡ numbers_from (request_in (length l.fn.stamps)) NamedTwice [] l.fn.words;
+  so_far : numbers_from (request_in (length l.fn.stamps)) NamedTwice l.named.items (drop l.word-index (texts l.words))
+      ≡ numbers_from (request_in (length l.fn.stamps)) NamedTwice [] (texts l.words);
   marks : AreMarks l.line l.stamps l.named.items;
   below : (q : ℕ) → q < length l.stamps → get_or l.stamps q 0 ≤ l.line;
 }
