@@ -8,3 +8,4 @@ pub mod Seats
 pub mod Retirements
 pub mod Balances
 pub mod Closings
+pub mod Telling

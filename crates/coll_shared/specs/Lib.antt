@@ -4,7 +4,6 @@ pub mod Halls
 pub mod Outcomes
 pub mod Ports
 pub mod Stalls
-pub mod Turns
-pub mod Looks
 pub mod Retirements
+pub mod Tests
 pub mod Closings

@@ -1,8 +1,11 @@
--- What a caller sees of a port, and why no plan is made for it.
-use Rattle.std.specs.Prelude.{◌<◌, ◌≤◌, ℕ, nat_lt, List, [], ◌∷◌, length, slice_get, unwrap_or, Option, is_some}
+-- What a caller sees of a port, why no plan is made for it, and what the entries of its calls are.
+use Rattle.std.specs.Prelude.{◌≡◌, ◌<◌, ◌≤◌, ℕ, nat_lt, List, [], ◌∷◌, length, slice_get, unwrap_or, Option, Some, is_some}
 use Rattle.coll_kinds.specs.declared.refusal.Refusal.{Refusal}
 use Rattle.coll_kinds.specs.declared.refusal.Refusal.TheVariants.{BadComm, NotMember}
+use Rattle.coll_kinds.specs.declared.signature.Signature.{Signature}
+use Rattle.coll_kinds.specs.declared.ticket.Ticket.{Ticket}
 use Rattle.coll_kinds.specs.Groups.{member_of}
+use Rattle.coll_machine.specs.Entries.{Entry, Posted, Inited, Started}
 use Rattle.coll_machine.specs.Refusals.{first_of, unless}
 
 pub record Holding : Type 0 where
@@ -31,3 +34,16 @@ unseated groups rank comm =
 -- a port of an engine that was just opened
 abbrev pub opened : List (List ℕ) → ℕ → Holding
 opened groups rank = record { rank = rank; made = 0; groups = groups }
+
+-- the entry is of the post that made this request,
+abbrev pub IsPosted : ℕ → Option Ticket → ℕ → Signature → List ℕ → Entry → Type 0
+IsPosted rank r comm sig bytes e =
+    (t : Ticket) × (place : ℕ) × (r ≡ Some t) × (e ≡ Posted rank t comm place sig bytes)
+
+-- of the initialisation that made it,
+abbrev pub IsInited : ℕ → Option Ticket → ℕ → Signature → Entry → Type 0
+IsInited rank r comm sig e = (t : Ticket) × (place : ℕ) × (r ≡ Some t) × (e ≡ Inited rank t comm place sig)
+
+-- of a start of it
+abbrev pub IsStarted : ℕ → Option Ticket → List ℕ → Entry → Type 0
+IsStarted rank r bytes e = (t : Ticket) × (start : ℕ) × (r ≡ Some t) × (e ≡ Started rank t start bytes)

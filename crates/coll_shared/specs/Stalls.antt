@@ -7,7 +7,7 @@ use Rattle.coll_core.specs.declared.phase.Phase.TheVariants.{Done}
 use Rattle.coll_core.specs.Cores.{Parts, seen, setting}
 use Rattle.coll_core.specs.Phases.{IsQuiet, phase_in}
 use Rattle.coll_shared.specs.declared.note.Note.{Note}
-use Rattle.coll_shared.specs.declared.note.Note.TheVariants.{Awake, Sleeps, Ended}
+use Rattle.coll_shared.specs.declared.note.Note.TheVariants.{Awake, Sleeps, SleepsForAny, Ended}
 use Rattle.coll_shared.specs.Halls.{Hall}
 
 -- the ticket names a request of the rank that can be completed
@@ -18,6 +18,7 @@ IsDone p rank t = (refusal (setting p) (seen p).state (Retire rank t) ≡ None) 
 abbrev pub Rests : Parts → Note → Type 0
 Rests p Awake = ⊥
 Rests p (Sleeps rank t) = IsDone p rank t → ⊥
+Rests p (SleepsForAny rank ts) = All (λ t. IsDone p rank t → ⊥) ts.items
 Rests p Ended = Unit {0}
 
 -- no request is ready, no combination is handed out, and no port can go on

@@ -4,6 +4,7 @@
 //! |---|---|
 //! | `tally` | `Tally`, a port's count of the entries that it made, and `Entries`, their ledger |
 //! | `receipt` | `Receipt`, which shows the entry that a call made |
+//! | `receipts` | `Receipts`, which shows those of a completion call |
 //! | `trace` | `Trace`, the entries so far, with room for those that they speak for |
 //! | `groups` | copies of what an engine is opened with |
 //! | `spaces` | `Spaces`, memory for the outcomes of live requests |
@@ -15,6 +16,7 @@
 //! | `vacant` | `Vacant`, what is left of an engine that was closed |
 //! | `balance` | what a trace tells of its ranks when the engine is to be closed |
 //! | `note` | `Note`, what a port waits for |
+//! | `wish` | `Wish`, what a waiting port wants |
 //! | `spent` | `Spent`, what is left of a port |
 //! | `shared` | `Shared`, the core with its trace, and the calls on both |
 #![tactic(auto)]
@@ -28,12 +30,14 @@ mod hall;
 mod note;
 mod port;
 mod receipt;
+mod receipts;
 mod shared;
 mod spaces;
 mod spent;
 mod tally;
 mod trace;
 mod vacant;
+mod wish;
 
 pub use closing::close;
 pub use engine::{Engine, open};
@@ -41,6 +45,7 @@ pub use gate::{Gate, NoGate};
 pub use note::Note;
 pub use port::Port;
 pub use receipt::Receipt;
+pub use receipts::Receipts;
 pub use shared::Shared;
 pub use spent::Spent;
 pub use tally::{Entries, Tally};

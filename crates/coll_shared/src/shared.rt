@@ -4,6 +4,7 @@ mod closing;
 mod completing;
 mod lists;
 mod posting;
+mod receipted;
 mod stalling;
 mod starting;
 mod testing;
@@ -26,7 +27,6 @@ use coll_kinds::{Refusal, Ticket};
 use std::alloc::Global;
 use std::marker::Model;
 use std::sync::ledger::Book;
-pub(crate) use waiting::Turn;
 
 /// What lies under the lock: the core, and the trace of what it accepted. Each call that the core accepts and that
 /// changes what callers see appends its entry, so the trace is legal and leads to the core's state.
@@ -64,6 +64,18 @@ fn live(core: &Core, ticket: Ticket) -> About
     }
 }
 
+/// The notes of so many ports that are awake.
+fn awake(alloc: Global, ranks: u8) -> Result<Vec<Note>, Refusal>
+    ensures notes { IfOk result (λ notes. notes.items ≡ replicate ranks Note.Awake) }
+    ensures refused { IfErr result (λ why. why ≡ Refusal.NoMemory) }
+{
+    let mut notes = Vec::with_capacity(alloc, ranks as usize)?;
+    for _rank in 0..ranks {
+        notes.push_reserved(Note::Awake);
+    }
+    Ok(notes)
+}
+
 /// What a post or a start keeps: a space for its outcome of so many bytes, and a copy of what it gives for the trace.
 fn kept(alloc: Global, len: usize, bytes: &[u8]) -> Result<(Space, Vec<u8>), Refusal>
     ensures len { IfOk result (λ r. r.0.len ≡ len) }
@@ -94,7 +106,7 @@ impl<L: Entries> Shared<L> {
         config.check()?;
         let copy = copied_config(alloc, &config)?;
         let spaces = Spaces::open(alloc, config.slots)?;
-        let notes = vec![in alloc; Note::Awake; config.ranks as usize]?;
+        let notes = awake(alloc, config.ranks)?;
         let core = Core::open(alloc, config)?;
         Ok(Shared {
             alloc,

@@ -11,6 +11,7 @@ use coll_report::Entry;
 use std::alloc::Global;
 use std::marker::Model;
 use std::mem;
+use std::snapshot::Snapshot;
 use std::sync::ledger::{Book, Share};
 
 /// The entries so far, with memory for those that they speak for.
@@ -99,6 +100,13 @@ impl<L: Entries> Trace<L> {
         let book = &mut self.book;
         mine.count(book);
         receipt
+    }
+
+    /// The entries as they are now, for receipts.
+    pub(crate) fn moment(&self) -> Snapshot<Vec<Entry>>
+        ensures { trace_seen result.value.items ≡ self.now.entries }
+    {
+        Snapshot::of(&self.entries)
     }
 
     /// The first of so many ranks that has begun more than it completed.

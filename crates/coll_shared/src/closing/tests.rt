@@ -8,8 +8,9 @@ use crate::gate::NoGate;
 use crate::port::Port;
 use crate::spent::Spent;
 use crate::tally::Entries;
+use coll_complete::Request;
 use coll_core::{Config, Offer, Outcome};
-use coll_kinds::{Datatype, Kind, Mode, Op, Refusal, Refused, Signature, Ticket};
+use coll_kinds::{Datatype, Kind, Mode, Op, Refusal, Refused, Signature};
 use coll_report::Report;
 use std::alloc::Global;
 use std::marker::Brand;
@@ -41,7 +42,7 @@ fn post<L: Entries, R: Wait>(
     alloc: Global,
     port: &mut Port<L>,
     value: u8,
-) -> Result<Ticket, Fail> {
+) -> Result<Request, Fail> {
     let sig = Signature {
         kind: Kind::Allreduce,
         mode: Mode::Once,
@@ -53,14 +54,18 @@ fn post<L: Entries, R: Wait>(
     let plan = port.ready_plan(0, sig)?;
     let bytes = Vec::from_slice(alloc, &[value, 0, 0, 0])?;
     match port.post(rt, 0, Offer { plan, bytes }) {
-        Ok((ticket, _receipt)) => Ok(ticket),
+        Ok((request, _receipt)) => Ok(request),
         Err(_) => Err(Fail::from("a post was refused")),
     }
 }
 
-fn wait<L: Entries, R: Wait>(rt: &R, port: &mut Port<L>, ticket: Ticket) -> Result<Outcome, Fail> {
-    let (outcome, _receipt) = port.wait(rt, &NoGate, ticket)?.ok_or("an outcome")?;
-    Ok(outcome)
+fn wait<L: Entries, R: Wait>(
+    rt: &R,
+    port: &mut Port<L>,
+    mut request: Request,
+) -> Result<Outcome, Fail> {
+    let (outcome, _receipts) = port.wait(rt, &NoGate, &mut request)?;
+    Ok(outcome.ok_or("an outcome")?)
 }
 
 /// The ends of these ports.

@@ -31,6 +31,7 @@ impl<L: Entries> Shared<L> {
         ticket: Ticket,
     ) -> Result<Option<(Outcome, Receipt)>, Refusal>
         ensures setting { setting self.new.core ≡ setting self.old.core }
+        ensures notes { (self.new.notes ≡ self.old.notes) × (self.new.stalled ≡ self.old.stalled) }
         ensures waits { IfOk result (λ found. IsNone found → MachineStep (setting self.old.core) (seen self.old.core) (Retire rank ticket) Nothing (seen self.new.core)) }
         ensures completes { IfOk result (λ found. IfSome found (λ r. MachineStep (setting self.old.core) (seen self.old.core) (Retire rank ticket) (outcome_of r.0) (seen self.new.core))) }
         ensures entry { IfOk result (λ found. IfSome found (λ r. self.new.entries ≡ self.old.entries ++ r.1 ∷ [])) }

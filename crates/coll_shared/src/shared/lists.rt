@@ -19,7 +19,7 @@ use coll_kinds::Refusal;
 
 impl<L: Entries> Shared<L> {
     /// What a list of requests has.
-    fn survey(&self, rank: u8, requests: &[Request]) -> Result<Survey, Refusal>
+    pub(crate) fn survey(&self, rank: u8, requests: &[Request]) -> Result<Survey, Refusal>
         ensures refused { result_err result ≡ list_refusal (setting self.now.core) (seen self.now.core).state rank requests.now }
         ensures done { IfOk result (λ survey. survey.done ≡ position (is_done (seen self.now.core)) requests.now) }
         ensures active { IfOk result (λ survey. survey.active ≡ list_any (is_active (seen self.now.core)) requests.now) }
@@ -44,6 +44,7 @@ impl<L: Entries> Shared<L> {
         ensures refused { result_err result ≡ list_refusal (setting self.old.core) (seen self.old.core).state rank requests.old }
         ensures err { OnErr result ((self.new ≡ self.old) × (requests.new ≡ requests.old) × (mine.new ≡ mine.old)) }
         ensures setting { setting self.new.core ≡ setting self.old.core }
+        ensures notes { (self.new.notes ≡ self.old.notes) × (self.new.stalled ≡ self.old.stalled) }
         ensures undefined { IfOk result (λ any. is_undefined any ≡ not (list_any (is_active (seen self.old.core)) requests.old)) }
         ensures lowest { IfOk result (λ any. position_of any ≡ position (is_done (seen self.old.core)) requests.old) }
         ensures none { IfOk result (λ any. position_of any ≡ None → (self.new ≡ self.old) × (mine.new ≡ mine.old)) }
@@ -80,6 +81,7 @@ impl<L: Entries> Shared<L> {
     ) -> Option<Outcome>
         requires accepted { refusal_at (setting self.old.core) (seen self.old.core).state rank request.old ≡ None }
         ensures setting { setting self.new.core ≡ setting self.old.core }
+        ensures notes { (self.new.notes ≡ self.old.notes) × (self.new.stalled ≡ self.old.stalled) }
         ensures outcome { is_some result ≡ is_done (seen self.old.core) request.old }
         ensures completes { Runs (setting self.old.core) (seen self.old.core) (completion_if rank request.old result) (seen self.new.core) }
         ensures entry { self.new.entries ≡ self.old.entries ++ retirement_if rank request.old result }
@@ -105,6 +107,7 @@ impl<L: Entries> Shared<L> {
         requires accepted { list_refusal (setting self.old.core) (seen self.old.core).state rank requests.old ≡ None }
         requires room { vec_len out.old + length requests.old ≤ vec_capacity out.old }
         ensures setting { setting self.new.core ≡ setting self.old.core }
+        ensures notes { (self.new.notes ≡ self.old.notes) × (self.new.stalled ≡ self.old.stalled) }
         ensures completes { Pushes out.old.items out.new.items (CompletesDone (setting self.old.core) rank requests.old (seen self.old.core) (seen self.new.core)) }
         ensures entries { Pushes out.old.items out.new.items (λ outs. self.new.entries ≡ self.old.entries ++ retirements rank requests.old outs) }
         ensures counted { mine.new + vec_len out.old ≡ mine.old + vec_len out.new }
@@ -136,6 +139,7 @@ impl<L: Entries> Shared<L> {
         ensures refused { result_err result ≡ list_refusal (setting self.old.core) (seen self.old.core).state rank requests.old }
         ensures err { OnErr result ((self.new ≡ self.old) × (requests.new ≡ requests.old) × (out.new ≡ out.old) × (mine.new ≡ mine.old)) }
         ensures setting { setting self.new.core ≡ setting self.old.core }
+        ensures notes { (self.new.notes ≡ self.old.notes) × (self.new.stalled ≡ self.old.stalled) }
         ensures flag { IfOk result (λ flag. flag ≡ not (list_any (is_pending (seen self.old.core)) requests.old)) }
         ensures unfinished { IfOk result (λ flag. OnFalse flag ((self.new ≡ self.old) × (requests.new ≡ requests.old) × (out.new ≡ out.old) × (mine.new ≡ mine.old))) }
         ensures completes { IfOk result (λ flag. OnTrue flag (Pushes out.old.items out.new.items (CompletesDone (setting self.old.core) rank requests.old (seen self.old.core) (seen self.new.core)))) }
@@ -173,6 +177,7 @@ impl<L: Entries> Shared<L> {
         ensures refused { result_err result ≡ list_refusal (setting self.old.core) (seen self.old.core).state rank requests.old }
         ensures err { OnErr result ((self.new ≡ self.old) × (requests.new ≡ requests.old) × (out.new ≡ out.old) × (mine.new ≡ mine.old)) }
         ensures setting { setting self.new.core ≡ setting self.old.core }
+        ensures notes { (self.new.notes ≡ self.old.notes) × (self.new.stalled ≡ self.old.stalled) }
         ensures undefined { IfOk result (λ count. is_some count ≡ list_any (is_active (seen self.old.core)) requests.old) }
         ensures inactive { IfOk result (λ count. IfNone count ((self.new ≡ self.old) × (requests.new ≡ requests.old) × (out.new ≡ out.old) × (mine.new ≡ mine.old))) }
         ensures count { IfOk result (λ count. IfSome count (λ n. n ≡ length (done_positions (seen self.old.core) requests.old))) }

@@ -34,6 +34,7 @@ impl<L: Entries> Shared<L> {
         offer: Offer,
     ) -> Result<(Ticket, Receipt), Refused<Offer>>
         ensures setting { setting self.new.core ≡ setting self.old.core }
+        ensures notes { (self.new.notes ≡ self.old.notes) × (self.new.stalled ≡ self.old.stalled) }
         ensures posted { IfOk result (λ r. StepsTo (setting self.old.core) (seen self.old.core) (post_of rank comm offer) (Ticketed r.0) (seen self.new.core)) }
         ensures entry { IfOk result (λ r. self.new.entries ≡ self.old.entries ++ r.1 ∷ []) }
         ensures receipt { IfOk result (λ r. (place : ℕ) × (r.1 ≡ Posted rank r.0 comm place offer.plan.sig offer.bytes.items)) }
@@ -91,6 +92,7 @@ impl<L: Entries> Shared<L> {
         plan: Plan,
     ) -> Result<(Ticket, Receipt), Refused<Plan>>
         ensures setting { setting self.new.core ≡ setting self.old.core }
+        ensures notes { (self.new.notes ≡ self.old.notes) × (self.new.stalled ≡ self.old.stalled) }
         ensures made { IfOk result (λ r. MachineStep (setting self.old.core) (seen self.old.core) (init_of rank comm plan) (Ticketed r.0) (seen self.new.core)) }
         ensures entry { IfOk result (λ r. self.new.entries ≡ self.old.entries ++ r.1 ∷ []) }
         ensures receipt { IfOk result (λ r. (place : ℕ) × (r.1 ≡ Inited rank r.0 comm place plan.sig)) }

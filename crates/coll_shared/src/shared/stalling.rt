@@ -1,6 +1,7 @@
 //! Notes of who sleeps for what, the marks of a stall and of the stop, and the count of pieces.
 
 ghost use Rattle.std.specs.Prelude.{◌≡◌, ◌↔◌, All, IsTrue, false, slice_set, true};
+ghost use Rattle.std.specs.Bool.{OnFalse, OnTrue};
 ghost use Rattle.coll_shared.specs.Stalls.{IsDone, IsStalled, Rests};
 
 use crate::note::Note;
@@ -21,13 +22,21 @@ fn is_done(core: &Core, rank: u8, ticket: Ticket) -> bool
     }
 }
 
+/// Whether none of the tickets names a request of the rank that can be completed.
+fn none_is_done(core: &Core, rank: u8, tickets: &[Ticket]) -> bool
+    ensures { IsTrue result ↔ All (λ t. IsDone core.now rank t → ⊥) tickets.now }
+{
+    tickets.iter().all(|ticket| !is_done(core, rank, *ticket))
+}
+
 /// Whether the note is of a port that sleeps for what isn't the case, or has ended.
-fn rests(core: &Core, note: Note) -> bool
-    ensures { IsTrue result ↔ Rests core.now note }
+fn rests(core: &Core, note: &Note) -> bool
+    ensures { IsTrue result ↔ Rests core.now note.now }
 {
     match note {
         Note::Awake => false,
-        Note::Sleeps { rank, ticket } => !is_done(core, rank, ticket),
+        Note::Sleeps { rank, ticket } => !is_done(core, *rank, *ticket),
+        Note::SleepsForAny { rank, tickets } => none_is_done(core, *rank, tickets),
         Note::Ended => true,
     }
 }
@@ -35,7 +44,7 @@ fn rests(core: &Core, note: Note) -> bool
 fn all_rest(core: &Core, notes: &[Note]) -> bool
     ensures { IsTrue result ↔ All (Rests core.now) notes.now }
 {
-    notes.iter().all(|note| rests(core, *note))
+    notes.iter().all(|note| rests(core, note))
 }
 
 impl<L: Entries> Shared<L> {
@@ -59,20 +68,32 @@ impl<L: Entries> Shared<L> {
         }
     }
 
-    /// Notes that a port sleeps for a request, unless nothing could go on then: the note is taken back, and the engine is
-    /// marked as stalled for good. Answers whether it may sleep.
-    pub(crate) fn lie_down(&mut self, rank: u8, ticket: Ticket) -> bool
+    /// Notes that a port wakes.
+    pub(crate) fn rise(&mut self, rank: u8)
         ensures core { self.new.core ≡ self.old.core }
         ensures entries { self.new.entries ≡ self.old.entries }
+        ensures notes { self.new.notes ≡ slice_set self.old.notes rank Note.Awake }
+        ensures stalled { self.new.stalled ≡ self.old.stalled }
+    {
+        self.note(rank, Note::Awake);
+    }
+
+    /// Notes that a port sleeps, unless nothing could go on then: the note is taken back, and the engine is marked as
+    /// stalled for good. Answers whether it may sleep.
+    pub(crate) fn lie_down(&mut self, rank: u8, note: Note) -> bool
+        ensures core { self.new.core ≡ self.old.core }
+        ensures entries { self.new.entries ≡ self.old.entries }
+        ensures sleeps { OnTrue result ((self.new.notes ≡ slice_set self.old.notes rank note) × (IsStalled self.new → ⊥)) }
+        ensures stalled { OnFalse result (self.new.stalled ≡ true) }
     {
         if self.stalled {
             return false;
         }
-        self.note(rank, Note::Sleeps { rank, ticket });
+        self.note(rank, note);
         if !self.stall_now() {
             return true;
         }
-        self.note(rank, Note::Awake);
+        self.rise(rank);
         self.stalled = true;
         false
     }

@@ -32,6 +32,7 @@ impl<L: Entries> Shared<L> {
         bytes: Vec<u8>,
     ) -> Result<Receipt, Refused<Vec<u8>>>
         ensures setting { setting self.new.core ≡ setting self.old.core }
+        ensures notes { (self.new.notes ≡ self.old.notes) × (self.new.stalled ≡ self.old.stalled) }
         ensures starts { OnOk result (StepsTo (setting self.old.core) (seen self.old.core) (Start rank ticket bytes.items) Nothing (seen self.new.core)) }
         ensures entry { IfOk result (λ receipt. self.new.entries ≡ self.old.entries ++ receipt ∷ []) }
         ensures receipt { IfOk result (λ receipt. (start : ℕ) × (receipt ≡ Started rank ticket start bytes.items)) }
@@ -85,6 +86,7 @@ impl<L: Entries> Shared<L> {
         ticket: Ticket,
     ) -> Result<Receipt, Refusal>
         ensures setting { setting self.new.core ≡ setting self.old.core }
+        ensures notes { (self.new.notes ≡ self.old.notes) × (self.new.stalled ≡ self.old.stalled) }
         ensures frees { OnOk result (MachineStep (setting self.old.core) (seen self.old.core) (Free rank ticket) Nothing (seen self.new.core)) }
         ensures entry { IfOk result (λ receipt. self.new.entries ≡ self.old.entries ++ receipt ∷ []) }
         ensures receipt { IfOk result (λ receipt. receipt ≡ Freed rank ticket) }

@@ -1,6 +1,6 @@
 //! The test and the free of one request.
 
-ghost use Rattle.std.specs.Prelude.{◌≡◌, ◌+◌, ◌++◌, IfOk, IfSome, None, OnErr, OnOk, Some, is_some, not, true};
+ghost use Rattle.std.specs.Prelude.{◌≡◌, ◌+◌, [], ◌∷◌, ◌++◌, IfOk, IfSome, None, OnErr, OnOk, Some, is_some, not, true};
 ghost use Rattle.std.specs.Result.{result_err};
 ghost use Rattle.coll_machine.specs.Calls.{Retire};
 ghost use Rattle.coll_machine.specs.Refusals.{refusal};
@@ -11,6 +11,7 @@ ghost use Rattle.coll_complete.specs.Completing.{completion_if, completion, free
 ghost use Rattle.coll_complete.specs.Requests.{free_refusal, is_done, is_pending, left_of, refusal_at, hold_after};
 ghost use Rattle.coll_shared.specs.Retirements.{release, retirement, retirement_if};
 
+use crate::receipt::Receipt;
 use crate::shared::Shared;
 use crate::tally::{Entries, Tally};
 use coll_complete::{Request, Tested};
@@ -43,6 +44,7 @@ impl<L: Entries> Shared<L> {
         requires accepted { refusal_at (setting self.old.core) (seen self.old.core).state rank request.old ≡ None }
         requires done { is_done (seen self.old.core) request.old ≡ true }
         ensures setting { setting self.new.core ≡ setting self.old.core }
+        ensures notes { (self.new.notes ≡ self.old.notes) × (self.new.stalled ≡ self.old.stalled) }
         ensures completes { Runs (setting self.old.core) (seen self.old.core) (completion rank request.old result) (seen self.new.core) }
         ensures entry { self.new.entries ≡ self.old.entries ++ retirement rank request.old result }
         ensures counted { mine.new ≡ mine.old + 1 }
@@ -73,6 +75,7 @@ impl<L: Entries> Shared<L> {
         ensures refused { result_err result ≡ refusal_at (setting self.old.core) (seen self.old.core).state rank request.old }
         ensures err { OnErr result ((self.new ≡ self.old) × (request.new ≡ request.old) × (mine.new ≡ mine.old)) }
         ensures setting { setting self.new.core ≡ setting self.old.core }
+        ensures notes { (self.new.notes ≡ self.old.notes) × (self.new.stalled ≡ self.old.stalled) }
         ensures flag { IfOk result (λ tested. tested.flag ≡ not (is_pending (seen self.old.core) request.old)) }
         ensures outcome { IfOk result (λ tested. is_some tested.outcome ≡ is_done (seen self.old.core) request.old) }
         ensures none { IfOk result (λ tested. tested.outcome ≡ None → (self.new ≡ self.old) × (mine.new ≡ mine.old)) }
@@ -118,12 +121,14 @@ impl<L: Entries> Shared<L> {
         mine: &mut Tally<L>,
         rank: u8,
         request: &mut Request,
-    ) -> Result<(), Refusal>
+    ) -> Result<Receipt, Refusal>
         ensures refused { result_err result ≡ free_refusal (setting self.old.core) (seen self.old.core).state rank request.old }
         ensures err { OnErr result ((self.new ≡ self.old) × (request.new ≡ request.old) × (mine.new ≡ mine.old)) }
         ensures setting { setting self.new.core ≡ setting self.old.core }
+        ensures notes { (self.new.notes ≡ self.old.notes) × (self.new.stalled ≡ self.old.stalled) }
         ensures frees { OnOk result (Runs (setting self.old.core) (seen self.old.core) (freeing rank request.old) (seen self.new.core)) }
-        ensures entry { OnOk result (self.new.entries ≡ self.old.entries ++ release rank request.old) }
+        ensures entry { IfOk result (λ receipt. self.new.entries ≡ self.old.entries ++ receipt ∷ []) }
+        ensures receipt { IfOk result (λ receipt. receipt ∷ [] ≡ release rank request.old) }
         ensures counted { OnOk result (mine.new ≡ mine.old + 1) }
         ensures null { OnOk result (request.new ≡ None) }
     {
@@ -132,9 +137,9 @@ impl<L: Entries> Shared<L> {
         };
         match self.free(mine, rank, ticket) {
             Err(why) => Err(why),
-            Ok(_receipt) => {
+            Ok(receipt) => {
                 *request = Request::null();
-                Ok(())
+                Ok(receipt)
             }
         }
     }

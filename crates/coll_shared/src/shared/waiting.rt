@@ -1,66 +1,155 @@
-//! What a waiting port and a progress thread do under one hold of the lock.
+//! What a waiting port asks under one hold of the lock: whether its wish is fulfilled, and else for what it is to sleep.
 
-ghost use Rattle.std.specs.Prelude.{◌≡◌, ◌+◌, [], ◌∷◌, ◌++◌};
-ghost use Rattle.coll_shared.specs.Outcomes.{retired};
-ghost use Rattle.coll_shared.specs.Turns.{Turned};
+ghost use Rattle.std.specs.Prelude.{◌≡◌, ◌+◌, ◌≤◌, IfOk, IfSome, IsNone, None, OnErr, length, true, vec_capacity, vec_len};
+ghost use Rattle.coll_complete.specs.Requests.{AreDistinct};
+ghost use Rattle.coll_shared.specs.Tests.{TestsAll, TestsAny, TestsOne, TestsSome, any_of};
 
-use crate::receipt::Receipt;
+use crate::note::Note;
+use crate::receipts::Receipts;
 use crate::shared::Shared;
 use crate::tally::{Entries, Tally};
-use coll_core::{Outcome, Phase, Stepped, Work};
+use crate::wish::Wish;
+use coll_complete::{Any, Request};
+use coll_core::{Outcome, Phase};
 use coll_kinds::{Refusal, Ticket};
+use std::alloc::Global;
 
-/// What a waiting port finds when it looks.
-#[derive(Drop)]
-pub(crate) enum Turn {
-    /// Its request was Done, and is completed.
-    Done(Outcome, Receipt),
-    /// Its request isn't active: there is nothing to wait for.
-    Inactive,
-    /// A combination was handed out, with its number.
-    Out(Work, u64),
-    /// An action was done.
-    Moved,
-    /// The last action of some request was done.
-    Finished,
-    /// No request is ready.
-    Quiet,
+/// The tickets of the requests that aren't null.
+fn tickets_of(alloc: Global, requests: &[Request]) -> Result<Vec<Ticket>, Refusal> {
+    let mut tickets = Vec::with_capacity(alloc, requests.len())?;
+    for request in requests {
+        if let Some(ticket) = request.ticket() {
+            tickets.push(ticket)?;
+        }
+    }
+    Ok(tickets)
 }
 
 impl<L: Entries> Shared<L> {
-    /// Completes the request if it is Done, and else makes one step.
-    pub(crate) fn turn(
+    /// `tested`, unless the request is Pending: then None, and nothing changes.
+    pub(crate) fn fulfil(
         &mut self,
         mine: &mut Tally<L>,
         rank: u8,
-        ticket: Ticket,
-    ) -> Result<Turn, Refusal>
-        ensures { Turned self.old self.new mine.old mine.new rank ticket result }
+        request: &mut Request,
+    ) -> Result<Option<(Option<Outcome>, Receipts)>, Refusal>
+        ensures told { IfOk result (λ found. IfSome found (λ r. TestsOne rank request.old request.new true r.0 r.1)) }
+        ensures counted { IfOk result (λ found. IfSome found (λ r. IfSome r.0 (λ outcome. mine.new ≡ mine.old + 1))) }
+        ensures none { IfOk result (λ found. IfSome found (λ r. r.0 ≡ None → mine.new ≡ mine.old)) }
+        ensures waits { IfOk result (λ found. IsNone found → (request.new ≡ request.old) × (mine.new ≡ mine.old)) }
+        ensures err { OnErr result ((request.new ≡ request.old) × (mine.new ≡ mine.old)) }
     {
-        match self.retire(mine, rank, ticket) {
-            Ok(Some((outcome, receipt))) => return Ok(Turn::Done(outcome, receipt)),
-            Ok(None) => {}
+        let (tested, receipts) = match self.tested(mine, rank, request) {
+            Ok(answer) => answer,
             Err(why) => return Err(why),
+        };
+        if tested.flag {
+            Ok(Some((tested.outcome, receipts)))
+        } else {
+            Ok(None)
         }
-        if self.is_idle(rank, ticket) {
-            return Ok(Turn::Inactive);
+    }
+
+    /// `tested_any`, unless requests are active and none is Done: then None, and nothing changes.
+    pub(crate) fn fulfil_any(
+        &mut self,
+        mine: &mut Tally<L>,
+        rank: u8,
+        requests: &mut [Request],
+    ) -> Result<Option<(Option<(usize, Outcome)>, Receipts)>, Refusal>
+        ensures told { IfOk result (λ found. IfSome found (λ r. TestsAny rank requests.old requests.new (any_of r.0) r.1)) }
+        ensures counted { IfOk result (λ found. IfSome found (λ r. IfSome r.0 (λ at. mine.new ≡ mine.old + 1))) }
+        ensures none { IfOk result (λ found. IfSome found (λ r. r.0 ≡ None → mine.new ≡ mine.old)) }
+        ensures waits { IfOk result (λ found. IsNone found → (requests.new ≡ requests.old) × (mine.new ≡ mine.old)) }
+        ensures err { OnErr result ((requests.new ≡ requests.old) × (mine.new ≡ mine.old)) }
+    {
+        let (any, receipts) = match self.tested_any(mine, rank, requests) {
+            Ok(answer) => answer,
+            Err(why) => return Err(why),
+        };
+        match any {
+            Any::At(position, outcome) => Ok(Some((Some((position, outcome)), receipts))),
+            Any::Undefined => Ok(Some((None, receipts))),
+            Any::Unfinished => Ok(None),
         }
-        match self.step() {
-            Ok(Stepped::Quiet) => Ok(Turn::Quiet),
-            Ok(Stepped::Moved) => Ok(Turn::Moved),
-            Ok(Stepped::Finished) => Ok(Turn::Finished),
-            Ok(Stepped::Out(work)) => Ok(Turn::Out(work, self.next_piece())),
+    }
+
+    /// `tested_all`, unless a request is Pending: then None, and nothing changes.
+    pub(crate) fn fulfil_all(
+        &mut self,
+        mine: &mut Tally<L>,
+        rank: u8,
+        requests: &mut [Request],
+        out: &mut Vec<(usize, Outcome)>,
+    ) -> Result<Option<Receipts>, Refusal>
+        requires distinct { AreDistinct requests.old }
+        requires room { vec_len out.old + length requests.old ≤ vec_capacity out.old }
+        ensures told { IfOk result (λ found. IfSome found (λ r. TestsAll rank requests.old requests.new out.old.items out.new.items true r)) }
+        ensures counted { IfOk result (λ found. IfSome found (λ r. mine.new + vec_len out.old ≡ mine.old + vec_len out.new)) }
+        ensures waits { IfOk result (λ found. IsNone found → (requests.new ≡ requests.old) × (out.new ≡ out.old) × (mine.new ≡ mine.old)) }
+        ensures err { OnErr result ((requests.new ≡ requests.old) × (out.new ≡ out.old) × (mine.new ≡ mine.old)) }
+    {
+        let (flag, receipts) = match self.tested_all(mine, rank, requests, out) {
+            Ok(answer) => answer,
+            Err(why) => return Err(why),
+        };
+        if flag { Ok(Some(receipts)) } else { Ok(None) }
+    }
+
+    /// `tested_some`, unless requests are active and none is Done: then None, and nothing changes.
+    pub(crate) fn fulfil_some(
+        &mut self,
+        mine: &mut Tally<L>,
+        rank: u8,
+        requests: &mut [Request],
+        out: &mut Vec<(usize, Outcome)>,
+    ) -> Result<Option<(Option<usize>, Receipts)>, Refusal>
+        requires distinct { AreDistinct requests.old }
+        requires room { vec_len out.old + length requests.old ≤ vec_capacity out.old }
+        ensures told { IfOk result (λ found. IfSome found (λ r. TestsSome rank requests.old requests.new out.old.items out.new.items r.0 r.1)) }
+        ensures counted { IfOk result (λ found. IfSome found (λ r. IfSome r.0 (λ n. mine.new ≡ mine.old + n))) }
+        ensures inactive { IfOk result (λ found. IfSome found (λ r. r.0 ≡ None → mine.new ≡ mine.old)) }
+        ensures waits { IfOk result (λ found. IsNone found → (requests.new ≡ requests.old) × (out.new ≡ out.old) × (mine.new ≡ mine.old)) }
+        ensures err { OnErr result ((requests.new ≡ requests.old) × (out.new ≡ out.old) × (mine.new ≡ mine.old)) }
+    {
+        let survey = match self.survey(rank, requests) {
+            Ok(survey) => survey,
+            Err(why) => return Err(why),
+        };
+        if survey.active && survey.done.is_none() {
+            return Ok(None);
+        }
+        match self.tested_some(mine, rank, requests, out) {
+            Ok(answer) => Ok(Some(answer)),
             Err(why) => Err(why),
         }
     }
 
-    /// Whether the request isn't active.
-    fn is_idle(&self, rank: u8, ticket: Ticket) -> bool {
-        match self.core.phase(rank, ticket) {
-            Ok(Phase::Idle) => true,
-            Ok(Phase::Pending) => false,
-            Ok(Phase::Done) => false,
-            Err(_) => false,
+    /// The first request of a list that is Pending.
+    fn first_pending(&self, rank: u8, requests: &[Request]) -> Option<Ticket> {
+        for request in requests {
+            if let Some(ticket) = request.ticket() {
+                if let Ok(Phase::Pending) = self.core.phase(rank, ticket) {
+                    return Some(ticket);
+                }
+            }
+        }
+        None
+    }
+
+    /// For what a port is to sleep, as long as its wish isn't fulfilled; None where it needn't sleep.
+    pub(crate) fn note_for(&self, rank: u8, wish: Wish<'_>) -> Result<Option<Note>, Refusal> {
+        let pending = match wish {
+            Wish::One(request) => request.ticket(),
+            Wish::All(requests) => self.first_pending(rank, requests),
+            Wish::Any(requests) => {
+                let tickets = tickets_of(self.alloc, requests)?;
+                return Ok(Some(Note::SleepsForAny { rank, tickets }));
+            }
+        };
+        match pending {
+            Some(ticket) => Ok(Some(Note::Sleeps { rank, ticket })),
+            None => Ok(None),
         }
     }
 }

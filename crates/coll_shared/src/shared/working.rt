@@ -19,6 +19,7 @@ impl<L: Entries> Shared<L> {
         ensures quiet { (result ≡ Ok Quiet) ↔ (ready self.old.core ≡ []) }
         ensures steps { IfOk result (Steps self.old.core self.new.core) }
         ensures entries { self.new.entries ≡ self.old.entries }
+        ensures notes { (self.new.notes ≡ self.old.notes) × (self.new.stalled ≡ self.old.stalled) }
         ensures err { OnErr result (self.new ≡ self.old) }
         ensures refusal { IsOkUnless result Refusal.NoMemory }
     {
@@ -34,6 +35,7 @@ impl<L: Entries> Shared<L> {
         ensures out { IsTrue (is_ok result) ↔ IsOut self.old.core done.piece }
         ensures steps { IfOk result (CommitSteps self.old.core self.new.core done) }
         ensures entries { self.new.entries ≡ self.old.entries }
+        ensures notes { (self.new.notes ≡ self.old.notes) × (self.new.stalled ≡ self.old.stalled) }
         ensures err { OnErr result (self.new ≡ self.old) }
         ensures refused { IfErr result (λ why. why ≡ Refusal.Stale) }
     {
@@ -49,6 +51,7 @@ impl<L: Entries> Shared<L> {
         ensures out { IsTrue (is_ok result) ↔ IsOut self.old.core work }
         ensures back { OnOk result (Returns self.old.core self.new.core work) }
         ensures entries { self.new.entries ≡ self.old.entries }
+        ensures notes { (self.new.notes ≡ self.old.notes) × (self.new.stalled ≡ self.old.stalled) }
         ensures err { OnErr result (self.new ≡ self.old) }
         ensures refused { IfErr result (λ why. why ≡ Refusal.Stale) }
     {

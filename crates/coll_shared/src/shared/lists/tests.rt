@@ -179,7 +179,7 @@ fn ask_one<L: Entries>(
 ) -> Result<Answer, Refusal> {
     match call {
         Call::Free => match shared.request_free(mine, 0, request) {
-            Ok(()) => Ok(Answer::Ok),
+            Ok(_receipt) => Ok(Answer::Ok),
             Err(why) => Ok(Answer::Refused(why)),
         },
         _ => match shared.test(mine, 0, request) {

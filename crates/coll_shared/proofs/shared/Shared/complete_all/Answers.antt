@@ -87,6 +87,10 @@ loop-position-preserved g c =
     ] in
     record {
       set = c.complete_if_done.ensures.setting ∙ c.loop-position.invariant.set;
+      notes = (
+        c.complete_if_done.ensures.notes.0 ∙ c.loop-position.invariant.notes.0,
+        c.complete_if_done.ensures.notes.1 ∙ c.loop-position.invariant.notes.1,
+      );
       requests =
           swept_list-set m n list c.loop-position.requests i x c.complete_if_done.new.request
           c.loop-position.invariant.requests at c.complete_if_done.ensures.request

@@ -11,6 +11,7 @@ invariant-loop-position g l =
     let list = l.initial.requests in
     record {
       set : setting l.self.core ≡ setting p;
+      notes : (l.self.notes ≡ l.initial.self.notes) × (l.self.stalled ≡ l.initial.self.stalled);
       requests : l.requests ≡ swept_list (seen p) list l.position;
       room : vec_len l.out ≤ vec_len l.initial.out + l.position;
       capacity : vec_capacity l.out ≡ vec_capacity l.initial.out;

@@ -1,0 +1,82 @@
+-- What a port's completion calls tell, without naming what lies under the lock: in some state of the engine they are the
+-- tests of `coll_complete`, and the receipts are the entries of what they completed.
+use Rattle.std.specs.Prelude.{◌≡◌, Bool, true, false, not, ℕ, List, [], length, map, position, Option, Some, None, is_some, IfSome}
+use Rattle.std.specs.List.{list_any}
+use Rattle.coll_kinds.specs.declared.refusal.Refusal.{Refusal}
+use Rattle.coll_kinds.specs.declared.ticket.Ticket.{Ticket}
+use Rattle.coll_machine.specs.Entries.{Entry}
+use Rattle.coll_machine.specs.Runs.{Runs}
+use Rattle.coll_machine.specs.Settings.{Setting}
+use Rattle.coll_machine.specs.States.{Machine}
+use Rattle.coll_core.specs.declared.outcome.Outcome.{Outcome}
+use Rattle.coll_complete.specs.declared.any.Any.{Any}
+use Rattle.coll_complete.specs.declared.any.Any.TheVariants.{Undefined, At}
+use Rattle.coll_complete.specs.Anys.{completion_any, is_undefined, left_at, position_of}
+use Rattle.coll_complete.specs.Completing.{CompletesDone, Pushes, completion_if, done_positions}
+use Rattle.coll_complete.specs.Requests.{is_active, is_done, is_pending, left_of, list_refusal, refusal_at}
+use Rattle.coll_shared.specs.Retirements.{retirement_any, retirement_if, retirements}
+
+-- the test of one request, which is `new` then
+pub record TestsOne (rank : ℕ) (old new : Option Ticket) (flag : Bool) (outcome : Option Outcome) (entries : List Entry)
+    : Type 0 where
+  pub setting : Setting
+  pub engine : Machine
+  pub after : Machine
+  pub flag_is : flag ≡ not (is_pending engine old)
+  pub outcome_is : is_some outcome ≡ is_done engine old
+  pub runs : Runs setting engine (completion_if rank old outcome) after
+  pub request : new ≡ left_of engine old
+  pub entries_are : entries ≡ retirement_if rank old outcome
+
+-- the test of a list for one request
+pub record TestsAny (rank : ℕ) (old new : List (Option Ticket)) (any : Any) (entries : List Entry) : Type 0 where
+  pub setting : Setting
+  pub engine : Machine
+  pub after : Machine
+  pub undefined : is_undefined any ≡ not (list_any (is_active engine) old)
+  pub lowest : position_of any ≡ position (is_done engine) old
+  pub runs : Runs setting engine (completion_any rank old any) after
+  pub requests : new ≡ left_at engine (position_of any) old
+  pub entries_are : entries ≡ retirement_any rank old any
+
+-- what a wait for one request of a list answers: none where no request is active
+abbrev pub any_of : Option (ℕ × Outcome) → Any
+any_of None = Undefined
+any_of (Some found) = At found.0 found.1
+
+-- all requests of a list that are Done were completed, with these outcomes
+pub record CompletesAll (rank : ℕ) (old new : List (Option Ticket)) (engine : Machine) (entries : List Entry)
+    (outs : List (ℕ × Outcome)) : Type 0 where
+  pub setting : Setting
+  pub after : Machine
+  pub completes : CompletesDone setting rank old engine after outs
+  pub requests : new ≡ map (left_of engine) old
+  pub entries_are : entries ≡ retirements rank old outs
+
+-- the test of a list for all requests; `was` and `is` are the noted outcomes
+pub record TestsAll (rank : ℕ) (old new : List (Option Ticket)) (was is : List (ℕ × Outcome)) (flag : Bool)
+    (entries : List Entry) : Type 0 where
+  pub engine : Machine
+  pub flag_is : flag ≡ not (list_any (is_pending engine) old)
+  pub unfinished : flag ≡ false → (new ≡ old) × (is ≡ was) × (entries ≡ [])
+  pub completes : flag ≡ true → Pushes was is (CompletesAll rank old new engine entries)
+
+-- the test of a list for some requests
+pub record TestsSome (rank : ℕ) (old new : List (Option Ticket)) (was is : List (ℕ × Outcome)) (count : Option ℕ)
+    (entries : List Entry) : Type 0 where
+  pub engine : Machine
+  pub undefined : is_some count ≡ list_any (is_active engine) old
+  pub count_is : IfSome count (λ n. n ≡ length (done_positions engine old))
+  pub inactive : is_some count ≡ false → (new ≡ old) × (is ≡ was) × (entries ≡ [])
+  pub completes : is_some count ≡ true → Pushes was is (CompletesAll rank old new engine entries)
+
+-- what the test of a request, or of a list, is refused with, if it is
+pub record RefusesOne (rank : ℕ) (request : Option Ticket) (why : Option Refusal) : Type 0 where
+  pub setting : Setting
+  pub engine : Machine
+  pub why_is : why ≡ refusal_at setting engine.state rank request
+
+pub record RefusesList (rank : ℕ) (list : List (Option Ticket)) (why : Option Refusal) : Type 0 where
+  pub setting : Setting
+  pub engine : Machine
+  pub why_is : why ≡ list_refusal setting engine.state rank list

@@ -1,0 +1,136 @@
+//! A port's posts, and the life of its persistent requests.
+
+ghost use Rattle.std.specs.Prelude.{◌≡◌, ◌+◌, [], ◌∷◌, IfErr, IfOk, None, OnErr, OnOk};
+ghost use Rattle.coll_shared.specs.Ports.{IsInited, IsPosted, IsStarted};
+ghost use Rattle.coll_shared.specs.Retirements.{release};
+
+use crate::hall::Hall;
+use crate::port::Port;
+use crate::receipt::Receipt;
+use crate::tally::Entries;
+use coll_complete::Request;
+use coll_core::Offer;
+use coll_kinds::{Refusal, Refused};
+use coll_plans::Plan;
+use std::sync::Wait;
+
+impl<L: Entries> Port<L> {
+    /// Starts a collective (`MPI_Ibcast` and its like; MPI 4.1, 6.12).
+    ///
+    /// # Errors
+    ///
+    /// Those of `Shared::post`, in its order, with the offer handed back.
+    pub fn post<R: Wait>(
+        &mut self,
+        rt: &R,
+        comm: u32,
+        offer: Offer,
+    ) -> Result<(Request, Receipt), Refused<Offer>>
+        ensures rank { self.new.rank ≡ self.old.rank }
+        ensures groups { self.new.groups ≡ self.old.groups }
+        ensures made { OnOk result (self.new.made ≡ self.old.made + 1) }
+        ensures receipt { IfOk result (λ r. IsPosted self.old.rank r.0 comm offer.plan.sig offer.bytes.items r.1) }
+        ensures err { OnErr result (self.new.made ≡ self.old.made) }
+        ensures back { IfErr result (λ refused. refused.back ≡ offer) }
+    {
+        let hall: &Hall<L> = &*self.hall;
+        let posted = hall
+            .shared
+            .lock(rt)
+            .post(&mut self.tally, self.rank, comm, offer);
+        match posted {
+            Ok((ticket, receipt)) => {
+                hall.moved.notify_all();
+                Ok((Request::of(ticket), receipt))
+            }
+            Err(refused) => Err(refused),
+        }
+    }
+
+    /// Makes a persistent request, which is Idle (`MPI_Bcast_init` and its like; MPI 4.1, 6.13).
+    ///
+    /// # Errors
+    ///
+    /// Those of `Shared::init`, in its order, with the plan handed back.
+    pub fn init<R: Wait>(
+        &mut self,
+        rt: &R,
+        comm: u32,
+        plan: Plan,
+    ) -> Result<(Request, Receipt), Refused<Plan>>
+        ensures rank { self.new.rank ≡ self.old.rank }
+        ensures groups { self.new.groups ≡ self.old.groups }
+        ensures made { OnOk result (self.new.made ≡ self.old.made + 1) }
+        ensures receipt { IfOk result (λ r. IsInited self.old.rank r.0 comm plan.sig r.1) }
+        ensures err { OnErr result (self.new.made ≡ self.old.made) }
+        ensures back { IfErr result (λ refused. refused.back ≡ plan) }
+    {
+        let hall: &Hall<L> = &*self.hall;
+        let made = hall
+            .shared
+            .lock(rt)
+            .init(&mut self.tally, self.rank, comm, plan);
+        match made {
+            Ok((ticket, receipt)) => Ok((Request::of(ticket), receipt)),
+            Err(refused) => Err(refused),
+        }
+    }
+
+    /// Starts a persistent request (`MPI_Start`; MPI 4.1, 3.9).
+    ///
+    /// # Errors
+    ///
+    /// Stale where the request is null; then those of `Shared::start`, in its order. The bytes are handed back.
+    pub fn start<R: Wait>(
+        &mut self,
+        rt: &R,
+        request: &Request,
+        bytes: Vec<u8>,
+    ) -> Result<Receipt, Refused<Vec<u8>>>
+        ensures rank { self.new.rank ≡ self.old.rank }
+        ensures groups { self.new.groups ≡ self.old.groups }
+        ensures made { OnOk result (self.new.made ≡ self.old.made + 1) }
+        ensures receipt { IfOk result (λ receipt. IsStarted self.old.rank request.now bytes.items receipt) }
+        ensures err { OnErr result (self.new.made ≡ self.old.made) }
+        ensures back { IfErr result (λ refused. refused.back ≡ bytes) }
+    {
+        let Some(ticket) = request.ticket() else {
+            return Err(Refused {
+                why: Refusal::Stale,
+                back: bytes,
+            });
+        };
+        let hall: &Hall<L> = &*self.hall;
+        let started = hall
+            .shared
+            .lock(rt)
+            .start(&mut self.tally, self.rank, ticket, bytes);
+        match started {
+            Ok(receipt) => {
+                hall.moved.notify_all();
+                Ok(receipt)
+            }
+            Err(refused) => Err(refused),
+        }
+    }
+
+    /// Gives up a persistent request that isn't active, and leaves null (`MPI_Request_free`; MPI 4.1, 3.7.3). It takes no
+    /// memory.
+    ///
+    /// # Errors
+    ///
+    /// In this order, with nothing changed: Stale, also where the request is null; NotYours; NotPersistent; Active.
+    pub fn free<R: Wait>(&mut self, rt: &R, request: &mut Request) -> Result<Receipt, Refusal>
+        ensures rank { self.new.rank ≡ self.old.rank }
+        ensures groups { self.new.groups ≡ self.old.groups }
+        ensures made { OnOk result (self.new.made ≡ self.old.made + 1) }
+        ensures receipt { IfOk result (λ receipt. receipt ∷ [] ≡ release self.old.rank request.old) }
+        ensures null { OnOk result (request.new ≡ None) }
+        ensures err { OnErr result ((self.new.made ≡ self.old.made) × (request.new ≡ request.old)) }
+    {
+        let hall: &Hall<L> = &*self.hall;
+        hall.shared
+            .lock(rt)
+            .request_free(&mut self.tally, self.rank, request)
+    }
+}
