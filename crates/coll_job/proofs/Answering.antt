@@ -24,7 +24,7 @@ meaning-take input = elim (cases_lt 1048577 (length input)) [
   | inr le ↦ ap meaning (take_all 1048577 input le)
 ]
 
-meaning-read : (input text : List ℕ) → text ≡ take 1048577 input → meaning input ≡ meaning text
+pub meaning-read : (input text : List ℕ) → text ≡ take 1048577 input → meaning input ≡ meaning text
 meaning-read input text is = sym (meaning-take input) ∙ ap meaning (sym is)
 
 pub IsPlainFault-answer : (fault : JobFault) (start : Option (List ℕ)) (text : List ℕ) → IfSome start (λ input. text ≡ take 1048577 input) → IsAnswerFault text fault → IsPlainFault start fault

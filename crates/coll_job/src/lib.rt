@@ -7,7 +7,7 @@
 //! |---|---|
 //! | `counted` | `Counted`, a reader that counts its reads |
 //! | `fault` | `JobFault`, why there is no answer, with its line and exit status |
-//! | `plain` | `read_text` and `plain_job`, from a text to its lines |
+//! | `plain` | `read_text`, `plain_job` and `write_lines`, from a text to its lines |
 #![tactic(auto)]
 
 mod counted;
@@ -16,7 +16,7 @@ mod plain;
 
 pub use counted::Counted;
 pub use fault::JobFault;
-pub use plain::{plain_job, read_text};
+pub use plain::{plain_job, read_text, write_lines};
 
 #[cfg(test)]
 mod tests;

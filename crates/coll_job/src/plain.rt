@@ -97,8 +97,8 @@ pub fn plain_job<R: Read, W: Write>(
     write_lines(writer, &lines)
 }
 
-/// Writes all lines, and flushes them.
-fn write_lines<W: Write>(writer: &mut W, lines: &[u8]) -> Result<(), JobFault>
+/// Writes all lines, and flushes them. Any error of the writer is [`JobFault::Write`].
+pub fn write_lines<W: Write>(writer: &mut W, lines: &[u8]) -> Result<(), JobFault>
     ensures ok { OnOk result (Appends (W.contents writer.old) (W.contents writer.new) lines.now) }
     ensures fault { IsOkUnless result JobFault.Write }
 {

@@ -1,10 +1,11 @@
 //! The program `colljob` but for its `main`: from words and streams to an exit status, so that all of it can be tested.
+//! `plain` computes a job's values directly; `run` has it carried out by threads, with the same lines.
 //!
 //! | Module | Has |
 //! |---|---|
 //! | `machine` | `main_of`, which takes words and streams from the machine |
 //! | `running` | `run`, which checks the words and does what they ask for |
-//! | `words` | the words of the command line |
+//! | `words` | `Task`, what the words of the command line ask for |
 #![tactic(auto)]
 
 mod machine;
@@ -13,6 +14,7 @@ mod words;
 
 pub use machine::main_of;
 pub use running::run;
+pub use words::Task;
 
 #[cfg(test)]
 mod tests;

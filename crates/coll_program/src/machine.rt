@@ -1,10 +1,13 @@
 use crate::running::{run, told};
 use coll_job::JobFault;
 use std::process::ExitCode;
+use std::sync::Wait;
+use std::thread::Threads;
 use std::{env, io};
 
-/// Runs the program on the machine's words and standard streams, and gives its exit status.
-pub fn main_of(rt: &HostRuntime) -> ExitCode {
+/// Runs the program on the machine's words and standard streams, and gives its exit status. `main` has the machine's
+/// threads, and passes itself for them.
+pub fn main_of<T: Threads + Wait + Sync>(rt: &HostRuntime, threads: &T) -> ExitCode {
     let alloc = rt.alloc();
     let stderr = rt.stderr();
     let mut errors = io::writer(&stderr);
@@ -16,5 +19,13 @@ pub fn main_of(rt: &HostRuntime) -> ExitCode {
         return ExitCode::from(told(JobFault::Memory, &mut errors));
     };
     let mut input = rt.reader();
-    ExitCode::from(run(alloc, &words, &mut input, &mut io::writer(rt), &mut errors))
+    let status = run(
+        threads,
+        alloc,
+        &words,
+        &mut input,
+        &mut io::writer(rt),
+        &mut errors,
+    );
+    ExitCode::from(status)
 }

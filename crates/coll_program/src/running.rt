@@ -2,17 +2,22 @@ ghost use Rattle.std.specs.Prelude.{◌≡◌, ◌<◌, ◌≤◌};
 ghost use Rattle.std.specs.Io.KnownBytes.{Keeps};
 ghost use Rattle.coll_job.specs.Faults.{status_of};
 
-use crate::words::check_words;
+use crate::words::{Task, task_of};
 use clap::Error;
 use clap::error::ErrorKind;
 use coll_job::{Counted, JobFault, plain_job};
+use coll_run::threaded_job;
 use std::alloc::Global;
 use std::io::{Read, Write};
+use std::sync::Wait;
+use std::thread::Threads;
 
 /// Does what the words of a command line ask for, the program's own name first: `colljob plain` reads a job text and
-/// writes its lines. Answers the exit status. At a fault nothing is written to `output`, but at a write fault, and the
-/// fault's line goes to `errors`; where that fails too, nobody is left to be told.
-pub fn run<R: Read, W: Write, E: Write>(
+/// writes its lines, `colljob run` has it carried out by `threads` and writes what they got. Answers the exit
+/// status. At a fault nothing is written to `output`, but at a write fault, and the fault's line goes to `errors`; where
+/// that fails too, nobody is left to be told.
+pub fn run<T: Threads + Wait + Sync, R: Read, W: Write, E: Write>(
+    threads: &T,
     alloc: Global,
     words: &[String],
     input: &mut R,
@@ -23,10 +28,17 @@ pub fn run<R: Read, W: Write, E: Write>(
     // Only an answer and a fault of the streams leave anything on standard output.
     ensures unwritten { 1 < result → Keeps (W.contents output.old) (W.contents output.new) }
 {
-    if let Err(error) = check_words(alloc, words) {
-        return help(&error, output, errors);
-    }
-    match plain_job(alloc, &mut Counted::new(input), output) {
+    let task = match task_of(alloc, words) {
+        Ok(task) => task,
+        Err(error) => return help(&error, output, errors),
+    };
+    let answer = match task {
+        Task::Plain => plain_job(alloc, &mut Counted::new(input), output),
+        Task::Run { workers } => {
+            threaded_job(threads, alloc, workers, &mut Counted::new(input), output)
+        }
+    };
+    match answer {
         Ok(()) => 0,
         Err(fault) => told(fault, errors),
     }

@@ -2,12 +2,18 @@ use crate::running::run;
 use std::alloc::Global;
 use std::io;
 use std::io::{Cursor, Write};
+use std::sync::Wait;
 use std::test::Fail;
+use std::thread::Threads;
 
 const SUM_OF_TWO: &str =
     "ranks 2\nrank 0\npost 0 allreduce sum i32 1 : 1\nrank 1\npost 0 allreduce sum i32 1 : 2\n";
 
 const ITS_LINES: &str = "rank 0 req 0 start 0 : 3\nrank 1 req 0 start 0 : 3\n";
+
+const CROSSED_BARRIERS: &str =
+    "ranks 2\ncomm 0 1\ncomm 0 1\nrank 0\npost 1 barrier\nwait 0\npost 2 barrier\nwait 1\n\
+                                rank 1\npost 2 barrier\nwait 0\npost 1 barrier\nwait 1\n";
 
 /// A writer that takes so many bytes and then fails.
 #[derive(Drop)]
@@ -42,7 +48,8 @@ impl Write for Short {
 }
 
 /// What a user sees: the exit status, what went to standard output, and what to standard error.
-fn seen(
+fn seen<T: Threads + Wait + Sync>(
+    threads: &T,
     alloc: Global,
     words: &[&str],
     text: &str,
@@ -55,6 +62,7 @@ fn seen(
     let mut output = Short::new(alloc, room);
     let mut errors = Short::new(alloc, 4096);
     let status = run(
+        threads,
         alloc,
         &owned,
         &mut Cursor::new(text.as_bytes()),
@@ -66,21 +74,42 @@ fn seen(
     Ok((status, lines, told))
 }
 
+const TASKS: [&[&str]; 4] = [
+    &["colljob", "plain"],
+    &["colljob", "run"],
+    &["colljob", "run", "--workers", "0"],
+    &["colljob", "run", "--workers=8"],
+];
+
 #[test]
 fn answers_and_faults(rt: HostRuntime) -> Result<(), Fail> {
-    let plain: &[&str] = &["colljob", "plain"];
-    for (text, room, want) in [
-        (SUM_OF_TWO, 4096, (0, ITS_LINES, "")),
-        (
-            "ranks 2\nrank 0\nrank 2\n",
-            4096,
-            (2, "", "line 3: bad rank\n"),
-        ),
-        (SUM_OF_TWO, 10, (1, "", "write fault\n")),
-    ] {
-        let (status, lines, told) = seen(rt.alloc(), plain, text, room)?;
-        assert_eq!(rt; (status, lines.as_str(), told.as_str()), want);
+    for task in TASKS {
+        for (text, room, want) in [
+            (SUM_OF_TWO, 4096, (0, ITS_LINES, "")),
+            (
+                "ranks 2\nrank 0\nrank 2\n",
+                4096,
+                (2, "", "line 3: bad rank\n"),
+            ),
+            (SUM_OF_TWO, 10, (1, "", "write fault\n")),
+        ] {
+            let (status, lines, told) = seen(&rt, rt.alloc(), task, text, room)?;
+            assert_eq!(rt; (status, lines.as_str(), told.as_str()), want);
+        }
     }
+    Ok(())
+}
+
+/// Two ranks that wait for one another stall; computed directly, each value is there.
+#[test]
+fn a_stall(rt: HostRuntime) -> Result<(), Fail> {
+    let (status, lines, told) = seen(&rt, rt.alloc(), TASKS[1], CROSSED_BARRIERS, 4096)?;
+    assert_eq!(rt;
+        (status, lines.as_str(), told.as_str()),
+        (3, "", "stalled\n")
+    );
+    let (status, lines, _) = seen(&rt, rt.alloc(), TASKS[0], CROSSED_BARRIERS, 4096)?;
+    assert_eq!(rt; (status, lines.lines().count()), (0, 4));
     Ok(())
 }
 
@@ -90,17 +119,29 @@ fn words(rt: HostRuntime) -> Result<(), Fail> {
         &["colljob"],
         &["colljob", "plan"],
         &["colljob", "plain", "x"],
+        &["colljob", "plain", "--workers", "2"],
+        &["colljob", "run", "--workers", "9"],
+        &["colljob", "run", "--workers", "two"],
+        &["colljob", "run", "--workers"],
     ];
     for words in wrong {
-        let (status, lines, told) = seen(rt.alloc(), words, SUM_OF_TWO, 4096)?;
+        let (status, lines, told) = seen(&rt, rt.alloc(), words, SUM_OF_TWO, 4096)?;
         assert_eq!(rt; (status, lines.as_str(), told.is_empty()), (2, "", false));
     }
-    let (status, lines, told) = seen(rt.alloc(), &["colljob", "--help"], "", 4096)?;
-    assert_eq!(rt;
-        (status, lines.contains("plain"), told.as_str()),
-        (0, true, "")
-    );
-    let (status, lines, told) = seen(rt.alloc(), &["colljob", "--help"], "", 10)?;
+    let helped: &[(&[&str], &str)] = &[
+        (&["colljob", "--help"], "Exit status"),
+        (&["colljob", "run", "--help"], "--workers"),
+        (&["colljob", "plain", "--help"], "standard input"),
+        (&["colljob", "--version"], "colljob 0.1.0"),
+    ];
+    for (words, part) in helped {
+        let (status, lines, told) = seen(&rt, rt.alloc(), words, "", 4096)?;
+        assert_eq!(rt;
+            (status, lines.contains(part), told.as_str()),
+            (0, true, "")
+        );
+    }
+    let (status, lines, told) = seen(&rt, rt.alloc(), &["colljob", "--help"], "", 10)?;
     assert_eq!(rt;
         (status, lines.as_str(), told.as_str()),
         (1, "", "write fault\n")

@@ -5,5 +5,5 @@ use coll_program::main_of;
 use std::process::ExitCode;
 
 fn main(rt: HostRuntime) -> ExitCode {
-    main_of(&rt)
+    main_of(&rt, &rt)
 }

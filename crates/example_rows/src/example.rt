@@ -1,64 +1,107 @@
-use coll_job::{Counted, plain_job};
+use coll_program::run;
 use std::alloc::Global;
 use std::fs;
 use std::io::{self, Cursor};
+use std::sync::Wait;
+use std::thread::Threads;
 
-/// A job text, and what is stored of its answer.
+/// The words of a command line behind the program's name.
+const PLAIN: &[&str] = &["plain"];
+
+const RUNS: [&[&str]; 3] = [
+    &["run", "--workers", "0"],
+    &["run", "--workers", "2"],
+    &["run", "--workers", "8"],
+];
+
+/// What a user sees: the exit status, standard output and standard error.
+#[derive(PartialEq, Drop)]
+struct Answer {
+    status: u8,
+    lines: Vec<u8>,
+    told: Vec<u8>,
+}
+
+/// A job text, and what is stored of its answers.
 #[derive(Drop)]
 pub struct Example {
     text: Vec<u8>,
-    stored: Stored,
+    plain: Answer,
+    run: Answer,
 }
-
-/// What is stored of an answer.
-#[derive(Drop)]
-enum Stored {
-    /// The output lines.
-    Lines(Vec<u8>),
-    /// The line of the text's fault.
-    Fault(Vec<u8>),
-}
-
-/// The exit status of a text's fault.
-const FAULT: u8 = 2;
 
 impl Example {
-    /// Reads the example of that name: `NAME.job`, and beside it `NAME.out` or `NAME.fault`.
+    /// Reads the example of that name: `NAME.job`, and beside it `NAME.out` or `NAME.fault`. Where its run by threads
+    /// stalls, the line of that stands in `NAME.run`.
     pub fn read(rt: &HostRuntime, name: &str) -> io::Result<Example> {
         let text = fs::read(rt, format!(in rt.alloc(); "{name}.job")?)?;
-        let lines = fs::read(rt, format!(in rt.alloc(); "{name}.out")?);
-        let stored = match lines {
-            Ok(lines) => Stored::Lines(lines),
-            Err(_) => Stored::Fault(fs::read(rt, format!(in rt.alloc(); "{name}.fault")?)?),
+        let plain = plain_answer(rt, name)?;
+        let run = match fs::read(rt, format!(in rt.alloc(); "{name}.run")?) {
+            Ok(told) => refused(rt, 3, told),
+            Err(_) => plain_answer(rt, name)?,
         };
-        Ok(Example { text, stored })
+        Ok(Example { text, plain, run })
     }
 
-    /// Whether the text is answered as stored.
-    pub fn is_answered(&self, alloc: Global) -> io::Result<bool> {
-        let mut reader = Cursor::new(self.text.as_slice());
-        let mut out = Vec::new(alloc);
-        match plain_job(alloc, &mut Counted::new(&mut reader), &mut out) {
-            Ok(()) => Ok(self.has_lines(&out)),
-            Err(fault) => {
-                let silent = out.is_empty();
-                fault.print(&mut out)?;
-                Ok(silent && fault.status() == FAULT && self.has_fault(&out))
+    /// Whether the text is answered as stored, computed directly and run by threads.
+    pub fn is_answered<T: Threads + Wait + Sync>(
+        &self,
+        threads: &T,
+        alloc: Global,
+    ) -> io::Result<bool> {
+        if self.answer(threads, alloc, PLAIN)? != self.plain {
+            return Ok(false);
+        }
+        for words in RUNS {
+            if self.answer(threads, alloc, words)? != self.run {
+                return Ok(false);
             }
         }
+        Ok(true)
     }
 
-    fn has_lines(&self, out: &[u8]) -> bool {
-        match &self.stored {
-            Stored::Lines(lines) => lines.as_slice() == out,
-            Stored::Fault(_) => false,
+    fn answer<T: Threads + Wait + Sync>(
+        &self,
+        threads: &T,
+        alloc: Global,
+        words: &[&str],
+    ) -> io::Result<Answer> {
+        let mut owned = Vec::new(alloc);
+        owned.push(String::from_str(alloc, "colljob")?)?;
+        for word in words {
+            owned.push(String::from_str(alloc, word)?)?;
+        }
+        let mut lines = Vec::new(alloc);
+        let mut told = Vec::new(alloc);
+        let mut input = Cursor::new(self.text.as_slice());
+        let status = run(threads, alloc, &owned, &mut input, &mut lines, &mut told);
+        Ok(Answer {
+            status,
+            lines,
+            told,
+        })
+    }
+}
+
+fn plain_answer(rt: &HostRuntime, name: &str) -> io::Result<Answer> {
+    match fs::read(rt, format!(in rt.alloc(); "{name}.out")?) {
+        Ok(lines) => Ok(Answer {
+            status: 0,
+            lines,
+            told: Vec::new(rt.alloc()),
+        }),
+        Err(_) => {
+            let told = fs::read(rt, format!(in rt.alloc(); "{name}.fault")?)?;
+            Ok(refused(rt, 2, told))
         }
     }
+}
 
-    fn has_fault(&self, line: &[u8]) -> bool {
-        match &self.stored {
-            Stored::Lines(_) => false,
-            Stored::Fault(stored) => stored.as_slice() == line,
-        }
+/// A fault with that status.
+fn refused(rt: &HostRuntime, status: u8, told: Vec<u8>) -> Answer {
+    Answer {
+        status,
+        lines: Vec::new(rt.alloc()),
+        told,
     }
 }

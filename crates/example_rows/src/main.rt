@@ -1,4 +1,4 @@
-//! Answers the stored examples: each job text of the folder that this program runs in, against the lines or the
+//! Answers the stored examples, directly and by threads: each job text of the folder that this program runs in, against the lines or the
 //! fault that are stored beside it. It prints one line for each text.
 #![tactic(auto)]
 
@@ -13,7 +13,7 @@ fn main(rt: HostRuntime) -> anyhow::Result<()> {
     names.sort()?;
     for name in &names {
         let example = Example::read(&rt, name)?;
-        let answer = if example.is_answered(rt.alloc())? {
+        let answer = if example.is_answered(&rt, rt.alloc())? {
             "as stored"
         } else {
             "otherwise"

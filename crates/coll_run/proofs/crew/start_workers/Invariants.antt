@@ -1,0 +1,7 @@
+use Rattle.std.proofs.Common.{◌≡◌, ◌+◌, ◌≤◌, vec_capacity, vec_len}
+use Rattle.coll_run.proofs.crew.start_workers.Given as goal
+
+abbrev pub invariant-loop : goal.invariant-loop
+invariant-loop g l =
+    (vec_len l.threads ≡ vec_len l.initial.threads + l.counter)
+    × (vec_len l.initial.threads + l.workers ≤ vec_capacity l.threads)

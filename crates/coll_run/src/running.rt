@@ -1,0 +1,198 @@
+//! A job text's answer by a run of its script.
+
+ghost use Rattle.std.specs.Prelude.{◌≡◌, ◌≤◌, Ok, All, IfErr, IfOk, IsTrue, OnOk};
+ghost use Rattle.std.specs.Prelude.{◌↔◌};
+ghost use Rattle.coll_core.specs.declared.config.Config.{Config as TheConfig};
+ghost use Rattle.coll_script.specs.Jobs.{job_of, script_of};
+ghost use Rattle.coll_script.specs.Meaning.{job_lines, meaning};
+ghost use Rattle.coll_trace.specs.Scripts.{asked};
+ghost use Rattle.coll_report.specs.Attested.{HandedOut};
+ghost use Rattle.coll_report.specs.Scripted.{Tells};
+ghost use Rattle.coll_attest.specs.Commands.{commands_by};
+ghost use Rattle.coll_attest.specs.Lines.{told, told_lines};
+ghost use Rattle.coll_attest.specs.Runs.{IsRun};
+ghost use Rattle.coll_run.specs.Faults.{IsEnd, IsRunFault};
+
+use crate::crew::run_threads;
+use crate::ends::{Ends, first_fault};
+use crate::rank::{Got, RankEnd};
+use crate::start::Start;
+use coll_attest::{AttestFault, attested_lines};
+use coll_core::Config;
+use coll_job::JobFault;
+use coll_kinds::Refusal;
+use coll_report::Report;
+use coll_script::Script;
+use coll_shared::{Entries, Gate, Spent, close, open};
+use std::alloc::{AllocError, Global};
+use std::marker::Brand;
+use std::sync::Wait;
+use std::sync::ledger::Blank;
+use std::thread::Threads;
+
+/// Runs a job text with a thread for each rank and so many progress threads, and answers its output lines and the report
+/// of the run. `gate` may hold a thread up at a combination.
+///
+/// # Errors
+///
+/// The text's fault. Then NoThread where a thread couldn't be started, and no rank has carried out a command; then the
+/// lowest rank's fault that isn't Stalled, a progress thread's, and Stalled. Then Torn where the report doesn't agree with
+/// the text or with what the ranks got. Memory where it was refused.
+pub fn run_job<R: Threads + Wait + Sync, G: Gate + Sync>(
+    rt: &R,
+    alloc: Global,
+    text: &[u8],
+    workers: u8,
+    gate: &G,
+) -> Result<(Vec<u8>, Report), JobFault>
+    requires { workers ≤ 8 }
+    // The lines are the text's meaning,
+    ensures meaning { IfOk result (λ told. meaning text.now ≡ Ok told.0.items) }
+    // and the report is that of a run of its script,
+    ensures run { IfOk result (λ told. IfOk (script_of text.now) (λ script. IsRun script told.1)) }
+    // in which each start was completed once, with its value,
+    ensures tells { IfOk result (λ done. IfOk (script_of text.now) (λ script.
+        Tells done.1 (λ rank. asked (commands_by script rank)))) }
+    // and of which the lines are told.
+    ensures told { IfOk result (λ done. IfOk (script_of text.now) (λ script.
+        done.0.items ≡ told_lines (told done.1.entries) (job_of script))) }
+    ensures faults { IfErr result (IsRunFault text.now) }
+{
+    let script = Script::read(alloc, text)?;
+    run_script(rt, alloc, &script, workers, gate)
+}
+
+/// Opens an engine as large as the script needs, and runs the script on it.
+fn run_script<R: Threads + Wait + Sync, G: Gate + Sync>(
+    rt: &R,
+    alloc: Global,
+    script: &Script,
+    workers: u8,
+    gate: &G,
+) -> Result<(Vec<u8>, Report), JobFault>
+    ensures run { IfOk result (λ done. IsRun script.now done.1) }
+    ensures tells { IfOk result (λ done. Tells done.1 (λ rank. asked (commands_by script.now rank))) }
+    ensures told { IfOk result (λ done. done.0.items ≡ told_lines (told done.1.entries) (job_of script.now)) }
+    ensures meaning { IfOk result (λ done. done.0.items ≡ job_lines (job_of script.now)) }
+    ensures faults { IfErr result IsEnd }
+{
+    let config = config_of(alloc, script)?;
+    let entries = Blank::new(u64::from(config.ranks));
+    run_in::<Brand, R, G>(rt, alloc, script, config, workers, gate, entries)
+}
+
+/// What an engine is opened with for a script.
+fn config_of(alloc: Global, script: &Script) -> Result<Config, Refusal> {
+    let history = script.history();
+    let sizes = script.config();
+    let mut groups = Vec::new(alloc);
+    for group in history.groups() {
+        groups.push(Vec::from_slice(alloc, group)?)?;
+    }
+    Ok(Config {
+        ranks: history.ranks(),
+        groups,
+        slots: sizes.slots,
+        places: sizes.places,
+        wear: sizes.wear,
+        starts: sizes.starts,
+        trace: sizes.trace,
+    })
+}
+
+/// Runs a script on an engine of its own. `entries` names the ledger of the engine's entries.
+fn run_in<L: Entries + Send + Sync, R: Threads + Wait + Sync, G: Gate + Sync>(
+    rt: &R,
+    alloc: Global,
+    script: &Script,
+    config: Config,
+    workers: u8,
+    gate: &G,
+    entries: Blank,
+) -> Result<(Vec<u8>, Report), JobFault>
+    requires name { entries.name ≡ L.name }
+    requires parts { (entries.parts ≡ L.parts) × (L.parts ≡ L.ranks) × (L.ranks ≡ config.ranks) }
+    ensures run { IfOk result (λ done. IsRun script.now done.1) }
+    ensures tells { IfOk result (λ done. Tells done.1 (λ rank. asked (commands_by script.now rank))) }
+    ensures told { IfOk result (λ done. done.0.items ≡ told_lines (told done.1.entries) (job_of script.now)) }
+    ensures meaning { IfOk result (λ done. done.0.items ≡ job_lines (job_of script.now)) }
+    ensures faults { IfErr result IsEnd }
+{
+    let (engine, ports) = open::<L>(alloc, config, entries)?;
+    let start = Start::new();
+    let Ok(ends) = run_threads(rt, alloc, gate, &start, script, &engine, ports, workers) else {
+        return Err(JobFault::Memory);
+    };
+    let Ends {
+        all_started,
+        ranks,
+        workers,
+    } = ends;
+    let Ok((refusals, spents, got)) = apart(alloc, ranks) else {
+        return Err(JobFault::Memory);
+    };
+    if let Some(fault) = first_fault(all_started, &refusals, &workers) {
+        return Err(fault);
+    }
+    match close(rt, engine, spents) {
+        Ok(report) => judge(alloc, script, &got, report),
+        Err(refused) => Err(JobFault::from(refused.why)),
+    }
+}
+
+/// The refusals, the ports' ends and the outcomes of the ranks apart.
+fn apart<L: Entries>(
+    alloc: Global,
+    ranks: Vec<RankEnd<L>>,
+) -> Result<(Vec<Option<Refusal>>, Vec<Spent<L>>, Vec<Got>), AllocError> {
+    let mut refusals = Vec::new(alloc);
+    let mut spents = Vec::new(alloc);
+    let mut all_got = Vec::new(alloc);
+    for end in ranks {
+        let RankEnd {
+            spent,
+            got,
+            refusal,
+        } = end;
+        refusals.push(refusal)?;
+        spents.push(spent)?;
+        all_got.push(got)?;
+    }
+    Ok((refusals, spents, all_got))
+}
+
+/// The lines of the job, where the report agrees with what the ranks got and with the script.
+fn judge(
+    alloc: Global,
+    script: &Script,
+    got: &[Got],
+    report: Report,
+) -> Result<(Vec<u8>, Report), JobFault>
+    ensures run { IfOk result (λ done. IsRun script.now done.1) }
+    ensures tells { IfOk result (λ done. Tells done.1 (λ rank. asked (commands_by script.now rank))) }
+    ensures told { IfOk result (λ done. done.0.items ≡ told_lines (told done.1.entries) (job_of script.now)) }
+    ensures meaning { IfOk result (λ done. done.0.items ≡ job_lines (job_of script.now)) }
+    ensures faults { IfErr result IsEnd }
+{
+    if !all_handed_out(&report, got) {
+        return Err(JobFault::Torn);
+    }
+    match attested_lines(alloc, script, &report) {
+        Ok(lines) => Ok((lines, report)),
+        Err(AttestFault::Torn) => Err(JobFault::Torn),
+        Err(AttestFault::NoMemory) => Err(JobFault::Memory),
+    }
+}
+
+/// Whether the ranks got just what their completions handed out.
+fn all_handed_out(report: &Report, got: &[Got]) -> bool
+    ensures { IsTrue result
+        ↔ All (λ got. HandedOut report.now.entries got.rank got.outcomes.items) got.now }
+{
+    for one in got {
+        if !report.attests_all(one.rank, &one.outcomes) {
+            return false;
+        }
+    }
+    true
+}

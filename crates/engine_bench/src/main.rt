@@ -1,0 +1,138 @@
+//! Times collectives over the ports of a shared engine, a thread for each of 2, 4 and 8 ranks, with 0 and 2 progress
+//! threads, and prints the median of the first rank's samples in nanoseconds a collective. Without a word on the
+//! command line it makes each once, among 2 ranks, and prints what it made.
+#![tactic(auto)]
+
+mod measure;
+mod player;
+mod running;
+
+ghost use Rattle.std.specs.Prelude.{◌≡◌, ◌≤◌, IfOk};
+
+use coll_core::Config;
+use coll_kinds::Refusal;
+use coll_shared::{Entries, open};
+use measure::Measure;
+use running::{Start, Task, run};
+use std::alloc::Global;
+use std::env;
+use std::marker::Brand;
+use std::rt::Clock;
+use std::sync::Wait;
+use std::sync::ledger::Blank;
+use std::thread::Threads;
+
+/// How many threads a row has.
+#[derive(Clone, Copy, Debug)]
+struct Crew {
+    ranks: u8,
+    workers: u8,
+}
+
+/// An engine for so many ranks in one communicator.
+fn config(alloc: Global, ranks: u8) -> Result<Config, Refusal>
+    ensures { IfOk result (λ config. config.ranks ≡ ranks) }
+{
+    let mut all = Vec::new(alloc);
+    for rank in 0..ranks {
+        all.push(rank)?;
+    }
+    let mut groups = Vec::new(alloc);
+    groups.push(all)?;
+    Ok(Config {
+        ranks,
+        groups,
+        slots: 4_096,
+        places: 65_536,
+        wear: 4_294_967_295,
+        starts: 1_048_576,
+        trace: 1_048_576,
+    })
+}
+
+fn measured_in<L: Entries + Send + Sync, R: Threads + Wait + Clock + Sync>(
+    rt: &R,
+    alloc: Global,
+    crew: Crew,
+    task: Task,
+    entries: Blank,
+) -> Result<Vec<u128>, Refusal>
+    requires name { entries.name ≡ L.name }
+    requires parts { (entries.parts ≡ L.parts) × (L.parts ≡ L.ranks) × (L.ranks ≡ crew.ranks) }
+{
+    let (engine, ports) = open::<L>(alloc, config(alloc, crew.ranks)?, entries)?;
+    let start = Start::new();
+    run(rt, alloc, &start, &engine, ports, task, crew.workers)
+}
+
+/// What the samples of the first rank took, in nanoseconds.
+fn measured<R: Threads + Wait + Clock + Sync>(
+    rt: &R,
+    alloc: Global,
+    crew: Crew,
+    task: Task,
+) -> Result<Vec<u128>, Refusal> {
+    measured_in::<Brand, R>(rt, alloc, crew, task, Blank::new(u64::from(crew.ranks)))
+}
+
+/// Prints a row: the median of a measure for each crew.
+fn row<R: Threads + Wait + Clock + Print + Sync>(
+    rt: &R,
+    alloc: Global,
+    measure: Measure,
+) -> anyhow::Result<()> {
+    print!(rt; "{measure}:")?;
+    for workers in [0u8, 2] {
+        for ranks in [2u8, 4, 8] {
+            let task = Task {
+                measure,
+                samples: measure.samples(),
+                turns: measure.turns(ranks),
+            };
+            let mut times = measured(rt, alloc, Crew { ranks, workers }, task)?;
+            times.sort_unstable();
+            let median = times.get(times.len() / 2).copied().unwrap_or(0);
+            let turns = u128::from(task.turns);
+            print!(rt; " {}", median.checked_div(turns).unwrap_or(0))?;
+        }
+    }
+    println!(rt;)?;
+    Ok(())
+}
+
+/// Makes a measure's collective once, among two ranks.
+fn once<R: Threads + Wait + Clock + Print + Sync>(
+    rt: &R,
+    alloc: Global,
+    measure: Measure,
+) -> anyhow::Result<()> {
+    let task = Task {
+        measure,
+        samples: 1,
+        turns: 1,
+    };
+    let crew = Crew {
+        ranks: 2,
+        workers: 1,
+    };
+    let times = measured(rt, alloc, crew, task)?;
+    println!(rt; "{measure}: {} sample", times.len())?;
+    Ok(())
+}
+
+fn main(rt: HostRuntime) -> anyhow::Result<()> {
+    let timed = env::args(&rt)?.count() > 1;
+    if timed {
+        println!(rt;
+            "median nanoseconds at 2, 4, 8 ranks with no worker, and the same with 2 workers"
+        )?;
+    }
+    for measure in Measure::ALL {
+        if timed {
+            row(&rt, rt.alloc(), measure)?;
+        } else {
+            once(&rt, rt.alloc(), measure)?;
+        }
+    }
+    Ok(())
+}

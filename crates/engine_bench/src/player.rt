@@ -1,0 +1,163 @@
+//! What the thread of one rank does.
+
+use crate::measure::Measure;
+use coll_complete::Request;
+use coll_core::Offer;
+use coll_kinds::Refusal;
+use coll_shared::{Entries, NoGate, Port};
+use std::alloc::Global;
+use std::rt::Clock;
+use std::sync::Wait;
+use std::time::Instant;
+
+/// Plans a measure's collective and posts it on communicator 0.
+fn post<L: Entries, R: Wait>(
+    rt: &R,
+    alloc: Global,
+    port: &mut Port<L>,
+    measure: Measure,
+) -> Result<Request, Refusal> {
+    let plan = port.ready_plan(0, measure.signature())?;
+    let bytes = vec![in alloc; 1; plan.given_len()]?;
+    match port.post(rt, 0, Offer { plan, bytes }) {
+        Ok((request, _receipt)) => Ok(request),
+        Err(refused) => Err(refused.why),
+    }
+}
+
+/// Plans a measure's persistent collective and initialises it on communicator 0.
+fn init<L: Entries, R: Wait>(
+    rt: &R,
+    port: &mut Port<L>,
+    measure: Measure,
+) -> Result<Request, Refusal> {
+    let plan = port.ready_plan(0, measure.signature())?;
+    match port.init(rt, 0, plan) {
+        Ok((request, _receipt)) => Ok(request),
+        Err(refused) => Err(refused.why),
+    }
+}
+
+/// Starts a persistent collective with so many bytes.
+fn start<L: Entries, R: Wait>(
+    rt: &R,
+    alloc: Global,
+    port: &mut Port<L>,
+    request: &Request,
+    len: usize,
+) -> Result<(), Refusal> {
+    let bytes = vec![in alloc; 1; len]?;
+    match port.start(rt, request, bytes) {
+        Ok(_receipt) => Ok(()),
+        Err(refused) => Err(refused.why),
+    }
+}
+
+/// Waits for a request, which is active.
+fn wait<L: Entries, R: Wait>(
+    rt: &R,
+    port: &mut Port<L>,
+    request: &mut Request,
+) -> Result<(), Refusal> {
+    let (outcome, _receipts) = port.wait(rt, &NoGate, request)?;
+    if outcome.is_none() {
+        return Err(Refusal::Torn);
+    }
+    Ok(())
+}
+
+/// One collective after the other.
+fn one_by_one<L: Entries, R: Wait>(
+    rt: &R,
+    alloc: Global,
+    port: &mut Port<L>,
+    measure: Measure,
+    turns: u32,
+) -> Result<(), Refusal> {
+    for _turn in 0..turns {
+        let mut request = post(rt, alloc, port, measure)?;
+        wait(rt, port, &mut request)?;
+    }
+    Ok(())
+}
+
+/// All are posted, and then all are waited for.
+fn all_at_once<L: Entries, R: Wait>(
+    rt: &R,
+    alloc: Global,
+    port: &mut Port<L>,
+    measure: Measure,
+    turns: u32,
+) -> Result<(), Refusal> {
+    let mut requests = Vec::with_capacity(alloc, turns as usize)?;
+    for _turn in 0..turns {
+        requests.push(post(rt, alloc, port, measure)?)?;
+    }
+    for request in requests.iter_mut() {
+        wait(rt, port, request)?;
+    }
+    Ok(())
+}
+
+/// One start after the other.
+fn again_and_again<L: Entries, R: Wait>(
+    rt: &R,
+    alloc: Global,
+    port: &mut Port<L>,
+    request: &mut Request,
+    len: usize,
+    turns: u32,
+) -> Result<(), Refusal> {
+    for _turn in 0..turns {
+        start(rt, alloc, port, request, len)?;
+        wait(rt, port, request)?;
+    }
+    Ok(())
+}
+
+/// The collectives of one sample. `request` is the persistent one.
+fn sample<L: Entries, R: Wait>(
+    rt: &R,
+    alloc: Global,
+    port: &mut Port<L>,
+    measure: Measure,
+    request: &mut Request,
+    turns: u32,
+) -> Result<(), Refusal> {
+    match measure {
+        Measure::Starts => again_and_again(rt, alloc, port, request, 4, turns),
+        Measure::Outstanding => all_at_once(rt, alloc, port, measure, turns),
+        _ => one_by_one(rt, alloc, port, measure, turns),
+    }
+}
+
+/// Takes the samples, and answers what each took, in nanoseconds.
+///
+/// # Errors
+///
+/// The engine's first refusal; Torn where the clock can't be read.
+pub fn play<L: Entries, R: Wait + Clock>(
+    rt: &R,
+    alloc: Global,
+    port: &mut Port<L>,
+    measure: Measure,
+    samples: u32,
+    turns: u32,
+) -> Result<Vec<u128>, Refusal> {
+    let mut request = Request::null();
+    if measure == Measure::Starts {
+        request = init(rt, port, measure)?;
+    }
+    let mut times = Vec::with_capacity(alloc, samples as usize)?;
+    for _sample in 0..samples {
+        let Ok(begin) = Instant::now(rt) else {
+            return Err(Refusal::Torn);
+        };
+        sample(rt, alloc, port, measure, &mut request, turns)?;
+        let Ok(time) = begin.elapsed(rt) else {
+            return Err(Refusal::Torn);
+        };
+        times.push(time.as_nanos())?;
+    }
+    Ok(times)
+}

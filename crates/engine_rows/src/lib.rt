@@ -1,0 +1,48 @@
+//! Engines whose ports are used by threads, as tests. All of it is built for tests alone.
+//!
+//! | Module | Has |
+//! |---|---|
+//! | `job` | `Job`, what all ranks do on one engine |
+//! | `collective` | `Collective`, what its members give and are to get |
+//! | `command` | `Command`, what a rank is told to do |
+//! | `draft` | the commands of a rank of a random job |
+//! | `random` | `Random`, numbers that look random |
+//! | `pace` | `Pace`, a gate that may hold ranks up too |
+//! | `calls` | the calls of a port |
+//! | `player` | what the thread of a rank does |
+//! | `start` | `Start`, where threads wait until all are there |
+//! | `crew` | threads for all ranks and for progress |
+//! | `judge` | whether the outcomes are the values, and attested |
+//! | `running` | `run`, a job from the opening of its engine to the last outcome |
+//! | `gate_tests` | two threads that really run at one time |
+//! | `stress_tests` | a large random job |
+#![tactic(auto)]
+
+#[cfg(test)]
+mod calls;
+#[cfg(test)]
+mod collective;
+#[cfg(test)]
+mod command;
+#[cfg(test)]
+mod crew;
+#[cfg(test)]
+mod draft;
+#[cfg(test)]
+mod gate_tests;
+#[cfg(test)]
+mod job;
+#[cfg(test)]
+mod judge;
+#[cfg(test)]
+mod pace;
+#[cfg(test)]
+mod player;
+#[cfg(test)]
+mod random;
+#[cfg(test)]
+mod running;
+#[cfg(test)]
+mod start;
+#[cfg(test)]
+mod stress_tests;
