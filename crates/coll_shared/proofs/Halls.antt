@@ -5,7 +5,7 @@ use Rattle.coll_kinds.specs.Groups.{IsGroup}
 use Rattle.std.proofs.lemmas.Bool.{false≢true}
 use Rattle.coll_kinds.specs.declared.refusal.Refusal.TheVariants.{NoMemory, TraceFull}
 use Rattle.coll_core.specs.Calls.{Refuses}
-use Rattle.std.specs.Prelude.{◌↔◌, IsTrue, All, map, slice_get, unwrap_or, is_some, IfOk, IfSome, OnErr, OnOk, Result, Ok, Err, Vec}
+use Rattle.std.specs.Prelude.{◌↔◌, IsTrue, All, map, slice_get, unwrap_or, is_some, IfErr, IfOk, IfSome, OnErr, OnOk, Result, Ok, Err, Vec}
 use Rattle.std.specs.Global.{Global}
 use Rattle.std.proofs.lemmas.Option.{none-some, same_Some, slice_get_within}
 use Rattle.coll_kinds.specs.declared.kind.Mode.TheVariants.{Once, Persistent}
@@ -13,6 +13,9 @@ use Rattle.coll_kinds.specs.declared.refusal.Refusal.{Refusal}
 use Rattle.coll_kinds.specs.declared.signature.Signature.{Signature}
 use Rattle.coll_kinds.specs.declared.ticket.Ticket.{Ticket}
 use Rattle.coll_plans.specs.Plans.{family}
+use Rattle.coll_core.specs.declared.offer.Offer.{Offer}
+use Rattle.coll_shared.specs.declared.kept.Kept.{Kept}
+use Rattle.coll_shared.specs.Spaced.{KeepsFor}
 use Rattle.coll_machine.specs.Settings.{Setting, AreGroups}
 use Rattle.coll_machine.specs.States.{State, Machine, Request, found, nothing}
 use Rattle.coll_machine.specs.Calls.{Planned}
@@ -151,6 +154,13 @@ posted_hall p r es fs n m limit xs ys rank comm plan bytes t a len kept h same s
     let posting : Posts (setting p) (seen p).state rank t comm a.place plan bytes (seen r).state = subst (λ k. Posts (setting p) (seen p).state rank t comm k plan bytes (seen r).state) place s.1 in
     hall_goes_on p r es fs n m limit xs ys (Posted rank t comm a.place plan.sig bytes) h same (plan, refl, posting) (room_for p es n limit xs h fits) m_is
     (spaced_posted (setting p) (seen p).state (seen r).state rank t comm a.place plan bytes xs ys len posting h.spaced len_is (subst (λ k. Respaces xs ys t.slot len k) kept_is spaces)) fs_is
+
+-- what was kept for a post, and why nothing was
+pub keeps_for : (r : Result Kept Refusal) (offer : Offer) (kept : Kept) → IfOk r (KeepsFor offer) → r ≡ Ok kept → KeepsFor offer kept
+keeps_for r offer kept all is = subst (λ x. IfOk x (KeepsFor offer)) is all
+
+pub kept_refused : (r : Result Kept Refusal) (why : Refusal) → IfErr r (λ w. w ≡ NoMemory) → r ≡ Err why → why ≡ NoMemory
+kept_refused r why all is = subst (λ x. IfErr x (λ w. w ≡ NoMemory)) is all
 
 -- the entry with the code's copy of the bytes
 pub posted_entry : (old middle new : List Entry) (rank : ℕ) (t : Ticket) (comm place : ℕ) (sig same : Signature) (bytes given : List ℕ) → middle ≡ old → new ≡ middle ++ Posted rank t comm place sig bytes ∷ [] → sig ≡ same → bytes ≡ given

@@ -8,4 +8,6 @@ pub mod Seats
 pub mod Retirements
 pub mod Balances
 pub mod Closings
+pub mod Counting
 pub mod Telling
+pub mod Wishes

@@ -1,5 +1,6 @@
 -- When an engine can be closed.
-use Rattle.std.specs.Prelude.{◌≡◌, ◌≢◌, ◌==◌, ◌<◌, ◌⊎◌, ℕ, Bool, true, false, List, Some, map, count_by}
+use Rattle.std.specs.Prelude.{◌≡◌, ◌≢◌, ◌==◌, ◌<◌, ◌⊎◌, ℕ, Bool, true, false}
+use Rattle.std.specs.Prelude.{List, Option, Some, None, map, length, count_by, slice_index}
 use Rattle.std.specs.List.{range_with_len}
 use Rattle.coll_kinds.specs.declared.refusal.Refusal.{Refusal}
 use Rattle.coll_kinds.specs.declared.refusal.Refusal.TheVariants.{StillActive, Torn}
@@ -22,6 +23,16 @@ begins_by r (Freed rank t) = false
 abbrev pub IsBalanced : ℕ → List Entry → Type 0
 IsBalanced r es = count_by (begins_by r) es ≡ count_by (completes_by r) es
 
+-- whether it is the rank
+abbrev pub is_rank : ℕ → Option ℕ → Bool
+is_rank r None = false
+is_rank r (Some rank) = rank == r
+
+-- at each number that a rank may have, how many entries are of that rank
+pub record AreCounts (by : ℕ → Entry → Bool) (es : List Entry) (counts : List ℕ) : Type 0 where
+  pub all : length counts ≡ 256
+  pub each : (rank : ℕ) → rank < 256 → slice_index counts rank ≡ count_by (by rank) es
+
 -- the rank has an active request
 pub record IsBusy (s : State) (rank : ℕ) : Type 0 where
   pub slot : ℕ
@@ -39,8 +50,8 @@ pub record IsFirstBusy (s : State) (rank : ℕ) : Type 0 where
 abbrev pub ends_of : ℕ → List Entry → List (ℕ × ℕ)
 ends_of ranks es = map (λ rank. (rank, entries_of rank es)) (range_with_len 0 ranks)
 
--- why an engine can't be closed with these ends of ports: a rank has an active request, or else the ends aren't those of
--- all ports
+-- why an engine can't be closed with these ends of ports: a rank has an active request, or else the ends aren't those
+-- of all ports
 abbrev pub Objects : Hall → List (ℕ × ℕ) → Refusal → Type 0
 Objects h ends why =
     ((rank : ℕ) × (why ≡ StillActive rank) × IsFirstBusy (seen h.core).state rank)

@@ -23,8 +23,8 @@ pub record Hall : Type 0 where
 
 -- what the lock keeps of an engine of so many ranks that was opened with that configuration, where so many entries are
 -- spoken for
-pub record IsKept (ranks : ℕ) (config : Config) (core : Parts) (entries : List Entry) (spoken_for : ℕ) (spaces : List Space)
-    : Type 0 where
+pub record IsKept (ranks : ℕ) (config : Config) (core : Parts) (entries : List Entry) (spoken_for : ℕ)
+    (spaces : List Space) : Type 0 where
   pub ranks_are : config.ranks ≡ ranks
   pub opened : setting core ≡ setting_by config
   pub groups : AreGroups (setting_by config)  -- no rank is twice in a communicator

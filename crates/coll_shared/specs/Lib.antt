@@ -6,4 +6,5 @@ pub mod Ports
 pub mod Stalls
 pub mod Retirements
 pub mod Tests
+pub mod Wishes
 pub mod Closings

@@ -1,5 +1,6 @@
 -- What a caller sees of a port, why no plan is made for it, and what the entries of its calls are.
-use Rattle.std.specs.Prelude.{◌≡◌, ◌<◌, ◌≤◌, ℕ, nat_lt, List, [], ◌∷◌, length, slice_get, unwrap_or, Option, Some, is_some}
+use Rattle.std.specs.Prelude.{◌≡◌, ◌<◌, ◌≤◌, ℕ, nat_lt, List, [], ◌∷◌, length, slice_get}
+use Rattle.std.specs.Prelude.{Option, Some, is_some, unwrap_or}
 use Rattle.coll_kinds.specs.declared.refusal.Refusal.{Refusal}
 use Rattle.coll_kinds.specs.declared.refusal.Refusal.TheVariants.{BadComm, NotMember}
 use Rattle.coll_kinds.specs.declared.signature.Signature.{Signature}

@@ -2,8 +2,10 @@
 use Rattle.std.specs.Prelude.{◌≡◌, ℕ, true, List, length, slice_get, Some}
 use Rattle.coll_kinds.specs.declared.signature.Signature.{Signature}
 use Rattle.coll_plans.specs.Plans.{family}
+use Rattle.coll_core.specs.declared.offer.Offer.{Offer}
 use Rattle.coll_machine.specs.Settings.{Setting, size}
 use Rattle.coll_machine.specs.States.{Request, State, signature_of}
+use Rattle.coll_shared.specs.declared.kept.Kept.{Kept}
 use Rattle.coll_shared.specs.declared.spaces.Space.{Space}
 
 -- the slot's space is for this request
@@ -29,3 +31,9 @@ pub record Respaces (old new : List Space) (slot len bytes : ℕ) : Type 0 where
   pub bytes_are : length space.bytes.items ≡ bytes
   pub others : (other : ℕ) → (other ≡ slot → ⊥) → slice_get new other ≡ slice_get old other
   pub as_many : length new ≡ length old
+
+-- what a post keeps: as many bytes as its member gets, and a copy of what it gives
+pub record KeepsFor (offer : Offer) (kept : Kept) : Type 0 where
+  pub len_is : kept.space.len ≡ (family offer.plan.sig offer.plan.n offer.plan.member).output.len
+  pub filled : length kept.space.bytes.items ≡ kept.space.len
+  pub copied : kept.bytes.items ≡ offer.bytes.items

@@ -1,6 +1,7 @@
--- What a port's completion calls tell, without naming what lies under the lock: in some state of the engine they are the
--- tests of `coll_complete`, and the receipts are the entries of what they completed.
-use Rattle.std.specs.Prelude.{◌≡◌, Bool, true, false, not, ℕ, List, [], length, map, position, Option, Some, None, is_some, IfSome}
+-- What a port's completion calls tell, without naming what lies under the lock: in some state of the engine they are
+-- the tests of `coll_complete`, and the receipts are the entries of what they completed.
+use Rattle.std.specs.Prelude.{◌≡◌, Bool, true, false, not, ℕ, List, [], length, map, position}
+use Rattle.std.specs.Prelude.{Option, Some, None, is_some, IfSome}
 use Rattle.std.specs.List.{list_any}
 use Rattle.coll_kinds.specs.declared.refusal.Refusal.{Refusal}
 use Rattle.coll_kinds.specs.declared.ticket.Ticket.{Ticket}
@@ -17,8 +18,8 @@ use Rattle.coll_complete.specs.Requests.{is_active, is_done, is_pending, left_of
 use Rattle.coll_shared.specs.Retirements.{retirement_any, retirement_if, retirements}
 
 -- the test of one request, which is `new` then
-pub record TestsOne (rank : ℕ) (old new : Option Ticket) (flag : Bool) (outcome : Option Outcome) (entries : List Entry)
-    : Type 0 where
+pub record TestsOne (rank : ℕ) (old new : Option Ticket) (flag : Bool) (outcome : Option Outcome)
+    (entries : List Entry) : Type 0 where
   pub setting : Setting
   pub engine : Machine
   pub after : Machine

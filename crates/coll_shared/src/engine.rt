@@ -6,6 +6,7 @@ ghost use Rattle.coll_core.specs.Configs.{IsUnopened};
 ghost use Rattle.coll_report.specs.Views.{groups_seen};
 ghost use Rattle.coll_shared.specs.Ports.{group_at, opened};
 
+use crate::doors::Doors;
 use crate::gate::Gate;
 use crate::groups::copied_groups;
 use crate::hall::{Chore, Hall};
@@ -17,7 +18,7 @@ use coll_core::Config;
 use coll_kinds::Refusal;
 use std::alloc::Global;
 use std::sync::ledger::{Blank, Share};
-use std::sync::{Arc, Condvar, Mutex, Wait};
+use std::sync::{Arc, Mutex, Wait};
 
 /// An engine that ranks share, each by its port.
 #[derive(Drop)]
@@ -50,8 +51,10 @@ impl<L: Entries> Engine<L> {
 
     /// Lets progress threads end.
     pub fn stop<R: Wait>(&self, rt: &R) {
-        self.hall.shared.lock(rt).stop();
-        self.hall.moved.notify_all();
+        let hall: &Hall<L> = &*self.hall;
+        let mut shared = hall.enter(rt);
+        shared.stop();
+        hall.call_all(shared);
     }
 }
 
@@ -80,7 +83,7 @@ pub fn open<L: Entries>(
         alloc,
         Hall {
             shared: Mutex::new(shared),
-            moved: Condvar::new(),
+            doors: Doors::open(alloc, ranks)?,
         },
     )?;
     let vacant = Vacant::open(alloc, ranks)?;

@@ -1,7 +1,15 @@
 //! The one lock of an engine, and what is done round it.
+//!
+//! Who finds a request of its own Pending steps for all. Where no request is ready it notes what it waits for, gives the
+//! lock up and looks now and then at its door; only where nobody came for a while does it sleep there. Who finishes a
+//! request calls at the doors of those whose wish is fulfilled then, and at no others.
 
 mod waits;
 
+ghost use Rattle.std.specs.Prelude.{◌≡◌, IfErr, IsOkUnless};
+ghost use Rattle.coll_shared.specs.Wishes.{IsHindrance};
+
+use crate::doors::Doors;
 use crate::gate::Gate;
 use crate::shared::Shared;
 use crate::tally::Entries;
@@ -12,27 +20,32 @@ use std::hint::spin_loop;
 use std::sync::{Condvar, Mutex, MutexGuard, Wait};
 use std::thread::yield_now;
 
-/// The one lock of an engine, and the one place to sleep.
+/// The one lock of an engine, and the places to wait.
 #[derive(Drop)]
 pub(crate) struct Hall<L: Entries> {
     pub(crate) shared: Mutex<Shared<L>>,
-    pub(crate) moved: Condvar,
+    pub(crate) doors: Doors,
 }
 
 /// How many steps are made under one hold of the lock.
 const STEPS: u32 = 64;
 
-/// How often the lock is asked for before a thread sleeps for it, and how long it spins between. To sleep and to be woken
-/// takes longer than most of what is done under the lock.
-const TRIES: u32 = 100;
+/// How often the lock is asked for before a thread sleeps for it: so often with a pause before each, and then so often
+/// with a turn for other threads. To sleep and to be woken takes longer than most of what is done under the lock.
+const TRIES: u32 = 20;
 
-const PAUSES: u32 = 20;
+const TURNS: u32 = 100;
 
-/// How often a waiting port asks whether something moved before it sleeps: so often in a row, and then so often with a
-/// turn for other threads before each.
-const SPINS: u32 = 300;
+const PAUSES: u32 = 4;
 
-const YIELDS: u32 = 30;
+/// How often a waiting port looks at its door before it sleeps there: so often in a row, and then so often with a turn for
+/// other threads before each.
+const LOOKS: u32 = 100;
+
+const YIELDS: u32 = 300;
+
+/// From how many bytes on a combination is worth calling others to those that are left.
+const LONG: usize = 4_096;
 
 /// What a progress thread did in a turn.
 #[derive(Drop)]
@@ -45,84 +58,165 @@ pub(crate) enum Chore {
     Moved,
 }
 
+/// What steps under one hold of the lock came to.
+struct Progress {
+    /// A request was finished.
+    finished: bool,
+    /// The last of them; Moved where more may follow.
+    last: Result<Stepped, Refusal>,
+}
+
 fn pause() {
     for _ in 0..PAUSES {
         spin_loop();
     }
 }
 
-/// Steps, until one does more than to move a request on, at most so many.
-fn advance<L: Entries>(shared: &mut Shared<L>) -> Result<Stepped, Refusal> {
+/// Steps as long as requests are ready and no combination is handed out, at most so many times.
+fn advance<L: Entries>(shared: &mut Shared<L>) -> Progress
+    ensures { IsOkUnless result.last Refusal.NoMemory }
+{
+    let mut finished = false;
+    shared.settle(true);
     for _step in 0..STEPS {
         match shared.step() {
             Ok(Stepped::Moved) => {}
-            other => return other,
+            Ok(Stepped::Finished) => finished = true,
+            Ok(Stepped::Quiet) => {
+                shared.settle(false);
+                return Progress {
+                    finished,
+                    last: Ok(Stepped::Quiet),
+                };
+            }
+            last => return Progress { finished, last },
         }
     }
-    Ok(Stepped::Moved)
+    Progress {
+        finished,
+        last: Ok(Stepped::Moved),
+    }
+}
+
+/// Waits a while for a call at a door. `seen` is how many there were before. Answers whether there was another one.
+fn linger(door: &Condvar, seen: u64) -> bool {
+    for round in 0..LOOKS + YIELDS {
+        if door.notifications() != seen {
+            return true;
+        }
+        if round < LOOKS {
+            spin_loop();
+        } else {
+            yield_now();
+        }
+    }
+    false
 }
 
 impl<L: Entries> Hall<L> {
     /// Takes the lock.
     pub(crate) fn enter<R: Wait>(&self, rt: &R) -> MutexGuard<'_, Shared<L>> {
-        for _try in 0..TRIES {
+        for round in 0..TRIES + TURNS {
             if let Some(shared) = self.shared.try_lock() {
                 return shared;
             }
-            pause();
-        }
-        self.shared.lock(rt)
-    }
-
-    /// Waits a while, with the lock free, for something to move. `seen` is how many notifications there were when nothing
-    /// was ready. Answers whether there was another one.
-    fn linger(&self, seen: u64) -> bool {
-        for round in 0..SPINS + YIELDS {
-            if self.moved.notifications() != seen {
-                return true;
-            }
-            if round < SPINS {
-                spin_loop();
+            if round < TRIES {
+                pause();
             } else {
                 yield_now();
             }
         }
-        false
+        self.shared.lock(rt)
+    }
+
+    /// Gives the lock up after requests were finished, and calls those who waited for them.
+    fn leave(&self, mut shared: MutexGuard<'_, Shared<L>>) {
+        let called = shared.fulfilled();
+        drop(shared);
+        self.doors.call(called);
+    }
+
+    /// Gives the lock up for good. Where requests are ready still, one who waits is called to go on with them, or else a
+    /// progress thread.
+    pub(crate) fn depart(&self, mut shared: MutexGuard<'_, Shared<L>>) {
+        if !shared.is_unsettled() {
+            return;
+        }
+        let called = shared.waiting().first();
+        drop(shared);
+        self.doors.call(called);
+        if called.is_empty() {
+            self.doors.of_workers().notify_one();
+        }
+    }
+
+    /// Gives the lock up after a request became ready. Who lingers looks again soon; where ports sleep they are called, and
+    /// a progress thread where none waits.
+    pub(crate) fn go(&self, mut shared: MutexGuard<'_, Shared<L>>) {
+        shared.settle(true);
+        let waiting = shared.waiting();
+        let asleep = shared.has_sleepers();
+        drop(shared);
+        if asleep {
+            self.doors.call(waiting);
+        } else if waiting.is_empty() {
+            self.doors.of_workers().notify_one();
+        }
+    }
+
+    /// Gives the lock up to compute a combination, while requests may be ready still: calls those whose wish is fulfilled,
+    /// and one who sleeps to go on with what is ready, or a progress thread where no port waits.
+    fn hand_on(&self, mut shared: MutexGuard<'_, Shared<L>>) {
+        let called = shared.fulfilled();
+        let waiting = shared.waiting();
+        let asleep = shared.has_sleepers();
+        drop(shared);
+        self.doors.call(called);
+        if asleep {
+            self.doors.call(waiting.first());
+        } else if waiting.is_empty() {
+            self.doors.of_workers().notify_one();
+        }
+    }
+
+    /// Gives the lock up, and calls all who wait.
+    pub(crate) fn call_all(&self, mut shared: MutexGuard<'_, Shared<L>>) {
+        let called = shared.waiting();
+        drop(shared);
+        self.doors.call(called);
+        self.doors.of_workers().notify_all();
     }
 
     /// One turn of a progress thread. It sleeps where no request is ready.
     pub(crate) fn chore<R: Wait, G: Gate>(&self, rt: &R, gate: &G) -> Result<Chore, Refusal> {
         let mut shared = self.enter(rt);
         if shared.is_stopped() {
+            self.depart(shared);
             return Ok(Chore::Stopped);
         }
-        match advance(&mut *shared) {
-            Ok(Stepped::Quiet) => {
-                let _shared = self.moved.wait(rt, shared);
+        let Progress { finished, last } = advance(&mut *shared);
+        match last {
+            Ok(Stepped::Quiet) if !finished => {
+                let _shared = self.doors.of_workers().wait(rt, shared);
                 Ok(Chore::Moved)
             }
             Ok(Stepped::Out(work)) => {
-                let piece = shared.next_piece();
-                drop(shared);
-                match self.carry_out(rt, gate, work, piece) {
-                    Ok(()) => Ok(Chore::Committed),
-                    Err(why) => Err(why),
-                }
+                self.carry_out(rt, gate, shared, work)?;
+                Ok(Chore::Committed)
             }
-            Ok(Stepped::Moved) => Ok(Chore::Moved),
-            Ok(Stepped::Finished) => {
-                self.moved.notify_all();
+            Ok(_) => {
+                self.leave(shared);
                 Ok(Chore::Moved)
             }
             Err(why) => {
-                self.moved.notify_all();
+                self.call_all(shared);
                 Err(why)
             }
         }
     }
 
-    /// What a waiting port does whose wish isn't fulfilled: steps. Where no request is ready it lingers, and where nothing
-    /// moved then, sleeps. `looks` is how often it found nothing to do and lingered in vain; the answer is how often now.
+    /// What a waiting port does whose wish isn't fulfilled: steps. Where no request is ready it lingers, and where nobody
+    /// called then, sleeps. `looks` is how often it lingered in vain; the answer is how often now.
     ///
     /// # Errors
     ///
@@ -136,71 +230,83 @@ impl<L: Entries> Hall<L> {
         rank: u8,
         wish: Wish<'_>,
         looks: u32,
-    ) -> Result<u32, Refusal> {
-        match advance(&mut *shared) {
-            Ok(Stepped::Moved) => Ok(0),
-            Ok(Stepped::Finished) => {
-                self.moved.notify_all();
+    ) -> Result<u32, Refusal>
+        ensures { IfErr result IsHindrance }
+    {
+        let Progress { finished, last } = advance(&mut *shared);
+        match last {
+            Ok(Stepped::Quiet) if !finished => self.rest(rt, shared, rank, wish, looks),
+            Ok(Stepped::Out(work)) => {
+                self.carry_out(rt, gate, shared, work)?;
                 Ok(0)
             }
-            Ok(Stepped::Out(work)) => {
-                let piece = shared.next_piece();
-                drop(shared);
-                match self.carry_out(rt, gate, work, piece) {
-                    Ok(()) => Ok(0),
-                    Err(why) => Err(why),
-                }
+            Ok(_) => {
+                self.leave(shared);
+                Ok(0)
             }
-            Ok(Stepped::Quiet) if looks == 0 => {
-                let seen = self.moved.notifications();
-                drop(shared);
-                Ok(if self.linger(seen) { 0 } else { 1 })
-            }
-            Ok(Stepped::Quiet) => self.sleep(rt, shared, rank, wish),
             Err(why) => {
-                self.moved.notify_all();
+                self.call_all(shared);
                 Err(why)
             }
         }
     }
 
-    /// Sleeps for a wish, if it needs to.
-    fn sleep<R: Wait>(
+    /// Waits for a wish, if it needs to: lingers, or sleeps where it lingered before.
+    fn rest<R: Wait>(
         &self,
         rt: &R,
         mut shared: MutexGuard<'_, Shared<L>>,
         rank: u8,
         wish: Wish<'_>,
-    ) -> Result<u32, Refusal> {
+        looks: u32,
+    ) -> Result<u32, Refusal>
+        ensures { IfErr result IsHindrance }
+    {
         let note = match shared.note_for(rank, wish) {
             Ok(Some(note)) => note,
             Ok(None) => return Ok(0),
             Err(why) => return Err(why),
         };
         if !shared.lie_down(rank, note) {
-            self.moved.notify_all();
+            self.call_all(shared);
             return Err(Refusal::Stalled);
         }
-        let mut shared = self.moved.wait(rt, shared);
-        shared.rise(rank);
+        let door = self.doors.of(rank);
+        if looks == 0 {
+            let seen = door.notifications();
+            drop(shared);
+            return Ok(if linger(door, seen) { 0 } else { 1 });
+        }
+        shared.fall_asleep();
+        let mut shared = door.wait(rt, shared);
+        shared.wake_up();
         Ok(0)
     }
 
-    /// Computes a combination with the lock free, and writes its result under the lock. Where it can't be computed it is
-    /// given back.
-    pub(crate) fn carry_out<R: Wait, G: Gate>(
+    /// Gives the lock up and computes a combination that was handed out, then writes its result under the lock. Where it
+    /// can't be computed it is given back.
+    fn carry_out<R: Wait, G: Gate>(
         &self,
         rt: &R,
         gate: &G,
+        mut shared: MutexGuard<'_, Shared<L>>,
         work: Work,
-        piece: u64,
-    ) -> Result<(), Refusal> {
+    ) -> Result<(), Refusal>
+        ensures { IfErr result IsHindrance }
+    {
+        let piece = shared.next_piece();
+        if work.left().len() < LONG {
+            self.hand_on(shared);
+        } else {
+            self.call_all(shared);
+        }
         gate.before(piece);
         match work.run() {
             Ok(done) => self.commit(rt, done)?,
             Err(refused) => {
-                let _ = self.enter(rt).abandon(refused.back);
-                self.moved.notify_all();
+                let mut shared = self.enter(rt);
+                let _ = shared.abandon(refused.back);
+                self.call_all(shared);
                 return Err(refused.why);
             }
         }
@@ -208,12 +314,23 @@ impl<L: Entries> Hall<L> {
         Ok(())
     }
 
-    fn commit<R: Wait>(&self, rt: &R, done: DoneWork) -> Result<(), Refusal> {
-        let committed = self.enter(rt).commit(done);
-        self.moved.notify_all();
-        match committed {
-            Ok(_stepped) => Ok(()),
-            Err(why) => Err(why),
+    fn commit<R: Wait>(&self, rt: &R, done: DoneWork) -> Result<(), Refusal>
+        ensures { IfErr result (λ why. why ≡ Refusal.Stale) }
+    {
+        let mut shared = self.enter(rt);
+        match shared.commit(done) {
+            Ok(Stepped::Finished) => {
+                self.leave(shared);
+                Ok(())
+            }
+            Ok(_stepped) => {
+                shared.settle(true);
+                Ok(())
+            }
+            Err(why) => {
+                self.call_all(shared);
+                Err(why)
+            }
         }
     }
 }

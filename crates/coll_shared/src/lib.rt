@@ -9,7 +9,9 @@
 //! | `groups` | copies of what an engine is opened with |
 //! | `spaces` | `Spaces`, memory for the outcomes of live requests |
 //! | `gate` | `Gate`, which may hold a thread up before and after a combination |
-//! | `hall` | `Hall`, the lock round it, and the place to sleep |
+//! | `doors` | `Doors`, where threads wait to be called |
+//! | `hall` | `Hall`, the lock round it, and what is done while a thread has or wants it |
+//! | `kept` | `Kept`, what a post or a start keeps |
 //! | `port` | `Port`, a rank's way into the engine |
 //! | `engine` | `Engine`, and `open`, which makes one |
 //! | `closing` | `close`, which ends an engine and makes its report |
@@ -23,10 +25,12 @@
 
 mod balance;
 mod closing;
+mod doors;
 mod engine;
 mod gate;
 mod groups;
 mod hall;
+mod kept;
 mod note;
 mod port;
 mod receipt;
@@ -42,6 +46,7 @@ mod wish;
 pub use closing::close;
 pub use engine::{Engine, open};
 pub use gate::{Gate, NoGate};
+pub use kept::Kept;
 pub use note::Note;
 pub use port::Port;
 pub use receipt::Receipt;

@@ -112,8 +112,10 @@ impl<L: Entries> Port<L> {
             tally,
             ..
         } = self;
-        hall.shared.lock(rt).note(rank, Note::Ended);
-        hall.moved.notify_all();
+        let hall: &Hall<L> = &*hall;
+        let mut shared = hall.enter(rt);
+        shared.note(rank, Note::Ended);
+        hall.call_all(shared);
         Spent::new(rank, tally)
     }
 }

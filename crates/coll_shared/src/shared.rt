@@ -11,7 +11,7 @@ mod testing;
 mod waiting;
 mod working;
 
-ghost use Rattle.std.specs.Prelude.{◌≡◌, [], Some, true, is_some, length, replicate, IfErr, IfOk};
+ghost use Rattle.std.specs.Prelude.{◌≡◌, [], Some, true, is_some, replicate, IfErr, IfOk};
 ghost use Rattle.coll_machine.specs.States.{found};
 ghost use Rattle.coll_core.specs.Configs.{idle, setting_by, IsUnopened};
 ghost use Rattle.coll_core.specs.Cores.{seen, setting};
@@ -19,7 +19,7 @@ ghost use Rattle.coll_core.specs.Phases.{about_in};
 
 use crate::groups::copied_config;
 use crate::note::Note;
-use crate::spaces::{Space, Spaces};
+use crate::spaces::Spaces;
 use crate::tally::Entries;
 use crate::trace::Trace;
 use coll_core::{About, Config, Core};
@@ -40,6 +40,8 @@ pub struct Shared<L: Entries> {
     notes: Vec<Note>,
     stalled: bool,
     stopped: bool,
+    unsettled: bool,
+    sleepers: u32,
     pieces: u64,
 }
 
@@ -76,18 +78,6 @@ fn awake(alloc: Global, ranks: u8) -> Result<Vec<Note>, Refusal>
     Ok(notes)
 }
 
-/// What a post or a start keeps: a space for its outcome of so many bytes, and a copy of what it gives for the trace.
-fn kept(alloc: Global, len: usize, bytes: &[u8]) -> Result<(Space, Vec<u8>), Refusal>
-    ensures len { IfOk result (λ r. r.0.len ≡ len) }
-    ensures space { IfOk result (λ r. length r.0.bytes.items ≡ len) }
-    ensures bytes { IfOk result (λ r. r.1.items ≡ bytes.now) }
-    ensures refused { IfErr result (λ why. why ≡ Refusal.NoMemory) }
-{
-    let space = Space::filled(alloc, len)?;
-    let copy = Vec::from_slice(alloc, bytes)?;
-    Ok((space, copy))
-}
-
 impl<L: Entries> Shared<L> {
     /// An engine without requests, and an empty trace.
     ///
@@ -117,6 +107,8 @@ impl<L: Entries> Shared<L> {
             notes,
             stalled: false,
             stopped: false,
+            unsettled: false,
+            sleepers: 0,
             pieces: 0,
         })
     }

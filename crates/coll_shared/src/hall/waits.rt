@@ -1,8 +1,9 @@
 //! Waits: each looks again and again until its wish is fulfilled.
 
-ghost use Rattle.std.specs.Prelude.{◌≡◌, ◌+◌, ◌≤◌, IfOk, IfSome, None, OnErr, length, true, vec_capacity, vec_len};
+ghost use Rattle.std.specs.Prelude.{◌≡◌, ◌+◌, ◌<◌, ◌≤◌, ◌⊎◌, IfErr, IfOk, IfSome, None, OnErr, Some, length, true, vec_capacity, vec_len};
 ghost use Rattle.coll_complete.specs.Requests.{AreDistinct};
-ghost use Rattle.coll_shared.specs.Tests.{TestsAll, TestsAny, TestsOne, TestsSome, any_of};
+ghost use Rattle.coll_shared.specs.Tests.{RefusesList, RefusesOne, TestsAll, TestsAny, TestsOne, TestsSome, any_of};
+ghost use Rattle.coll_shared.specs.Wishes.{IsHindrance};
 
 use crate::gate::Gate;
 use crate::hall::Hall;
@@ -27,15 +28,22 @@ impl<L: Entries> Hall<L> {
         ensures told { IfOk result (λ r. TestsOne rank request.old request.new true r.0 r.1) }
         ensures counted { IfOk result (λ r. IfSome r.0 (λ outcome. mine.new ≡ mine.old + 1)) }
         ensures none { IfOk result (λ r. r.0 ≡ None → mine.new ≡ mine.old) }
+        ensures refused { IfErr result (λ why. RefusesOne rank request.old (Some why) ⊎ IsHindrance why) }
         ensures err { OnErr result ((request.new ≡ request.old) × (mine.new ≡ mine.old)) }
     {
         let mut looks = 0u32;
         for _ in rt.forever() {
             let mut shared = self.enter(rt);
             match shared.fulfil(mine, rank, request) {
-                Ok(Some(answer)) => return Ok(answer),
+                Ok(Some(answer)) => {
+                    self.depart(shared);
+                    return Ok(answer);
+                }
                 Ok(None) => {}
-                Err(why) => return Err(why),
+                Err(why) => {
+                    self.depart(shared);
+                    return Err(why);
+                }
             }
             match self.go_on(rt, gate, shared, rank, Wish::One(request), looks) {
                 Ok(now) => looks = now,
@@ -57,15 +65,22 @@ impl<L: Entries> Hall<L> {
         ensures told { IfOk result (λ r. TestsAny rank requests.old requests.new (any_of r.0) r.1) }
         ensures counted { IfOk result (λ r. IfSome r.0 (λ at. mine.new ≡ mine.old + 1)) }
         ensures none { IfOk result (λ r. r.0 ≡ None → mine.new ≡ mine.old) }
+        ensures refused { IfErr result (λ why. RefusesList rank requests.old (Some why) ⊎ IsHindrance why) }
         ensures err { OnErr result ((requests.new ≡ requests.old) × (mine.new ≡ mine.old)) }
     {
         let mut looks = 0u32;
         for _ in rt.forever() {
             let mut shared = self.enter(rt);
             match shared.fulfil_any(mine, rank, requests) {
-                Ok(Some(answer)) => return Ok(answer),
+                Ok(Some(answer)) => {
+                    self.depart(shared);
+                    return Ok(answer);
+                }
                 Ok(None) => {}
-                Err(why) => return Err(why),
+                Err(why) => {
+                    self.depart(shared);
+                    return Err(why);
+                }
             }
             match self.go_on(rt, gate, shared, rank, Wish::Any(requests), looks) {
                 Ok(now) => looks = now,
@@ -89,15 +104,22 @@ impl<L: Entries> Hall<L> {
         requires room { vec_len out.old + length requests.old ≤ vec_capacity out.old }
         ensures told { IfOk result (λ r. TestsAll rank requests.old requests.new out.old.items out.new.items true r) }
         ensures counted { IfOk result (λ r. mine.new + vec_len out.old ≡ mine.old + vec_len out.new) }
+        ensures refused { IfErr result (λ why. RefusesList rank requests.old (Some why) ⊎ IsHindrance why) }
         ensures err { OnErr result ((requests.new ≡ requests.old) × (out.new ≡ out.old) × (mine.new ≡ mine.old)) }
     {
         let mut looks = 0u32;
         for _ in rt.forever() {
             let mut shared = self.enter(rt);
             match shared.fulfil_all(mine, rank, requests, out) {
-                Ok(Some(receipts)) => return Ok(receipts),
+                Ok(Some(receipts)) => {
+                    self.depart(shared);
+                    return Ok(receipts);
+                }
                 Ok(None) => {}
-                Err(why) => return Err(why),
+                Err(why) => {
+                    self.depart(shared);
+                    return Err(why);
+                }
             }
             match self.go_on(rt, gate, shared, rank, Wish::All(requests), looks) {
                 Ok(now) => looks = now,
@@ -120,17 +142,25 @@ impl<L: Entries> Hall<L> {
         requires distinct { AreDistinct requests.old }
         requires room { vec_len out.old + length requests.old ≤ vec_capacity out.old }
         ensures told { IfOk result (λ r. TestsSome rank requests.old requests.new out.old.items out.new.items r.0 r.1) }
+        ensures some { IfOk result (λ r. IfSome r.0 (λ n. 0 < n)) }
         ensures counted { IfOk result (λ r. IfSome r.0 (λ n. mine.new ≡ mine.old + n)) }
         ensures inactive { IfOk result (λ r. r.0 ≡ None → mine.new ≡ mine.old) }
+        ensures refused { IfErr result (λ why. RefusesList rank requests.old (Some why) ⊎ IsHindrance why) }
         ensures err { OnErr result ((requests.new ≡ requests.old) × (out.new ≡ out.old) × (mine.new ≡ mine.old)) }
     {
         let mut looks = 0u32;
         for _ in rt.forever() {
             let mut shared = self.enter(rt);
             match shared.fulfil_some(mine, rank, requests, out) {
-                Ok(Some(answer)) => return Ok(answer),
+                Ok(Some(answer)) => {
+                    self.depart(shared);
+                    return Ok(answer);
+                }
                 Ok(None) => {}
-                Err(why) => return Err(why),
+                Err(why) => {
+                    self.depart(shared);
+                    return Err(why);
+                }
             }
             match self.go_on(rt, gate, shared, rank, Wish::Any(requests), looks) {
                 Ok(now) => looks = now,

@@ -5,6 +5,7 @@ ghost use Rattle.coll_shared.specs.Ports.{IsInited, IsPosted, IsStarted};
 ghost use Rattle.coll_shared.specs.Retirements.{release};
 
 use crate::hall::Hall;
+use crate::kept::Kept;
 use crate::port::Port;
 use crate::receipt::Receipt;
 use crate::tally::Entries;
@@ -33,14 +34,12 @@ impl<L: Entries> Port<L> {
         ensures err { OnErr result (self.new.made ≡ self.old.made) }
         ensures back { IfErr result (λ refused. refused.back ≡ offer) }
     {
+        let kept = Kept::of(self.alloc, &offer);
         let hall: &Hall<L> = &*self.hall;
-        let posted = hall
-            .shared
-            .lock(rt)
-            .post(&mut self.tally, self.rank, comm, offer);
-        match posted {
+        let mut shared = hall.enter(rt);
+        match shared.post(&mut self.tally, self.rank, comm, offer, kept) {
             Ok((ticket, receipt)) => {
-                hall.moved.notify_all();
+                hall.go(shared);
                 Ok((Request::of(ticket), receipt))
             }
             Err(refused) => Err(refused),
@@ -66,11 +65,8 @@ impl<L: Entries> Port<L> {
         ensures back { IfErr result (λ refused. refused.back ≡ plan) }
     {
         let hall: &Hall<L> = &*self.hall;
-        let made = hall
-            .shared
-            .lock(rt)
-            .init(&mut self.tally, self.rank, comm, plan);
-        match made {
+        let mut shared = hall.enter(rt);
+        match shared.init(&mut self.tally, self.rank, comm, plan) {
             Ok((ticket, receipt)) => Ok((Request::of(ticket), receipt)),
             Err(refused) => Err(refused),
         }
@@ -101,13 +97,10 @@ impl<L: Entries> Port<L> {
             });
         };
         let hall: &Hall<L> = &*self.hall;
-        let started = hall
-            .shared
-            .lock(rt)
-            .start(&mut self.tally, self.rank, ticket, bytes);
-        match started {
+        let mut shared = hall.enter(rt);
+        match shared.start(&mut self.tally, self.rank, ticket, bytes) {
             Ok(receipt) => {
-                hall.moved.notify_all();
+                hall.go(shared);
                 Ok(receipt)
             }
             Err(refused) => Err(refused),
@@ -129,8 +122,7 @@ impl<L: Entries> Port<L> {
         ensures err { OnErr result ((self.new.made ≡ self.old.made) × (request.new ≡ request.old)) }
     {
         let hall: &Hall<L> = &*self.hall;
-        hall.shared
-            .lock(rt)
-            .request_free(&mut self.tally, self.rank, request)
+        let mut shared = hall.enter(rt);
+        shared.request_free(&mut self.tally, self.rank, request)
     }
 }

@@ -36,9 +36,8 @@ impl<L: Entries> Port<L> {
         ensures err { OnErr result ((self.new.made ≡ self.old.made) × (request.new ≡ request.old)) }
     {
         let hall: &Hall<L> = &*self.hall;
-        hall.shared
-            .lock(rt)
-            .tested(&mut self.tally, self.rank, request)
+        let mut shared = hall.enter(rt);
+        shared.tested(&mut self.tally, self.rank, request)
     }
 
     /// Completes the lowest request of a list that is Done (`MPI_Testany`; MPI 4.1, 3.7.5). Null and Idle requests are
@@ -62,9 +61,8 @@ impl<L: Entries> Port<L> {
         ensures err { OnErr result ((self.new.made ≡ self.old.made) × (requests.new ≡ requests.old)) }
     {
         let hall: &Hall<L> = &*self.hall;
-        hall.shared
-            .lock(rt)
-            .tested_any(&mut self.tally, self.rank, requests)
+        let mut shared = hall.enter(rt);
+        shared.tested_any(&mut self.tally, self.rank, requests)
     }
 
     /// Completes all requests of a list that are Done, if no request of it is Pending (`MPI_Testall`; MPI 4.1, 3.7.5),
@@ -89,9 +87,8 @@ impl<L: Entries> Port<L> {
         ensures err { OnErr result ((self.new.made ≡ self.old.made) × (requests.new ≡ requests.old) × (out.new ≡ out.old)) }
     {
         let hall: &Hall<L> = &*self.hall;
-        hall.shared
-            .lock(rt)
-            .tested_all(&mut self.tally, self.rank, requests, out)
+        let mut shared = hall.enter(rt);
+        shared.tested_all(&mut self.tally, self.rank, requests, out)
     }
 
     /// Completes all requests of a list that are Done (`MPI_Testsome`; MPI 4.1, 3.7.5), pushes each position with its
@@ -117,8 +114,7 @@ impl<L: Entries> Port<L> {
         ensures err { OnErr result ((self.new.made ≡ self.old.made) × (requests.new ≡ requests.old) × (out.new ≡ out.old)) }
     {
         let hall: &Hall<L> = &*self.hall;
-        hall.shared
-            .lock(rt)
-            .tested_some(&mut self.tally, self.rank, requests, out)
+        let mut shared = hall.enter(rt);
+        shared.tested_some(&mut self.tally, self.rank, requests, out)
     }
 }

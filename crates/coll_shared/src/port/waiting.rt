@@ -1,8 +1,9 @@
 //! A port's waits. A waiting port makes steps itself, and sleeps only where no request is ready.
 
-ghost use Rattle.std.specs.Prelude.{◌≡◌, ◌+◌, ◌≤◌, IfOk, IfSome, None, OnErr, length, true, vec_capacity, vec_len};
+ghost use Rattle.std.specs.Prelude.{◌≡◌, ◌+◌, ◌<◌, ◌≤◌, ◌⊎◌, IfErr, IfOk, IfSome, None, OnErr, Some, length, true, vec_capacity, vec_len};
 ghost use Rattle.coll_complete.specs.Requests.{AreDistinct};
-ghost use Rattle.coll_shared.specs.Tests.{TestsAll, TestsAny, TestsOne, TestsSome, any_of};
+ghost use Rattle.coll_shared.specs.Tests.{RefusesList, RefusesOne, TestsAll, TestsAny, TestsOne, TestsSome, any_of};
+ghost use Rattle.coll_shared.specs.Wishes.{IsHindrance};
 
 use crate::gate::Gate;
 use crate::hall::Hall;
@@ -21,8 +22,8 @@ impl<L: Entries> Port<L> {
     /// # Errors
     ///
     /// Stale where the ticket names no live request, and NotYours where it is another rank's; Stalled where it would
-    /// sleep and nothing can go on any more; NoMemory of a step, of a combination, or of what it notes before it sleeps.
-    /// The request is as it was, and the steps that were made stay.
+    /// sleep and nothing can go on any more; NoMemory of a step or of a combination; Stale where the result of a
+    /// combination that it made isn't wanted any longer. The request is as it was, and the steps that were made stay.
     pub fn wait<R: Wait, G: Gate>(
         &mut self,
         rt: &R,
@@ -34,6 +35,7 @@ impl<L: Entries> Port<L> {
         ensures told { IfOk result (λ r. TestsOne self.old.rank request.old request.new true r.0 r.1) }
         ensures made { IfOk result (λ r. IfSome r.0 (λ outcome. self.new.made ≡ self.old.made + 1)) }
         ensures none { IfOk result (λ r. r.0 ≡ None → self.new.made ≡ self.old.made) }
+        ensures refused { IfErr result (λ why. RefusesOne self.old.rank request.old (Some why) ⊎ IsHindrance why) }
         ensures err { OnErr result ((self.new.made ≡ self.old.made) × (request.new ≡ request.old)) }
     {
         let hall: &Hall<L> = &*self.hall;
@@ -46,7 +48,7 @@ impl<L: Entries> Port<L> {
     /// # Errors
     ///
     /// Stale where a ticket names no live request, NotYours where it names another rank's: that of the first such request;
-    /// then as `wait`.
+    /// then as `wait`, and NoMemory also of what it notes before it sleeps.
     pub fn wait_any<R: Wait, G: Gate>(
         &mut self,
         rt: &R,
@@ -58,6 +60,7 @@ impl<L: Entries> Port<L> {
         ensures told { IfOk result (λ r. TestsAny self.old.rank requests.old requests.new (any_of r.0) r.1) }
         ensures made { IfOk result (λ r. IfSome r.0 (λ at. self.new.made ≡ self.old.made + 1)) }
         ensures none { IfOk result (λ r. r.0 ≡ None → self.new.made ≡ self.old.made) }
+        ensures refused { IfErr result (λ why. RefusesList self.old.rank requests.old (Some why) ⊎ IsHindrance why) }
         ensures err { OnErr result ((self.new.made ≡ self.old.made) × (requests.new ≡ requests.old)) }
     {
         let hall: &Hall<L> = &*self.hall;
@@ -69,7 +72,7 @@ impl<L: Entries> Port<L> {
     ///
     /// # Errors
     ///
-    /// As `wait_any`.
+    /// Of the list as `wait_any`, and then as `wait`.
     pub fn wait_all<R: Wait, G: Gate>(
         &mut self,
         rt: &R,
@@ -83,6 +86,7 @@ impl<L: Entries> Port<L> {
         ensures groups { self.new.groups ≡ self.old.groups }
         ensures told { IfOk result (λ r. TestsAll self.old.rank requests.old requests.new out.old.items out.new.items true r) }
         ensures made { IfOk result (λ r. self.new.made + vec_len out.old ≡ self.old.made + vec_len out.new) }
+        ensures refused { IfErr result (λ why. RefusesList self.old.rank requests.old (Some why) ⊎ IsHindrance why) }
         ensures err { OnErr result ((self.new.made ≡ self.old.made) × (requests.new ≡ requests.old) × (out.new ≡ out.old)) }
     {
         let hall: &Hall<L> = &*self.hall;
@@ -90,8 +94,8 @@ impl<L: Entries> Port<L> {
     }
 
     /// Waits until a request of a list is Done, completes all that are (`MPI_Waitsome`; MPI 4.1, 3.7.5), pushes each
-    /// position with its outcome to `out`, in rising position, and answers how many there were; none where no request is
-    /// active.
+    /// position with its outcome to `out`, in rising position, and answers how many there were, at least one; none where no
+    /// request is active.
     ///
     /// # Errors
     ///
@@ -108,8 +112,10 @@ impl<L: Entries> Port<L> {
         ensures rank { self.new.rank ≡ self.old.rank }
         ensures groups { self.new.groups ≡ self.old.groups }
         ensures told { IfOk result (λ r. TestsSome self.old.rank requests.old requests.new out.old.items out.new.items r.0 r.1) }
+        ensures some { IfOk result (λ r. IfSome r.0 (λ n. 0 < n)) }
         ensures made { IfOk result (λ r. IfSome r.0 (λ n. self.new.made ≡ self.old.made + n)) }
         ensures inactive { IfOk result (λ r. r.0 ≡ None → self.new.made ≡ self.old.made) }
+        ensures refused { IfErr result (λ why. RefusesList self.old.rank requests.old (Some why) ⊎ IsHindrance why) }
         ensures err { OnErr result ((self.new.made ≡ self.old.made) × (requests.new ≡ requests.old) × (out.new ≡ out.old)) }
     {
         let hall: &Hall<L> = &*self.hall;

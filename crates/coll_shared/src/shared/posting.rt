@@ -8,9 +8,11 @@ ghost use Rattle.coll_tables.specs.Machines.{StepsTo};
 ghost use Rattle.coll_core.specs.Cores.{seen, setting};
 ghost use Rattle.coll_core.specs.Posts.{init_of, post_of};
 ghost use Rattle.coll_shared.specs.Halls.{Denies, Stays};
+ghost use Rattle.coll_shared.specs.Spaced.{KeepsFor};
 
+use crate::kept::Kept;
 use crate::receipt::Receipt;
-use crate::shared::{Shared, kept, live};
+use crate::shared::{Shared, live};
 use crate::spaces::{Space, outcome_len};
 use crate::tally::{Entries, Tally};
 use coll_core::Offer;
@@ -19,8 +21,8 @@ use coll_plans::Plan;
 use coll_report::Entry;
 
 impl<L: Entries> Shared<L> {
-    /// Starts a collective, as the core's `post` does, and appends its entry. It makes all memory that the entries of
-    /// the request will take, its outcome's bytes among it.
+    /// Starts a collective, as the core's `post` does, and appends its entry. `kept` is `Kept::of` of the offer: with room
+    /// for two entries it is all memory that the entries of the request take.
     ///
     /// # Errors
     ///
@@ -32,7 +34,10 @@ impl<L: Entries> Shared<L> {
         rank: u8,
         comm: u32,
         offer: Offer,
+        kept: Result<Kept, Refusal>,
     ) -> Result<(Ticket, Receipt), Refused<Offer>>
+        requires kept { IfOk kept (KeepsFor offer) }
+        requires refused { IfErr kept (λ why. why ≡ Refusal.NoMemory) }
         ensures setting { setting self.new.core ≡ setting self.old.core }
         ensures notes { (self.new.notes ≡ self.old.notes) × (self.new.stalled ≡ self.old.stalled) }
         ensures posted { IfOk result (λ r. StepsTo (setting self.old.core) (seen self.old.core) (post_of rank comm offer) (Ticketed r.0) (seen self.new.core)) }
@@ -53,7 +58,7 @@ impl<L: Entries> Shared<L> {
         if let Err(why) = self.trace.make_room() {
             return Err(Refused { why, back: offer });
         }
-        let (space, bytes) = match kept(self.alloc, outcome_len(&offer.plan), &offer.bytes) {
+        let Kept { space, bytes } = match kept {
             Ok(kept) => kept,
             Err(why) => return Err(Refused { why, back: offer }),
         };

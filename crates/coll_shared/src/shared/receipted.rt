@@ -1,9 +1,12 @@
 //! The tests of requests with receipts, in words that outlast the hold of the lock.
 
-ghost use Rattle.std.specs.Prelude.{◌≡◌, ◌+◌, ◌≤◌, IfOk, IfSome, None, OnErr, drop, false, length, vec_capacity, vec_len};
+ghost use Rattle.std.specs.Prelude.{◌≡◌, ◌+◌, ◌≤◌, IfOk, IfSome, None, OnErr, drop, false, is_some, length, vec_capacity, vec_len};
+ghost use Rattle.std.specs.List.{list_any};
 ghost use Rattle.std.specs.Result.{result_err};
+ghost use Rattle.coll_core.specs.Cores.{seen};
 ghost use Rattle.coll_complete.specs.Anys.{position_of};
-ghost use Rattle.coll_complete.specs.Requests.{AreDistinct};
+ghost use Rattle.coll_complete.specs.Completing.{done_positions};
+ghost use Rattle.coll_complete.specs.Requests.{AreDistinct, is_active};
 ghost use Rattle.coll_report.specs.Views.{trace_seen};
 ghost use Rattle.coll_shared.specs.Tests.{RefusesList, RefusesOne, TestsAll, TestsAny, TestsOne, TestsSome};
 
@@ -38,6 +41,7 @@ impl<L: Entries> Shared<L> {
         rank: u8,
         request: &mut Request,
     ) -> Result<(Tested, Receipts), Refusal>
+        ensures notes { (self.new.notes ≡ self.old.notes) × (self.new.stalled ≡ self.old.stalled) }
         ensures told { IfOk result (λ r. TestsOne rank request.old request.new r.0.flag r.0.outcome r.1) }
         ensures counted { IfOk result (λ r. IfSome r.0.outcome (λ outcome. mine.new ≡ mine.old + 1)) }
         ensures none { IfOk result (λ r. r.0.outcome ≡ None → mine.new ≡ mine.old) }
@@ -58,6 +62,7 @@ impl<L: Entries> Shared<L> {
         rank: u8,
         requests: &mut [Request],
     ) -> Result<(Any, Receipts), Refusal>
+        ensures notes { (self.new.notes ≡ self.old.notes) × (self.new.stalled ≡ self.old.stalled) }
         ensures told { IfOk result (λ r. TestsAny rank requests.old requests.new r.0 r.1) }
         ensures counted { IfOk result (λ r. IfSome (position_of r.0) (λ at. mine.new ≡ mine.old + 1)) }
         ensures none { IfOk result (λ r. position_of r.0 ≡ None → mine.new ≡ mine.old) }
@@ -81,6 +86,7 @@ impl<L: Entries> Shared<L> {
     ) -> Result<(bool, Receipts), Refusal>
         requires distinct { AreDistinct requests.old }
         requires room { vec_len out.old + length requests.old ≤ vec_capacity out.old }
+        ensures notes { (self.new.notes ≡ self.old.notes) × (self.new.stalled ≡ self.old.stalled) }
         ensures told { IfOk result (λ r. TestsAll rank requests.old requests.new out.old.items out.new.items r.0 r.1) }
         ensures counted { IfOk result (λ r. mine.new + vec_len out.old ≡ mine.old + vec_len out.new) }
         ensures unfinished { IfOk result (λ r. r.0 ≡ false → (requests.new ≡ requests.old) × (out.new ≡ out.old) × (mine.new ≡ mine.old)) }
@@ -104,6 +110,9 @@ impl<L: Entries> Shared<L> {
     ) -> Result<(Option<usize>, Receipts), Refusal>
         requires distinct { AreDistinct requests.old }
         requires room { vec_len out.old + length requests.old ≤ vec_capacity out.old }
+        ensures notes { (self.new.notes ≡ self.old.notes) × (self.new.stalled ≡ self.old.stalled) }
+        ensures active { IfOk result (λ r. is_some r.0 ≡ list_any (is_active (seen self.old.core)) requests.old) }
+        ensures count { IfOk result (λ r. IfSome r.0 (λ n. n ≡ length (done_positions (seen self.old.core) requests.old))) }
         ensures told { IfOk result (λ r. TestsSome rank requests.old requests.new out.old.items out.new.items r.0 r.1) }
         ensures counted { IfOk result (λ r. IfSome r.0 (λ n. mine.new ≡ mine.old + n)) }
         ensures inactive { IfOk result (λ r. r.0 ≡ None → mine.new ≡ mine.old) }

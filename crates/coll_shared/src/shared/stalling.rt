@@ -4,6 +4,7 @@ ghost use Rattle.std.specs.Prelude.{◌≡◌, ◌↔◌, All, IsTrue, false, sl
 ghost use Rattle.std.specs.Bool.{OnFalse, OnTrue};
 ghost use Rattle.coll_shared.specs.Stalls.{IsDone, IsStalled, Rests};
 
+use crate::doors::Ranks;
 use crate::note::Note;
 use crate::shared::Shared;
 use crate::tally::Entries;
@@ -47,6 +48,35 @@ fn all_rest(core: &Core, notes: &[Note]) -> bool
     notes.iter().all(|note| rests(core, note))
 }
 
+/// Notes that the ports wake which wait for what is the case now, and answers their ranks.
+fn roused(core: &Core, notes: &mut [Note]) -> Ranks {
+    let mut called = 0u64;
+    for rank in 0..64u8 {
+        let Some(note) = notes.get_mut(usize::from(rank)) else {
+            break;
+        };
+        if !matches!(note, Note::Awake) && !rests(core, note) {
+            called |= 1u64 << rank;
+            *note = Note::Awake;
+        }
+    }
+    Ranks(called)
+}
+
+/// The ranks of the ports that wait.
+fn sleeping(notes: &[Note]) -> Ranks {
+    let mut called = 0u64;
+    for rank in 0..64u8 {
+        match notes.get(usize::from(rank)) {
+            Some(Note::Sleeps { .. }) => called |= 1u64 << rank,
+            Some(Note::SleepsForAny { .. }) => called |= 1u64 << rank,
+            Some(_) => {}
+            None => break,
+        }
+    }
+    Ranks(called)
+}
+
 impl<L: Entries> Shared<L> {
     /// Whether nothing can go on: no request is ready, no combination is handed out, and each port has ended or sleeps
     /// for a request that isn't Done. Linear in the ports.
@@ -68,7 +98,7 @@ impl<L: Entries> Shared<L> {
         }
     }
 
-    /// Notes that a port wakes.
+    /// Notes that a port is awake.
     pub(crate) fn rise(&mut self, rank: u8)
         ensures core { self.new.core ≡ self.old.core }
         ensures entries { self.new.entries ≡ self.old.entries }
@@ -84,18 +114,61 @@ impl<L: Entries> Shared<L> {
         ensures core { self.new.core ≡ self.old.core }
         ensures entries { self.new.entries ≡ self.old.entries }
         ensures sleeps { OnTrue result ((self.new.notes ≡ slice_set self.old.notes rank note) × (IsStalled self.new → ⊥)) }
+        ensures awake { OnFalse result (self.new.notes ≡ slice_set self.old.notes rank Note.Awake) }
         ensures stalled { OnFalse result (self.new.stalled ≡ true) }
     {
-        if self.stalled {
-            return false;
-        }
         self.note(rank, note);
-        if !self.stall_now() {
+        if !self.stalled && !self.stall_now() {
             return true;
         }
         self.rise(rank);
         self.stalled = true;
         false
+    }
+
+    /// The ranks that wait for what is the case now, which are awake then. Linear in the ports.
+    pub(crate) fn fulfilled(&mut self) -> Ranks
+        ensures core { self.new.core ≡ self.old.core }
+        ensures entries { self.new.entries ≡ self.old.entries }
+        ensures stalled { self.new.stalled ≡ self.old.stalled }
+    {
+        roused(&self.core, &mut self.notes)
+    }
+
+    /// The ranks that wait. Linear in the ports.
+    pub(crate) fn waiting(&self) -> Ranks {
+        sleeping(&self.notes)
+    }
+
+    /// Notes whether requests may be ready.
+    pub(crate) fn settle(&mut self, unsettled: bool)
+        ensures { self.new ≡ self.old }
+    {
+        self.unsettled = unsettled;
+    }
+
+    /// Whether requests may be ready.
+    pub(crate) fn is_unsettled(&self) -> bool {
+        self.unsettled
+    }
+
+    /// Counts a port that sleeps at its door.
+    pub(crate) fn fall_asleep(&mut self)
+        ensures { self.new ≡ self.old }
+    {
+        self.sleepers = self.sleepers.saturating_add(1);
+    }
+
+    /// Counts it as awake.
+    pub(crate) fn wake_up(&mut self)
+        ensures { self.new ≡ self.old }
+    {
+        self.sleepers = self.sleepers.saturating_sub(1);
+    }
+
+    /// Whether ports sleep at their doors.
+    pub(crate) fn has_sleepers(&self) -> bool {
+        self.sleepers != 0
     }
 
     /// Marks that progress threads are to end.

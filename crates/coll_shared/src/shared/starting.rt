@@ -10,8 +10,9 @@ ghost use Rattle.coll_tables.specs.Machines.{StepsTo};
 ghost use Rattle.coll_core.specs.Cores.{seen, setting};
 ghost use Rattle.coll_shared.specs.Halls.{Denies, Stays};
 
+use crate::kept::Kept;
 use crate::receipt::Receipt;
-use crate::shared::{Shared, kept, live};
+use crate::shared::{Shared, live};
 use crate::tally::{Entries, Tally};
 use coll_kinds::{Refusal, Refused, Ticket};
 use coll_report::Entry;
@@ -51,7 +52,7 @@ impl<L: Entries> Shared<L> {
         if let Err(why) = self.trace.make_room() {
             return Err(Refused { why, back: bytes });
         }
-        let (space, copy) = match kept(self.alloc, self.spaces.len_at(ticket), &bytes) {
+        let kept = match Kept::new(self.alloc, self.spaces.len_at(ticket), &bytes) {
             Ok(kept) => kept,
             Err(why) => return Err(Refused { why, back: bytes }),
         };
@@ -59,7 +60,7 @@ impl<L: Entries> Shared<L> {
             return Err(refused);
         }
         let start = live(&self.core, ticket).starts - 1;
-        self.spaces.put(ticket, space);
+        self.spaces.put(ticket, kept.space);
         Ok(
             self.trace.begin(
                 mine,
@@ -67,7 +68,7 @@ impl<L: Entries> Shared<L> {
                     rank,
                     ticket,
                     start,
-                    bytes: copy,
+                    bytes: kept.bytes,
                 },
             ),
         )

@@ -1,5 +1,6 @@
 ghost use Rattle.std.specs.Prelude.{◌≡◌, IfOk};
 
+use crate::kept::Kept;
 use crate::shared::Shared;
 use crate::tally::{Entries, Tally};
 use coll_complete::{Any, Request, Tested, are_distinct};
@@ -91,7 +92,8 @@ fn post<L: Entries>(
         plan: plan_of(alloc, Mode::Once, members)?,
         bytes: Vec::from_slice(alloc, &[value])?,
     };
-    match shared.post(mine, 0, comm, offer) {
+    let kept = Kept::of(alloc, &offer);
+    match shared.post(mine, 0, comm, offer, kept) {
         Ok((ticket, _receipt)) => Ok(Request::of(ticket)),
         Err(refused) => Err(refused.why),
     }

@@ -3,7 +3,7 @@ use Rattle.std.proofs.Common.{◌+◌, ◌<◌, length, sym, ap, ◌∙◌}
 use Rattle.std.proofs.lemmas.Bool.{false≢true}
 use Rattle.coll_core.specs.Cores.{seen, setting}
 use Rattle.coll_core.specs.Posts.{planned}
-use Rattle.coll_shared.proofs.Halls.{denies_full, denies_memory, denies_core, hall_in, kept, posted_there, posted_low, posted_hall, posted_entry}
+use Rattle.coll_shared.proofs.Halls.{denies_full, denies_memory, denies_core, hall_in, kept, posted_there, posted_low, posted_hall, posted_entry, keeps_for, kept_refused}
 use Rattle.coll_shared.proofs.shared.Shared.post.Goals as goal
 
 pub live-place-requires : goal.live-place-requires
@@ -15,16 +15,18 @@ put-requires g c = posted_low c.self.inside.core (seen c.post.new.self) c.self.i
 pub invariant_of-self-2 : goal.invariant_of-self-2
 invariant_of-self-2 g c =
     let s = c.self.inside in
+    let keeps = keeps_for c.args.kept c.args.offer c.in-Ok.kept c.requires.kept c.in-Ok.is in
     let fits : s.config.trace < length s.trace.entries + s.trace.reserved + 2 → ⊥ = λ lt. false≢true (sym c.if-is_full.false ∙ c.is_full.ensures.1 lt) in
     kept s.config s.core _ _ _ _ _ _ _ c.self.invariant c.in-Ok-post.ensures.setting (
     posted_hall s.core c.post.new.self s.trace.entries c.begin-receipt.new.self.entries s.trace.reserved c.begin-receipt.new.self.reserved s.config.trace s.spaces.slots.items c.put.new.self.slots.items c.args.rank c.args.comm (planned c.args.offer.plan) c.args.offer.bytes.items c.in-Ok-post.ticket c.live-place.result _ _ (hall_in c.self.invariant) c.in-Ok-post.ensures.setting
-    c.in-Ok-post.ensures.posted c.live-place.ensures fits (c.in-Ok.ensures.len ∙ c.outcome_len.ensures) (c.in-Ok.ensures.space ∙ sym c.in-Ok.ensures.len) c.put.ensures
-    (posted_entry _ _ _ _ _ _ _ _ _ _ _ c.make_room.ensures.entries c.begin-receipt.ensures.entries c.sig-sig.ensures.sig (c.in-Ok.ensures.bytes ∙ c.deref.ensures.value)) (c.begin-receipt.ensures.reserved ∙ ap (λ n. n + 1) c.make_room.ensures.reserved)
+    c.in-Ok-post.ensures.posted c.live-place.ensures fits keeps.len_is keeps.filled c.put.ensures
+    (posted_entry _ _ _ _ _ _ _ _ _ _ _ c.make_room.ensures.entries c.begin-receipt.ensures.entries c.sig-sig.ensures.sig keeps.copied) (c.begin-receipt.ensures.reserved ∙ ap (λ n. n + 1) c.make_room.ensures.reserved)
     )
 
 pub returns-clause-receipt : goal.returns-clause-receipt
 returns-clause-receipt g c =
-    (c.live-place.result.place, c.begin-receipt.ensures.receipt ∙ (λ z. Posted c.args.rank c.in-Ok-post.ticket c.args.comm c.live-place.result.place (c.sig-sig.ensures.sig z) ((c.in-Ok.ensures.bytes ∙ c.deref.ensures.value) z)))
+    let keeps = keeps_for c.args.kept c.args.offer c.in-Ok.kept c.requires.kept c.in-Ok.is in
+    (c.live-place.result.place, c.begin-receipt.ensures.receipt ∙ (λ z. Posted c.args.rank c.in-Ok-post.ticket c.args.comm c.live-place.result.place (c.sig-sig.ensures.sig z) (keeps.copied z)))
 
 pub returns-then-is_full-clause-refused : goal.returns-then-is_full-clause-refused
 returns-then-is_full-clause-refused g c = denies_full c.self.invariant c.self.view_is c.is_full.ensures c.if-is_full.true
@@ -33,7 +35,7 @@ pub returns-in-Err-clause-refused : goal.returns-in-Err-clause-refused
 returns-in-Err-clause-refused g c = denies_memory c.self.invariant c.self.view_is c.is_full.ensures c.if-is_full.false c.in-Err.ensures.refused
 
 pub returns-in-Err-kept-clause-refused : goal.returns-in-Err-kept-clause-refused
-returns-in-Err-kept-clause-refused g c = denies_memory c.self.invariant c.self.view_is c.is_full.ensures c.if-is_full.false c.in-Err-kept.ensures.refused
+returns-in-Err-kept-clause-refused g c = denies_memory c.self.invariant c.self.view_is c.is_full.ensures c.if-is_full.false (kept_refused c.args.kept c.in-Err-kept.why c.requires.refused c.in-Err-kept.is)
 
 pub returns-in-Err-post-clause-refused : goal.returns-in-Err-post-clause-refused
 returns-in-Err-post-clause-refused g c = denies_core c.self.invariant c.self.view_is c.is_full.ensures c.if-is_full.false c.in-Err-post.ensures.refused

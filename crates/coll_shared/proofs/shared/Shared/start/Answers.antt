@@ -36,8 +36,8 @@ returns-then-is_full-clause-refused g c = denies_full c.self.invariant c.self.vi
 pub returns-in-Err-clause-refused : goal.returns-in-Err-clause-refused
 returns-in-Err-clause-refused g c = denies_memory c.self.invariant c.self.view_is c.is_full.ensures c.if-is_full.false c.in-Err.ensures.refused
 
-pub returns-in-Err-kept-clause-refused : goal.returns-in-Err-kept-clause-refused
-returns-in-Err-kept-clause-refused g c = denies_memory c.self.invariant c.self.view_is c.is_full.ensures c.if-is_full.false c.in-Err-kept.ensures.refused
+pub returns-in-Err-new-clause-refused : goal.returns-in-Err-new-clause-refused
+returns-in-Err-new-clause-refused g c = denies_memory c.self.invariant c.self.view_is c.is_full.ensures c.if-is_full.false c.in-Err-new.ensures.refused
 
 pub returns-in-Err-start-clause-refused : goal.returns-in-Err-start-clause-refused
 returns-in-Err-start-clause-refused g c = denies_core c.self.invariant c.self.view_is c.is_full.ensures c.if-is_full.false c.in-Err-start.ensures.refused

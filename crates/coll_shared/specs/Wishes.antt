@@ -1,0 +1,45 @@
+-- What a waiting port wants: what it notes before it sleeps, and what its wait may be given up for.
+use Rattle.std.specs.Prelude.{◌≡◌, ◌⊎◌, ℕ, List, Contains, filter_map, Option, Some, Vec}
+use Rattle.std.specs.Global.{Global}
+use Rattle.coll_kinds.specs.declared.refusal.Refusal.{Refusal}
+use Rattle.coll_kinds.specs.declared.refusal.Refusal.TheVariants.{NoMemory, Stale, Stalled}
+use Rattle.coll_kinds.specs.declared.ticket.Ticket.{Ticket}
+use Rattle.coll_machine.specs.States.{Machine}
+use Rattle.coll_core.specs.declared.phase.Phase.TheVariants.{Pending}
+use Rattle.coll_core.specs.Phases.{phase_in}
+use Rattle.coll_shared.specs.declared.note.Note.{Note}
+use Rattle.coll_shared.specs.declared.note.Note.TheVariants.{Sleeps, SleepsForAny}
+use Rattle.coll_shared.specs.declared.wish.Wish.{Wish}
+use Rattle.coll_shared.specs.declared.wish.Wish.TheVariants as wish
+
+-- why a wait is given up whose requests aren't refused: it would sleep and nothing can go on any more, memory was
+-- refused, or a combination's result that it made isn't wanted any longer
+abbrev pub IsHindrance : Refusal → Type 0
+IsHindrance why = (why ≡ Stalled) ⊎ (why ≡ NoMemory) ⊎ (why ≡ Stale)
+
+-- the tickets of a list's requests that aren't null, in their order
+abbrev pub tickets_in : List (Option Ticket) → List Ticket
+tickets_in list = filter_map (λ request. request) list
+
+-- one of the requests has the ticket
+abbrev pub IsListed : List (Option Ticket) → Ticket → Type 0
+IsListed list t = Contains list (Some t)
+
+-- the port sleeps for one request of the list, which is Pending
+pub record SleepsForOne (m : Machine) (rank : ℕ) (list : List (Option Ticket)) (note : Note) : Type 0 where
+  pub ticket : Ticket
+  pub note_is : note ≡ Sleeps rank ticket
+  pub listed : IsListed list ticket
+  pub pending : phase_in m ticket ≡ Some Pending
+
+-- the port sleeps for any request of the list
+pub record SleepsForList (rank : ℕ) (list : List (Option Ticket)) (note : Note) : Type 0 where
+  pub noted : Vec Ticket Global
+  pub note_is : note ≡ SleepsForAny rank noted
+  pub all : noted.items ≡ tickets_in list
+
+-- the port sleeps for what has to be before the wish is fulfilled
+abbrev pub IsNoteFor : Machine → ℕ → Wish → Note → Type 0
+IsNoteFor m rank (wish.One request) note = (t : Ticket) × (request.now ≡ Some t) × (note ≡ Sleeps rank t)
+IsNoteFor m rank (wish.Any requests) note = SleepsForList rank requests.now note
+IsNoteFor m rank (wish.All requests) note = SleepsForOne m rank requests.now note

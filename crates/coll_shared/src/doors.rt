@@ -1,0 +1,70 @@
+//! Where threads wait to be called.
+
+ghost use Rattle.std.specs.Prelude.{◌≡◌, IfErr};
+
+use coll_kinds::Refusal;
+use std::alloc::Global;
+use std::sync::Condvar;
+
+/// The places to wait: one for each rank's port, and one for progress threads.
+#[derive(Drop)]
+pub(crate) struct Doors {
+    ports: Vec<Condvar>,
+    workers: Condvar,
+}
+
+/// Some of an engine's ranks, of which there are 64 at most: a bit for each.
+#[derive(Clone, Copy, Debug, PartialEq, Eq)]
+pub(crate) struct Ranks(pub(crate) u64);
+
+impl Ranks {
+    pub(crate) fn is_empty(self) -> bool {
+        self.0 == 0
+    }
+
+    /// The lowest of them alone.
+    pub(crate) fn first(self) -> Ranks {
+        Ranks(self.0 & self.0.wrapping_neg())
+    }
+}
+
+impl Doors {
+    /// For so many ranks.
+    pub(crate) fn open(alloc: Global, ranks: u8) -> Result<Doors, Refusal>
+        ensures refused { IfErr result (λ why. why ≡ Refusal.NoMemory) }
+    {
+        let mut ports = Vec::with_capacity(alloc, usize::from(ranks))?;
+        for _rank in 0..ranks {
+            ports.push(Condvar::new())?;
+        }
+        Ok(Doors {
+            ports,
+            workers: Condvar::new(),
+        })
+    }
+
+    /// The place of a rank's port.
+    pub(crate) fn of(&self, rank: u8) -> &Condvar {
+        match self.ports.get(usize::from(rank)) {
+            Some(door) => door,
+            None => &self.workers,
+        }
+    }
+
+    /// The place of progress threads.
+    pub(crate) fn of_workers(&self) -> &Condvar {
+        &self.workers
+    }
+
+    /// Calls the ports of these ranks.
+    pub(crate) fn call(&self, called: Ranks) {
+        if called.is_empty() {
+            return;
+        }
+        for rank in 0..64u8 {
+            if (called.0 >> rank) & 1 == 1 {
+                self.of(rank).notify_all();
+            }
+        }
+    }
+}
