@@ -1,21 +1,8 @@
 ghost use Rattle.std.specs.Prelude.{◌≡◌};
 ghost use Rattle.coll_run.specs.Faults.{fault_of, graver};
 
-use crate::rank::RankEnd;
 use coll_job::JobFault;
 use coll_kinds::Refusal;
-use coll_shared::Entries;
-
-/// How the threads of a job ended.
-#[derive(Drop)]
-pub(crate) struct Ends<L: Entries> {
-    /// Whether each of them could be started. Else none carried out a command.
-    pub(crate) all_started: bool,
-    /// In rising rank.
-    pub(crate) ranks: Vec<RankEnd<L>>,
-    /// Why a progress thread ended before it was to.
-    pub(crate) workers: Vec<Option<Refusal>>,
-}
 
 /// The fault that is told where threads end with several: a thread that couldn't be started; then the lowest rank's
 /// that isn't Stalled; then a progress thread's; then Stalled. `ranks` are in rising rank.

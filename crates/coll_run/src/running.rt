@@ -13,12 +13,11 @@ ghost use Rattle.coll_attest.specs.Lines.{told, told_lines};
 ghost use Rattle.coll_attest.specs.Runs.{IsRun};
 ghost use Rattle.coll_run.specs.Faults.{IsEnd, IsRunFault};
 
-use crate::crew::run_threads;
-use crate::ends::{Ends, first_fault};
-use crate::rank::{Got, RankEnd};
-use crate::start::Start;
+use crate::ends::first_fault;
+use crate::rank::{Got, RankEnd, run_ranks};
 use coll_attest::{AttestFault, attested_lines};
 use coll_core::Config;
+use coll_crew::{Ends, copied_groups};
 use coll_job::JobFault;
 use coll_kinds::Refusal;
 use coll_report::Report;
@@ -85,13 +84,9 @@ fn run_script<R: Threads + Wait + Sync, G: Gate + Sync>(
 fn config_of(alloc: Global, script: &Script) -> Result<Config, Refusal> {
     let history = script.history();
     let sizes = script.config();
-    let mut groups = Vec::new(alloc);
-    for group in history.groups() {
-        groups.push(Vec::from_slice(alloc, group)?)?;
-    }
     Ok(Config {
         ranks: history.ranks(),
-        groups,
+        groups: copied_groups(alloc, history.groups())?,
         slots: sizes.slots,
         places: sizes.places,
         wear: sizes.wear,
@@ -119,8 +114,7 @@ fn run_in<L: Entries + Send + Sync, R: Threads + Wait + Sync, G: Gate + Sync>(
     ensures faults { IfErr result IsEnd }
 {
     let (engine, ports) = open::<L>(alloc, config, entries)?;
-    let start = Start::new();
-    let Ok(ends) = run_threads(rt, alloc, gate, &start, script, &engine, ports, workers) else {
+    let Ok(ends) = run_ranks(rt, alloc, gate, script, &engine, ports, workers) else {
         return Err(JobFault::Memory);
     };
     let Ends {

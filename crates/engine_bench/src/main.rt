@@ -7,13 +7,13 @@ mod measure;
 mod player;
 mod running;
 
-ghost use Rattle.std.specs.Prelude.{◌≡◌, ◌≤◌, IfOk};
+ghost use Rattle.std.specs.Prelude.{◌≡◌, ◌≤◌};
 
-use coll_core::Config;
+use coll_crew::roomy;
 use coll_kinds::Refusal;
 use coll_shared::{Entries, open};
 use measure::Measure;
-use running::{Start, Task, run};
+use running::{Task, run};
 use std::alloc::Global;
 use std::env;
 use std::marker::Brand;
@@ -29,25 +29,15 @@ struct Crew {
     workers: u8,
 }
 
-/// An engine for so many ranks in one communicator.
-fn config(alloc: Global, ranks: u8) -> Result<Config, Refusal>
-    ensures { IfOk result (λ config. config.ranks ≡ ranks) }
-{
+/// One communicator of so many ranks.
+fn world(alloc: Global, ranks: u8) -> Result<Vec<Vec<u8>>, Refusal> {
     let mut all = Vec::new(alloc);
     for rank in 0..ranks {
         all.push(rank)?;
     }
     let mut groups = Vec::new(alloc);
     groups.push(all)?;
-    Ok(Config {
-        ranks,
-        groups,
-        slots: 4_096,
-        places: 65_536,
-        wear: 4_294_967_295,
-        starts: 1_048_576,
-        trace: 1_048_576,
-    })
+    Ok(groups)
 }
 
 fn measured_in<L: Entries + Send + Sync, R: Threads + Wait + Clock + Sync>(
@@ -60,9 +50,9 @@ fn measured_in<L: Entries + Send + Sync, R: Threads + Wait + Clock + Sync>(
     requires name { entries.name ≡ L.name }
     requires parts { (entries.parts ≡ L.parts) × (L.parts ≡ L.ranks) × (L.ranks ≡ crew.ranks) }
 {
-    let (engine, ports) = open::<L>(alloc, config(alloc, crew.ranks)?, entries)?;
-    let start = Start::new();
-    run(rt, alloc, &start, &engine, ports, task, crew.workers)
+    let config = roomy(crew.ranks, world(alloc, crew.ranks)?);
+    let (engine, ports) = open::<L>(alloc, config, entries)?;
+    run(rt, alloc, &engine, ports, task, crew.workers)
 }
 
 /// What the samples of the first rank took, in nanoseconds.

@@ -10,8 +10,7 @@
 //! | `pace` | `Pace`, a gate that may hold ranks up too |
 //! | `calls` | the calls of a port |
 //! | `player` | what the thread of a rank does |
-//! | `start` | `Start`, where threads wait until all are there |
-//! | `crew` | threads for all ranks and for progress |
+//! | `crew` | a thread for each rank, and progress threads |
 //! | `judge` | whether the outcomes are the values, and attested |
 //! | `running` | `run`, a job from the opening of its engine to the last outcome |
 //! | `gate_tests` | two threads that really run at one time |
@@ -42,7 +41,5 @@ mod player;
 mod random;
 #[cfg(test)]
 mod running;
-#[cfg(test)]
-mod start;
 #[cfg(test)]
 mod stress_tests;

@@ -1,14 +1,14 @@
 //! A job from the opening of its engine to the last outcome.
 
-ghost use Rattle.std.specs.Prelude.{◌≡◌, ◌<◌, ◌≤◌, IfOk};
+ghost use Rattle.std.specs.Prelude.{◌≡◌, ◌<◌, ◌≤◌};
 
 use crate::crew::carry_out;
 use crate::job::Job;
 use crate::judge::Judge;
 use crate::pace::Pace;
 use crate::player::End;
-use crate::start::Start;
-use coll_core::{Config, Outcome};
+use coll_core::Outcome;
+use coll_crew::{copied_groups, roomy};
 use coll_kinds::Refusal;
 use coll_report::Report;
 use coll_shared::{Engine, Entries, Spent, close, open};
@@ -17,25 +17,6 @@ use std::marker::Brand;
 use std::sync::Wait;
 use std::sync::ledger::Blank;
 use std::thread::Threads;
-
-/// What the engine of a job is opened with.
-fn config_of(alloc: Global, job: &Job) -> Result<Config, Refusal>
-    ensures { IfOk result (λ config. config.ranks ≡ job.now.ranks) }
-{
-    let mut groups = Vec::new(alloc);
-    for group in job.groups.iter() {
-        groups.push(Vec::from_slice(alloc, group)?)?;
-    }
-    Ok(Config {
-        ranks: job.ranks,
-        groups,
-        slots: 4_096,
-        places: 65_536,
-        wear: 4_294_967_295,
-        starts: 1_048_576,
-        trace: 1_048_576,
-    })
-}
 
 /// Closes the engine with what is left of its ports.
 fn closed<L: Entries, R: Wait>(
@@ -79,9 +60,9 @@ fn run_in<L: Entries + Send + Sync, R: Threads + Wait + Sync, G: Pace + Sync>(
     requires name { entries.name ≡ L.name }
     requires parts { (entries.parts ≡ L.parts) × (L.parts ≡ L.ranks) × (L.ranks ≡ job.now.ranks) }
 {
-    let (engine, ports) = open::<L>(alloc, config_of(alloc, job)?, entries)?;
-    let start = Start::new();
-    let ends = carry_out(rt, alloc, pace, &start, job, &engine, ports, workers)?;
+    let config = roomy(job.ranks, copied_groups(alloc, &job.groups)?);
+    let (engine, ports) = open::<L>(alloc, config, entries)?;
+    let ends = carry_out(rt, alloc, pace, job, &engine, ports, workers)?;
     let mut spents = Vec::new(alloc);
     let mut all = Vec::new(alloc);
     for end in ends {

@@ -1,66 +1,69 @@
-//! The threads of a job, started and joined.
+//! The threads of a crew, started and joined.
 
 ghost use Rattle.std.specs.Prelude.{◌+◌, ◌≤◌, vec_capacity, vec_len};
 
 use crate::ends::Ends;
-use crate::rank::{RankEnd, run_rank};
 use crate::start::Start;
+use crate::task::RankTask;
 use coll_kinds::Refusal;
-use coll_script::Script;
-use coll_shared::{Engine, Entries, Gate, Port};
+use coll_shared::{Engine, Entries, Gate};
 use std::alloc::{AllocError, Global};
 use std::sync::Wait;
 use std::thread;
 use std::thread::{JoinHandle, Scope, Threads};
 
-/// Runs a job with a thread for the rank of each port and so many progress threads, and joins them all. `ports` are in
-/// rising rank, and so are the ends of their threads.
+/// Runs each rank's task in a thread of its own, with so many progress threads beside them, and joins them all. They
+/// begin together, once all have been started. `tasks` are in rising rank. `gate` may hold a progress thread up at a
+/// combination.
 ///
 /// # Errors
 ///
 /// Memory was refused, before the first thread was started.
-pub(crate) fn run_threads<'x, L: Entries + Send + Sync, R: Threads + Wait + Sync, G: Gate + Sync>(
-    rt: &'x R,
+pub fn run_crew<
+    L: Entries + Send + Sync,
+    R: Threads + Wait + Sync,
+    G: Gate + Sync,
+    T: Send + Drop,
+    K: RankTask<T> + Send + Drop,
+>(
+    rt: &R,
     alloc: Global,
-    gate: &'x G,
-    start: &'x Start,
-    script: &'x Script,
-    engine: &'x Engine<L>,
-    ports: Vec<Port<L>>,
+    gate: &G,
+    engine: &Engine<L>,
+    tasks: Vec<K>,
     workers: u8,
-) -> Result<Ends<L>, AllocError> {
+) -> Result<Ends<T>, AllocError> {
+    let start = Start::new();
+    let held = &start;
     thread::scope(thread::scope_env(), rt, |scope| {
-        run_in_scope(
-            rt, scope, alloc, gate, start, script, engine, ports, workers,
-        )
+        run_in_scope(rt, scope, alloc, gate, held, engine, tasks, workers)
     })
 }
 
-fn run_in_scope<'s, E, L: Entries + Send + Sync, R: Threads + Wait + Sync, G: Gate + Sync>(
+fn run_in_scope<
+    's,
+    E,
+    L: Entries + Send + Sync,
+    R: Threads + Wait + Sync,
+    G: Gate + Sync,
+    T: Send + Drop + 's,
+    K: RankTask<T> + Send + Drop + 's,
+>(
     rt: &'s R,
     scope: &Scope<'s, E>,
     alloc: Global,
     gate: &'s G,
     start: &'s Start,
-    script: &'s Script,
     engine: &'s Engine<L>,
-    ports: Vec<Port<L>>,
+    tasks: Vec<K>,
     workers: u8,
-) -> Result<Ends<L>, AllocError> {
-    let mut ranks = Vec::with_capacity(alloc, ports.len())?;
-    let mut rank_threads = Vec::with_capacity(alloc, ports.len())?;
+) -> Result<Ends<T>, AllocError> {
+    let mut ranks = Vec::with_capacity(alloc, tasks.len())?;
+    let mut rank_threads = Vec::with_capacity(alloc, tasks.len())?;
     let mut worker_threads = Vec::with_capacity(alloc, workers as usize)?;
     let mut worker_ends = Vec::with_capacity(alloc, workers as usize)?;
-    let all_started = start_ranks(
-        rt,
-        scope,
-        alloc,
-        gate,
-        start,
-        script,
-        ports,
-        &mut rank_threads,
-    ) && start_workers(rt, scope, gate, start, engine, workers, &mut worker_threads);
+    let all_started = start_ranks(rt, scope, start, tasks, &mut rank_threads)
+        && start_workers(rt, scope, gate, start, engine, workers, &mut worker_threads);
     start.give(rt, all_started);
     join_all(rt, rank_threads, &mut ranks);
     engine.stop(rt);
@@ -72,24 +75,26 @@ fn run_in_scope<'s, E, L: Entries + Send + Sync, R: Threads + Wait + Sync, G: Ga
     })
 }
 
-/// Starts the threads of the ports' ranks, the last one first, up to one that can't be started. Answers whether there
-/// was none.
-fn start_ranks<'s, E, L: Entries + Send + Sync + 's, R: Threads + Wait + Sync, G: Gate + Sync>(
+/// Starts the threads of the ranks, the last one first, up to one that can't be started. Answers whether there was none.
+fn start_ranks<
+    's,
+    E,
+    R: Threads + Wait + Sync,
+    T: Send + Drop + 's,
+    K: RankTask<T> + Send + Drop + 's,
+>(
     rt: &'s R,
     scope: &Scope<'s, E>,
-    alloc: Global,
-    gate: &'s G,
     start: &'s Start,
-    script: &'s Script,
-    ports: Vec<Port<L>>,
-    threads: &mut Vec<JoinHandle<RankEnd<L>>>,
+    tasks: Vec<K>,
+    threads: &mut Vec<JoinHandle<T>>,
 ) -> bool
-    requires room { vec_len threads.old + vec_len ports ≤ vec_capacity threads.old }
-    ensures few { vec_len threads.new ≤ vec_len threads.old + vec_len ports }
+    requires room { vec_len threads.old + vec_len tasks ≤ vec_capacity threads.old }
+    ensures few { vec_len threads.new ≤ vec_len threads.old + vec_len tasks }
 {
-    let mut ports = ports;
-    while let Some(port) = ports.pop() {
-        match scope.spawn(move || run_rank(rt, alloc, gate, start, script, port)) {
+    let mut tasks = tasks;
+    while let Some(task) = tasks.pop() {
+        match scope.spawn(move || run_rank(rt, start, task)) {
             Ok(thread) => threads.push_reserved(thread),
             Err(_) => return false,
         }
@@ -117,6 +122,12 @@ fn start_workers<'s, E, L: Entries + Send + Sync, R: Threads + Wait + Sync, G: G
         }
     }
     true
+}
+
+/// Does a rank's task, once it is known whether all threads have been started.
+fn run_rank<R: Wait, T, K: RankTask<T>>(rt: &R, start: &Start, task: K) -> T {
+    let all_started = start.wait(rt);
+    task.run(all_started)
 }
 
 /// Makes progress until the engine is stopped, once all threads have been started. Why it ended before that.
