@@ -1,23 +1,22 @@
 -- The requests that the commands of a rank ask for are those that its lines make.
-use Rattle.std.proofs.Common.{◌≡◌, ℕ, zero, suc, ◌≤◌, ◌<◌, cond, eqb, List, [], ◌∷◌, ◌++◌, map, length, get_or, Vec, subst, lit≤, refl, sym, ap, ◌∙◌, arith, inl, inr, Option}
+use Rattle.std.proofs.Common.{◌≡◌, ℕ, zero, suc, ◌≤◌, ◌<◌, cond, eqb, List, [], ◌∷◌, ◌++◌, map, length, get_or, Vec, lit≤, refl, sym, ap, ◌∙◌, arith, inl, inr}
 use Rattle.std.specs.Prelude.{unwrap_or, fold, filter}
 use Rattle.std.specs.List.{AllByRecursion, range_with_len}
 use Rattle.std.specs.Global.{Global}
 use Rattle.std.proofs.lemmas.Bool.{cases_lt, lt-ltb, le-ltb}
 use Rattle.std.proofs.lemmas.List.{length-map, map-append}
-use Rattle.std.proofs.lemmas.List.FromFn.{get_or-map-range_with_len, length-map-range_with_len}
-use Rattle.std.proofs.lemmas.Option.{slice_get_past, slice_get_within, unwrap_or-slice_get}
+use Rattle.std.proofs.lemmas.Option.{slice_get_within}
 use Rattle.coll_history.specs.Histories.{History, commands_of, said_by, postings}
 use Rattle.coll_history.specs.Requests as history
 use Rattle.coll_history.specs.Requests.{Request, request, requests, requests_after, started}
 use Rattle.coll_history.specs.Code.{request_view, requests_view}
 use Rattle.coll_history.specs.Sound.{IsRequest, IsSound}
-use Rattle.coll_history.proofs.Lists.{slice_get-view}
 use Rattle.coll_history.specs.declared.request.Request as rust
 use Rattle.coll_history.specs.declared.command.Command as text
 use Rattle.coll_history.specs.declared.command.Command.TheVariants as line
 use Rattle.coll_history.specs.declared.command.Told.{Told}
 use Rattle.coll_script.specs.Postings.{requests_of}
+use Rattle.coll_script.proofs.Sections.{each_of, requests_of-past, requests_of-rank, requests_of-view}
 use Rattle.coll_trace.specs.Scripts as script
 use Rattle.coll_trace.specs.Scripts.{Command, Asked, asked, asked_at, asked_from, changed_at, one_more}
 use Rattle.coll_attest.specs.Commands.{all_traced, as_asked, commands_by, traced}
@@ -64,22 +63,6 @@ all_seen groups (t ∷ ts) xs =
     (one_seen groups t.line t.rank t.command xs)
     ∙ all_seen groups ts (requests_after groups t.line t.rank t.command xs)
 
-pub length-requests : (h : History) → length (requests h) ≡ unwrap_or h.ranks 0
-length-requests h =
-    length-map-range_with_len (λ rank. history.requests_of h.groups rank h.told) 0 (unwrap_or h.ranks 0)
-
-pub requests_of-rank : (h : History) (rank : ℕ) → rank < unwrap_or h.ranks 0
-    → requests_of (requests h) rank ≡ history.requests_of h.groups rank h.told
-requests_of-rank h rank lt =
-    unwrap_or-slice_get (requests h) rank []
-    ∙ get_or-map-range_with_len (λ k. history.requests_of h.groups k h.told) 0 (unwrap_or h.ranks 0) rank rank [] lt
-    (omega arith)
-
-requests_of-stranger : (h : History) (rank : ℕ) → unwrap_or h.ranks 0 ≤ rank → requests_of (requests h) rank ≡ []
-requests_of-stranger h rank le =
-    let len = length-requests h in
-    ap (λ (o : Option (List Request)). unwrap_or o []) (slice_get_past (requests h) rank (omega (arith, len, le)))
-
 -- the waitall behind a section asks for nothing
 own : (h : History) (rank : ℕ)
     → asked (all_traced (commands_of h rank)) ≡ map as_asked (history.requests_of h.groups rank h.told)
@@ -101,23 +84,16 @@ commands_by-stranger h rank le =
 pub commands_ask : CommandsAsk
 commands_ask h rank = elim (cases_lt rank (unwrap_or h.ranks 0)) [
   | inl lt ↦ ap asked (commands_by-rank h rank lt) ∙ own h rank ∙ ap (map as_asked) (sym (requests_of-rank h rank lt))
-  | inr le ↦ ap asked (commands_by-stranger h rank le) ∙ ap (map as_asked) (sym (requests_of-stranger h rank le))
+  | inr le ↦ ap asked (commands_by-stranger h rank le) ∙ ap (map as_asked) (sym (requests_of-past h rank le))
 ]
 
 -- what holds of a rank's requests
 pub requests_are : (h : History) → IsSound h → (rank : ℕ)
     → AllByRecursion (IsRequest 1048577 h.groups rank) (requests_of (requests h) rank)
-requests_are h sound rank = elim (cases_lt rank (unwrap_or h.ranks 0)) [
-  | inl lt ↦ subst (AllByRecursion (IsRequest 1048577 h.groups rank)) (sym (requests_of-rank h rank lt))
-      (sound.requests rank)
-  | inr le ↦ subst (AllByRecursion (IsRequest 1048577 h.groups rank)) (sym (requests_of-stranger h rank le)) tt
-]
+requests_are h sound rank = each_of (AllByRecursion (IsRequest 1048577 h.groups rank)) h rank (sound.requests rank) tt
 
 pub few_requests : (h : History) → IsSound h → (rank : ℕ) → length (requests_of (requests h) rank) ≤ 4096
-few_requests h sound rank = elim (cases_lt rank (unwrap_or h.ranks 0)) [
-  | inl lt ↦ subst (λ (l : List Request). length l ≤ 4096) (sym (requests_of-rank h rank lt)) (sound.few_requests rank)
-  | inr le ↦ subst (λ (l : List Request). length l ≤ 4096) (sym (requests_of-stranger h rank le)) (lit≤ tt)
-]
+few_requests h sound rank = each_of (λ l. length l ≤ 4096) h rank (sound.few_requests rank) (lit≤ tt)
 
 few_from : (h : History) (rank : ℕ) (requests : List Request) → length h.groups ≤ 16
     → AllByRecursion (IsRequest 1048577 h.groups rank) requests → AllByRecursion IsFew requests
@@ -137,10 +113,7 @@ pub section-view : (h : History) (ranks : List (Vec rust.Request Global)) (rank 
     → rank < length ranks → mine ≡ get_or ranks rank mine → requests_view ranks ≡ requests h
     → map request_view mine.items ≡ requests_of (requests h) rank
 section-view h ranks rank mine lt is view =
-    ap (λ (o : Option (List Request)). unwrap_or o [])
-    (sym (slice_get-view
-    (λ (requests : Vec rust.Request Global). map request_view requests.items) ranks rank mine lt is))
-    ∙ ap (λ (rs : List (List Request)). requests_of rs rank) view
+    requests_of-view ranks rank mine lt is ∙ ap (λ (rs : List (List Request)). requests_of rs rank) view
 
 pub length-view : (h : History) (ranks : List (Vec rust.Request Global)) → requests_view ranks ≡ requests h
     → length ranks ≡ length (requests h)

@@ -6,7 +6,7 @@ use Rattle.coll_history.specs.declared.command.Command as text
 use Rattle.coll_history.specs.declared.command.Command.TheVariants as line
 use Rattle.coll_trace.specs.Scripts.{Command, Post, Init, Start, Other, Asked}
 
--- a wait, a test or a free shows nothing of what is posted and given
+-- a command, as a trace shows it; of a wait, a test or a free it shows nothing that is posted or given
 abbrev pub traced : text.Command → Command
 traced (line.Post comm sig given) = Post comm sig given
 traced (line.Init comm sig) = Init comm sig
@@ -18,6 +18,7 @@ traced (line.WaitAny qs) = Other
 traced (line.WaitSome qs) = Other
 traced (line.WaitAll qs) = Other
 
+-- commands, as a trace shows them
 abbrev pub all_traced : List text.Command → List Command
 all_traced commands = map traced commands
 

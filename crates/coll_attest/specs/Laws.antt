@@ -20,9 +20,15 @@ CommandsAsk = (h : History) (rank : ℕ)
 
 -- a run hands out each outcome that the job asks for, once and with its value, and no other
 abbrev pub RunsTell : Type 0
-RunsTell = (h : History) (r : Closed) → IsClosed r → IsRun h r → Tells r (λ rank. asked (commands_by h rank))
+RunsTell = (h : History) (r : Closed)
+    → IsClosed r
+    → IsRun h r
+    → Tells r (λ rank. asked (commands_by h rank))
 
--- and its lines are those that the text means
+-- the lines that the completions of a run tell are those that the text means
 abbrev pub RunsMean : Type 0
-RunsMean = (h : History) (r : Closed) → IsSound h → IsClosed r → IsRun h r
+RunsMean = (h : History) (r : Closed)
+    → IsSound h
+    → IsClosed r
+    → IsRun h r
     → told_lines (told r.entries) (job_of h) ≡ job_lines (job_of h)

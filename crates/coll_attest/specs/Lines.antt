@@ -20,16 +20,17 @@ bytes_of (Freed rank t) = []
 abbrev pub Handed : Type 0
 Handed = ℕ → ℕ → ℕ → ℕ → Option (List ℕ)
 
--- and after one more entry
+-- the same after one more entry
 abbrev pub further : Entry → Handed → Handed
 further e handed rank comm place start =
     if retires rank comm place start e then Some (bytes_of e) else handed rank comm place start
 
--- what the last such completion of the trace handed out; in a run there is one of each
+-- the same after these entries: the last completion of a start counts; in a run there is one of each
 abbrev pub told_from : Handed → List Entry → Handed
 told_from handed [] = handed
 told_from handed (e ∷ es) = told_from (further e handed) es
 
+-- what was handed out by the completions of a trace
 abbrev pub told : List Entry → Handed
 told es = told_from (λ rank comm place start. None) es
 

@@ -11,7 +11,7 @@ pub record LacksStart (handed : Handed) (rank place : ℕ) (p : Request) : Type 
   pub low : start < length p.starts
   pub none : handed rank p.comm place start ≡ None
 
--- for one of the rank's requests
+-- nothing was handed out for a start of one of the rank's requests
 pub record Lacks (handed : Handed) (rank : ℕ) (requests : List Request) : Type 0 where
   pub before : List Request
   pub p : Request
@@ -19,7 +19,7 @@ pub record Lacks (handed : Handed) (rank : ℕ) (requests : List Request) : Type
   pub whole : before ++ p ∷ rest ≡ requests
   pub lacks : LacksStart handed rank (length (posted_on p.comm before)) p
 
--- for one of the job's ranks
+-- nothing was handed out for a start of a request of one of the job's ranks
 pub record JobLacks (handed : Handed) (job : Job) : Type 0 where
   pub rank : ℕ
   pub lacks : Lacks handed rank (requests_of job.requests rank)

@@ -13,6 +13,7 @@ use Rattle.coll_attest.specs.Commands.{commands_by}
 use Rattle.coll_attest.specs.Lines.{told, told_lines}
 use Rattle.coll_attest.specs.Runs.{IsRun}
 
+-- rank 0 posts a bcast of 7, and rank 1 posts it too
 abbrev pub bcast_text : History
 bcast_text = record {
   ranks = Some 2;
@@ -39,6 +40,7 @@ told_to_rank_1 = refl
 no_second_start : told late_bcast 1 0 0 1 ≡ None
 no_second_start = refl
 
+-- lines, each with a line feed
 abbrev text : List (List ℕ) → List ℕ
 text lines = flat_map (λ line. line ++ 10 ∷ []) lines
 

@@ -165,7 +165,13 @@ init-allowed h rank words a e =
 
 -- ---- starts and frees
 
-pub startable-is : (h : History) (rank : ℕ) (words : List (List ℕ)) (a : (ℕ × Posting) × List (List ℕ)) → startable h rank words ≡ Ok a → slice_get (made h rank) a.0.0 ≡ Some a.0.1
+-- the request that is read was posted so, and may be started
+abbrev pub IsStartable : History → ℕ → ℕ × Posting → Type 0
+IsStartable h rank it =
+    (slice_get (made h rank) it.0 ≡ Some it.1) × (is_startable it.0 it.1 (said_by rank h.told) ≡ true)
+
+pub startable-is : (h : History) (rank : ℕ) (words : List (List ℕ)) (a : (ℕ × Posting) × List (List ℕ))
+    → startable h rank words ≡ Ok a → IsStartable h rank a.0
 unfolding startable
 startable-is h rank words a e =
     let first = bind-is (next (request_in (length (made h rank)))) (λ q. known (slice_get (made h rank) q) UnknownRequest >>= λ p. must (is_startable q p (said_by rank h.told)) NotStartable >>= λ fits. give (q, p)) words a e in
@@ -175,7 +181,7 @@ startable-is h rank words a e =
     let third = bind-is (must (is_startable q p (said_by rank h.told)) NotStartable) (λ fits. give (q, p)) second.0.1 a second.2 in
     let same : (q, p) ≡ a.0 = cc in
     let there : slice_get (made h rank) q ≡ Some p = known-is _ UnknownRequest first.0.1 second.0 second.1 in
-    subst (λ (it : ℕ × Posting). slice_get (made h rank) it.0 ≡ Some it.1) same there
+    subst (IsStartable h rank) same (there, must-is _ NotStartable second.0.1 third.0 third.1)
 
 start-allowed : (h : History) (rank : ℕ) (words : List (List ℕ)) (a : Command × List (List ℕ)) → start h rank words ≡ Ok a → Allows h rank a.0
 unfolding start
@@ -188,7 +194,7 @@ start-allowed h rank words a e =
     let fits : length given ≡ due h.groups rank it.1.comm it.1.sig =
     values-length (due h.groups rank it.1.comm it.1.sig / width it.1.sig.ty) it.1.sig.ty first.0.1 second.0 second.1
     ∙ given_len-whole it.1.sig (length (group_of h.groups it.1.comm)) (unwrap_or (member_of rank (group_of h.groups it.1.comm)) 0) in
-    subst (Allows h rank) same (record { p = it.1; known = startable-is h rank words first.0 first.1; fits = fits }, tt)
+    subst (Allows h rank) same (record { p = it.1; known = (startable-is h rank words first.0 first.1).0; fits = fits }, tt)
 
 free-allowed : (h : History) (rank : ℕ) (words : List (List ℕ)) (a : Command × List (List ℕ)) → free h rank words ≡ Ok a → Allows h rank a.0
 unfolding free
@@ -196,7 +202,7 @@ free-allowed h rank words a e =
     let first = bind-is (startable h rank) (λ it. end >>= λ ended. give (Free it.0)) words a e in
     let second = bind-is end (λ ended. give (Free first.0.0.0)) first.0.1 a first.2 in
     let same : Free first.0.0.0 ≡ a.0 = cc in
-    subst (Allows h rank) same (slice_get_within (made h rank) first.0.0.0 first.0.0.1 (startable-is h rank words first.0 first.1), tt)
+    subst (Allows h rank) same (slice_get_within (made h rank) first.0.0.0 first.0.0.1 (startable-is h rank words first.0 first.1).0, tt)
 
 -- ---- waits
 

@@ -1,6 +1,6 @@
 -- A command that is accepted could have been written: the words that write it.
 use Rattle.std.proofs.Common.{◌≡◌, ℕ, ◌/◌, ◌^◌, ◌<◌, ◌≤◌, Bool, true, false, cond, ltb, leb, eqb, List, [], ◌∷◌, ◌++◌, length, map, Option, Some, None, Result, Ok, Err, refl, sym, ap, subst, ◌∙◌, append_assoc, arith, inl, inr}
-use Rattle.std.specs.Prelude.{ℤ, pos, MatchBool, codes, decimal, flat_map, is_some, is_none, ok_or, unwrap_or, option_and_then, slice_get, ◌&&◌}
+use Rattle.std.specs.Prelude.{ℤ, pos, MatchBool, codes, decimal, flat_map, is_some, is_none, ok_or, unwrap_or, option_and_then, ◌&&◌}
 use Rattle.std.specs.List.{AllByRecursion, list_all, range_with_len}
 use Rattle.std.specs.Str.{bytes_eq}
 use Rattle.std.proofs.lemmas.Bool.{eqb-true, leb-true, ltb-true, and_parts}
@@ -20,15 +20,15 @@ use Rattle.coll_kinds.specs.Groups.{is_among}
 use Rattle.coll_kinds.specs.Texts.{number_of, whole_number_of, value_of}
 use Rattle.coll_kinds.specs.Words.{kind_of, operation_of, datatype_of}
 use Rattle.coll_history.specs.declared.cause.Cause.{Cause}
-use Rattle.coll_history.specs.declared.cause.Cause.TheVariants.{BadSignature, BadValue, WrongValueCount, UnknownRequest, NamedTwice, NotStartable}
+use Rattle.coll_history.specs.declared.cause.Cause.TheVariants.{BadSignature, BadValue, WrongValueCount, NamedTwice}
 use Rattle.coll_history.specs.declared.command.Command.{Command}
 use Rattle.coll_history.specs.declared.command.Command.TheVariants.{Post, Init, Start, Wait, Test, Free, WaitAny, WaitSome, WaitAll}
 use Rattle.coll_history.specs.Reading.{Reading, and_then, ◌>>=◌, give, known, must, end, numbers_from, numbers}
-use Rattle.coll_history.specs.Histories.{History, Posting, group_of, said_by, is_startable, total}
+use Rattle.coll_history.specs.Histories.{History, Posting, group_of, total}
 use Rattle.coll_history.specs.Lines.{number_within, request_in, next, communicator, fields, signature, due, colon, values, room, post, init, made, startable, start, free, one, some, all, wait, test, waitany, waitsome, waitall, command_of}
 use Rattle.coll_history.specs.Sound.{IsPosting}
 use Rattle.coll_history.specs.Writing.{AreValues, value_words, signature_words, HasWords, MayPost, MayStart, IsMade, NoneTwice, MayName, IsSome, Writes}
-use Rattle.coll_history.proofs.Allowed.{then-is, bind-is, known-is, must-is, room-is, communicator-is, signature-checked, one-below, twice-not, next-is, request-below}
+use Rattle.coll_history.proofs.Allowed.{then-is, bind-is, must-is, room-is, communicator-is, signature-checked, one-below, twice-not, next-is, request-below, startable-is}
 use Rattle.coll_history.proofs.Readers.{count-le}
 
 -- ---- what a history keeps, so that its numbers can be written
@@ -253,19 +253,12 @@ module _ (h : History) (rank : ℕ) (small : IsSmall h) where
       let may = may-post h rank Persistent comm sig small is (signature-is Persistent size first.0.1 second.0 second.1) last.1 in
       subst (CanSay h rank) last.0 (codes "init" ∷ decimal comm ∷ signature_words sig, (may, refl))
 
-  startable-may : (words : List (List ℕ)) (a : (ℕ × Posting) × List (List ℕ)) → startable h rank words ≡ Ok a → MayStart h rank a.0.0 a.0.1
-  unfolding startable
+  startable-may : (words : List (List ℕ)) (a : (ℕ × Posting) × List (List ℕ))
+      → startable h rank words ≡ Ok a → MayStart h rank a.0.0 a.0.1
   startable-may words a e =
-      let first = bind-is (next (request_in (length (made h rank)))) (λ q. known (slice_get (made h rank) q) UnknownRequest >>= λ p. must (is_startable q p (said_by rank h.told)) NotStartable >>= λ fits. give (q, p)) words a e in
-      let q = first.0.0 in
-      let second = bind-is (known (slice_get (made h rank) q) UnknownRequest) (λ p. must (is_startable q p (said_by rank h.told)) NotStartable >>= λ fits. give (q, p)) first.0.1 a first.2 in
-      let p = second.0.0 in
-      let third = bind-is (must (is_startable q p (said_by rank h.told)) NotStartable) (λ fits. give (q, p)) second.0.1 a second.2 in
-      let same : (q, p) ≡ a.0 = cc in
-      let posted : slice_get (made h rank) q ≡ Some p = known-is _ UnknownRequest first.0.1 second.0 second.1 in
-      let within = slice_get_within (made h rank) q p posted in
-      subst (λ (it : ℕ × Posting). MayStart h rank it.0 it.1) same
-      (record { small = omega (arith, within, few-made h rank small); posted = posted; startable = must-is _ NotStartable second.0.1 third.0 third.1 })
+      let is = startable-is h rank words a e in
+      let within = slice_get_within (made h rank) a.0.0 a.0.1 is.0 in
+      record { small = omega (arith, within, few-made h rank small); posted = is.0; startable = is.1 }
 
   start-sayable : (words : List (List ℕ)) (a : Command × List (List ℕ)) → start h rank words ≡ Ok a → CanSay h rank a.0
   unfolding start

@@ -1,5 +1,6 @@
 -- What the code's functions owe to the definitions.
-use Rattle.std.specs.Prelude.{◌≡◌, ℕ, ◌<◌, ◌≤◌, nat_lt, false, List, [], ◌∷◌, Some, length, map, IfSome, slice_get, slice_index, unwrap_or, Result, Ok, Err, Vec, flat_map, is_some, pos, if◌then◌else◌}
+use Rattle.std.specs.Prelude.{◌≡◌, ℕ, ◌<◌, ◌≤◌, nat_lt, pos, false, if◌then◌else◌, Some, IfSome, is_some, unwrap_or}
+use Rattle.std.specs.Prelude.{List, [], ◌∷◌, length, map, flat_map, slice_get, slice_index, Vec, Result, Ok, Err}
 use Rattle.std.specs.Global.{Global}
 use Rattle.std.specs.List.{list_any, list_all, AllByRecursion, range_with_len}
 use denote.Ref.{Bor}
@@ -29,21 +30,27 @@ use Rattle.coll_history.specs.Sound.{IsHistory}
 
 -- ---- views: what lies in memory, without where it lies
 
+-- the bytes of borrowed words
 abbrev pub texts : List (Bor (List ℕ)) → List (List ℕ)
 texts words = map (λ word. word.now) words
 
+-- the bytes of owned rows
 abbrev pub rows_view : List (Vec ℕ Global) → List (List ℕ)
 rows_view rows = map (λ row. row.items) rows
 
+-- a request as the definitions have it
 abbrev pub request_view : rust_request.Request → Request
 request_view p = record { line = p.line; comm = p.comm; member = p.member; sig = p.sig; starts = texts p.starts.items }
 
+-- the requests of each rank
 abbrev pub requests_view : List (Vec rust_request.Request Global) → List (List Request)
 requests_view ranks = map (λ requests. map request_view requests.items) ranks
 
+-- what was posted, of a request that is kept
 abbrev pub posting_view : Entry → Posting
 posting_view p = record { comm = p.comm; sig = p.sig }
 
+-- the history that a reader has read: its counters and stamps are left out
 abbrev pub history_of : Reader → History
 history_of r = record { ranks = r.ranks; groups = rows_view r.groups.items; opened = r.opened; told = r.told.items }
 
@@ -55,31 +62,47 @@ Finds view (Ok x) given = given ≡ Ok (view x)
 Finds view (Err cause) given = given ≡ Err cause
 
 -- what a step returned, seen by view, and the words that it left are what the definition reads
-abbrev pub Reads : {X Y : Type 0} → (X → Y) → Result X Cause → List (List ℕ) → Result (Y × List (List ℕ)) Cause → Type 0
+abbrev pub Reads :
+    {X Y : Type 0}
+    → (X → Y)
+    → Result X Cause
+    → List (List ℕ)
+    → Result (Y × List (List ℕ)) Cause
+    → Type 0
 Reads view (Ok x) left read = read ≡ Ok (view x, left)
 Reads view (Err cause) left read = read ≡ Err cause
 
+-- what a function returned is what a rule gives that reads no words, whatever words follow
 abbrev pub Asks : Result (Unit {0}) Cause → Reading (Unit {0}) → Type 0
 Asks (Ok done) asked = (words : List (List ℕ)) → asked words ≡ Ok (tt, words)
 Asks (Err cause) asked = (words : List (List ℕ)) → asked words ≡ Err cause
 
--- the same, unless memory ran out
+-- a line's fault is the definition's, unless memory ran out
 abbrev pub FailsSo : {Y : Type 0} → LineFault → Result Y Cause → Type 0
 FailsSo (lines.Broken cause) read = read ≡ Err cause
 FailsSo lines.NoMemory read = Unit {0}
 
-abbrev pub ReadsSo : {X Y : Type 0} → (X → Y) → Result X LineFault → List (List ℕ) → Result (Y × List (List ℕ)) Cause → Type 0
+-- as `Reads`, unless memory ran out
+abbrev pub ReadsSo :
+    {X Y : Type 0}
+    → (X → Y)
+    → Result X LineFault
+    → List (List ℕ)
+    → Result (Y × List (List ℕ)) Cause
+    → Type 0
 ReadsSo view (Ok x) left read = read ≡ Ok (view x, left)
 ReadsSo view (Err fault) left read = FailsSo fault read
 
+-- as `Finds`, unless memory ran out
 abbrev pub FindsSo : {X Y : Type 0} → (X → Y) → Result X LineFault → Result Y Cause → Type 0
 FindsSo view (Ok x) given = given ≡ Ok (view x)
 FindsSo view (Err fault) given = FailsSo fault given
 
--- the bytes of values
+-- the bytes of the values that words name, where each word names one of the type
 abbrev pub valued : Datatype → List (List ℕ) → Result (List ℕ) Cause
 valued ty words =
-    if list_all (λ w. is_some (value_of ty w)) words then Ok (flat_map (λ w. element_bytes ty (unwrap_or (value_of ty w) (pos 0))) words)
+    if list_all (λ w. is_some (value_of ty w)) words
+    then Ok (flat_map (λ w. element_bytes ty (unwrap_or (value_of ty w) (pos 0))) words)
     else Err BadValue
 
 -- what a line's first word has its rank read
@@ -94,11 +117,12 @@ read_by verb.WaitAny = waitany
 read_by verb.WaitSome = waitsome
 read_by verb.WaitAll = waitall
 
--- the same for a whole text
+-- a text's fault is the definition's, unless memory ran out
 abbrev pub FailsText : {Y : Type 0} → ScriptFault → Result Y Fault → Type 0
 FailsText (script.Text fault) given = given ≡ Err fault
 FailsText script.NoMemory given = Unit {0}
 
+-- as `FindsSo`, for a whole text
 abbrev pub GivesText : {X Y : Type 0} → (X → Y) → Result X ScriptFault → Result Y Fault → Type 0
 GivesText view (Ok x) given = given ≡ Ok (view x)
 GivesText view (Err fault) given = FailsText fault given
@@ -134,11 +158,16 @@ pub record IsKept (next : ℕ) (commands : List Command) (section : Section) : T
   pub earlier : section.waited < next
   pub each : (q : ℕ) → IfSome (slice_get section.entries.items q) (IsKeptOf next section.waited commands q)
   -- no command names a request that isn't made yet
-  pub unmade : (q : ℕ) → length section.entries.items ≤ q → (may_be_active q commands ≡ false) × (list_any (frees q) commands ≡ false)
+  pub unmade :
+      (q : ℕ)
+      → length section.entries.items ≤ q
+      → (may_be_active q commands ≡ false) × (list_any (frees q) commands ≡ false)
 
 -- for some of the first requests of a rank the last line that named it among others, before the line of that number
 abbrev pub AreStamps : ℕ → ℕ → List ℕ → Type 0
-AreStamps next count stamps = (length stamps ≤ count) × ((q : ℕ) → q < length stamps → slice_index stamps q < next)
+AreStamps next count stamps =
+    (length stamps ≤ count)
+    × ((q : ℕ) → q < length stamps → slice_index stamps q < next)
 
 -- what is kept beside a history, before the line of that number is read
 pub record IsReader (next : ℕ) (r : Reader) : Type 0 where
@@ -148,9 +177,13 @@ pub record IsReader (next : ℕ) (r : Reader) : Type 0 where
   pub kept : (rank : ℕ) → IfSome (slice_get r.sections.items rank) (IsKept next (said_by rank r.told.items))
   pub total : r.total ≡ total r.told.items
 
+-- the stamps kept beside a history: a list for each rank, of lines before the next one
 pub record IsStamped (next : ℕ) (r : Reader) : Type 0 where
   pub ranks : length r.stamps.items ≡ unwrap_or r.ranks 0
-  pub each : (rank : ℕ) → IfSome (slice_get r.stamps.items rank) (λ s. AreStamps next (length (postings (said_by rank r.told.items))) s.items)
+  pub each :
+      (rank : ℕ)
+      → IfSome (slice_get r.stamps.items rank)
+      (λ stamps. AreStamps next (length (postings (said_by rank r.told.items))) stamps.items)
 
 -- only stamps were written
 pub record SameButStamps (old new : Reader) : Type 0 where

@@ -1,5 +1,6 @@
 -- What the lines of a text have said so far, and what follows from it.
-use Rattle.std.specs.Prelude.{ℕ, ◌==◌, Bool, true, false, not, ◌&&◌, ◌||◌, List, [], ◌∷◌, ◌++◌, length, map, filter, filter_map, fold, Option, Some, None, slice_index_or, if◌then◌else◌}
+use Rattle.std.specs.Prelude.{ℕ, ◌==◌, Bool, true, false, not, ◌&&◌, ◌||◌, if◌then◌else◌, Option, Some, None}
+use Rattle.std.specs.Prelude.{List, [], ◌∷◌, ◌++◌, length, map, filter, filter_map, fold, slice_index_or}
 use Rattle.std.specs.List.{list_any, range_with_len}
 use Rattle.coll_kinds.specs.declared.kind.Mode.{Mode}
 use Rattle.coll_kinds.specs.declared.kind.Mode.TheVariants.{Once, Persistent}
@@ -9,19 +10,20 @@ use Rattle.coll_history.specs.declared.command.Command.TheVariants.{Post, Init, 
 use Rattle.coll_history.specs.declared.command.Told.{Told}
 use Rattle.coll_kinds.specs.Groups.{is_among}
 
--- the number of ranks, the members of each communicator in order, the rank whose section stands open, and the commands in
--- the order of their lines
+-- what the lines so far have said
 pub record History : Type 0 where
-  pub ranks : Option ℕ
-  pub groups : List (List ℕ)
-  pub opened : Option ℕ
-  pub told : List Told
+  pub ranks : Option ℕ  -- the number of ranks, once it is said
+  pub groups : List (List ℕ)  -- the group of each communicator, by its number
+  pub opened : Option ℕ  -- the rank whose section stands open
+  pub told : List Told  -- the commands, in the order of their lines
 
+-- before the first line
 abbrev pub beginning : History
 beginning = record { ranks = None; groups = []; opened = None; told = [] }
 
 -- ---- groups
 
+-- the group of a communicator; a number that names none has no members
 abbrev pub group_of : List (List ℕ) → ℕ → List ℕ
 group_of groups comm = slice_index_or groups comm []
 
@@ -32,20 +34,23 @@ pub record Posting : Type 0 where
   pub comm : ℕ
   pub sig : Signature
 
+-- what a command posts, where it makes a request
 abbrev pub posting : Command → Option Posting
 posting (Post comm sig given) = Some (record { comm = comm; sig = sig })
 posting (Init comm sig) = Some (record { comm = comm; sig = sig })
 posting command = None
 
--- what a post gives at once, and what a start gives to a request
+-- what a post gives at once
 abbrev pub given_at_once : Command → List (List ℕ)
 given_at_once (Post comm sig given) = given ∷ []
 given_at_once command = []
 
+-- what a start gives to request q
 abbrev pub gift : ℕ → Command → Option (List ℕ)
 gift q (Start other given) = if other == q then Some given else None
 gift q command = None
 
+-- whether it is a start of request q
 abbrev pub starts : ℕ → Command → Bool
 starts q (Start other given) = other == q
 starts q command = false
@@ -55,11 +60,12 @@ abbrev pub is_start : Command → Bool
 is_start (Start other given) = true
 is_start command = false
 
+-- whether it frees request q
 abbrev pub frees : ℕ → Command → Bool
 frees q (Free other) = other == q
 frees q command = false
 
--- a wait behind which the request is surely inactive
+-- whether it is a wait behind which request q is surely inactive
 abbrev pub waits_for : ℕ → Command → Bool
 waits_for q (Wait other) = other == q
 waits_for q (WaitAll qs) = is_among q qs
@@ -67,6 +73,7 @@ waits_for q command = false
 
 -- ---- what a section says of its requests
 
+-- the commands of a rank, in the order of their lines
 abbrev pub said_by : ℕ → List Told → List Command
 said_by rank told = map (λ t. t.command) (filter (λ t. t.rank == rank) told)
 
@@ -76,15 +83,20 @@ postings commands = filter_map posting commands
 
 -- a request may be active: a start makes it so, until a wait names it
 abbrev pub may_be_active : ℕ → List Command → Bool
-may_be_active q commands = fold (λ active command. starts q command || (active && not (waits_for q command))) false commands
+may_be_active q commands =
+    fold (λ active command. starts q command || (active && not (waits_for q command))) false commands
 
+-- a request of this mode is made by an initialisation
 abbrev pub is_persistent : Mode → Bool
 is_persistent Once = false
 is_persistent Persistent = true
 
--- a start or a free may name the request, which was posted so
+-- a start or a free may name the request: it is persistent, no free has named it, and it is surely inactive
 abbrev pub is_startable : ℕ → Posting → List Command → Bool
-is_startable q p commands = is_persistent p.sig.mode && not (list_any (frees q) commands) && not (may_be_active q commands)
+is_startable q p commands =
+    is_persistent p.sig.mode
+    && not (list_any (frees q) commands)
+    && not (may_be_active q commands)
 
 -- the commands of a rank, and behind the last line of its section an unwritten `waitall` of all its requests
 abbrev pub commands_of : History → ℕ → List Command

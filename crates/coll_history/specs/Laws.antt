@@ -8,7 +8,8 @@ use Rattle.coll_history.specs.declared.command.Command.{Command}
 use Rattle.coll_history.specs.Judging.{judged}
 use Rattle.coll_history.specs.Writing.{Tells, text_of}
 
--- the fault is that of one line; those before it are accepted by themselves, and all lines that begin with these have it
+-- the fault is that of one line: those before it are accepted by themselves, and whatever lines follow it, the fault is
+-- the same
 pub record IsFirst (number : ℕ) (h : History) (lines : List (List ℕ)) (fault : Fault) : Type 0 where
   pub before : List (List ℕ)
   pub faulty : List ℕ
@@ -25,7 +26,9 @@ pub record CanBeSaid (h : History) : Type 0 where
   pub tells : Tells 1 beginning (first ∷ others) h
   pub reads : judged 1 beginning (lines_of (text_of (first ∷ others))) ≡ Ok h
 
--- surely inactive: it has had no start, or a wait has named it since its last one; that is, behind each start stands a wait
+-- request q is surely inactive behind these commands: behind each start of it stands a wait that names it
 abbrev pub EachStartIsOver : ℕ → List Command → Type 0
 EachStartIsOver q [] = Unit {0}
-EachStartIsOver q (command ∷ commands) = (IsTrue (starts q command) → IsTrue (list_any (waits_for q) commands)) × EachStartIsOver q commands
+EachStartIsOver q (command ∷ commands) =
+    (IsTrue (starts q command) → IsTrue (list_any (waits_for q) commands))
+    × EachStartIsOver q commands

@@ -1,5 +1,7 @@
--- The lines of the format: what each kind of line says, and which rules it keeps, in the order in which they are judged.
-use Rattle.std.specs.Prelude.{ℕ, ◌/◌, ◌^◌, ◌==◌, nat_le, nat_lt, ◌&&◌, List, [], ◌∷◌, ◌++◌, length, flat_map, Option, Some, None, Result, Ok, Err, ok_or, is_none, is_some, option_and_then, slice_get, slice_index, unwrap_or, codes, pos, if◌then◌else◌}
+-- The lines of the format: what each kind of line says, and which rules it keeps, in the order they are judged in.
+use Rattle.std.specs.Prelude.{ℕ, ◌/◌, ◌^◌, ◌==◌, nat_le, nat_lt, ◌&&◌, pos, if◌then◌else◌}
+use Rattle.std.specs.Prelude.{List, [], ◌∷◌, ◌++◌, length, flat_map, slice_get, slice_index, codes}
+use Rattle.std.specs.Prelude.{Option, Some, None, is_none, is_some, option_and_then, unwrap_or, Result, Ok, Err, ok_or}
 use Rattle.std.specs.List.{list_all, range_with_len}
 use Rattle.std.specs.Str.{bytes_eq}
 use Rattle.coll_kinds.specs.declared.datatype.Datatype.{Datatype}
@@ -7,15 +9,20 @@ use Rattle.coll_kinds.specs.declared.datatype.Datatype.TheVariants.{Byte}
 use Rattle.coll_kinds.specs.declared.kind.Kind.{Kind}
 use Rattle.coll_kinds.specs.declared.kind.Mode.{Mode}
 use Rattle.coll_kinds.specs.declared.kind.Mode.TheVariants.{Once, Persistent}
+use Rattle.coll_kinds.specs.declared.operation.Op.{Op}
 use Rattle.coll_kinds.specs.declared.signature.Signature.{Signature}
 use Rattle.coll_kinds.specs.Elements.{width, element_bytes}
 use Rattle.coll_kinds.specs.Texts.{number_of, value_of}
 use Rattle.coll_kinds.specs.Lengths.{given_len}
 use Rattle.coll_kinds.specs.Checks.{has_root, has_operation, is_barrier, broken}
 use Rattle.coll_history.specs.declared.cause.Cause.{Cause}
-use Rattle.coll_history.specs.declared.cause.Cause.TheVariants.{MissingRanks, UnknownCommand, OutOfPlace, BadWords, BadNumber, BadRank, BadCommunicator, BadSignature, WrongValueCount, BadValue, UnknownRequest, NamedTwice, NotStartable, TooManyRequests}
+use Rattle.coll_history.specs.declared.cause.Cause.TheVariants.{MissingRanks, UnknownCommand, OutOfPlace, BadWords}
+use Rattle.coll_history.specs.declared.cause.Cause.TheVariants.{BadNumber, BadRank, BadCommunicator, BadSignature}
+use Rattle.coll_history.specs.declared.cause.Cause.TheVariants.{WrongValueCount, BadValue, UnknownRequest, NamedTwice}
+use Rattle.coll_history.specs.declared.cause.Cause.TheVariants.{NotStartable, TooManyRequests}
 use Rattle.coll_history.specs.declared.command.Command.{Command}
-use Rattle.coll_history.specs.declared.command.Command.TheVariants.{Post, Init, Start, Wait, Test, Free, WaitAny, WaitSome, WaitAll}
+use Rattle.coll_history.specs.declared.command.Command.TheVariants.{Post, Init, Start, Wait, Test, Free}
+use Rattle.coll_history.specs.declared.command.Command.TheVariants.{WaitAny, WaitSome, WaitAll}
 use Rattle.coll_kinds.specs.Words.{kind_of, operation_of, datatype_of}
 use Rattle.coll_kinds.specs.Groups.{member_of}
 use Rattle.coll_history.specs.Reading.{Reading, and_then, ◌>>=◌, give, fault, known, must, word, end, numbers}
@@ -50,11 +57,15 @@ communicator groups rank = do
   member ← known (member_of rank group) BadRank
   give comm
 
+-- OP
+abbrev pub some_operation : List ℕ → Result (Option Op) Cause
+some_operation w = and_then (ok_or (operation_of w) BadSignature) (λ op. Ok (Some op))
+
 -- what stands behind the word of a kind; a barrier has type byte and count 0
 unfoldable pub fields : Mode → Kind → Reading Signature
 fields mode kind = do
   root ← if has_root kind then next (λ w. ok_or (number_within 0 256 w) BadSignature) else give 0
-  op ← if has_operation kind then next (λ w. and_then (ok_or (operation_of w) BadSignature) (λ op. Ok (Some op))) else give None
+  op ← if has_operation kind then next some_operation else give None
   ty ← if is_barrier kind then give Byte else next (λ w. ok_or (datatype_of w) BadSignature)
   count ← if is_barrier kind then give 0 else next (λ w. ok_or (number_within 0 (2 ^ 32) w) BadSignature)
   give (record { kind = kind; mode = mode; root = root; op = op; ty = ty; count = count })
@@ -90,6 +101,7 @@ values count ty = do
 abbrev pub room : History → Reading (Unit {0})
 room h = must (nat_lt (total h.told) 4096) TooManyRequests
 
+-- post C SIG : v ..: a once collective, posted with the rank's contribution
 unfoldable pub post : History → ℕ → Reading Command
 post h rank = do
   comm ← communicator h.groups rank
@@ -98,6 +110,7 @@ post h rank = do
   fits ← room h
   give (Post comm sig given)
 
+-- init C SIG: a persistent request, initialised
 unfoldable pub init : History → ℕ → Reading Command
 init h rank = do
   comm ← communicator h.groups rank
@@ -118,21 +131,24 @@ startable h rank = do
   fits ← must (is_startable q p (said_by rank h.told)) NotStartable
   give (q, p)
 
+-- start Q : v ..: a persistent request, started with the rank's contribution
 unfoldable pub start : History → ℕ → Reading Command
 start h rank = do
   it ← startable h rank
   given ← values (due h.groups rank it.1.comm it.1.sig / width it.1.sig.ty) it.1.sig.ty
   give (Start it.0 given)
 
+-- free Q
 unfoldable pub free : History → ℕ → Reading Command
 free h rank = startable h rank >>= λ it. end >>= λ ended. give (Free it.0)
 
 -- ---- waits and tests
 
--- one request, and several, none twice
+-- Q, and no more words
 abbrev pub one : History → ℕ → Reading ℕ
 one h rank = next (request_in (length (made h rank))) >>= λ q. end >>= λ ended. give q
 
+-- Q ..: at least one request, and none twice
 abbrev pub some : History → ℕ → Reading (List ℕ)
 some h rank = numbers (request_in (length (made h rank))) NamedTwice
 
@@ -141,18 +157,23 @@ abbrev pub all : History → ℕ → Reading (List ℕ)
 all h rank [] = Ok (range_with_len 0 (length (made h rank)), [])
 all h rank (w ∷ words) = some h rank (w ∷ words)
 
+-- wait Q
 abbrev pub wait : History → ℕ → Reading Command
 wait h rank = one h rank >>= λ q. give (Wait q)
 
+-- test Q
 abbrev pub test : History → ℕ → Reading Command
 test h rank = one h rank >>= λ q. give (Test q)
 
+-- waitany Q ..
 abbrev pub waitany : History → ℕ → Reading Command
 waitany h rank = some h rank >>= λ qs. give (WaitAny qs)
 
+-- waitsome Q ..
 abbrev pub waitsome : History → ℕ → Reading Command
 waitsome h rank = some h rank >>= λ qs. give (WaitSome qs)
 
+-- waitall Q .., or waitall
 abbrev pub waitall : History → ℕ → Reading Command
 waitall h rank = all h rank >>= λ qs. give (WaitAll qs)
 
@@ -172,12 +193,14 @@ command_of w =
 
 -- ---- lines, each by the history that begins with it and gives the one behind it
 
+-- ranks N: the job has 1 to 64 ranks, and communicator 0 has them all as its members
 unfoldable pub ranks : History → Reading History
 ranks h = do
   n ← next (λ w. ok_or (number_within 1 65 w) BadNumber)
   ended ← end
   give (record h { ranks = Some n; groups = range_with_len 0 n ∷ [] })
 
+-- comm R ..: a further communicator of these ranks, before the first section; a job has at most 16
 unfoldable pub comm : ℕ → History → Reading History
 comm n h = do
   early ← must (is_none h.opened) OutOfPlace
@@ -185,12 +208,14 @@ comm n h = do
   group ← numbers (rank_in n) BadRank
   give (record h { groups = h.groups ++ group ∷ [] })
 
+-- rank R: the section of a rank begins
 unfoldable pub section : ℕ → History → Reading History
 section n h = do
   rank ← next (rank_in n)
   ended ← end
   give (record h { opened = Some rank })
 
+-- the history with one more command, of that line and rank
 abbrev pub tell : ℕ → ℕ → Command → History → History
 tell number rank command h = record h { told = h.told ++ record { line = number; rank = rank; command = command } ∷ [] }
 
@@ -210,6 +235,7 @@ later number n first h =
     else (if bytes_eq first (codes "rank") then section n h
     else command number first h))
 
+-- a line that says something: the first such line gives the number of ranks
 abbrev pub line_by : Option ℕ → ℕ → List ℕ → History → Reading History
 line_by None number first h = if bytes_eq first (codes "ranks") then ranks h else fault MissingRanks
 line_by (Some n) number first h = later number n first h

@@ -8,15 +8,15 @@ use Rattle.coll_history.specs.declared.command.Command.TheVariants.{Post, Init, 
 use Rattle.coll_history.specs.declared.command.Told.{Told}
 use Rattle.coll_history.specs.Histories.{History, group_of}
 
--- the line that makes it, its communicator, the number that its rank has there, its signature, mode included, and the bytes
--- given at each start
+-- what a post or an initialisation makes
 pub record Request : Type 0 where
-  pub line : ℕ
-  pub comm : ℕ
-  pub member : ℕ
-  pub sig : Signature
-  pub starts : List (List ℕ)
+  pub line : ℕ  -- the line that makes it
+  pub comm : ℕ  -- its communicator
+  pub member : ℕ  -- its rank's number there
+  pub sig : Signature  -- its signature, mode included
+  pub starts : List (List ℕ)  -- the rank's contribution at each start; a post is one
 
+-- the request that a rank's line makes on a communicator
 abbrev pub request : List (List ℕ) → ℕ → ℕ → ℕ → Signature → List (List ℕ) → Request
 request groups line rank comm sig starts = record {
   line = line;
@@ -32,16 +32,21 @@ changed_at k f [] = []
 changed_at zero f (x ∷ xs) = f x ∷ xs
 changed_at (suc k) f (x ∷ xs) = x ∷ changed_at k f xs
 
+-- the request with one more start, which gives these bytes
 abbrev pub started : List ℕ → Request → Request
 started given p = record p { starts = p.starts ++ given ∷ [] }
 
 -- the requests of a rank behind a command of it, in that line
 abbrev pub requests_after : List (List ℕ) → ℕ → ℕ → Command → List Request → List Request
-requests_after groups line rank (Post comm sig given) requests = requests ++ request groups line rank comm sig (given ∷ []) ∷ []
-requests_after groups line rank (Init comm sig) requests = requests ++ request groups line rank comm sig [] ∷ []
-requests_after groups line rank (Start q given) requests = changed_at q (started given) requests
+requests_after groups line rank (Post comm sig given) requests =
+    requests ++ request groups line rank comm sig (given ∷ []) ∷ []
+requests_after groups line rank (Init comm sig) requests =
+    requests ++ request groups line rank comm sig [] ∷ []
+requests_after groups line rank (Start q given) requests =
+    changed_at q (started given) requests
 requests_after groups line rank command requests = requests
 
+-- the requests of one rank behind all its commands
 abbrev pub requests_of : List (List ℕ) → ℕ → List Told → List Request
 requests_of groups rank told =
     fold (λ requests t. requests_after groups t.line t.rank t.command requests) [] (filter (λ t. t.rank == rank) told)

@@ -1,16 +1,21 @@
 -- Worked rows, computed.
-use Rattle.std.specs.Prelude.{◌≡◌, ℕ, List, [], ◌∷◌, Option, Some, None, Result, Ok, Err, codes, map, refl}
+use Rattle.std.specs.Prelude.{◌≡◌, ℕ, List, [], ◌∷◌, ◌++◌, map, replicate, codes, Option, Some, None, Result, Ok, Err}
+use Rattle.std.specs.Prelude.{refl}
 use Rattle.coll_kinds.specs.declared.datatype.Datatype.TheVariants.{I8}
 use Rattle.coll_kinds.specs.declared.operation.Op.TheVariants.{Sum}
 use Rattle.coll_kinds.specs.declared.kind.Kind.TheVariants.{Allreduce}
 use Rattle.coll_kinds.specs.declared.kind.Mode.TheVariants.{Persistent}
 use Rattle.coll_kinds.specs.declared.signature.Signature.{Signature}
 use Rattle.coll_history.specs.declared.cause.Cause.{Cause}
-use Rattle.coll_history.specs.declared.cause.Cause.TheVariants.{MissingRanks, UnknownCommand, OutOfPlace, BadWords, BadNumber, BadRank, BadCommunicator, BadSignature, WrongValueCount, BadValue, UnknownRequest, NamedTwice, NotStartable}
+use Rattle.coll_history.specs.declared.cause.Cause.TheVariants.{MissingRanks, UnknownCommand, OutOfPlace, BadWords}
+use Rattle.coll_history.specs.declared.cause.Cause.TheVariants.{BadNumber, BadRank, BadCommunicator, BadSignature}
+use Rattle.coll_history.specs.declared.cause.Cause.TheVariants.{WrongValueCount, BadValue, UnknownRequest, NamedTwice}
+use Rattle.coll_history.specs.declared.cause.Cause.TheVariants.{NotStartable}
 use Rattle.coll_history.specs.declared.fault.Fault.{Fault}
 use Rattle.coll_history.specs.declared.command.Command.TheVariants.{Init, Start, WaitAny, WaitAll}
 use Rattle.coll_history.specs.Histories.{History, beginning}
-use Rattle.coll_history.specs.Lines.{fields, signature, values, post, init, startable, start, free, ranks, comm, section, command, line}
+use Rattle.coll_history.specs.Lines.{fields, signature, values, post, init, startable, start, free}
+use Rattle.coll_history.specs.Lines.{ranks, comm, section, command, line}
 use Rattle.coll_history.specs.Cutting.{lines_of}
 use Rattle.coll_history.specs.Judging.{judged}
 use Rattle.coll_history.specs.Writing.{text_of}
@@ -20,29 +25,72 @@ abbrev fault_of : Result History Fault → Option (ℕ × Cause)
 fault_of (Ok h) = None
 fault_of (Err fault) = Some (fault.line, fault.cause)
 
+-- the fault of a text of these lines, if it has one
 abbrev fault_in : List (List ℕ) → Option (ℕ × Cause)
 fault_in lines = fault_of (judged 1 beginning lines)
 
 abbrev fault : ℕ → Cause → Option (ℕ × Cause)
 fault number cause = Some (number, cause)
 
+-- a line, and the fault that a text has which ends in it, if it has one
+abbrev Row : Type 0
+Row = List ℕ × Option (ℕ × Cause)
+
+-- behind these lines each row's line has the fault that stands beside it
+abbrev HaveFaults : List (List ℕ) → List Row → Type 0
+HaveFaults before rows = map (λ row. fault_in (before ++ row.0 ∷ [])) rows ≡ map (λ row. row.1) rows
+
 -- ---- the first lines
 
-first_lines : map (λ line. fault_in (line ∷ [])) (codes "rank 0" ∷ codes "comm 0" ∷ codes "ranks1" ∷ codes "ranks" ∷ codes "ranks x" ∷ codes "ranks 0" ∷ codes "ranks 65" ∷ codes "ranks 1 1" ∷ codes "ranks 64" ∷ codes "# x" ∷ [])
-    ≡ fault 1 MissingRanks ∷ fault 1 MissingRanks ∷ fault 1 MissingRanks ∷ fault 1 BadWords ∷ fault 1 BadNumber ∷ fault 1 BadNumber ∷ fault 1 BadNumber ∷ fault 1 BadWords ∷ None ∷ None ∷ []
+abbrev first_lines_rows : List Row
+first_lines_rows =
+    (codes "rank 0", fault 1 MissingRanks)
+    ∷ (codes "comm 0", fault 1 MissingRanks)
+    ∷ (codes "ranks1", fault 1 MissingRanks)
+    ∷ (codes "ranks", fault 1 BadWords)
+    ∷ (codes "ranks x", fault 1 BadNumber)
+    ∷ (codes "ranks 0", fault 1 BadNumber)
+    ∷ (codes "ranks 65", fault 1 BadNumber)
+    ∷ (codes "ranks 1 1", fault 1 BadWords)
+    ∷ (codes "ranks 64", None)
+    ∷ (codes "# x", None)
+    ∷ []
+
+first_lines : HaveFaults [] first_lines_rows
 unfolding line ranks comm section command post init start startable free signature fields values
 first_lines = refl
 
-second_lines : map (λ line. fault_in (codes "ranks 2" ∷ line ∷ [])) (codes "ranks 2" ∷ codes "foo" ∷ codes "post x" ∷ codes "waitall" ∷ codes "rank" ∷ codes "rank 2" ∷ codes "rank x" ∷ codes "rank 0 0" ∷ codes "rank 01" ∷ [])
-    ≡ fault 2 OutOfPlace ∷ fault 2 UnknownCommand ∷ fault 2 OutOfPlace ∷ fault 2 OutOfPlace ∷ fault 2 BadWords ∷ fault 2 BadRank ∷ fault 2 BadRank ∷ fault 2 BadWords ∷ None ∷ []
+abbrev second_lines_rows : List Row
+second_lines_rows =
+    (codes "ranks 2", fault 2 OutOfPlace)
+    ∷ (codes "foo", fault 2 UnknownCommand)
+    ∷ (codes "post x", fault 2 OutOfPlace)
+    ∷ (codes "waitall", fault 2 OutOfPlace)
+    ∷ (codes "rank", fault 2 BadWords)
+    ∷ (codes "rank 2", fault 2 BadRank)
+    ∷ (codes "rank x", fault 2 BadRank)
+    ∷ (codes "rank 0 0", fault 2 BadWords)
+    ∷ (codes "rank 01", None)
+    ∷ []
+
+second_lines : HaveFaults (codes "ranks 2" ∷ []) second_lines_rows
 unfolding line ranks comm section command post init start startable free signature fields values
 second_lines = refl
 
 -- ---- communicators
 
 -- `twice` compares numbers
-members : map (λ line. fault_in (codes "ranks 2" ∷ line ∷ [])) (codes "comm" ∷ codes "comm 2" ∷ codes "comm x" ∷ codes "comm 0 :" ∷ codes "comm 0 00" ∷ codes "comm 1 0" ∷ [])
-    ≡ fault 2 BadWords ∷ fault 2 BadRank ∷ fault 2 BadRank ∷ fault 2 BadRank ∷ fault 2 BadRank ∷ None ∷ []
+abbrev members_rows : List Row
+members_rows =
+    (codes "comm", fault 2 BadWords)
+    ∷ (codes "comm 2", fault 2 BadRank)
+    ∷ (codes "comm x", fault 2 BadRank)
+    ∷ (codes "comm 0 :", fault 2 BadRank)
+    ∷ (codes "comm 0 00", fault 2 BadRank)
+    ∷ (codes "comm 1 0", None)
+    ∷ []
+
+members : HaveFaults (codes "ranks 2" ∷ []) members_rows
 unfolding line ranks comm section command post init start startable free signature fields values
 members = refl
 
@@ -50,48 +98,103 @@ comm_after_rank : fault_in (codes "ranks 1" ∷ codes "rank 0" ∷ codes "comm 7
 unfolding line ranks comm section command post init start startable free signature fields values
 comm_after_rank = refl
 
-sixteenth_comm : fault_in (codes "ranks 1" ∷ codes "comm 0" ∷ codes "comm 0" ∷ codes "comm 0" ∷ codes "comm 0" ∷ codes "comm 0" ∷ codes "comm 0" ∷ codes "comm 0" ∷ codes "comm 0" ∷ codes "comm 0"
-    ∷ codes "comm 0" ∷ codes "comm 0" ∷ codes "comm 0" ∷ codes "comm 0" ∷ codes "comm 0" ∷ codes "comm 0" ∷ codes "comm" ∷ []) ≡ fault 17 BadCommunicator
+-- beside communicator 0 there are fifteen more
+sixteenth_comm :
+    fault_in (codes "ranks 1" ∷ replicate 15 (codes "comm 0") ++ codes "comm" ∷ []) ≡ fault 17 BadCommunicator
 unfolding line ranks comm section command post init start startable free signature fields values
 sixteenth_comm = refl
 
-rank_outside_comm : fault_in (codes "ranks 2" ∷ codes "comm 0" ∷ codes "rank 1" ∷ codes "post 1 barrier" ∷ []) ≡ fault 4 BadRank
+rank_outside_comm :
+    fault_in (codes "ranks 2" ∷ codes "comm 0" ∷ codes "rank 1" ∷ codes "post 1 barrier" ∷ []) ≡ fault 4 BadRank
 unfolding line ranks comm section command post init start startable free signature fields values
 rank_outside_comm = refl
 
 -- rank 0 is member 1 of communicator 1, and so its root is 1
-roots : map (λ line. fault_in (codes "ranks 2" ∷ codes "comm 1 0" ∷ codes "rank 0" ∷ line ∷ [])) (codes "post 1 bcast 1 i8 1 : 5" ∷ codes "post 1 bcast 0 i8 1 : 5" ∷ codes "post 1 bcast 0 i8 1" ∷ []) ≡ None ∷ fault 4 WrongValueCount ∷ None ∷ []
+abbrev roots_rows : List Row
+roots_rows =
+    (codes "post 1 bcast 1 i8 1 : 5", None)
+    ∷ (codes "post 1 bcast 0 i8 1 : 5", fault 4 WrongValueCount)
+    ∷ (codes "post 1 bcast 0 i8 1", None)
+    ∷ []
+
+roots : HaveFaults (codes "ranks 2" ∷ codes "comm 1 0" ∷ codes "rank 0" ∷ []) roots_rows
 unfolding line ranks comm section command post init start startable free signature fields values
 roots = refl
 
 -- ---- requests that are made
 
 -- a post, from its left
-posts : map (λ line. fault_in (codes "ranks 1" ∷ codes "rank 0" ∷ line ∷ [])) (codes "post" ∷ codes "post x" ∷ codes "post 1 foo" ∷ codes "post 18446744073709551616 foo" ∷ codes "post 000000000000000000000 foo" ∷ codes "post 0" ∷ codes "post 0 foo"
-    ∷ codes "post 0 allreduce sum" ∷ codes "post 0 allreduce sum byte 1 : 1" ∷ codes "post 0 bcast 255" ∷ codes "post 0 bcast 256" ∷ codes "post 0 bcast 1 i8 1 x" ∷ codes "post 0 bcast 0 i8 1" ∷ codes "post 0 bcast 0 i8 1 :" ∷ codes "post 0 bcast 0 i8 0 x"
-    ∷ codes "post 0 bcast 0 i8 0 :" ∷ codes "post 0 allreduce sum i8 2 : 1" ∷ codes "post 0 allreduce sum i8 1 : 128" ∷ codes "post 0 bcast 0 i8 65537" ∷ [])
-    ≡ fault 3 BadWords ∷ fault 3 BadNumber ∷ fault 3 BadCommunicator ∷ fault 3 BadCommunicator ∷ fault 3 BadNumber ∷ fault 3 BadWords ∷ fault 3 BadSignature
-    ∷ fault 3 BadWords ∷ fault 3 BadSignature ∷ fault 3 BadWords ∷ fault 3 BadSignature ∷ fault 3 BadSignature ∷ fault 3 BadWords ∷ fault 3 WrongValueCount ∷ fault 3 BadWords
-    ∷ None ∷ fault 3 WrongValueCount ∷ fault 3 BadValue ∷ fault 3 BadSignature ∷ []
+abbrev posts_rows : List Row
+posts_rows =
+    (codes "post", fault 3 BadWords)
+    ∷ (codes "post x", fault 3 BadNumber)
+    ∷ (codes "post 1 foo", fault 3 BadCommunicator)
+    ∷ (codes "post 18446744073709551616 foo", fault 3 BadCommunicator)
+    ∷ (codes "post 000000000000000000000 foo", fault 3 BadNumber)
+    ∷ (codes "post 0", fault 3 BadWords)
+    ∷ (codes "post 0 foo", fault 3 BadSignature)
+    ∷ (codes "post 0 allreduce sum", fault 3 BadWords)
+    ∷ (codes "post 0 allreduce sum byte 1 : 1", fault 3 BadSignature)
+    ∷ (codes "post 0 bcast 255", fault 3 BadWords)
+    ∷ (codes "post 0 bcast 256", fault 3 BadSignature)
+    ∷ (codes "post 0 bcast 1 i8 1 x", fault 3 BadSignature)
+    ∷ (codes "post 0 bcast 0 i8 1", fault 3 BadWords)
+    ∷ (codes "post 0 bcast 0 i8 1 :", fault 3 WrongValueCount)
+    ∷ (codes "post 0 bcast 0 i8 0 x", fault 3 BadWords)
+    ∷ (codes "post 0 bcast 0 i8 0 :", None)
+    ∷ (codes "post 0 allreduce sum i8 2 : 1", fault 3 WrongValueCount)
+    ∷ (codes "post 0 allreduce sum i8 1 : 128", fault 3 BadValue)
+    ∷ (codes "post 0 bcast 0 i8 65537", fault 3 BadSignature)
+    ∷ []
+
+posts : HaveFaults (codes "ranks 1" ∷ codes "rank 0" ∷ []) posts_rows
 unfolding line ranks comm section command post init start startable free signature fields values
 posts = refl
 
 -- an `init` ends with its signature
-inits : map (λ line. fault_in (codes "ranks 1" ∷ codes "rank 0" ∷ line ∷ [])) (codes "init 0 barrier" ∷ codes "init 0 barrier :" ∷ codes "init 0 bcast 1 i8 1 :" ∷ []) ≡ None ∷ fault 3 BadWords ∷ fault 3 BadSignature ∷ []
+abbrev inits_rows : List Row
+inits_rows =
+    (codes "init 0 barrier", None)
+    ∷ (codes "init 0 barrier :", fault 3 BadWords)
+    ∷ (codes "init 0 bcast 1 i8 1 :", fault 3 BadSignature)
+    ∷ []
+
+inits : HaveFaults (codes "ranks 1" ∷ codes "rank 0" ∷ []) inits_rows
 unfolding line ranks comm section command post init start startable free signature fields values
 inits = refl
 
 -- ---- requests that are named
 
 -- a request is named from its left, and `twice` is judged at the second word
-named : map (λ line. fault_in (codes "ranks 1" ∷ codes "rank 0" ∷ codes "post 0 barrier" ∷ line ∷ [])) (codes "wait" ∷ codes "wait x" ∷ codes "wait 1 x" ∷ codes "wait 0 0" ∷ codes "test 0" ∷ codes "test 1" ∷ codes "waitany" ∷ codes "waitsome"
-    ∷ codes "waitany 0 0 x" ∷ codes "waitsome 0 00" ∷ codes "waitsome 0 1" ∷ codes "waitall" ∷ codes "waitall 0" ∷ codes "waitall 0 0" ∷ codes "start" ∷ codes "start 1 x" ∷ codes "start 0 x" ∷ codes "free :" ∷ codes "free 0" ∷ [])
-    ≡ fault 4 BadWords ∷ fault 4 BadNumber ∷ fault 4 UnknownRequest ∷ fault 4 BadWords ∷ None ∷ fault 4 UnknownRequest ∷ fault 4 BadWords ∷ fault 4 BadWords
-    ∷ fault 4 NamedTwice ∷ fault 4 NamedTwice ∷ fault 4 UnknownRequest ∷ None ∷ None ∷ fault 4 NamedTwice ∷ fault 4 BadWords ∷ fault 4 UnknownRequest ∷ fault 4 NotStartable ∷ fault 4 BadNumber ∷ fault 4 NotStartable ∷ []
+abbrev named_rows : List Row
+named_rows =
+    (codes "wait", fault 4 BadWords)
+    ∷ (codes "wait x", fault 4 BadNumber)
+    ∷ (codes "wait 1 x", fault 4 UnknownRequest)
+    ∷ (codes "wait 0 0", fault 4 BadWords)
+    ∷ (codes "test 0", None)
+    ∷ (codes "test 1", fault 4 UnknownRequest)
+    ∷ (codes "waitany", fault 4 BadWords)
+    ∷ (codes "waitsome", fault 4 BadWords)
+    ∷ (codes "waitany 0 0 x", fault 4 NamedTwice)
+    ∷ (codes "waitsome 0 00", fault 4 NamedTwice)
+    ∷ (codes "waitsome 0 1", fault 4 UnknownRequest)
+    ∷ (codes "waitall", None)
+    ∷ (codes "waitall 0", None)
+    ∷ (codes "waitall 0 0", fault 4 NamedTwice)
+    ∷ (codes "start", fault 4 BadWords)
+    ∷ (codes "start 1 x", fault 4 UnknownRequest)
+    ∷ (codes "start 0 x", fault 4 NotStartable)
+    ∷ (codes "free :", fault 4 BadNumber)
+    ∷ (codes "free 0", fault 4 NotStartable)
+    ∷ []
+
+named : HaveFaults (codes "ranks 1" ∷ codes "rank 0" ∷ codes "post 0 barrier" ∷ []) named_rows
 unfolding line ranks comm section command post init start startable free signature fields values
 named = refl
 
-request_named_twice : fault_in (codes "ranks 1" ∷ codes "rank 0" ∷ codes "post 0 barrier" ∷ codes "waitany 0 0" ∷ []) ≡ fault 4 NamedTwice
+request_named_twice :
+    fault_in (codes "ranks 1" ∷ codes "rank 0" ∷ codes "post 0 barrier" ∷ codes "waitany 0 0" ∷ []) ≡ fault 4 NamedTwice
 unfolding line ranks comm section command post init start startable free signature fields values
 request_named_twice = refl
 
@@ -100,26 +203,53 @@ abbrev started_and : List (List ℕ) → Option (ℕ × Cause)
 started_and lines = fault_in (codes "ranks 1" ∷ codes "rank 0" ∷ codes "init 0 barrier" ∷ codes "start 0" ∷ lines)
 
 -- a wait that names the request makes it surely inactive, and nothing else does
-start_while_active : map started_and ((codes "start 0" ∷ []) ∷ (codes "test 0" ∷ codes "start 0" ∷ []) ∷ (codes "waitany 0" ∷ codes "start 0" ∷ []) ∷ (codes "waitsome 0" ∷ codes "free 0" ∷ []) ∷ (codes "wait 0" ∷ codes "start 0 :" ∷ [])
-    ∷ (codes "waitall 0" ∷ codes "free 0" ∷ []) ∷ (codes "waitall" ∷ codes "start 0" ∷ []) ∷ (codes "waitall" ∷ codes "start 0" ∷ codes "start 0" ∷ []) ∷ (codes "wait 0" ∷ codes "free 0" ∷ codes "start 0" ∷ []) ∷ (codes "wait 0" ∷ codes "free 0" ∷ codes "wait 0" ∷ []) ∷ [])
-    ≡ fault 5 NotStartable ∷ fault 6 NotStartable ∷ fault 6 NotStartable ∷ fault 6 NotStartable ∷ None
-    ∷ None ∷ None ∷ fault 7 NotStartable ∷ fault 7 NotStartable ∷ None ∷ []
+abbrev start_while_active_rows : List (List (List ℕ) × Option (ℕ × Cause))
+start_while_active_rows =
+    (codes "start 0" ∷ [], fault 5 NotStartable)
+    ∷ (codes "test 0" ∷ codes "start 0" ∷ [], fault 6 NotStartable)
+    ∷ (codes "waitany 0" ∷ codes "start 0" ∷ [], fault 6 NotStartable)
+    ∷ (codes "waitsome 0" ∷ codes "free 0" ∷ [], fault 6 NotStartable)
+    ∷ (codes "wait 0" ∷ codes "start 0 :" ∷ [], None)
+    ∷ (codes "waitall 0" ∷ codes "free 0" ∷ [], None)
+    ∷ (codes "waitall" ∷ codes "start 0" ∷ [], None)
+    ∷ (codes "waitall" ∷ codes "start 0" ∷ codes "start 0" ∷ [], fault 7 NotStartable)
+    ∷ (codes "wait 0" ∷ codes "free 0" ∷ codes "start 0" ∷ [], fault 7 NotStartable)
+    ∷ (codes "wait 0" ∷ codes "free 0" ∷ codes "wait 0" ∷ [], None)
+    ∷ []
+
+start_while_active :
+    map (λ row. started_and row.0) start_while_active_rows ≡ map (λ row. row.1) start_while_active_rows
 unfolding line ranks comm section command post init start startable free signature fields values
 start_while_active = refl
 
 -- ---- what lines tell
 
--- lists stay, and a bare `waitall` names the requests so far
 abbrev sum : Signature
 sum = record { kind = Allreduce; mode = Persistent; root = 0; op = Some Sum; ty = I8; count = 2 }
 
-told : judged 1 beginning (codes "ranks 2" ∷ codes "comm 1" ∷ codes "rank 1" ∷ [] ∷ codes "init 1 allreduce sum i8 2" ∷ codes "waitall" ∷ codes "start 0 : 5 -1" ∷ codes "waitany 0" ∷ [])
+abbrev told_lines : List (List ℕ)
+told_lines =
+    codes "ranks 2"
+    ∷ codes "comm 1"
+    ∷ codes "rank 1"
+    ∷ []
+    ∷ codes "init 1 allreduce sum i8 2"
+    ∷ codes "waitall"
+    ∷ codes "start 0 : 5 -1"
+    ∷ codes "waitany 0"
+    ∷ []
+
+-- lists stay, and a bare `waitall` names the requests so far
+told : judged 1 beginning told_lines
     ≡ Ok (record {
       ranks = Some 2;
       groups = (0 ∷ 1 ∷ []) ∷ (1 ∷ []) ∷ [];
       opened = Some 1;
-      told = record { line = 5; rank = 1; command = Init 1 sum } ∷ record { line = 6; rank = 1; command = WaitAll (0 ∷ []) } ∷ record { line = 7; rank = 1; command = Start 0 (5 ∷ 255 ∷ []) }
-          ∷ record { line = 8; rank = 1; command = WaitAny (0 ∷ []) } ∷ [];
+      told = record { line = 5; rank = 1; command = Init 1 sum }
+          ∷ record { line = 6; rank = 1; command = WaitAll (0 ∷ []) }
+          ∷ record { line = 7; rank = 1; command = Start 0 (5 ∷ 255 ∷ []) }
+          ∷ record { line = 8; rank = 1; command = WaitAny (0 ∷ []) }
+          ∷ [];
     })
 unfolding line ranks comm section command post init start startable free signature fields values
 told = refl
@@ -132,10 +262,21 @@ said = record {
   ranks = Some 2;
   groups = (0 ∷ 1 ∷ []) ∷ [];
   opened = Some 1;
-  told = record { line = 4; rank = 1; command = Init 0 sum } ∷ record { line = 5; rank = 1; command = Start 0 (5 ∷ 255 ∷ []) } ∷ [];
+  told = record { line = 4; rank = 1; command = Init 0 sum }
+      ∷ record { line = 5; rank = 1; command = Start 0 (5 ∷ 255 ∷ []) }
+      ∷ [];
 }
 
-written_otherwise : judged 1 beginning (codes " ranks 02" ∷ codes "# two" ∷ codes "rank  01 " ∷ codes "init 00 allreduce sum i8 02" ∷ codes "start 0 : 05 -01" ∷ []) ≡ Ok said
+abbrev lines_otherwise : List (List ℕ)
+lines_otherwise =
+    codes " ranks 02"
+    ∷ codes "# two"
+    ∷ codes "rank  01 "
+    ∷ codes "init 00 allreduce sum i8 02"
+    ∷ codes "start 0 : 05 -01"
+    ∷ []
+
+written_otherwise : judged 1 beginning lines_otherwise ≡ Ok said
 unfolding line ranks comm section command post init start startable free signature fields values
 written_otherwise = refl
 

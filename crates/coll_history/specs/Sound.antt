@@ -6,7 +6,8 @@ use Rattle.coll_kinds.specs.Lengths.{given_len}
 use Rattle.coll_kinds.specs.Checks.{broken}
 use Rattle.coll_kinds.specs.Groups.{member_of, IsGroup}
 use Rattle.coll_history.specs.declared.command.Command.{Command}
-use Rattle.coll_history.specs.declared.command.Command.TheVariants.{Post, Init, Start, Wait, Test, Free, WaitAny, WaitSome, WaitAll}
+use Rattle.coll_history.specs.declared.command.Command.TheVariants.{Post, Init, Start, Wait, Test, Free}
+use Rattle.coll_history.specs.declared.command.Command.TheVariants.{WaitAny, WaitSome, WaitAll}
 use Rattle.coll_history.specs.declared.command.Told.{Told}
 use Rattle.coll_history.specs.Histories.{History, Posting, postings, said_by, total}
 use Rattle.coll_history.specs.Lines.{due}
@@ -28,7 +29,9 @@ pub record IsStart (groups : List (List ℕ)) (rank : ℕ) (commands : List Comm
 
 -- a rank may say this after these commands
 abbrev pub MaySay : List (List ℕ) → ℕ → List Command → Command → Type 0
-MaySay groups rank commands (Post comm sig given) = IsPosting groups rank comm sig × (length given ≡ due groups rank comm sig)
+MaySay groups rank commands (Post comm sig given) =
+    IsPosting groups rank comm sig
+    × (length given ≡ due groups rank comm sig)
 MaySay groups rank commands (Init comm sig) = IsPosting groups rank comm sig
 MaySay groups rank commands (Start q given) = IsStart groups rank commands q given
 MaySay groups rank commands (Wait q) = q < length (postings commands)
@@ -42,7 +45,8 @@ MaySay groups rank commands (WaitAll qs) = AllByRecursion (λ q. q < length (pos
 abbrev pub AreSaid : ℕ → List (List ℕ) → List Told → List Told → Type 0
 AreSaid n groups before [] = Unit {0}
 AreSaid n groups before (t ∷ told) =
-    ((t.rank < n) × MaySay groups t.rank (said_by t.rank before) t.command) × AreSaid n groups (before ++ t ∷ []) told
+    ((t.rank < n) × MaySay groups t.rank (said_by t.rank before) t.command)
+    × AreSaid n groups (before ++ t ∷ []) told
 
 -- a history before the line of that number
 pub record IsHistory (next : ℕ) (h : History) : Type 0 where

@@ -1,10 +1,10 @@
--- How commands are written, and which ones a section may say next. Nothing here reads words: what is written so is read so.
-use Rattle.std.specs.Prelude.{◌≡◌, ℕ, ◌+◌, ◌/◌, ◌<◌, ◌≤◌, ◌^◌, false, IsTrue, ℤ, List, [], ◌∷◌, ◌++◌, length, map, flat_map, Option, Some, None, slice_get, codes, MatchBool, if◌then◌else◌}
-use Rattle.std.specs.List.{AllByRecursion, range_with_len}
-use Rattle.std.specs.Prelude.{◌⊎◌}
+-- How commands are written, and which ones a section may say next. Nothing here reads words: what is written so is read
+-- so.
+use Rattle.std.specs.Prelude.{◌≡◌, ◌⊎◌, ℕ, ◌+◌, ◌/◌, ◌<◌, ◌≤◌, ◌^◌, ℤ, Bool, true, false, not, ◌&&◌, IsTrue}
+use Rattle.std.specs.Prelude.{MatchBool, if◌then◌else◌, Option, Some, None}
+use Rattle.std.specs.Prelude.{List, [], ◌∷◌, ◌++◌, length, map, flat_map, slice_get, slice_index, codes}
+use Rattle.std.specs.List.{AllByRecursion, list_all, range_with_len}
 use Rattle.std.specs.Fmt.{decimal, signed_decimal}
-use Rattle.std.specs.Prelude.{Bool, true, not, ◌&&◌, slice_index}
-use Rattle.std.specs.List.{list_all}
 use Rattle.coll_history.specs.Cutting.{is_blank, is_line_feed}
 use Rattle.coll_kinds.specs.declared.datatype.Datatype.{Datatype}
 use Rattle.coll_kinds.specs.declared.datatype.Datatype.TheVariants.{Byte}
@@ -15,7 +15,8 @@ use Rattle.coll_kinds.specs.declared.signature.Signature.{Signature}
 use Rattle.coll_kinds.specs.Elements.{width, element_bytes, IsElement}
 use Rattle.coll_kinds.specs.Checks.{has_root, has_operation, is_barrier, broken}
 use Rattle.coll_history.specs.declared.command.Command.{Command}
-use Rattle.coll_history.specs.declared.command.Command.TheVariants.{Post, Init, Start, Wait, Test, Free, WaitAny, WaitSome, WaitAll}
+use Rattle.coll_history.specs.declared.command.Command.TheVariants.{Post, Init, Start, Wait, Test, Free}
+use Rattle.coll_history.specs.declared.command.Command.TheVariants.{WaitAny, WaitSome, WaitAll}
 use Rattle.coll_kinds.specs.Words.{kind_word, operation_word, datatype_word}
 use Rattle.coll_kinds.specs.Groups.{member_of, is_among}
 use Rattle.coll_history.specs.Histories.{History, Posting, said_by, is_startable, total}
@@ -23,6 +24,7 @@ use Rattle.coll_history.specs.Lines.{due, made, tell}
 
 -- ---- words
 
+-- OP, where there is one
 abbrev pub operation_words : Option Op → List (List ℕ)
 operation_words None = []
 operation_words (Some op) = operation_word op ∷ []
@@ -39,7 +41,15 @@ value_words elements = codes ":" ∷ map signed_decimal elements
 
 -- the values of a type, so many, whose bytes are these
 abbrev pub AreValues : Datatype → ℕ → List ℤ → List ℕ → Type 0
-AreValues ty count elements given = (length elements ≡ count) × AllByRecursion (IsElement ty) elements × (given ≡ flat_map (element_bytes ty) elements)
+AreValues ty count elements given =
+    (length elements ≡ count)
+    × AllByRecursion (IsElement ty) elements
+    × (given ≡ flat_map (element_bytes ty) elements)
+
+-- what a rank gives on a communicator, as many values of the signature's type as are due
+abbrev pub AreDue : History → ℕ → ℕ → Signature → List ℤ → List ℕ → Type 0
+AreDue h rank comm sig elements given =
+    AreValues sig.ty (due h.groups rank comm sig / width sig.ty) elements given
 
 -- a signature has what its kind has words for, and fits its fields
 pub record HasWords (sig : Signature) : Type 0 where
@@ -67,16 +77,20 @@ pub record MayStart (h : History) (rank q : ℕ) (p : Posting) : Type 0 where
   pub posted : slice_get (made h rank) q ≡ Some p
   pub startable : IsTrue (is_startable q p (said_by rank h.told))
 
+-- the rank has made the request
 abbrev pub IsMade : History → ℕ → ℕ → Type 0
 IsMade h rank q = (q < 2 ^ 64) × (q < length (made h rank))
 
+-- none of these stands before, nor twice among them
 abbrev pub NoneTwice : List ℕ → List ℕ → Type 0
 NoneTwice before [] = Unit {0}
 NoneTwice before (q ∷ qs) = (is_among q before ≡ false) × NoneTwice (before ++ q ∷ []) qs
 
+-- a wait may name these requests
 abbrev pub MayName : History → ℕ → List ℕ → Type 0
 MayName h rank qs = AllByRecursion (IsMade h rank) qs × NoneTwice [] qs
 
+-- there is at least one
 abbrev pub IsSome : List ℕ → Type 0
 IsSome [] = ⊥
 IsSome (q ∷ qs) = Unit {0}
@@ -84,17 +98,37 @@ IsSome (q ∷ qs) = Unit {0}
 -- the command may be said, and is written so
 abbrev pub Writes : History → ℕ → Command → List (List ℕ) → Type 0
 Writes h rank (Post comm sig given) words =
-    MayPost h rank Once comm sig × (elements : List ℤ) × AreValues sig.ty (due h.groups rank comm sig / width sig.ty) elements given
+    MayPost h rank Once comm sig
+    × (elements : List ℤ)
+    × AreDue h rank comm sig elements given
     × (words ≡ codes "post" ∷ decimal comm ∷ signature_words sig ++ value_words elements)
-Writes h rank (Init comm sig) words = MayPost h rank Persistent comm sig × (words ≡ codes "init" ∷ decimal comm ∷ signature_words sig)
+Writes h rank (Init comm sig) words =
+    MayPost h rank Persistent comm sig
+    × (words ≡ codes "init" ∷ decimal comm ∷ signature_words sig)
 Writes h rank (Start q given) words =
-    (p : Posting) × MayStart h rank q p × (elements : List ℤ) × AreValues p.sig.ty (due h.groups rank p.comm p.sig / width p.sig.ty) elements given
+    (p : Posting)
+    × MayStart h rank q p
+    × (elements : List ℤ)
+    × AreDue h rank p.comm p.sig elements given
     × (words ≡ codes "start" ∷ decimal q ∷ value_words elements)
-Writes h rank (Wait q) words = IsMade h rank q × (words ≡ codes "wait" ∷ decimal q ∷ [])
-Writes h rank (Test q) words = IsMade h rank q × (words ≡ codes "test" ∷ decimal q ∷ [])
-Writes h rank (Free q) words = (p : Posting) × MayStart h rank q p × (words ≡ codes "free" ∷ decimal q ∷ [])
-Writes h rank (WaitAny qs) words = IsSome qs × MayName h rank qs × (words ≡ codes "waitany" ∷ map decimal qs)
-Writes h rank (WaitSome qs) words = IsSome qs × MayName h rank qs × (words ≡ codes "waitsome" ∷ map decimal qs)
+Writes h rank (Wait q) words =
+    IsMade h rank q
+    × (words ≡ codes "wait" ∷ decimal q ∷ [])
+Writes h rank (Test q) words =
+    IsMade h rank q
+    × (words ≡ codes "test" ∷ decimal q ∷ [])
+Writes h rank (Free q) words =
+    (p : Posting)
+    × MayStart h rank q p
+    × (words ≡ codes "free" ∷ decimal q ∷ [])
+Writes h rank (WaitAny qs) words =
+    IsSome qs
+    × MayName h rank qs
+    × (words ≡ codes "waitany" ∷ map decimal qs)
+Writes h rank (WaitSome qs) words =
+    IsSome qs
+    × MayName h rank qs
+    × (words ≡ codes "waitsome" ∷ map decimal qs)
 Writes h rank (WaitAll qs) words =
     (IsSome qs × MayName h rank qs × (words ≡ codes "waitall" ∷ map decimal qs))
     ⊎ ((qs ≡ range_with_len 0 (length (made h rank))) × (words ≡ codes "waitall" ∷ []))
@@ -105,6 +139,7 @@ Writes h rank (WaitAll qs) words =
 abbrev pub is_plain : ℕ → Bool
 is_plain b = not (is_blank b) && not (is_line_feed b)
 
+-- a word is cut from a line by its blanks
 pub record IsWord (w : List ℕ) : Type 0 where
   pub some : 0 < length w
   pub plain : list_all is_plain w ≡ true
@@ -116,23 +151,54 @@ IsSkipped (w ∷ words) = slice_index w 0 ≡ 35
 
 -- the next line says this, and is written so
 pub data Says (number : ℕ) (h : History) : List (List ℕ) → History → Type 0 where
-  skipped_line : (words : List (List ℕ)) → AllByRecursion IsWord words → IsSkipped words → Says number h words h
-  ranks_line : (n : ℕ) → h.ranks ≡ None → 1 ≤ n → n ≤ 64 → Says number h (codes "ranks" ∷ decimal n ∷ []) (record h { ranks = Some n; groups = range_with_len 0 n ∷ [] })
-  comm_line : (n : ℕ) (group : List ℕ) → h.ranks ≡ Some n → n ≤ 64 → h.opened ≡ None → length h.groups < 16 → IsSome group → AllByRecursion (λ r. r < n) group → NoneTwice [] group
+  skipped_line :
+      (words : List (List ℕ))
+      → AllByRecursion IsWord words
+      → IsSkipped words
+      → Says number h words h
+  ranks_line :
+      (n : ℕ)
+      → h.ranks ≡ None
+      → 1 ≤ n
+      → n ≤ 64
+      → Says number h (codes "ranks" ∷ decimal n ∷ []) (record h { ranks = Some n; groups = range_with_len 0 n ∷ [] })
+  comm_line :
+      (n : ℕ) (group : List ℕ)
+      → h.ranks ≡ Some n
+      → n ≤ 64
+      → h.opened ≡ None
+      → length h.groups < 16
+      → IsSome group
+      → AllByRecursion (λ r. r < n) group
+      → NoneTwice [] group
       → Says number h (codes "comm" ∷ map decimal group) (record h { groups = h.groups ++ group ∷ [] })
-  rank_line : (n rank : ℕ) → h.ranks ≡ Some n → n ≤ 64 → rank < n → Says number h (codes "rank" ∷ decimal rank ∷ []) (record h { opened = Some rank })
-  command_line : (n rank : ℕ) (c : Command) (words : List (List ℕ)) → h.ranks ≡ Some n → h.opened ≡ Some rank → Writes h rank c words → Says number h words (tell number rank c h)
+  rank_line :
+      (n rank : ℕ)
+      → h.ranks ≡ Some n
+      → n ≤ 64
+      → rank < n
+      → Says number h (codes "rank" ∷ decimal rank ∷ []) (record h { opened = Some rank })
+  command_line :
+      (n rank : ℕ) (c : Command) (words : List (List ℕ))
+      → h.ranks ≡ Some n
+      → h.opened ≡ Some rank
+      → Writes h rank c words
+      → Says number h words (tell number rank c h)
 
 -- the lines, of which the first has that number, say this
 abbrev pub Tells : ℕ → History → List (List (List ℕ)) → History → Type 0
 Tells number h [] last = last ≡ h
-Tells number h (words ∷ lines) last = (next : History) × Says number h words next × Tells (number + 1) next lines last
+Tells number h (words ∷ lines) last =
+    (next : History)
+    × Says number h words next
+    × Tells (number + 1) next lines last
 
--- words with a space between, and lines with a line feed behind each
+-- words with a space between
 abbrev pub spaced : List (List ℕ) → List ℕ
 spaced [] = []
 spaced (w ∷ []) = w
 spaced (w ∷ v ∷ words) = w ++ 32 ∷ spaced (v ∷ words)
 
+-- lines with a line feed behind each
 abbrev pub text_of : List (List (List ℕ)) → List ℕ
 text_of lines = flat_map (λ words. spaced words ++ 10 ∷ []) lines

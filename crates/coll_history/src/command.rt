@@ -71,34 +71,14 @@ impl Command {
     pub fn is_posting(&self) -> bool
         ensures { result ≡ is_some (posting self.now) }
     {
-        match self {
-            Command::Post { .. } => true,
-            Command::Init { .. } => true,
-            Command::Start { .. } => false,
-            Command::Wait(_) => false,
-            Command::Test(_) => false,
-            Command::Free(_) => false,
-            Command::WaitAny(_) => false,
-            Command::WaitSome(_) => false,
-            Command::WaitAll(_) => false,
-        }
+        matches!(self, Command::Post { .. } | Command::Init { .. })
     }
 
     /// Whether it is a start.
     pub fn is_start(&self) -> bool
         ensures { result ≡ is_start self.now }
     {
-        match self {
-            Command::Post { .. } => false,
-            Command::Init { .. } => false,
-            Command::Start { .. } => true,
-            Command::Wait(_) => false,
-            Command::Test(_) => false,
-            Command::Free(_) => false,
-            Command::WaitAny(_) => false,
-            Command::WaitSome(_) => false,
-            Command::WaitAll(_) => false,
-        }
+        matches!(self, Command::Start { .. })
     }
 
     /// How many requests it makes.

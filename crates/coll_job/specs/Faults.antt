@@ -5,7 +5,8 @@ use Rattle.coll_kinds.specs.declared.refusal.Refusal.TheVariants as refusal
 use Rattle.coll_history.specs.declared.fault.ScriptFault.{ScriptFault}
 use Rattle.coll_history.specs.declared.fault.ScriptFault.TheVariants as script
 use Rattle.coll_job.specs.declared.fault.JobFault.{JobFault}
-use Rattle.coll_job.specs.declared.fault.JobFault.TheVariants.{Read, Write, Text, Stalled, Refused, Memory, NoThread, Torn}
+use Rattle.coll_job.specs.declared.fault.JobFault.TheVariants.{Read, Write, Text, Stalled, Refused, Memory}
+use Rattle.coll_job.specs.declared.fault.JobFault.TheVariants.{NoThread, Torn}
 
 -- the exit status of a fault
 abbrev pub status_of : JobFault → ℕ
@@ -18,12 +19,12 @@ status_of Memory = 5
 status_of NoThread = 5
 status_of Torn = 5
 
--- a text that couldn't be read
+-- the fault of a text that couldn't be read
 abbrev pub fault_of_script : ScriptFault → JobFault
 fault_of_script (script.Text fault) = Text fault
 fault_of_script script.NoMemory = Memory
 
--- want of memory, a stall and a torn report have faults of their own
+-- the fault of a call that was refused: want of memory, a stall and a torn report have faults of their own
 abbrev pub fault_of_refusal : Refusal → JobFault
 fault_of_refusal refusal.NoMemory = Memory
 fault_of_refusal refusal.Stalled = Stalled

@@ -21,7 +21,10 @@ IsPlainFault input fault = ⊥
 
 -- the writer, which held old, holds the lines of the text's meaning behind it, where the bytes are known
 abbrev pub WritesMeaning : List ℕ → Option (List ℕ) → Option (List ℕ) → Type 0
-WritesMeaning text old new = (lines : List ℕ) × (meaning text ≡ Ok lines) × Appends old new lines
+WritesMeaning text old new =
+    (lines : List ℕ)
+    × (meaning text ≡ Ok lines)
+    × Appends old new lines
 
 -- the faults of an answer to a text
 abbrev pub IsAnswerFault : List ℕ → JobFault → Type 0

@@ -1,17 +1,14 @@
 -- The script of a history after which nothing is found.
-use Rattle.std.proofs.Common.{◌≡◌, ℕ, ◌+◌, ◌≤◌, ◌<◌, Bool, true, false, List, [], ◌∷◌, length, map, get_or, Option, Some, None, Ok, Err, refl, ap, subst, sym, ◌∙◌, arith, inl, inr}
+use Rattle.std.proofs.Common.{◌≡◌, ℕ, ◌+◌, ◌≤◌, ◌<◌, Bool, true, false, List, [], ◌∷◌, length, map, Option, Some, None, Ok, Err, refl, ap, subst, sym, ◌∙◌, arith}
 use Rattle.std.specs.Prelude.{slice_get, slice_index, unwrap_or, is_some, IfSome, Vec}
 use Rattle.std.specs.List.{list_all, AllByRecursion}
-use Rattle.std.proofs.lemmas.Bool.{cases_lt}
-use Rattle.std.proofs.lemmas.List.FromFn.{get_or-map-range_with_len, length-map-range_with_len}
-use Rattle.std.proofs.lemmas.Option.{slice_get_past, unwrap_or-slice_get, slice_get_within}
+use Rattle.std.proofs.lemmas.Option.{slice_get_within}
 use Rattle.coll_history.specs.declared.cause.Cause.TheVariants.{PlaceMismatch, PlaceMissing, StartMissing}
 use Rattle.coll_history.specs.Histories.{History}
 use Rattle.coll_history.specs.Requests.{Request, requests}
 use Rattle.coll_history.specs.declared.request.Request as rust
-use Rattle.coll_history.specs.Requests as history
 use Rattle.coll_history.specs.Code.{request_view, requests_view, rows_view}
-use Rattle.coll_history.proofs.Lists.{slice_get-view, AllByRecursion-weaker}
+use Rattle.coll_history.proofs.Lists.{AllByRecursion-weaker}
 use Rattle.std.specs.Global.{Global}
 use Rattle.std.proofs.lemmas.List.{length-map}
 use Rattle.coll_kinds.specs.Groups.{member_of, IsGroup}
@@ -20,27 +17,8 @@ use Rattle.coll_script.specs.Postings.{requests_of, postings_from}
 use Rattle.coll_script.specs.Matching.{mismatch, have_places, have_starts}
 use Rattle.coll_script.specs.Jobs.{job_of, all_postings, matched, belonging, completed_by, completed}
 use Rattle.coll_script.specs.Scripts.{IsOwned, IsJob}
+use Rattle.coll_script.proofs.Sections.{length-requests, each_of}
 use Rattle.coll_script.proofs.Matches.{AreFitting-answered, AreMatched-all}
-
--- ---- the requests of a rank
-
-pub length-requests : (h : History) → length (requests h) ≡ unwrap_or h.ranks 0
-length-requests h = length-map-range_with_len (λ rank. history.requests_of h.groups rank h.told) 0 (unwrap_or h.ranks 0)
-
-pub requests_of-history : (h : History) (rank : ℕ) → rank < unwrap_or h.ranks 0 → requests_of (requests h) rank ≡ history.requests_of h.groups rank h.told
-requests_of-history h rank lt =
-    unwrap_or-slice_get (requests h) rank [] ∙ get_or-map-range_with_len (λ k. history.requests_of h.groups k h.told) 0 (unwrap_or h.ranks 0) rank rank [] lt (omega arith)
-
-pub requests_of-past : (h : History) (rank : ℕ) → unwrap_or h.ranks 0 ≤ rank → requests_of (requests h) rank ≡ []
-requests_of-past h rank le =
-    let len = length-requests h in
-    ap (λ (o : Option (List Request)). unwrap_or o []) (slice_get_past (requests h) rank (omega (arith, len, le)))
-
-pub each_of : (P : List Request → Type 0) (h : History) (rank : ℕ) → P (history.requests_of h.groups rank h.told) → P [] → P (requests_of (requests h) rank)
-each_of P h rank here none = elim (cases_lt rank (unwrap_or h.ranks 0)) [
-  | inl lt ↦ subst P (sym (requests_of-history h rank lt)) here
-  | inr le ↦ subst P (sym (requests_of-past h rank le)) none
-]
 
 owned_from : (groups : List (List ℕ)) (rank : ℕ) (requests : List Request) → AllByRecursion (IsRequest 1048577 groups rank) requests → AllByRecursion (IsOwned groups rank) requests
 owned_from groups rank [] all = tt
@@ -109,11 +87,6 @@ completed-known h made last known e = known_from h.ranks known e
     known_from (Some n) none e = e
 
 -- ---- what the code has read
-
--- the requests of a rank, among those of all ranks
-pub requests_of-view : (ranks : List (Vec rust.Request Global)) (rank : ℕ) (mine : Vec rust.Request Global) → rank < length ranks → mine ≡ get_or ranks rank mine → map request_view mine.items ≡ requests_of (requests_view ranks) rank
-requests_of-view ranks rank mine lt is =
-    ap (λ (o : Option (List Request)). unwrap_or o []) (sym (slice_get-view (λ (requests : Vec rust.Request Global). map request_view requests.items) ranks rank mine lt is))
 
 pub postings-view : (h : History) (ranks others : List (Vec rust.Request Global)) (groups : List (Vec ℕ Global)) → ranks ≡ others → requests_view others ≡ requests h → rows_view groups ≡ h.groups
     → postings_from (requests_view ranks) 0 (rows_view groups) ≡ all_postings (job_of h)

@@ -18,7 +18,7 @@ use Rattle.coll_script.specs.Belonging.{StandsAt, Differs}
 use Rattle.coll_script.proofs.Posted.{filter-map}
 use Rattle.coll_script.proofs.Matches.{least-none}
 use Rattle.coll_script.proofs.Differing.{Among, among-all, one-differs, first-differs}
-use Rattle.coll_script.proofs.Ending.{requests_of-history, requests_of-past, each_of}
+use Rattle.coll_script.proofs.Sections.{requests_of-rank, requests_of-past, each_of}
 use Rattle.coll_script.proofs.Printed.{postings_from-get}
 
 slice_get-front : {X : Type 0} (xs ys : List X) (k : ℕ) (x : X) → slice_get xs k ≡ Some x → slice_get (xs ++ ys) k ≡ Some x
@@ -58,8 +58,8 @@ rank-adds h last grows settled rank =
     let count : unwrap_or last.ranks 0 ≡ unwrap_or h.ranks 0 = ap (λ (o : Option ℕ). unwrap_or o 0) settled.ranks in
     elim (cases_lt rank (unwrap_or h.ranks 0)) [
       | inl lt ↦ (let later : requests_of (requests last) rank ≡ history.requests_of h.groups rank (h.told ++ grows.more) =
-          requests_of-history last rank (omega (arith, lt, count)) ∙ ap (λ (g : List (List ℕ)). history.requests_of g rank last.told) settled.groups ∙ ap (history.requests_of h.groups rank) grows.told in
-          subst (λ (old : List Request). AddsTo old (requests_of (requests last) rank)) (sym (requests_of-history h rank lt))
+          requests_of-rank last rank (omega (arith, lt, count)) ∙ ap (λ (g : List (List ℕ)). history.requests_of g rank last.told) settled.groups ∙ ap (history.requests_of h.groups rank) grows.told in
+          subst (λ (old : List Request). AddsTo old (requests_of (requests last) rank)) (sym (requests_of-rank h rank lt))
           (subst (AddsTo (history.requests_of h.groups rank h.told)) (sym later) (requests-add h.groups rank h.told grows.more)))
       | inr le ↦ subst (λ (old : List Request). AddsTo old (requests_of (requests last) rank)) (sym (requests_of-past h rank le))
           (subst (AddsTo []) (sym (requests_of-past last rank (omega (arith, le, count)))) (record { more = []; parts = refl }))

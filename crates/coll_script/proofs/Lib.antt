@@ -1,6 +1,8 @@
 pub mod Reading
 mod Slots
-mod Loops
+pub mod Loops
+pub mod Counting
+pub mod Sections
 mod Posted
 mod Matched
 mod Matches
@@ -10,5 +12,6 @@ mod Lacking
 mod Ending
 mod Valued
 mod Printing
+mod Finding
 mod Printed
 mod Final

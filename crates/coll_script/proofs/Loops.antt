@@ -1,13 +1,26 @@
 -- What loops over a list keep, element by element.
-use Rattle.std.proofs.Common.{◌≡◌, ℕ, zero, suc, ◌+◌, ◌-◌, ◌<◌, Bool, true, false, ◌&&◌, List, [], ◌∷◌, ◌++◌, map, take, drop, length, get_or, refl, ap, sym, ◌∙◌, append_assoc, add-one, arith}
+use Rattle.std.proofs.Common.{◌≡◌, ℕ, zero, suc, ◌+◌, ◌-◌, ◌<◌, ◌≤◌, Bool, true, false, ◌&&◌, List, [], ◌∷◌, ◌++◌, map, take, drop, length, get_or, refl, ap, sym, ◌∙◌, append_assoc, add-one, arith}
 use Rattle.std.specs.Prelude.{flat_map}
 use Rattle.std.specs.List.{list_all, range_with_len, enumerate_from}
 use Rattle.std.proofs.Math.Seq.{drop-cons}
+use Rattle.std.proofs.lemmas.List.{append-nil, length-map, get_or-map}
 use Rattle.std.proofs.lemmas.List.Concat.{flat_map-cons}
 use Rattle.coll_history.proofs.Lists.{drop-more}
 
 pub drop-at : {X : Type 0} (xs : List X) (k : ℕ) (d : X) → k < length xs → drop k xs ≡ get_or xs k d ∷ drop (k + 1) xs
 drop-at xs k d lt = rw (add-one, drop-cons xs k d lt) refl
+
+-- ---- views of lists
+
+pub drop-view : {X Y : Type 0} (v : X → Y) (xs : List X) (k : ℕ) (x : X) → k < length xs → x ≡ get_or xs k x
+    → drop k (map v xs) ≡ v x ∷ drop (k + 1) (map v xs)
+drop-view v xs k x lt is =
+    let within : k < length (map v xs) = rw length-map lt in
+    drop-more (map v xs) k (v x) within (ap v is ∙ sym (get_or-map v xs k x (v x) lt))
+
+pub at-view : {X Y : Type 0} (v : X → Y) (xs : List X) (k : ℕ) (x : X) → k < length xs → x ≡ get_or xs k x
+    → (k < length (map v xs)) × (v x ≡ get_or (map v xs) k (v x))
+at-view v xs k x lt is = (rw length-map lt, ap v is ∙ sym (get_or-map v xs k x (v x) lt))
 
 -- ---- a list that grows by what f makes of the next element
 
@@ -33,6 +46,24 @@ list_all-more {X} p xs k x total lt is passes so_far =
 pub list_all-stops : {X : Type 0} (p : X → Bool) (xs : List X) (k : ℕ) (x : X) (total : Bool) → k < length xs → x ≡ get_or xs k x → p x ≡ false → list_all p (drop k xs) ≡ total → false ≡ total
 list_all-stops {X} p xs k x total lt is fails so_far =
     sym (ap (λ (b : Bool). b && list_all p (drop (k + 1) xs)) fails) ∙ ap (list_all p) (sym (drop-more xs k x lt is)) ∙ so_far
+
+-- ---- text that grows by what f makes of the next number
+
+pub flat_map_range-more : (f : ℕ → List ℕ) (n i : ℕ) (out total : List ℕ) → i < n
+    → out ++ flat_map f (range_with_len i (n - i)) ≡ total
+    → (out ++ f i) ++ flat_map f (range_with_len (i + 1) (n - (i + 1))) ≡ total
+flat_map_range-more f n i out total lt so_far =
+    let left : n - i ≡ suc (n - (i + 1)) = omega arith in
+    let others = flat_map f (range_with_len (i + 1) (n - (i + 1))) in
+    let here : flat_map f (range_with_len i (n - i)) ≡ f i ++ others =
+    ap (λ m. flat_map f (range_with_len i m)) left ∙ flat_map-cons f i (range_with_len (i + 1) (n - (i + 1))) in
+    append_assoc out (f i) others ∙ ap (λ (xs : List ℕ). out ++ xs) (sym here) ∙ so_far
+
+pub flat_map_range-done : (f : ℕ → List ℕ) (n i : ℕ) (out total : List ℕ) → n ≤ i
+    → out ++ flat_map f (range_with_len i (n - i)) ≡ total → out ≡ total
+flat_map_range-done f n i out total le so_far =
+    let none : n - i ≡ 0 = omega (arith, le) in
+    sym (append-nil out) ∙ ap (λ m. out ++ flat_map f (range_with_len i m)) (sym none) ∙ so_far
 
 -- ---- text that grows by what is printed of the next element
 

@@ -6,10 +6,10 @@ use Rattle.std.specs.Option.{option_map}
 use Rattle.std.proofs.lemmas.Bool.Decides.{nat_tests}
 use Rattle.coll_history.specs.declared.request.Request as rust
 use Rattle.coll_history.specs.Code.{request_view}
-use Rattle.coll_history.proofs.Lists.{drop-more, slice_get-view, slice_get-push_other}
+use Rattle.coll_history.proofs.Lists.{slice_get-view, slice_get-push_other}
 use Rattle.coll_script.specs.PostingViews.{list_view, lists_view}
 use Rattle.std.proofs.lemmas.Bool.{cases_eq, cases_lt}
-use Rattle.std.proofs.lemmas.List.{get_or-map, length-map, length-set, length-append, length-drop, drop_all}
+use Rattle.std.proofs.lemmas.List.{length-map, length-set, length-append, length-drop, drop_all}
 use Rattle.std.proofs.lemmas.List.Concat.{flat_map-cons}
 use Rattle.std.proofs.lemmas.Option.{slice_get_past}
 use Rattle.coll_history.specs.Requests.{Request}
@@ -17,16 +17,6 @@ use Rattle.coll_script.specs.declared.first.First.{First}
 use Rattle.coll_script.specs.Matching.{first_of, first_at, earlier, earliest, agrees, differing_from, lower, least, started_alike, first_list}
 use Rattle.coll_script.specs.Keeping.{IsKept}
 use Rattle.coll_script.proofs.Slots.{slice_get-set_same, slice_get-set_other, slice_get-push_same}
-
--- ---- views of lists
-
-pub drop-view : {X Y : Type 0} (v : X → Y) (xs : List X) (k : ℕ) (x : X) → k < length xs → x ≡ get_or xs k x → drop k (map v xs) ≡ v x ∷ drop (k + 1) (map v xs)
-drop-view v xs k x lt is =
-    let within : k < length (map v xs) = rw length-map lt in
-    drop-more (map v xs) k (v x) within (ap v is ∙ sym (get_or-map v xs k x (v x) lt))
-
-pub at-view : {X Y : Type 0} (v : X → Y) (xs : List X) (k : ℕ) (x : X) → k < length xs → x ≡ get_or xs k x → (k < length (map v xs)) × (v x ≡ get_or (map v xs) k (v x))
-at-view v xs k x lt is = (rw length-map lt, ap v is ∙ sym (get_or-map v xs k x (v x) lt))
 
 -- ---- lines that differ
 

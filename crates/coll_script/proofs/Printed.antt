@@ -1,13 +1,12 @@
 -- What is printed from the values of a job is its lines.
-use Rattle.std.proofs.Common.{◌≡◌, ℕ, zero, suc, ◌+◌, ◌<◌, ◌≤◌, Bool, true, false, cond, not, eqb, List, [], ◌∷◌, ◌++◌, map, take, drop, set, length, get_or, Option, Some, refl, ap, subst, sym, ◌∙◌, append_assoc, arith, inl, inr}
+use Rattle.std.proofs.Common.{◌≡◌, ℕ, zero, suc, ◌+◌, ◌<◌, ◌≤◌, Bool, true, false, cond, not, eqb, List, [], ◌∷◌, ◌++◌, map, take, drop, length, get_or, Option, Some, refl, ap, subst, sym, ◌∙◌, append_assoc, arith}
 use Rattle.std.specs.Prelude.{slice_get, slice_index, unwrap_or, flat_map, IfSome}
 use Rattle.std.specs.List.{range_with_len, enumerate_from, position_or_len, AllByRecursion}
 use Rattle.std.specs.Option.{option_map}
-use Rattle.std.proofs.lemmas.Bool.{cases_eq, eqb-true, eq-eqb, ne_eqb}
-use Rattle.std.proofs.lemmas.List.{length-map, length-append, length-take, get_or-set_same, get_or-set_other, take_at}
+use Rattle.std.proofs.lemmas.Bool.{eqb-true, eq-eqb}
+use Rattle.std.proofs.lemmas.List.{length-map, length-take, take_at}
 use Rattle.std.proofs.lemmas.List.Concat.{flat_map-cons}
 use Rattle.std.proofs.lemmas.List.Sums.{prefix_len_stops}
-use Rattle.std.proofs.lemmas.List.Elements.{filter-append}
 use Rattle.std.proofs.lemmas.List.FromFn.{get_or-map-range_with_len, length-map-range_with_len}
 use Rattle.std.proofs.lemmas.Option.{slice_get-map, slice_get-get_or, unwrap_or-slice_get, slice_get_within, same_Some}
 use Rattle.coll_kinds.specs.declared.signature.Signature.{Signature}
@@ -187,38 +186,6 @@ printed-more values rank number requests p out total lt front so_far =
     ∙ ap (λ (before : List Request). out ++ (here ++ printed_behind values rank before (drop (number + 1) requests))) (take-next requests number p front)
     ∙ ap (λ n. out ++ (printed_request rank n p (values_at values p.comm (length (posted_on p.comm (take number requests)))) ++ printed_behind values rank (take number requests ++ p ∷ []) (drop (number + 1) requests))) (sym len)
     ∙ ap (λ (rest : List Request). out ++ printed_behind values rank (take number requests) rest) (sym front) ∙ so_far
-
--- ---- the places counted so far
-
-posted-push : (comm : ℕ) (xs : List Request) (p : Request) → length (posted_on comm (xs ++ p ∷ [])) ≡ length (posted_on comm xs) + cond (eqb p.comm comm) 1 0
-posted-push comm xs p = ap length (filter-append (is_on comm) xs (p ∷ [])) ∙ length-append (posted_on comm xs) (posted_on comm (p ∷ [])) ∙ ap (λ n. length (posted_on comm xs) + n) (one (eqb p.comm comm))
-  where
-    one : (b : Bool) → length (cond b (p ∷ []) []) ≡ cond b 1 0
-    one true = refl
-    one false = refl
-
-pub counted-more : (places : List ℕ) (number : ℕ) (requests : List Request) (p : Request) → length places ≡ 16 → p.comm < 16 → drop number requests ≡ p ∷ drop (number + 1) requests
-    → ((comm : ℕ) → comm < 16 → slice_index places comm ≡ length (posted_on comm (take number requests)))
-    → (comm : ℕ) → comm < 16 → slice_index (set places p.comm (slice_index places p.comm + 1)) comm ≡ length (posted_on comm (take (number + 1) requests))
-counted-more places number requests p len known front counted comm lt =
-    let next : length (posted_on comm (take (number + 1) requests)) ≡ length (posted_on comm (take number requests)) + cond (eqb p.comm comm) 1 0 =
-    ap (λ (l : List Request). length (posted_on comm l)) (take-next requests number p front) ∙ posted-push comm (take number requests) p in
-    elim (cases_eq p.comm comm) [
-      | inl e ↦ (let had = counted comm lt in
-          let within : p.comm < length places = omega (arith, known, len) in
-          ap (slice_index (set places p.comm (slice_index places p.comm + 1))) (sym e) ∙ get_or-set_same places p.comm (slice_index places p.comm + 1) 0 within ∙ ap (λ c. slice_index places c + 1) e ∙ ap (λ m. m + 1) had
-          ∙ sym (next ∙ ap (λ (b : Bool). length (posted_on comm (take number requests)) + cond b 1 0) (eq-eqb p.comm comm e)))
-      | inr ne ↦ get_or-set_other places p.comm comm (slice_index places p.comm + 1) 0 (λ e. ne (sym e)) ∙ counted comm lt
-          ∙ sym (next ∙ ap (λ (b : Bool). length (posted_on comm (take number requests)) + cond b 1 0) (ne_eqb p.comm comm ne) ∙ (let nothing : length (posted_on comm (take number requests)) + 0 ≡ length (posted_on comm (take number requests)) = omega arith in nothing))
-    ]
-
-pub length-posted_on : (comm : ℕ) (xs : List Request) → length (posted_on comm xs) ≤ length xs
-length-posted_on comm [] = omega arith
-length-posted_on comm (x ∷ xs) = turn (is_on comm x) (length-posted_on comm xs)
-  where
-    turn : (b : Bool) → length (posted_on comm xs) ≤ length xs → length (cond b (x ∷ posted_on comm xs) (posted_on comm xs)) ≤ length (x ∷ xs)
-    turn true le = omega (arith, le)
-    turn false le = omega (arith, le)
 
 -- ---- the values of a job, one list for each communicator
 

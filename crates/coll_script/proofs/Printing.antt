@@ -1,7 +1,6 @@
 -- Output as far as it is printed, and what is still to come.
 use Rattle.std.proofs.Common.{◌≡◌, ℕ, suc, ◌+◌, ◌-◌, ◌*◌, ◌/◌, ◌<◌, ◌≤◌, List, [], ◌∷◌, ◌++◌, length, drop, ap, sym, ◌∙◌, append_assoc, arith}
 use Rattle.std.specs.Prelude.{flat_map, Result, Ok, Err, OnErr}
-use Rattle.std.specs.List.{range_with_len}
 use Rattle.std.proofs.lemmas.List.{append-nil, length-drop}
 use Rattle.std.proofs.lemmas.List.Concat.{flat_map-cons}
 use Rattle.std.proofs.Math.Nat.{mul-le-mul_right}
@@ -42,21 +41,6 @@ elements-more ty end i rest out total lt so_far =
     ap (λ n. flat_map element_text (elements ty n rest)) left ∙ flat_map-cons element_text (element_at ty rest) (elements ty (end - (i + 1)) (drop (width ty) rest)) in
     ap (λ (xs : List ℕ). xs ++ others) (append_assoc out (32 ∷ []) (signed_decimal (element_at ty rest)))
     ∙ append_assoc out (element_text (element_at ty rest)) others ∙ ap (λ (xs : List ℕ). out ++ xs) (sym here) ∙ so_far
-
--- ---- the lines of all ranks
-
-pub ranks-more : (f : ℕ → List ℕ) (n i : ℕ) (out total : List ℕ) → i < n → out ++ flat_map f (range_with_len i (n - i)) ≡ total → (out ++ f i) ++ flat_map f (range_with_len (i + 1) (n - (i + 1))) ≡ total
-ranks-more f n i out total lt so_far =
-    let left : n - i ≡ suc (n - (i + 1)) = omega arith in
-    let others = flat_map f (range_with_len (i + 1) (n - (i + 1))) in
-    let here : flat_map f (range_with_len i (n - i)) ≡ f i ++ others =
-    ap (λ m. flat_map f (range_with_len i m)) left ∙ flat_map-cons f i (range_with_len (i + 1) (n - (i + 1))) in
-    append_assoc out (f i) others ∙ ap (λ (xs : List ℕ). out ++ xs) (sym here) ∙ so_far
-
-pub ranks-done : (f : ℕ → List ℕ) (n i : ℕ) (out total : List ℕ) → n ≤ i → out ++ flat_map f (range_with_len i (n - i)) ≡ total → out ≡ total
-ranks-done f n i out total le so_far =
-    let none : n - i ≡ 0 = omega (arith, le) in
-    sym (append-nil out) ∙ ap (λ m. out ++ flat_map f (range_with_len i m)) (sym none) ∙ so_far
 
 -- ---- exits
 

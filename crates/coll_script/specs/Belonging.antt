@@ -34,6 +34,7 @@ pub record IsFirstToDiffer (all : List (List (List Request))) (line : ℕ) : Typ
   pub differs : Differs all p
   pub first : (q : Request) → Differs all q → line ≤ q.line
 
+-- at each communicator and place all signatures and modes are the same
 abbrev pub NoneDiffers : List (List (List Request)) → Type 0
 NoneDiffers all = (p : Request) → Differs all p → ⊥
 
@@ -71,8 +72,15 @@ pub record LacksStart (all : List (List (List Request))) : Type 0 where
 -- what a fault that is judged after so many lines says
 abbrev pub SaysOf : List (List (List Request)) → ℕ → ℕ → Cause → Type 0
 SaysOf all last line PlaceMismatch = IsFirstToDiffer all line
-SaysOf all last line PlaceMissing = (line ≡ last) × NoneDiffers all × LacksPlace all
-SaysOf all last line StartMissing = (line ≡ last) × NoneDiffers all × (LacksPlace all → ⊥) × LacksStart all
+SaysOf all last line PlaceMissing =
+    (line ≡ last)
+    × NoneDiffers all
+    × LacksPlace all
+SaysOf all last line StartMissing =
+    (line ≡ last)
+    × NoneDiffers all
+    × (LacksPlace all → ⊥)
+    × LacksStart all
 SaysOf all last line cause = ⊥
 
 -- the requests of all ranks belong together

@@ -1,5 +1,6 @@
 -- Requests at one place of a communicator belong together, so they must have the same signature and mode.
-use Rattle.std.specs.Prelude.{ℕ, ◌+◌, ◌==◌, nat_lt, Bool, true, false, ◌&&◌, List, [], ◌∷◌, length, flat_map, Option, Some, None, slice_get, unwrap_or, if◌then◌else◌}
+use Rattle.std.specs.Prelude.{ℕ, ◌+◌, ◌==◌, nat_lt, Bool, true, false, ◌&&◌, if◌then◌else◌}
+use Rattle.std.specs.Prelude.{List, [], ◌∷◌, length, flat_map, slice_get, Option, Some, None, unwrap_or}
 use Rattle.std.specs.List.{list_all}
 use Rattle.std.specs.Option.{option_map}
 use Rattle.coll_kinds.specs.declared.signature.Signature.{Signature}
@@ -11,6 +12,7 @@ use Rattle.coll_script.specs.declared.first.First.{First}
 abbrev pub first_of : Request → First
 first_of p = record { line = p.line; sig = p.sig }
 
+-- the request at a place of a posting list
 abbrev pub first_at : List Request → ℕ → Option First
 first_at list place = option_map first_of (slice_get list place)
 
@@ -41,11 +43,12 @@ differing_from firsts place (p ∷ list) =
 abbrev pub differing : List (List Request) → List ℕ
 differing lists = flat_map (differing_from (λ place. earliest None place lists) 0) lists
 
--- the least of a number, if there is one, and of others
+-- the least of a number, if there is one, and of another
 abbrev pub lower : Option ℕ → ℕ → Option ℕ
 lower None line = Some line
 lower (Some least) line = Some (if nat_lt line least then line else least)
 
+-- the least of a number, if there is one, and of all these
 abbrev pub least : Option ℕ → List ℕ → Option ℕ
 least first [] = first
 least first (line ∷ lines) = least (lower first line) lines
@@ -54,6 +57,7 @@ least first (line ∷ lines) = least (lower first line) lines
 abbrev pub mismatch : List (List (List Request)) → Option ℕ
 mismatch all = least None (flat_map differing all)
 
+-- the posting list of the first member
 abbrev pub first_list : List (List Request) → List Request
 first_list lists = unwrap_or (slice_get lists 0) []
 
@@ -67,5 +71,6 @@ started_alike [] list = true
 started_alike (p ∷ first) [] = true
 started_alike (p ∷ first) (q ∷ list) = length q.starts == length p.starts && started_alike first list
 
+-- each member has started its requests as often as the first member
 abbrev pub have_starts : List (List Request) → Bool
 have_starts lists = list_all (started_alike (first_list lists)) lists

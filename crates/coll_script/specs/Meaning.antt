@@ -1,5 +1,6 @@
 -- The meaning of a job text: its output lines, or its fault.
-use Rattle.std.specs.Prelude.{ℕ, ℤ, ◌/◌, List, [], ◌∷◌, ◌++◌, length, map, flat_map, codes, slice_get, unwrap_or, Option, Some, None, Result, Ok}
+use Rattle.std.specs.Prelude.{ℕ, ℤ, ◌/◌, Option, Some, None, unwrap_or, Result, Ok}
+use Rattle.std.specs.Prelude.{List, [], ◌∷◌, ◌++◌, length, map, flat_map, slice_get, codes}
 use Rattle.std.specs.List.{range_with_len}
 use Rattle.std.specs.Fmt.{decimal, signed_decimal}
 use Rattle.coll_kinds.specs.declared.datatype.Datatype.{Datatype}
@@ -23,7 +24,8 @@ elements_text ty row = flat_map element_text (elements ty (length row / width ty
 -- what stands before the elements
 abbrev pub outcome_head : ℕ → ℕ → ℕ → List ℕ
 outcome_head rank req start =
-    codes "rank " ++ (decimal rank ++ (codes " req " ++ (decimal req ++ (codes " start " ++ (decimal start ++ codes " :")))))
+    codes "rank "
+    ++ (decimal rank ++ (codes " req " ++ (decimal req ++ (codes " start " ++ (decimal start ++ codes " :")))))
 
 -- the line of an outcome
 abbrev pub outcome_line : ℕ → ℕ → ℕ → Datatype → List ℕ → List ℕ
@@ -45,7 +47,8 @@ start_line rank number lists place p start =
 
 -- the lines of its starts
 abbrev pub request_lines : ℕ → ℕ → List (List Request) → ℕ → Request → List ℕ
-request_lines rank number lists place p = flat_map (start_line rank number lists place p) (range_with_len 0 (length p.starts))
+request_lines rank number lists place p =
+    flat_map (start_line rank number lists place p) (range_with_len 0 (length p.starts))
 
 -- the posting lists of a communicator
 abbrev pub lists_of : Job → ℕ → List (List Request)

@@ -5,11 +5,14 @@ use Rattle.coll_history.specs.declared.request.Request as rust
 use Rattle.coll_history.specs.Requests.{Request}
 use Rattle.coll_history.specs.Code.{request_view}
 
+-- a member's posting list
 abbrev pub list_view : List rust.Request → List Request
 list_view list = map request_view list
 
+-- those of a communicator
 abbrev pub lists_view : List (Vec rust.Request Global) → List (List Request)
 lists_view lists = map (λ list. list_view list.items) lists
 
+-- those of all communicators
 abbrev pub all_lists_view : List (Vec (Vec rust.Request Global) Global) → List (List (List Request))
 all_lists_view all = map (λ lists. lists_view lists.items) all

@@ -1,10 +1,13 @@
--- The posting lists of a communicator: for each member, in member order, its requests there, in the order of their places.
+-- The posting lists of a communicator: for each member, in member order, its requests there, in the order of their
+-- places.
 use Rattle.std.specs.Prelude.{ℕ, ◌+◌, ◌==◌, Bool, List, [], ◌∷◌, map, filter, slice_get, unwrap_or}
 use Rattle.coll_history.specs.Requests.{Request}
 
+-- the request was posted or initialised on the communicator
 abbrev pub is_on : ℕ → Request → Bool
 is_on comm p = p.comm == comm
 
+-- those of a rank's requests that were
 abbrev pub posted_on : ℕ → List Request → List Request
 posted_on comm requests = filter (is_on comm) requests
 
@@ -12,7 +15,7 @@ posted_on comm requests = filter (is_on comm) requests
 abbrev pub requests_of : List (List Request) → ℕ → List Request
 requests_of requests rank = unwrap_or (slice_get requests rank) []
 
--- the communicator has these ranks as members
+-- the posting lists of a communicator that has these ranks as members
 abbrev pub postings : List (List Request) → ℕ → List ℕ → List (List Request)
 postings requests comm group = map (λ rank. posted_on comm (requests_of requests rank)) group
 

@@ -32,4 +32,6 @@ pub record HasValues (values : List (List (List (List (List ℕ))))) (p : Reques
 -- the requests of a rank have values at their places
 abbrev pub HaveValues : List (List (List (List (List ℕ)))) → List Request → Type 0
 HaveValues values requests =
-    (number : ℕ) (p : Request) → slice_get requests number ≡ Some p → HasValues values p (length (posted_on p.comm (take number requests)))
+    (number : ℕ) (p : Request)
+    → slice_get requests number ≡ Some p
+    → HasValues values p (length (posted_on p.comm (take number requests)))

@@ -1,4 +1,4 @@
--- What holds of a job that was read.
+-- What holds of every job that was read.
 use Rattle.std.specs.Prelude.{◌≡◌, ℕ, ◌<◌, ◌≤◌, List, length, Some, slice_get, IfSome}
 use Rattle.std.specs.List.{AllByRecursion}
 use Rattle.coll_history.specs.Requests.{Request}
@@ -13,6 +13,7 @@ pub record IsOwned (groups : List (List ℕ)) (rank : ℕ) (p : Request) : Type 
   pub member : IfSome (slice_get groups p.comm) (λ group. member_of rank group ≡ Some p.member)
   pub few : length p.starts ≤ 4294967295
 
+-- what holds of every job that was read
 pub record IsJob (job : Job) : Type 0 where
   pub few_groups : length job.groups ≤ 16
   pub few_ranks : length job.requests ≤ 64

@@ -14,8 +14,9 @@ use Rattle.coll_machine.specs.Entries.{Entry}
 use Rattle.coll_attest.specs.Index.{IsFew, handed_in}
 use Rattle.coll_attest.specs.Lines.{Handed, told, told_lines, told_rank, told_behind}
 use Rattle.coll_attest.specs.Missing.{Lacks}
-use Rattle.coll_attest.proofs.Asking.{each_few, few_requests, length-requests, length-view, section-view}
-use Rattle.coll_attest.proofs.Printed.{range-done, range-more}
+use Rattle.coll_script.proofs.Loops.{flat_map_range-done, flat_map_range-more}
+use Rattle.coll_script.proofs.Sections.{length-requests}
+use Rattle.coll_attest.proofs.Asking.{each_few, few_requests, length-view, section-view}
 use Rattle.coll_attest.proofs.attested.told_by.Goals as goal
 
 pub overflow_cast-rank : goal.overflow_cast-rank
@@ -77,7 +78,7 @@ loop-rank-preserved c =
     let printed : c.print_rank.new.out.items ≡ c.loop-rank.out.items ++ told_rank handed (job_of h) c.loop-rank.rank =
     c.in_ok-print_rank.ensures.ok
     ∙ ap (λ (rs : List Request). c.loop-rank.out.items ++ told_behind handed c.loop-rank.rank [] rs) section in
-    rw printed (range-more (told_rank handed (job_of h))
+    rw printed (flat_map_range-more (told_rank handed (job_of h))
     (length (requests h)) c.loop-rank.rank c.loop-rank.out.items _ lt c.loop-rank.invariant)
 
 pub returns-clause-told : goal.returns-clause-told
@@ -92,7 +93,7 @@ returns-clause-told c =
     let same : ◌≡◌ {A = Handed} handed (told c.args.report.now.entries) =
     (λ z rank comm place start. c.in_ok-index.ensures rank comm place start z)
     ∙ ap (λ (es : List Entry). told es) c.entries.ensures in
-    range-done (told_rank handed (job_of h))
+    flat_map_range-done (told_rank handed (job_of h))
     (length (requests h)) c.loop-rank.rank c.loop-rank.out.items _ past c.loop-rank.invariant
     ∙ ap (λ (handed : Handed). told_lines handed (job_of h)) same
 

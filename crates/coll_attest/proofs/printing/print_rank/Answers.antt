@@ -6,7 +6,9 @@ use Rattle.coll_history.specs.Code.{request_view}
 use Rattle.coll_script.specs.Postings.{posted_on}
 use Rattle.coll_attest.specs.Index.{IsFew, handed_in}
 use Rattle.coll_attest.specs.Lines.{told_request}
-use Rattle.coll_attest.proofs.Printed.{behind-more, counted-more, drop-view, few-at, lacks-at, length-posted_on}
+use Rattle.coll_script.proofs.Counting.{counted-more, length-posted_on}
+use Rattle.coll_script.proofs.Loops.{drop-view}
+use Rattle.coll_attest.proofs.Printed.{behind-more, few-at, lacks-at}
 use Rattle.coll_attest.proofs.printing.print_rank.Goals as goal
 
 pub bounds-places-comm : goal.bounds-places-comm

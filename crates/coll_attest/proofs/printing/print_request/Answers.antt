@@ -6,7 +6,7 @@ use Rattle.coll_history.specs.Code.{request_view}
 use Rattle.coll_script.specs.Meaning.{outcome_line}
 use Rattle.coll_attest.specs.Index.{handed_in}
 use Rattle.coll_attest.specs.Lines.{told_start}
-use Rattle.coll_attest.proofs.Printed.{range-more}
+use Rattle.coll_script.proofs.Loops.{flat_map_range-more}
 use Rattle.coll_attest.proofs.printing.print_request.Goals as goal
 
 pub loop-start-preserved : goal.loop-start-preserved
@@ -24,7 +24,7 @@ loop-start-preserved c =
     ∙ ap (λ k. out ++ outcome_line c.args.rank c.args.number i p.sig.ty
     (unwrap_or (handed c.args.rank k c.args.place i) [])) c.from-comm.ensures in
     rw printed
-    (range-more (told_start handed c.args.rank c.args.number c.args.place p)
+    (flat_map_range-more (told_start handed c.args.rank c.args.number c.args.place p)
     (length p.starts) i out _ lt c.loop-start.invariant)
 
 pub returns-in_err-print_start-clause-torn : goal.returns-in_err-print_start-clause-torn

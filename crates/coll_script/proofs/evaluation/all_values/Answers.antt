@@ -6,9 +6,8 @@ use Rattle.coll_history.proofs.Lists.{AllByRecursion-read}
 use Rattle.coll_script.specs.declared.values.Values.{Values}
 use Rattle.coll_script.specs.Outcomes.{AreMatched, group_values, group_view, values_view}
 use Rattle.coll_script.specs.PostingViews.{lists_view, all_lists_view}
-use Rattle.coll_script.proofs.Loops.{map-more}
+use Rattle.coll_script.proofs.Loops.{map-more, drop-view, at-view}
 use Rattle.coll_script.proofs.Posted.{map-push}
-use Rattle.coll_script.proofs.Matched.{drop-view, at-view}
 use Rattle.coll_script.proofs.Valued.{length-lists_view}
 use Rattle.coll_script.proofs.evaluation.all_values.Goals as goal
 

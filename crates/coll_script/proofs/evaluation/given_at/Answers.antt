@@ -7,9 +7,8 @@ use Rattle.coll_history.specs.Code.{rows_view, texts}
 use Rattle.coll_history.proofs.Lists.{slice_get-view}
 use Rattle.coll_script.specs.Meaning.{given_by}
 use Rattle.coll_script.specs.PostingViews.{list_view, lists_view}
-use Rattle.coll_script.proofs.Loops.{map-more}
+use Rattle.coll_script.proofs.Loops.{map-more, drop-view}
 use Rattle.coll_script.proofs.Posted.{map-push}
-use Rattle.coll_script.proofs.Matched.{drop-view}
 use Rattle.coll_script.proofs.Valued.{length-texts, have_start-at, place-within, request-at}
 use Rattle.coll_script.proofs.evaluation.given_at.Goals as goal
 

@@ -9,7 +9,8 @@ use Rattle.coll_script.specs.declared.values.Values.{Values}
 use Rattle.coll_script.specs.Outcomes.{place_view, group_view}
 use Rattle.coll_script.specs.PostingViews.{list_view, lists_view}
 use Rattle.coll_script.proofs.Posted.{map-push}
-use Rattle.coll_script.proofs.Matched.{drop-view, first_list-view}
+use Rattle.coll_script.proofs.Loops.{drop-view}
+use Rattle.coll_script.proofs.Matched.{first_list-view}
 use Rattle.coll_script.proofs.Valued.{values_from-more, not-empty}
 use Rattle.coll_script.proofs.evaluation.group_values.Goals as goal
 

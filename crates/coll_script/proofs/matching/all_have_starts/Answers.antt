@@ -3,8 +3,7 @@ use Rattle.std.specs.Global.{Global}
 use Rattle.coll_history.specs.declared.request.Request as rust
 use Rattle.coll_script.specs.Matching.{have_starts}
 use Rattle.coll_script.specs.PostingViews.{lists_view, all_lists_view}
-use Rattle.coll_script.proofs.Loops.{list_all-more, list_all-stops}
-use Rattle.coll_script.proofs.Matched.{at-view}
+use Rattle.coll_script.proofs.Loops.{list_all-more, list_all-stops, at-view}
 use Rattle.coll_script.proofs.matching.all_have_starts.Goals as goal
 
 pub returns-then-not-have_starts : goal.returns-then-not-have_starts

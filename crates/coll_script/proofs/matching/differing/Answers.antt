@@ -4,7 +4,8 @@ use Rattle.std.specs.Global.{Global}
 use Rattle.coll_history.specs.declared.request.Request as rust
 use Rattle.coll_script.specs.Matching.{differing_from, least}
 use Rattle.coll_script.specs.PostingViews.{list_view, lists_view}
-use Rattle.coll_script.proofs.Matched.{drop-view, least-more}
+use Rattle.coll_script.proofs.Loops.{drop-view}
+use Rattle.coll_script.proofs.Matched.{least-more}
 use Rattle.coll_script.proofs.matching.differing.Goals as goal
 
 pub loop-list-preserved : goal.loop-list-preserved

@@ -3,7 +3,8 @@ use Rattle.std.specs.Prelude.{slice_get}
 use Rattle.coll_history.specs.Code.{request_view}
 use Rattle.coll_script.specs.Matching.{lower}
 use Rattle.coll_script.specs.PostingViews.{list_view}
-use Rattle.coll_script.proofs.Matched.{drop-view, differing-more}
+use Rattle.coll_script.proofs.Loops.{drop-view}
+use Rattle.coll_script.proofs.Matched.{differing-more}
 use Rattle.coll_script.proofs.matching.differing_in.Goals as goal
 
 pub loop-place-preserved : goal.loop-place-preserved

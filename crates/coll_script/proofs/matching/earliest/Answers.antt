@@ -4,7 +4,8 @@ use Rattle.std.specs.Global.{Global}
 use Rattle.coll_history.specs.declared.request.Request as rust
 use Rattle.coll_script.specs.Matching.{first_at, earlier}
 use Rattle.coll_script.specs.PostingViews.{list_view, lists_view}
-use Rattle.coll_script.proofs.Matched.{drop-view, earliest-more}
+use Rattle.coll_script.proofs.Loops.{drop-view}
+use Rattle.coll_script.proofs.Matched.{earliest-more}
 use Rattle.coll_script.proofs.matching.earliest.Goals as goal
 
 pub loop-list-preserved : goal.loop-list-preserved

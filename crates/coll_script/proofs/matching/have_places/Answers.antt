@@ -5,8 +5,8 @@ use Rattle.coll_history.specs.declared.request.Request as rust
 use Rattle.coll_history.specs.Requests.{Request}
 use Rattle.coll_script.specs.Matching.{first_list}
 use Rattle.coll_script.specs.PostingViews.{list_view, lists_view}
-use Rattle.coll_script.proofs.Loops.{list_all-more, list_all-stops}
-use Rattle.coll_script.proofs.Matched.{at-view, first_list-view, eqb-view, eqb-ne}
+use Rattle.coll_script.proofs.Loops.{list_all-more, list_all-stops, at-view}
+use Rattle.coll_script.proofs.Matched.{first_list-view, eqb-view, eqb-ne}
 use Rattle.coll_script.proofs.matching.have_places.Goals as goal
 
 pub returns-then-len : goal.returns-then-len

@@ -4,8 +4,8 @@ use Rattle.coll_history.specs.declared.request.Request as rust
 use Rattle.coll_history.specs.Requests.{Request}
 use Rattle.coll_script.specs.Matching.{first_list, started_alike}
 use Rattle.coll_script.specs.PostingViews.{list_view, lists_view}
-use Rattle.coll_script.proofs.Loops.{list_all-more, list_all-stops}
-use Rattle.coll_script.proofs.Matched.{at-view, first_list-view}
+use Rattle.coll_script.proofs.Loops.{list_all-more, list_all-stops, at-view}
+use Rattle.coll_script.proofs.Matched.{first_list-view}
 use Rattle.coll_script.proofs.matching.have_starts.Goals as goal
 
 pub returns-then-not-started_alike : goal.returns-then-not-started_alike

@@ -5,7 +5,8 @@ use Rattle.coll_history.specs.declared.request.Request as rust
 use Rattle.coll_script.specs.declared.first.First.{First}
 use Rattle.coll_script.specs.Matching.{earliest, differing_from, differing, least}
 use Rattle.coll_script.specs.PostingViews.{lists_view, all_lists_view}
-use Rattle.coll_script.proofs.Matched.{drop-view, least-more}
+use Rattle.coll_script.proofs.Loops.{drop-view}
+use Rattle.coll_script.proofs.Matched.{least-more}
 use Rattle.coll_script.proofs.matching.mismatch.Goals as goal
 
 pub loop-lists-preserved : goal.loop-lists-preserved

@@ -3,7 +3,8 @@ use Rattle.std.proofs.lemmas.Bool.{eq-eqb}
 use Rattle.coll_history.specs.Code.{request_view}
 use Rattle.coll_script.specs.Matching.{started_alike}
 use Rattle.coll_script.specs.PostingViews.{list_view}
-use Rattle.coll_script.proofs.Matched.{drop-view, length-list_view, started-more, started-done, eqb-ne, length-starts}
+use Rattle.coll_script.proofs.Loops.{drop-view}
+use Rattle.coll_script.proofs.Matched.{length-list_view, started-more, started-done, eqb-ne, length-starts}
 use Rattle.coll_script.proofs.matching.started_alike.Goals as goal
 
 pub returns-then-len : goal.returns-then-len

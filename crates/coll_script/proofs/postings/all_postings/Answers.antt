@@ -7,7 +7,7 @@ use Rattle.coll_history.proofs.Lists.{AllByRecursion-read}
 use Rattle.coll_script.specs.Postings.{postings}
 use Rattle.coll_script.specs.PostingViews.{lists_view, all_lists_view}
 use Rattle.coll_script.proofs.Posted.{map-push, postings_from-more}
-use Rattle.coll_script.proofs.Matched.{drop-view, at-view}
+use Rattle.coll_script.proofs.Loops.{drop-view, at-view}
 use Rattle.coll_script.proofs.postings.all_postings.Goals as goal
 
 pub postings-requires : goal.postings-requires

@@ -3,7 +3,7 @@ use Rattle.std.proofs.lemmas.Bool.{eq-eqb, ne_eqb}
 use Rattle.coll_history.specs.Code.{request_view}
 use Rattle.coll_script.specs.PostingViews.{list_view}
 use Rattle.coll_script.proofs.Posted.{map-push, posted-kept, posted-left}
-use Rattle.coll_script.proofs.Matched.{drop-view}
+use Rattle.coll_script.proofs.Loops.{drop-view}
 use Rattle.coll_script.proofs.postings.posted_on.Goals as goal
 use Rattle.coll_script.proofs.postings.posted_on.Goals.{then-request-comm+in_ok-copied+in_ok-push, else-request-comm}
 

@@ -3,8 +3,7 @@ use Rattle.coll_ops.specs.Values.{row_of}
 use Rattle.coll_history.proofs.Lists.{AllByRecursion-read}
 use Rattle.coll_script.specs.Meaning.{outcome_line}
 use Rattle.coll_script.specs.Outcomes.{members_view, place_view}
-use Rattle.coll_script.proofs.Loops.{text-more}
-use Rattle.coll_script.proofs.Matched.{at-view, drop-view}
+use Rattle.coll_script.proofs.Loops.{text-more, at-view, drop-view}
 use Rattle.coll_script.proofs.rank_lines.print_request.Goals as goal
 
 pub of-value-requires : goal.of-value-requires

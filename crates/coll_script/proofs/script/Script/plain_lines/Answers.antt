@@ -12,8 +12,9 @@ use Rattle.coll_script.specs.Outcomes.{group_values, values_view}
 use Rattle.coll_script.specs.Prints.{printed_behind, HaveValues}
 use Rattle.coll_script.specs.Meaning.{rank_lines}
 use Rattle.coll_script.specs.Scripts.{IsJob}
-use Rattle.coll_script.proofs.Ending.{requests_of-view, postings-view}
-use Rattle.coll_script.proofs.Printing.{ranks-more, ranks-done}
+use Rattle.coll_script.proofs.Sections.{requests_of-view}
+use Rattle.coll_script.proofs.Ending.{postings-view}
+use Rattle.coll_script.proofs.Loops.{flat_map_range-more, flat_map_range-done}
 use Rattle.coll_script.proofs.Printed.{values_of, length-values_of, printed-rank_lines, HaveValues-rank}
 use Rattle.coll_script.proofs.script.Script.plain_lines.Goals as goal
 
@@ -90,7 +91,7 @@ loop-rank-preserved c =
     let printed : c.print_rank.new.out.items ≡ c.loop-rank.out.items ++ rank_lines job c.loop-rank.rank =
     c.in_ok-print_rank.ensures.ok ∙ ap (λ (v : List (List (List (List (List ℕ))))). c.loop-rank.out.items ++ printed_behind v c.loop-rank.rank [] (map request_view c.deref-in-loop-rank.result.now)) values
     ∙ ap (λ (requests : List Request). c.loop-rank.out.items ++ printed_behind (values_of job) c.loop-rank.rank [] requests) section ∙ ap (λ (text : List ℕ). c.loop-rank.out.items ++ text) (printed-rank_lines job is c.loop-rank.rank) in
-    rw printed (ranks-more (rank_lines job) (length job.requests) c.loop-rank.rank c.loop-rank.out.items _ (omega (arith, count, c.loop-rank-test.true)) c.loop-rank.invariant)
+    rw printed (flat_map_range-more (rank_lines job) (length job.requests) c.loop-rank.rank c.loop-rank.out.items _ (omega (arith, count, c.loop-rank-test.true)) c.loop-rank.invariant)
 
 pub returns-clause-ok : goal.returns-clause-ok
 returns-clause-ok c =
@@ -99,4 +100,4 @@ returns-clause-ok c =
     let count : length c.deref-requests-items.result.now ≡ length job.requests =
     sym (length-map c.deref-requests-items.result.now (λ requests. map request_view requests.items)) ∙ ap (λ (rs : List (Vec rust.Request Global)). length (requests_view rs)) c.deref-requests-items.ensures.value
     ∙ ap length c.in_ok-ranks.ensures.view ∙ ap (λ (g : History). length (requests g)) c.self.view_is in
-    ranks-done (rank_lines job) (length job.requests) c.loop-rank.rank c.loop-rank.out.items _ (omega (arith, count, c.loop-rank-test.false)) c.loop-rank.invariant
+    flat_map_range-done (rank_lines job) (length job.requests) c.loop-rank.rank c.loop-rank.out.items _ (omega (arith, count, c.loop-rank-test.false)) c.loop-rank.invariant
