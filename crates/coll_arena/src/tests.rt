@@ -1,212 +1,173 @@
-ghost use Rattle.std.specs.Prelude.{◌≡◌, ◌<◌, ◌≤◌, IfOk, OnOk, OnErr, Some, is_ok};
+//! Rows of calls with the answers that must come.
+
+mod driver;
+
+ghost use Rattle.std.specs.Prelude.{◌≡◌, OnErr, OnOk, is_ok};
 ghost use Rattle.std.specs.Option.{ForSome};
-ghost use Rattle.coll_kinds.specs.Limits.{max_lent};
 ghost use Rattle.coll_arena.specs.Changes.{rewritten};
-ghost use Rattle.coll_arena.specs.ListNames.{list_count, number_of};
 ghost use Rattle.coll_arena.specs.Slots.{names, record_in};
 
 use crate::arena::Arena;
 use crate::list_name::ListName;
 use coll_kinds::{Refusal, Ticket};
-use std::alloc::{AllocError, Global};
+use driver::{Answer, Call, Driver, END, Live, On};
+use std::alloc::Global;
 use std::test::Fail;
 
-/// The slots of a list, in its order.
-fn slots_of(alloc: Global, arena: &Arena<u32>, list: ListName) -> Result<Vec<u32>, AllocError>
-    requires { number_of list < list_count arena.now.comms }
-{
-    arena.list(list).map(|ticket| ticket.slot).collect(alloc)
+/// A call, with the answer that must come.
+type Row = (Call, Answer);
+
+/// The first call of a list that was answered otherwise, by its index, on a new arena of so many slots, each of which can
+/// be taken so often.
+fn first_misfit(
+    alloc: Global,
+    slots: u8,
+    wear: u8,
+    rows: &[Row],
+) -> Result<Option<(usize, Answer)>, Refusal> {
+    let mut driver = Driver::open(alloc, slots, wear)?;
+    for (index, (call, want)) in rows.iter().enumerate() {
+        let got = driver.answer(*call);
+        if got != *want {
+            return Ok(Some((index, got)));
+        }
+    }
+    Ok(None)
 }
 
-/// The same, from the last to the first.
-fn slots_back_of(alloc: Global, arena: &Arena<u32>, list: ListName) -> Result<Vec<u32>, AllocError>
-    requires { number_of list < list_count arena.now.comms }
-{
-    arena
-        .list_back(list)
-        .map(|ticket| ticket.slot)
-        .collect(alloc)
-}
+const ON_DONE: On = On::Live(Live::Done);
 
-/// A request with that record and weight on Done of communicator 0.
-fn done(arena: &mut Arena<u32>, record_is: u32, weight: u32) -> Result<Ticket, Refusal>
-    requires light { weight ≤ max_lent }
-    requires comm_in { 0 < arena.old.comms }
-    ensures { arena.new.comms ≡ arena.old.comms }
-{
-    arena
-        .take(record_is, weight, ListName::Done(0))
-        .map_err(|refused| refused.why)
-}
+// A slot that is worn out isn't given again, and its tickets name nothing.
+const WORN: &[Row] = &[
+    (Call::Take(7, 0, Live::Ready), Answer::Ticket(0, 1)),
+    (Call::Retire(0), Answer::Record(7)),
+    (Call::Get(0), Answer::Refused(Refusal::Stale)),
+    (Call::Take(8, 0, Live::Ready), Answer::Ticket(0, 2)),
+    (Call::Retire(0), Answer::Refused(Refusal::Stale)),
+    (Call::Retire(1), Answer::Record(8)),
+    (
+        Call::Take(9, 0, Live::Ready),
+        Answer::Back(Refusal::Full, 9),
+    ),
+    (Call::Slots(On::Worn), Answer::Slots([0, END, END, END])),
+    (Call::Retire(0), Answer::Refused(Refusal::Stale)),
+];
 
 #[test]
 fn worn_slot(rt: HostRuntime) -> Result<(), Fail> {
-    let alloc = rt.alloc();
-    let mut arena: Arena<u32> = Arena::open(alloc, 1, 1, 2)?;
-    let first = arena
-        .take(7, 0, ListName::Ready)
-        .map_err(|refused| refused.why)?;
-    assert_eq!(rt; (first.slot, first.generation), (0, 1));
-    assert_eq!(rt; arena.retire(first)?, 7);
-    assert_eq!(rt; arena.get(first).err(), Some(Refusal::Stale));
-
-    let second = arena
-        .take(8, 0, ListName::Ready)
-        .map_err(|refused| refused.why)?;
-    assert_eq!(rt; (second.slot, second.generation), (0, 2));
-    assert_eq!(rt; arena.retire(first).err(), Some(Refusal::Stale));
-    assert_eq!(rt; arena.retire(second)?, 8);
-
-    let third = arena
-        .take(9, 0, ListName::Ready)
-        .map_err(|refused| (refused.why, refused.back));
-    assert_eq!(rt; third, Err((Refusal::Full, 9)));
-    assert_eq!(rt;
-        slots_of(alloc, &arena, ListName::Worn)?.as_slice(),
-        [0].as_slice()
-    );
-    assert_eq!(rt; arena.retire(first).err(), Some(Refusal::Stale));
+    assert_eq!(rt; first_misfit(rt.alloc(), 1, 2, WORN)?, None);
     Ok(())
 }
+
+// The named request leaves, not the oldest.
+const NAMED: &[Row] = &[
+    (Call::Take(10, 1, Live::Done), Answer::Ticket(0, 1)),
+    (Call::Take(11, 1, Live::Done), Answer::Ticket(1, 1)),
+    (Call::Take(12, 1, Live::Done), Answer::Ticket(2, 1)),
+    (Call::Slots(ON_DONE), Answer::Slots([0, 1, 2, END])),
+    (Call::Retire(1), Answer::Record(11)),
+    (Call::Slots(ON_DONE), Answer::Slots([0, 2, END, END])),
+    (Call::Slots(On::Free), Answer::Slots([3, 1, END, END])),
+];
 
 #[test]
 fn retire_the_named(rt: HostRuntime) -> Result<(), Fail> {
-    let alloc = rt.alloc();
-    let mut arena: Arena<u32> = Arena::open(alloc, 4, 1, 2)?;
-    let tickets = [
-        done(&mut arena, 10, 1)?,
-        done(&mut arena, 11, 1)?,
-        done(&mut arena, 12, 1)?,
-    ];
-    assert_eq!(rt;
-        slots_of(alloc, &arena, ListName::Done(0))?.as_slice(),
-        [0, 1, 2].as_slice()
-    );
-    assert_eq!(rt; arena.retire(tickets[1])?, 11);
-    assert_eq!(rt;
-        slots_of(alloc, &arena, ListName::Done(0))?.as_slice(),
-        [0, 2].as_slice()
-    );
-    assert_eq!(rt;
-        slots_of(alloc, &arena, ListName::Free)?.as_slice(),
-        [3, 1].as_slice()
-    );
+    assert_eq!(rt; first_misfit(rt.alloc(), 4, 2, NAMED)?, None);
     Ok(())
 }
+
+const REST: &[Row] = &[
+    (Call::Take(10, 8, Live::Done), Answer::Ticket(0, 1)),
+    (Call::Take(11, 24, Live::Done), Answer::Ticket(1, 1)),
+    (Call::Take(12, 0, Live::Done), Answer::Ticket(2, 1)),
+    (Call::Lent, Answer::Lent(32)),
+    (Call::Retire(1), Answer::Record(11)),
+    (Call::Lent, Answer::Lent(8)),
+    (Call::Slots(ON_DONE), Answer::Slots([0, 2, END, END])),
+    (Call::Get(0), Answer::Record(10)),
+    (Call::Get(2), Answer::Record(12)),
+];
 
 #[test]
 fn retire_keeps_the_rest(rt: HostRuntime) -> Result<(), Fail> {
-    let alloc = rt.alloc();
-    let mut arena: Arena<u32> = Arena::open(alloc, 3, 1, 2)?;
-    let tickets = [
-        done(&mut arena, 10, 8)?,
-        done(&mut arena, 11, 24)?,
-        done(&mut arena, 12, 0)?,
-    ];
-    assert_eq!(rt; arena.lent(), 32);
-    assert_eq!(rt; arena.retire(tickets[1])?, 11);
-    assert_eq!(rt; arena.lent(), 8);
-    assert_eq!(rt;
-        slots_of(alloc, &arena, ListName::Done(0))?.as_slice(),
-        [0, 2].as_slice()
-    );
-    assert_eq!(rt;
-        [*arena.get(tickets[0])?, *arena.get(tickets[2])?],
-        [10, 12]
-    );
+    assert_eq!(rt; first_misfit(rt.alloc(), 3, 2, REST)?, None);
     Ok(())
 }
+
+const WEARS_OUT: &[Row] = &[
+    (Call::Take(10, 8, Live::Done), Answer::Ticket(0, 1)),
+    (Call::Take(11, 24, Live::Done), Answer::Ticket(1, 1)),
+    (Call::Take(12, 0, Live::Done), Answer::Ticket(2, 1)),
+    (Call::Retire(1), Answer::Record(11)),
+    (Call::Slots(On::Worn), Answer::Slots([1, END, END, END])),
+    (Call::Slots(On::Free), Answer::Slots([END, END, END, END])),
+];
 
 #[test]
 fn retire_wears_out(rt: HostRuntime) -> Result<(), Fail> {
-    let alloc = rt.alloc();
-    let mut arena: Arena<u32> = Arena::open(alloc, 3, 1, 1)?;
-    let tickets = [
-        done(&mut arena, 10, 8)?,
-        done(&mut arena, 11, 24)?,
-        done(&mut arena, 12, 0)?,
-    ];
-    assert_eq!(rt; arena.retire(tickets[1])?, 11);
-    assert_eq!(rt;
-        slots_of(alloc, &arena, ListName::Worn)?.as_slice(),
-        [1].as_slice()
-    );
-    assert_eq!(rt;
-        slots_of(alloc, &arena, ListName::Free)?.as_slice(),
-        [].as_slice()
-    );
+    assert_eq!(rt; first_misfit(rt.alloc(), 3, 1, WEARS_OUT)?, None);
     Ok(())
 }
+
+const CHANGES: &[Row] = &[
+    (Call::Take(10, 8, Live::Done), Answer::Ticket(0, 1)),
+    (Call::Take(11, 24, Live::Done), Answer::Ticket(1, 1)),
+    (Call::Take(12, 0, Live::Done), Answer::Ticket(2, 1)),
+    (Call::Set(2, 13), Answer::Accepted),
+    (Call::Get(2), Answer::Record(13)),
+    (Call::Reweigh(0, 0), Answer::Accepted),
+    (Call::Lent, Answer::Lent(24)),
+    (Call::Shift(0, Live::Done), Answer::Accepted),
+    (Call::Slots(ON_DONE), Answer::Slots([1, 2, 0, END])),
+    (Call::ShiftFront(2, Live::Done), Answer::Accepted),
+    (Call::Slots(ON_DONE), Answer::Slots([2, 1, 0, END])),
+    (Call::SlotsBack(ON_DONE), Answer::Slots([0, 1, 2, END])),
+];
 
 #[test]
 fn a_live_request_changes(rt: HostRuntime) -> Result<(), Fail> {
-    let alloc = rt.alloc();
-    let mut arena: Arena<u32> = Arena::open(alloc, 3, 1, 2)?;
-    let tickets = [
-        done(&mut arena, 10, 8)?,
-        done(&mut arena, 11, 24)?,
-        done(&mut arena, 12, 0)?,
-    ];
-    *arena.get_mut(tickets[2])? = 13;
-    assert_eq!(rt; *arena.get(tickets[2])?, 13);
-    arena.reweigh(tickets[0], 0)?;
-    assert_eq!(rt; arena.lent(), 24);
-    arena.shift(tickets[0], ListName::Done(0))?;
-    assert_eq!(rt;
-        slots_of(alloc, &arena, ListName::Done(0))?.as_slice(),
-        [1, 2, 0].as_slice()
-    );
-    arena.shift_front(tickets[2], ListName::Done(0))?;
-    assert_eq!(rt;
-        slots_of(alloc, &arena, ListName::Done(0))?.as_slice(),
-        [2, 1, 0].as_slice()
-    );
-    assert_eq!(rt;
-        slots_back_of(alloc, &arena, ListName::Done(0))?.as_slice(),
-        [0, 1, 2].as_slice()
-    );
+    assert_eq!(rt; first_misfit(rt.alloc(), 3, 2, CHANGES)?, None);
     Ok(())
 }
+
+const ASKED_FOR: &[Row] = &[
+    (Call::HasFree, Answer::Is(true)),
+    (Call::First(Live::Done), Answer::Nothing),
+    (Call::TicketAt(0), Answer::Nothing),
+    (Call::Take(10, 8, Live::Done), Answer::Ticket(0, 1)),
+    (Call::HasFree, Answer::Is(false)),
+    (Call::First(Live::Done), Answer::Ticket(0, 1)),
+    (Call::TicketAt(0), Answer::Ticket(0, 1)),
+    (Call::TicketAt(1), Answer::Nothing),
+    (Call::Len(ON_DONE), Answer::Count(1)),
+    (Call::Len(On::Free), Answer::Count(0)),
+    (Call::IsOn(0, Live::Done), Answer::Is(true)),
+    (Call::IsOn(0, Live::Queue), Answer::Is(false)),
+];
 
 #[test]
 fn a_request_is_asked_for(rt: HostRuntime) -> Result<(), Fail> {
-    let alloc = rt.alloc();
-    let mut arena: Arena<u32> = Arena::open(alloc, 1, 1, 1)?;
-    assert!(rt; arena.has_free());
-    assert_eq!(rt; arena.first(ListName::Done(0)), None);
-    assert_eq!(rt; arena.ticket_at(0), None);
-    let ticket = done(&mut arena, 10, 8)?;
-    assert!(rt; !arena.has_free());
-    assert_eq!(rt; arena.first(ListName::Done(0)), Some(ticket));
-    assert_eq!(rt;
-        (arena.ticket_at(0), arena.ticket_at(1)),
-        (Some(ticket), None)
-    );
-    assert_eq!(rt;
-        (arena.len(ListName::Done(0)), arena.len(ListName::Free)),
-        (1, 0)
-    );
-    assert!(rt; arena.is_on(ticket, ListName::Done(0)));
-    assert!(rt; !arena.is_on(ticket, ListName::Queue(0)));
+    assert_eq!(rt; first_misfit(rt.alloc(), 1, 1, ASKED_FOR)?, None);
     Ok(())
 }
 
+const REPLACED: &[Row] = &[
+    (Call::Take(10, 8, Live::Done), Answer::Ticket(0, 1)),
+    (Call::Take(11, 24, Live::Done), Answer::Ticket(1, 1)),
+    (Call::Replace(0, 20, Live::Ready), Answer::Record(10)),
+    (Call::Get(0), Answer::Record(20)),
+    (Call::IsOn(0, Live::Ready), Answer::Is(true)),
+    (Call::Lent, Answer::Lent(32)),
+    (Call::Retire(0), Answer::Record(20)),
+    (
+        Call::Replace(0, 21, Live::Ready),
+        Answer::Back(Refusal::Stale, 21),
+    ),
+];
+
 #[test]
 fn a_record_is_replaced(rt: HostRuntime) -> Result<(), Fail> {
-    let alloc = rt.alloc();
-    let mut arena: Arena<u32> = Arena::open(alloc, 3, 1, 1)?;
-    let tickets = [done(&mut arena, 10, 8)?, done(&mut arena, 11, 24)?];
-    let earlier = arena
-        .replace(tickets[0], 20, ListName::Ready)
-        .map_err(|refused| refused.why)?;
-    assert_eq!(rt; (earlier, *arena.get(tickets[0])?), (10, 20));
-    assert!(rt; arena.is_on(tickets[0], ListName::Ready));
-    assert_eq!(rt; arena.lent(), 32);
-    assert_eq!(rt; arena.retire(tickets[0])?, 20);
-    let late = arena
-        .replace(tickets[0], 21, ListName::Ready)
-        .map_err(|refused| (refused.why, refused.back));
-    assert_eq!(rt; late, Err((Refusal::Stale, 21)));
+    assert_eq!(rt; first_misfit(rt.alloc(), 3, 1, REPLACED)?, None);
     Ok(())
 }
 

@@ -40,6 +40,3 @@ pub use starting::start_all;
 pub use survey::Survey;
 pub use tested::Tested;
 pub use testing::{rest, test};
-
-#[cfg(test)]
-mod tests;

@@ -61,8 +61,3 @@ pub use planning::plan;
 pub use rsblock_builder::rsblock;
 pub use scan_builder::scan;
 pub use scatter_builder::scatter;
-
-#[cfg(test)]
-mod direct_tests;
-#[cfg(test)]
-mod tests;

@@ -69,10 +69,3 @@ fn bcast_by_length(alloc: Global, sig: Signature, n: u8, r: u8) -> Result<Schedu
         bcast(alloc, sig, n, r)
     }
 }
-
-#[cfg(test)]
-mod exchange_tests;
-#[cfg(test)]
-mod lock_step;
-#[cfg(test)]
-mod tests;

@@ -223,6 +223,3 @@ impl Action {
         }
     }
 }
-
-#[cfg(test)]
-mod tests;

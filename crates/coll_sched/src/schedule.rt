@@ -211,6 +211,3 @@ fn count_exchanges(rounds: &[Round]) -> usize
     }
     count
 }
-
-#[cfg(test)]
-mod tests;

@@ -1,10 +1,10 @@
 //! A random job on one engine, each outcome compared with the value computed directly.
 
+use crate::plain::value_of;
 use crate::random::Random;
 use crate::seat::{STARTS, Seat, Stage};
 use coll_core::{Config, Core, DoneWork, Offer, Outcome, Stepped, Work};
 use coll_kinds::{Datatype, Kind, Mode, Op, Refusal, Signature, Ticket};
-use coll_ops::plain_value;
 use coll_plans::{Plan, plan};
 use std::alloc::Global;
 
@@ -131,29 +131,6 @@ fn value_at(alloc: Global, seat: &Seat) -> Result<Vec<u8>, Refusal> {
         given.push(contribution(alloc, seat, member)?)?;
     }
     value_of(alloc, seat.sig, &given, seat.member)
-}
-
-/// The same of these contributions.
-fn value_of(
-    alloc: Global,
-    sig: Signature,
-    given: &[Vec<u8>],
-    member: u8,
-) -> Result<Vec<u8>, Refusal> {
-    if given.len() > 64 {
-        return Err(Refusal::Torn);
-    }
-    let n = given.len() as u8;
-    if member >= n {
-        return Err(Refusal::Torn);
-    }
-    sig.check(n)?;
-    for i in 0..n {
-        if given[i as usize].len() != sig.given_len(n, i) {
-            return Err(Refusal::Torn);
-        }
-    }
-    plain_value(alloc, sig, n, given, member)
 }
 
 impl Job {

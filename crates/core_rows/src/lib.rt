@@ -1,21 +1,31 @@
-//! The core's calls as tests: worked rows, and random jobs.
+//! The core's calls as tests: worked rows, and random jobs; and those of the crates round it, schedules, plans and completions.
+//! All of it is built for tests alone.
 //!
 //! | Module | Has |
 //! |---|---|
 //! | `job` | `Job`, a random job on one engine |
 //! | `seat` | `Seat`, one member's part of one of its collectives |
 //! | `random` | `Random`, numbers that look random |
+//! | `plain` | the value of a collective, computed directly |
 //! | `job_tests` | random jobs, each outcome compared with the value computed directly |
 //! | `rows` | worked rows, each answer compared with the one that must come |
+//! | `completions` | the same of completion calls |
+//! | `plans` | actions, schedules, and plans of all collectives, carried out in lock-step, with their numbers of messages |
 #![tactic(auto)]
 
+#[cfg(test)]
+mod completions;
+#[cfg(test)]
 mod job;
-mod random;
-mod seat;
-
-pub use job::Job;
-
 #[cfg(test)]
 mod job_tests;
 #[cfg(test)]
+mod plain;
+#[cfg(test)]
+mod plans;
+#[cfg(test)]
+mod random;
+#[cfg(test)]
 mod rows;
+#[cfg(test)]
+mod seat;

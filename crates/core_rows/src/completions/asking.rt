@@ -1,16 +1,10 @@
 //! The calls of the rows, with their answers in short.
 
 use super::making::byte;
-use crate::all::test_all;
-use crate::any::{Any, test_any};
-use crate::distinct::are_distinct;
-use crate::freeing::request_free;
-use crate::halted::Halted;
-use crate::request::Request;
-use crate::some::test_some;
-use crate::starting::start_all;
-use crate::tested::Tested;
-use crate::testing::test;
+use coll_complete::{
+    Any, Halted, Request, Tested, are_distinct, request_free, start_all, test, test_all, test_any,
+    test_some,
+};
 use coll_core::{Core, Outcome};
 use coll_kinds::Refusal;
 use std::alloc::Global;

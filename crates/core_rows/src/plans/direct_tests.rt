@@ -1,7 +1,9 @@
+//! The builders of direct exchanges.
+
 ghost use Rattle.std.specs.Prelude.{◌<◌, ◌≤◌};
 
-use crate::{allgather, alltoall, gather, rsblock, scatter};
 use coll_kinds::{Datatype, Kind, Mode, Op, Refusal, Signature};
+use coll_plans::{allgather, alltoall, gather, rsblock, scatter};
 use coll_sched::{Action, Region, Schedule};
 use std::alloc::Global;
 

@@ -1,6 +1,6 @@
 //! An engine with requests as rows ask for them.
 
-use crate::request::Request;
+use coll_complete::Request;
 use coll_core::{Config, Core, Offer, Phase};
 use coll_kinds::{Datatype, Kind, Mode, Op, Refusal, Signature, Ticket};
 use coll_plans::{Plan, plan};

@@ -1,5 +1,7 @@
-use crate::{barrier, plan};
+//! The rounds of a barrier and of a scan.
+
 use coll_kinds::{Datatype, Kind, Mode, Op, Signature};
+use coll_plans::{barrier, plan};
 use coll_sched::{Action, Region};
 
 const BARRIER: Signature = Signature {

@@ -1,3 +1,10 @@
+//! The completion calls of one request and of lists, each answer compared with the one that must come.
+//!
+//! | Module | Has |
+//! |---|---|
+//! | `making` | an engine with requests as rows ask for them |
+//! | `asking` | the calls of the rows, with their answers in short |
+
 mod asking;
 mod making;
 

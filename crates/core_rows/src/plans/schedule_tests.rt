@@ -1,9 +1,7 @@
-use super::Schedule;
-use crate::action::Action;
-use crate::point::Point;
-use crate::region::Region;
-use crate::round::Round;
+//! Which schedules of one member are accepted, and what a schedule tells.
+
 use coll_kinds::{Datatype, Op};
+use coll_sched::{Action, Point, Region, Round, Schedule};
 use std::alloc::Global;
 use std::process::Abort;
 

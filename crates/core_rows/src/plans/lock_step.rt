@@ -1,7 +1,7 @@
 //! Runs all members of a family in lock-step, for tests.
 
-use crate::Plan;
 use coll_kinds::Refusal;
+use coll_plans::Plan;
 use coll_sched::{Action, Schedule};
 use std::alloc::Global;
 use std::process::Abort;

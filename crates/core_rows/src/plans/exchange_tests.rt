@@ -2,10 +2,10 @@
 
 ghost use Rattle.std.specs.Prelude.{◌≤◌};
 
+use super::family_tests::{compare, signature};
 use super::lock_step::run;
-use super::tests::{compare, signature};
-use crate::{Plan, plan};
 use coll_kinds::{Datatype, Kind, Op, Refusal, Signature};
+use coll_plans::{Plan, plan};
 use std::alloc::Global;
 use std::process::Abort;
 

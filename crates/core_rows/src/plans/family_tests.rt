@@ -1,9 +1,12 @@
+//! Families of plans, run in lock-step and compared with the values computed directly, and what docs/SCHEDULES.md says of
+//! their messages.
+
 ghost use Rattle.std.specs.Prelude.{◌≤◌};
 
 use super::lock_step::run;
-use crate::{Plan, plan};
+use crate::plain::value_of;
 use coll_kinds::{Datatype, Kind, Mode, Op, Refusal, Signature, SignatureFault};
-use coll_ops::plain_value;
+use coll_plans::{Plan, plan};
 use coll_sched::Action;
 use std::alloc::Global;
 use std::process::Abort;
@@ -82,24 +85,6 @@ pub(super) fn contribution(alloc: Global, len: usize, r: u8) -> Result<Vec<u8>, 
     Ok(bytes)
 }
 
-// Asserts what `plain_value` asks for, and then calls it.
-pub(super) fn value_at(
-    rt: &impl Abort,
-    alloc: Global,
-    sig: Signature,
-    given: &[Vec<u8>],
-    r: u8,
-) -> Result<Vec<u8>, Refusal> {
-    assert!(rt; given.len() < 256);
-    let n = given.len() as u8;
-    assert!(rt; r < n);
-    sig.check(n)?;
-    for i in 0..n {
-        assert_eq!(rt; given[i as usize].len(), sig.given_len(n, i));
-    }
-    plain_value(alloc, sig, n, given, r)
-}
-
 // Runs a family, and compares each member's outcome with the value computed directly, and its exchanges
 // with the bound.
 pub(super) fn compare(
@@ -120,7 +105,7 @@ pub(super) fn compare(
         let me = r as usize;
         assert!(rt; me < bufs.len());
         assert!(rt; me < plans.len());
-        let want = value_at(rt, alloc, sig, &given, r)?;
+        let want = value_of(alloc, sig, &given, r)?;
         let schedule = plans[me].schedule();
         let output = schedule.output();
         let buf = &bufs[me];

@@ -1,6 +1,7 @@
-use super::Action;
-use crate::region::Region;
+//! What single actions do to a buffer.
+
 use coll_kinds::{Datatype, Op};
+use coll_sched::{Action, Region};
 
 const LOW: Region = Region { at: 0, len: 4 };
 
