@@ -1,4 +1,5 @@
--- An arena after each of its calls. What an equation leaves out stays.
+-- An arena after each of its calls. What an equation leaves out stays. `moved_back` takes a slot from its list and puts it at
+-- the back of another, or of the same; all other slots stay in their order on their lists.
 use Rattle.std.specs.Prelude.{ℕ, ◌+◌, ◌-◌, [], ◌∷◌, Some, None, ◌==◌, replicate, if◌then◌else◌, slice_set}
 use Rattle.std.specs.List.{range_with_len}
 use Rattle.coll_lists.specs.Moves.{moved_back, moved_front}

@@ -1,11 +1,13 @@
-pub mod Requests
-pub mod Works
-pub mod Cores
+-- an engine: how it is opened, what callers are told of it, and what each call does
 pub mod Configs
+pub mod Cores
 pub mod Phases
-pub mod Goings
-pub mod Steps
+pub mod Calls
 pub mod Posts
 pub mod Starts
+pub mod Steps
+pub mod Works
+-- what functions promise one another on the way to a call's effect
+pub mod Requests
+pub mod Goings
 pub mod Completions
-pub mod Calls

@@ -47,6 +47,3 @@ pub use given::Given;
 pub use history::History;
 pub use named::Named;
 pub use request::Request;
-
-#[cfg(test)]
-mod tests;

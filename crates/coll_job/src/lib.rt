@@ -17,6 +17,3 @@ mod plain;
 pub use counted::Counted;
 pub use fault::JobFault;
 pub use plain::{plain_job, read_text, write_lines};
-
-#[cfg(test)]
-mod tests;

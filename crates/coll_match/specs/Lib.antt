@@ -1,4 +1,7 @@
+-- what stands of one instance, and of all
 pub mod Held
 pub mod Instances
-pub mod Views
+-- worked rows
 pub mod Rows
+-- what functions promise one another: what the fields show
+pub mod Views

@@ -1,3 +1,6 @@
+-- the family of a signature and a number of members
+pub mod Plans
+-- the families of each kind
 pub mod Barriers
 pub mod Exchanges
 pub mod Directs
@@ -5,7 +8,7 @@ pub mod Scans
 pub mod Corners
 pub mod Trades
 pub mod Relays
-pub mod Plans
+-- worked rows
 pub mod Rows
 pub mod DirectRows
 pub mod TradeRows

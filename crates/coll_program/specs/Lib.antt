@@ -1,1 +1,2 @@
+-- what the words of a command line ask for
 pub mod Tasks

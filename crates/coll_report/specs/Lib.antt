@@ -1,8 +1,11 @@
+-- entries, and what a trace tells of a rank
 pub mod Views
 pub mod Traces
-pub mod Attested
 pub mod Posts
-pub mod Reports
-pub mod Scripted
 pub mod Comparisons
+-- what a closed engine leaves, and what it attests
+pub mod Reports
+pub mod Attested
+pub mod Scripted
+-- worked rows
 pub mod Rows

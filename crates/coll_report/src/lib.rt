@@ -16,8 +16,6 @@ mod entry;
 pub mod laws;
 mod posts;
 mod report;
-#[cfg(test)]
-mod tests;
 
 pub use command::Command;
 pub use comparison::{Comparison, follows};

@@ -31,8 +31,3 @@ pub use coll_history::{Cause, Command, Fault, Given, History, Named, ScriptFault
 pub use outcome::print_outcome;
 pub use script::Script;
 pub use sizes::Sizes;
-
-#[cfg(test)]
-mod fault_tests;
-#[cfg(test)]
-mod tests;

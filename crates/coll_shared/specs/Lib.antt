@@ -1,10 +1,12 @@
-pub mod Traced
-pub mod Spaced
+-- what lies under the lock, what a caller sees of a port, and what its calls tell
 pub mod Halls
-pub mod Outcomes
 pub mod Ports
-pub mod Stalls
-pub mod Retirements
 pub mod Tests
 pub mod Wishes
 pub mod Closings
+pub mod Stalls
+-- what functions promise one another: the entries of completions, the trace's room, and memory for outcomes
+pub mod Outcomes
+pub mod Retirements
+pub mod Traced
+pub mod Spaced

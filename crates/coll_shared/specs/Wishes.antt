@@ -1,4 +1,4 @@
--- What a waiting port wants: what it notes before it sleeps, and what its wait may be given up for.
+-- What a waiting port wants: what it notes before it sleeps, and what its wait and a progress thread may be given up for.
 use Rattle.std.specs.Prelude.{◌≡◌, ◌⊎◌, ℕ, List, Contains, filter_map, Option, Some, Vec}
 use Rattle.std.specs.Global.{Global}
 use Rattle.coll_kinds.specs.declared.refusal.Refusal.{Refusal}
@@ -12,10 +12,15 @@ use Rattle.coll_shared.specs.declared.note.Note.TheVariants.{Sleeps, SleepsForAn
 use Rattle.coll_shared.specs.declared.wish.Wish.{Wish}
 use Rattle.coll_shared.specs.declared.wish.Wish.TheVariants as wish
 
--- why a wait is given up whose requests aren't refused: it would sleep and nothing can go on any more, memory was
--- refused, or a combination's result that it made isn't wanted any longer
+-- why a progress thread ends before it is stopped: a step or a combination was refused memory, or a result that it made
+-- isn't wanted any longer
+abbrev pub IsSetback : Refusal → Type 0
+IsSetback why = (why ≡ NoMemory) ⊎ (why ≡ Stale)
+
+-- why a wait is given up whose requests aren't refused: it would sleep and nothing can go on any more; its note was refused
+-- memory; or as a progress thread
 abbrev pub IsHindrance : Refusal → Type 0
-IsHindrance why = (why ≡ Stalled) ⊎ (why ≡ NoMemory) ⊎ (why ≡ Stale)
+IsHindrance why = (why ≡ Stalled) ⊎ IsSetback why
 
 -- the tickets of a list's requests that aren't null, in their order
 abbrev pub tickets_in : List (Option Ticket) → List Ticket

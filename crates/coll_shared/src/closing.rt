@@ -96,6 +96,3 @@ fn merged<L: Entries>(spents: Vec<Spent<L>>) -> Share<L>
     }
     all
 }
-
-#[cfg(test)]
-mod tests;

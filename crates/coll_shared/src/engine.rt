@@ -5,6 +5,7 @@ ghost use Rattle.std.specs.List.{range_with_len};
 ghost use Rattle.coll_core.specs.Configs.{IsUnopened};
 ghost use Rattle.coll_report.specs.Views.{groups_seen};
 ghost use Rattle.coll_shared.specs.Ports.{group_at, opened};
+ghost use Rattle.coll_shared.specs.Wishes.{IsSetback};
 
 use crate::doors::Doors;
 use crate::gate::Gate;
@@ -35,13 +36,15 @@ impl<L: Entries> Engine<L> {
     /// # Errors
     ///
     /// NoMemory of a step or of a combination, which is given back; Stale where a result isn't wanted any longer.
-    pub fn work<R: Wait, G: Gate>(&self, rt: &R, gate: &G) -> Result<u64, Refusal> {
+    pub fn work<R: Wait, G: Gate>(&self, rt: &R, gate: &G) -> Result<u64, Refusal>
+        ensures refused { IfErr result IsSetback }
+    {
         let hall: &Hall<L> = &*self.hall;
         let mut pieces = 0u64;
         for _ in rt.forever() {
             match hall.chore(rt, gate) {
                 Ok(Chore::Stopped) => return Ok(pieces),
-                Ok(Chore::Committed) => pieces = pieces.saturating_add(1),
+                Ok(Chore::Committed(written)) => pieces = pieces.saturating_add(written),
                 Ok(Chore::Moved) => {}
                 Err(why) => return Err(why),
             }

@@ -7,7 +7,7 @@
 mod waits;
 
 ghost use Rattle.std.specs.Prelude.{◌≡◌, IfErr, IsOkUnless};
-ghost use Rattle.coll_shared.specs.Wishes.{IsHindrance};
+ghost use Rattle.coll_shared.specs.Wishes.{IsHindrance, IsSetback};
 
 use crate::doors::Doors;
 use crate::gate::Gate;
@@ -47,18 +47,22 @@ const YIELDS: u32 = 300;
 /// From how many bytes on a combination is worth calling others to those that are left.
 const LONG: usize = 4_096;
 
+/// How many combinations a thread computes before it looks whether its own wish is fulfilled.
+const CHAIN: u64 = 16;
+
 /// What a progress thread did in a turn.
 #[derive(Drop)]
 pub(crate) enum Chore {
     /// Nothing: it is to end.
     Stopped,
-    /// It computed a combination, whose result was written.
-    Committed,
+    /// It computed so many combinations, whose results were written.
+    Committed(u64),
     /// Anything else.
     Moved,
 }
 
 /// What steps under one hold of the lock came to.
+#[derive(Drop)]
 struct Progress {
     /// A request was finished.
     finished: bool,
@@ -188,7 +192,9 @@ impl<L: Entries> Hall<L> {
     }
 
     /// One turn of a progress thread. It sleeps where no request is ready.
-    pub(crate) fn chore<R: Wait, G: Gate>(&self, rt: &R, gate: &G) -> Result<Chore, Refusal> {
+    pub(crate) fn chore<R: Wait, G: Gate>(&self, rt: &R, gate: &G) -> Result<Chore, Refusal>
+        ensures { IfErr result IsSetback }
+    {
         let mut shared = self.enter(rt);
         if shared.is_stopped() {
             self.depart(shared);
@@ -201,8 +207,8 @@ impl<L: Entries> Hall<L> {
                 Ok(Chore::Moved)
             }
             Ok(Stepped::Out(work)) => {
-                self.carry_out(rt, gate, shared, work)?;
-                Ok(Chore::Committed)
+                let written = self.carry_out(rt, gate, shared, work)?;
+                Ok(Chore::Committed(written))
             }
             Ok(_) => {
                 self.leave(shared);
@@ -283,54 +289,80 @@ impl<L: Entries> Hall<L> {
         Ok(0)
     }
 
-    /// Gives the lock up and computes a combination that was handed out, then writes its result under the lock. Where it
-    /// can't be computed it is given back.
-    fn carry_out<R: Wait, G: Gate>(
-        &self,
-        rt: &R,
-        gate: &G,
-        mut shared: MutexGuard<'_, Shared<L>>,
-        work: Work,
-    ) -> Result<(), Refusal>
-        ensures { IfErr result IsHindrance }
-    {
+    /// Gives the lock up to compute a combination, and calls others to go on: all where it takes long. Answers its number.
+    fn hand_out(&self, mut shared: MutexGuard<'_, Shared<L>>, work: &Work) -> u64 {
         let piece = shared.next_piece();
         if work.left().len() < LONG {
             self.hand_on(shared);
         } else {
             self.call_all(shared);
         }
-        gate.before(piece);
-        match work.run() {
-            Ok(done) => self.commit(rt, done)?,
-            Err(refused) => {
-                let mut shared = self.enter(rt);
-                let _ = shared.abandon(refused.back);
-                self.call_all(shared);
-                return Err(refused.why);
-            }
-        }
-        gate.after(piece);
-        Ok(())
+        piece
     }
 
-    fn commit<R: Wait>(&self, rt: &R, done: DoneWork) -> Result<(), Refusal>
-        ensures { IfErr result (λ why. why ≡ Refusal.Stale) }
+    /// Computes a combination that was handed out with the lock free, then writes its result under the lock, and goes on
+    /// with what is handed out next. Answers how many results were written. Where one can't be computed it is given back.
+    fn carry_out<R: Wait, G: Gate>(
+        &self,
+        rt: &R,
+        gate: &G,
+        shared: MutexGuard<'_, Shared<L>>,
+        first: Work,
+    ) -> Result<u64, Refusal>
+        ensures { IfErr result IsSetback }
     {
-        let mut shared = self.enter(rt);
-        match shared.commit(done) {
-            Ok(Stepped::Finished) => {
-                self.leave(shared);
-                Ok(())
-            }
-            Ok(_stepped) => {
-                shared.settle(true);
-                Ok(())
-            }
-            Err(why) => {
-                self.call_all(shared);
-                Err(why)
+        let mut piece = self.hand_out(shared, &first);
+        let mut work = first;
+        for count in 1..=CHAIN {
+            let goes_on = count < CHAIN && work.left().len() < LONG;
+            gate.before(piece);
+            let next = match work.run() {
+                Ok(done) => self.commit(rt, done, goes_on)?,
+                Err(refused) => {
+                    let mut shared = self.enter(rt);
+                    let _ = shared.abandon(refused.back);
+                    self.call_all(shared);
+                    return Err(refused.why);
+                }
+            };
+            gate.after(piece);
+            match next {
+                Some((number, other)) => {
+                    piece = number;
+                    work = other;
+                }
+                None => return Ok(count),
             }
         }
+        Ok(CHAIN)
+    }
+
+    /// Writes a result. Where it is to go on it steps under the same hold, and answers the next combination that is handed
+    /// out, with its number.
+    fn commit<R: Wait>(
+        &self,
+        rt: &R,
+        done: DoneWork,
+        goes_on: bool,
+    ) -> Result<Option<(u64, Work)>, Refusal>
+        ensures { IfErr result IsSetback }
+    {
+        let mut shared = self.enter(rt);
+        if let Err(why) = shared.commit(done) {
+            self.call_all(shared);
+            return Err(why);
+        }
+        shared.settle(true);
+        if !goes_on {
+            self.leave(shared);
+            return Ok(None);
+        }
+        // where the next step is refused memory, it will be again once the caller steps, and is told then
+        if let Ok(Stepped::Out(work)) = advance(&mut *shared).last {
+            let piece = self.hand_out(shared, &work);
+            return Ok(Some((piece, work)));
+        }
+        self.leave(shared);
+        Ok(None)
     }
 }

@@ -54,6 +54,3 @@ pub use receipts::Receipts;
 pub use shared::Shared;
 pub use spent::Spent;
 pub use tally::{Entries, Tally};
-
-#[cfg(test)]
-mod tests;

@@ -119,6 +119,3 @@ impl<L: Entries> Port<L> {
         Spent::new(rank, tally)
     }
 }
-
-#[cfg(test)]
-mod tests;

@@ -1,4 +1,5 @@
-//! The core's calls as tests: worked rows, and random jobs; and those of the crates round it, schedules, plans and completions.
+//! The core's calls as tests: worked rows, and random jobs; and those of the crates round it: values, schedules, plans and
+//! completions.
 //! All of it is built for tests alone.
 //!
 //! | Module | Has |
@@ -7,6 +8,7 @@
 //! | `seat` | `Seat`, one member's part of one of its collectives |
 //! | `random` | `Random`, numbers that look random |
 //! | `plain` | the value of a collective, computed directly |
+//! | `value_rows` | such values of small jobs, and all members' at once |
 //! | `job_tests` | random jobs, each outcome compared with the value computed directly |
 //! | `rows` | worked rows, each answer compared with the one that must come |
 //! | `completions` | the same of completion calls |
@@ -29,3 +31,5 @@ mod random;
 mod rows;
 #[cfg(test)]
 mod seat;
+#[cfg(test)]
+mod value_rows;

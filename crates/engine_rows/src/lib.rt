@@ -1,4 +1,5 @@
-//! Engines whose ports are used by threads, as tests. All of it is built for tests alone.
+//! Engines and their ports as tests: worked rows in one thread, and jobs by threads; and traces and reports. All of it is
+//! built for tests alone.
 //!
 //! | Module | Has |
 //! |---|---|
@@ -15,6 +16,9 @@
 //! | `running` | `run`, a job from the opening of its engine to the last outcome |
 //! | `gate_tests` | two threads that really run at one time |
 //! | `stress_tests` | a large random job |
+//! | `signatures` | the signatures of the rows |
+//! | `ports` | worked rows of ports in one thread, each answer compared with the one that must come |
+//! | `reports` | traces and a report as data, with what they tell |
 #![tactic(auto)]
 
 #[cfg(test)]
@@ -38,8 +42,14 @@ mod pace;
 #[cfg(test)]
 mod player;
 #[cfg(test)]
+mod ports;
+#[cfg(test)]
 mod random;
 #[cfg(test)]
+mod reports;
+#[cfg(test)]
 mod running;
+#[cfg(test)]
+mod signatures;
 #[cfg(test)]
 mod stress_tests;

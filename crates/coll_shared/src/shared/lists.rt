@@ -198,6 +198,3 @@ impl<L: Entries> Shared<L> {
         Ok(Some(out.len() - before))
     }
 }
-
-#[cfg(test)]
-mod tests;

@@ -155,12 +155,13 @@ impl<L: Entries> Shared<L> {
         }
     }
 
-    /// A request of the rank in the list that is Pending, if there is one: the first.
-    fn first_pending(&self, rank: u8, requests: &[Request]) -> Option<Ticket>
+    /// A request of the rank in the list that is Pending, if there is one: the last, since it is Done last most often, and a
+    /// port that waits for all is to be woken seldom.
+    fn last_pending(&self, rank: u8, requests: &[Request]) -> Option<Ticket>
         ensures listed { IfSome result (IsListed requests.now) }
         ensures pending { IfSome result (λ ticket. phase_in (seen self.now.core) ticket ≡ Some Pending) }
     {
-        for request in requests {
+        for request in requests.iter().rev() {
             if let Some(ticket) = request.ticket() {
                 if let Ok(Phase::Pending) = self.core.phase(rank, ticket) {
                     return Some(ticket);
@@ -181,7 +182,7 @@ impl<L: Entries> Shared<L> {
     {
         match wish {
             Wish::One(request) => Ok(asleep(rank, request.ticket())),
-            Wish::All(requests) => Ok(asleep(rank, self.first_pending(rank, requests))),
+            Wish::All(requests) => Ok(asleep(rank, self.last_pending(rank, requests))),
             Wish::Any(requests) => {
                 let tickets = tickets_of(self.alloc, requests)?;
                 Ok(Some(Note::SleepsForAny { rank, tickets }))

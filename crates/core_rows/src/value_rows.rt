@@ -1,0 +1,144 @@
+//! Values of small jobs, computed directly: of one member, and of all members at once.
+
+use crate::plain::{value_of, values_of};
+use coll_kinds::{Datatype, Kind, Mode, Op, Refusal, Signature};
+use std::alloc::Global;
+use std::test::Fail;
+
+/// A kind with its root, operation and type.
+type What = (Kind, u8, Option<Op>, Datatype);
+
+/// What is computed, what each member gives, a member, and what it is to get. Elements have one byte each, and each block
+/// has one element.
+type Row = (What, &'static [&'static [u8]], u8, &'static [u8]);
+
+const SUM: What = (Kind::Allreduce, 0, Some(Op::Sum), Datatype::I8);
+
+const LAND: What = (Kind::Allreduce, 0, Some(Op::Land), Datatype::I8);
+
+const LXOR: What = (Kind::Allreduce, 0, Some(Op::Lxor), Datatype::I8);
+
+const LASTNZ: What = (Kind::Reduce, 2, Some(Op::LastNz), Datatype::I8);
+
+const MAX: What = (Kind::Reduce, 1, Some(Op::Max), Datatype::I8);
+
+const SCAN: What = (Kind::Scan, 0, Some(Op::Prod), Datatype::U8);
+
+const EXSCAN: What = (Kind::Exscan, 0, Some(Op::Sum), Datatype::U8);
+
+const GATHER: What = (Kind::Gather, 1, None, Datatype::Byte);
+
+const SCATTER: What = (Kind::Scatter, 1, None, Datatype::U8);
+
+const ALLTOALL: What = (Kind::Alltoall, 0, None, Datatype::U8);
+
+const RSBLOCK: What = (Kind::Rsblock, 0, Some(Op::Bxor), Datatype::Byte);
+
+const BLOCKS: &[&[u8]] = &[&[1, 2, 3], &[4, 5, 6], &[7, 8, 9]];
+
+const SMALL_JOBS: &[Row] = &[
+    (SUM, &[&[1], &[2], &[3]], 2, &[6]),
+    (SUM, &[&[127], &[1], &[0]], 0, &[128]),
+    (LAND, &[&[1], &[0], &[3]], 1, &[0]),
+    (LAND, &[&[5]], 0, &[5]),
+    (LXOR, &[&[5], &[5], &[5]], 1, &[1]),
+    (LASTNZ, &[&[3], &[0], &[5]], 2, &[5]),
+    (LASTNZ, &[&[3], &[0], &[5]], 0, &[]),
+    (MAX, &[&[255], &[128], &[254]], 1, &[255]),
+    (SCAN, &[&[20], &[13], &[2]], 0, &[20]),
+    (SCAN, &[&[20], &[13], &[2]], 1, &[4]),
+    (SCAN, &[&[20], &[13], &[2]], 2, &[8]),
+    (EXSCAN, &[&[1], &[2], &[3]], 0, &[]),
+    (EXSCAN, &[&[1], &[2], &[3]], 2, &[3]),
+    (GATHER, &[&[1], &[2], &[3]], 1, &[1, 2, 3]),
+    (SCATTER, &[&[], &[1, 2, 3], &[]], 2, &[3]),
+    (ALLTOALL, BLOCKS, 1, &[2, 5, 8]),
+    (RSBLOCK, BLOCKS, 2, &[12]),
+];
+
+fn signature((kind, root, op, ty): What, count: u32) -> Signature {
+    Signature {
+        kind,
+        mode: Mode::Once,
+        root,
+        op,
+        ty,
+        count,
+    }
+}
+
+/// What a row's member gets.
+fn got(alloc: Global, (what, given, member, _): &Row) -> Result<Vec<u8>, Refusal> {
+    let mut rows = Vec::new(alloc);
+    for row in *given {
+        rows.push(Vec::from_slice(alloc, row)?)?;
+    }
+    value_of(alloc, signature(*what, 1), &rows, *member)
+}
+
+#[test]
+fn values_of_small_jobs(rt: HostRuntime) -> Result<(), Fail> {
+    for row in SMALL_JOBS {
+        let (what, _, member, want) = row;
+        assert_eq!(rt;
+            got(rt.alloc(), row)?.as_slice(),
+            *want,
+            "at {member} of {what:?}"
+        );
+    }
+    Ok(())
+}
+
+/// A row of bytes for each member, with zeros in other places in each row.
+fn some_rows(alloc: Global, sig: Signature, n: u8) -> Result<Vec<Vec<u8>>, Refusal> {
+    let mut rows = Vec::new(alloc);
+    for i in 0..n {
+        let mut row = Vec::new(alloc);
+        for j in 0..sig.given_len(n, i) {
+            row.push(i.wrapping_mul(3).wrapping_add((j % 7) as u8) % 4)?;
+        }
+        rows.push(row)?;
+    }
+    Ok(rows)
+}
+
+/// The first of `n` members whose value isn't the one that it has among the values of all; `n` itself where these are more
+/// or fewer.
+fn first_difference(alloc: Global, sig: Signature, n: u8) -> Result<Option<u8>, Refusal> {
+    let given = some_rows(alloc, sig, n)?;
+    let values = values_of(alloc, sig, &given)?;
+    if values.len() != usize::from(n) {
+        return Ok(Some(n));
+    }
+    for (member, value) in (0..n).zip(values.iter()) {
+        if value_of(alloc, sig, &given, member)?.as_slice() != value.as_slice() {
+            return Ok(Some(member));
+        }
+    }
+    Ok(None)
+}
+
+/// The kinds' collectives of three elements, or none, with each root among `n` members.
+fn first_misfit(alloc: Global, kind: Kind, n: u8) -> Result<Option<(What, u8)>, Refusal> {
+    let count = if kind == Kind::Barrier { 0 } else { 3 };
+    for root in 0..if kind.has_root() { n } else { 1 } {
+        for (op, ty) in [(Op::Sum, Datatype::I16), (Op::LastNz, Datatype::U8)] {
+            let op = if kind.has_operation() { Some(op) } else { None };
+            let what = (kind, root, op, ty);
+            if let Some(member) = first_difference(alloc, signature(what, count), n)? {
+                return Ok(Some((what, member)));
+            }
+        }
+    }
+    Ok(None)
+}
+
+#[test]
+fn each_member_gets_its_value(rt: HostRuntime) -> Result<(), Fail> {
+    for kind in Kind::ALL {
+        for n in 0..=5 {
+            assert_eq!(rt; first_misfit(rt.alloc(), kind, n)?, None, "among {n}");
+        }
+    }
+    Ok(())
+}

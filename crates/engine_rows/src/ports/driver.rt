@@ -1,0 +1,294 @@
+//! An engine that makes the calls of rows.
+
+ghost use Rattle.std.specs.Prelude.{◌≡◌};
+
+use crate::calls;
+use crate::ports::answer::Answer;
+use crate::ports::call::Call;
+use crate::ports::closed::Closed;
+use crate::ports::noted::Bytes;
+use crate::ports::setup::Setup;
+use crate::ports::{Misfit, Row, completions};
+use coll_complete::Request;
+use coll_core::{Offer, Outcome};
+use coll_kinds::{Refusal, Signature, Ticket};
+use coll_report::Report;
+use coll_shared::{Engine, Entries, NoGate, Port, Spent, close, open};
+use std::alloc::Global;
+use std::sync::Wait;
+use std::sync::ledger::Blank;
+
+/// An engine with its ports, and the requests that rows made.
+#[derive(Drop)]
+pub struct Driver<L: Entries> {
+    alloc: Global,
+    engine: Engine<L>,
+    /// Those that haven't ended, by their ranks.
+    ports: Vec<Port<L>>,
+    aside: Option<Port<L>>,
+    requests: Vec<Request>,
+    /// What each request named when it was made.
+    tickets: Vec<Option<Ticket>>,
+    /// What the waits for one request told.
+    outcomes: Vec<Outcome>,
+}
+
+impl<L: Entries> Driver<L> {
+    pub fn open(alloc: Global, setup: &Setup, entries: Blank) -> Result<Driver<L>, Refusal>
+        requires name { entries.name ≡ L.name }
+        requires parts { (entries.parts ≡ L.parts) × (L.parts ≡ L.ranks) × (L.ranks ≡ setup.now.ranks) }
+    {
+        let config = setup.config(alloc)?;
+        let (engine, ports) = open::<L>(alloc, config, entries)?;
+        Ok(Driver {
+            alloc,
+            engine,
+            ports,
+            aside: None,
+            requests: Vec::new(alloc),
+            tickets: Vec::new(alloc),
+            outcomes: Vec::new(alloc),
+        })
+    }
+
+    /// Makes the calls of some lists, until one is answered otherwise.
+    pub fn first_misfit<R: Wait>(&mut self, rt: &R, parts: &[&[Row]]) -> Option<Misfit> {
+        for rows in parts {
+            let misfit = self.misfit_among(rt, rows);
+            if misfit.is_some() {
+                return misfit;
+            }
+        }
+        None
+    }
+
+    fn misfit_among<R: Wait>(&mut self, rt: &R, rows: &[Row]) -> Option<Misfit> {
+        for (index, (call, want)) in rows.iter().enumerate() {
+            let got = self.answer(rt, *call);
+            if got != *want {
+                return Some(Misfit { index, got });
+            }
+        }
+        None
+    }
+
+    fn answer<R: Wait>(&mut self, rt: &R, call: Call) -> Answer {
+        match self.carry_out(rt, call) {
+            Ok(answer) => answer,
+            Err(why) => Answer::Refused(why),
+        }
+    }
+
+    /// Makes a call. The Err is its refusal; Torn where there is no such port or request.
+    fn carry_out<R: Wait>(&mut self, rt: &R, call: Call) -> Result<Answer, Refusal> {
+        match call {
+            Call::Null => self.number(Request::null()),
+            Call::Post(rank, comm, sig, bytes) => {
+                let request = self.post(rt, rank, comm, sig, bytes)?;
+                self.number(request)
+            }
+            Call::Init(rank, comm, sig) => self.init(rt, rank, comm, sig),
+            Call::Start(rank, number, bytes) => self.start(rt, rank, number, bytes),
+            Call::Free(rank, number) => self.free(rt, rank, number),
+            Call::Test(rank, number) => self.test(rt, rank, number),
+            Call::TestTicket(rank, number) => self.test_ticket(rt, rank, number),
+            Call::Wait(rank, number) => self.wait(rt, rank, number),
+            Call::PostAndWait(comm, sig, bytes) => self.post_and_wait(rt, comm, sig, bytes),
+            Call::IsNull(number) => self.is_null(number),
+            Call::Left => Ok(self.left()),
+            Call::Made(rank) => self.made(rank),
+            Call::Finish => self.finish(rt),
+            Call::PutAside => self.put_aside(),
+            _ => self.complete(rt, call),
+        }
+    }
+
+    /// Numbers a request that was made.
+    fn number(&mut self, request: Request) -> Result<Answer, Refusal> {
+        self.tickets.push(request.ticket())?;
+        self.requests.push(request)?;
+        Ok(Answer::Accepted)
+    }
+
+    fn post<R: Wait>(
+        &mut self,
+        rt: &R,
+        rank: u8,
+        comm: u32,
+        sig: Signature,
+        bytes: &[u8],
+    ) -> Result<Request, Refusal> {
+        let port = self.ports.get_mut(usize::from(rank)).ok_or(Refusal::Torn)?;
+        let plan = port.ready_plan(comm, sig)?;
+        let bytes = Vec::from_slice(self.alloc, bytes)?;
+        calls::post(rt, port, comm, Offer { plan, bytes })
+    }
+
+    fn init<R: Wait>(
+        &mut self,
+        rt: &R,
+        rank: u8,
+        comm: u32,
+        sig: Signature,
+    ) -> Result<Answer, Refusal> {
+        let port = self.ports.get_mut(usize::from(rank)).ok_or(Refusal::Torn)?;
+        let plan = port.ready_plan(comm, sig)?;
+        let request = calls::init(rt, port, comm, plan)?;
+        self.number(request)
+    }
+
+    fn start<R: Wait>(
+        &mut self,
+        rt: &R,
+        rank: u8,
+        number: usize,
+        bytes: &[u8],
+    ) -> Result<Answer, Refusal> {
+        let port = self.ports.get_mut(usize::from(rank)).ok_or(Refusal::Torn)?;
+        let request = self.requests.get(number).ok_or(Refusal::Torn)?;
+        let bytes = Vec::from_slice(self.alloc, bytes)?;
+        calls::start(rt, port, request, bytes)?;
+        Ok(Answer::Accepted)
+    }
+
+    fn free<R: Wait>(&mut self, rt: &R, rank: u8, number: usize) -> Result<Answer, Refusal> {
+        let port = self.ports.get_mut(usize::from(rank)).ok_or(Refusal::Torn)?;
+        let request = self.requests.get_mut(number).ok_or(Refusal::Torn)?;
+        calls::free(rt, port, request)?;
+        Ok(Answer::Accepted)
+    }
+
+    fn test<R: Wait>(&mut self, rt: &R, rank: u8, number: usize) -> Result<Answer, Refusal> {
+        let port = self.ports.get_mut(usize::from(rank)).ok_or(Refusal::Torn)?;
+        let request = self.requests.get_mut(number).ok_or(Refusal::Torn)?;
+        completions::test(rt, port, number, request)
+    }
+
+    fn test_ticket<R: Wait>(&mut self, rt: &R, rank: u8, number: usize) -> Result<Answer, Refusal> {
+        let port = self.ports.get_mut(usize::from(rank)).ok_or(Refusal::Torn)?;
+        let Some(Some(ticket)) = self.tickets.get(number) else {
+            return Err(Refusal::Torn);
+        };
+        completions::test(rt, port, number, &mut Request::of(*ticket))
+    }
+
+    fn wait<R: Wait>(&mut self, rt: &R, rank: u8, number: usize) -> Result<Answer, Refusal> {
+        let port = self.ports.get_mut(usize::from(rank)).ok_or(Refusal::Torn)?;
+        let request = self.requests.get_mut(number).ok_or(Refusal::Torn)?;
+        let outcome = calls::wait(rt, &NoGate, port, request)?;
+        self.keep(outcome)
+    }
+
+    fn post_and_wait<R: Wait>(
+        &mut self,
+        rt: &R,
+        comm: u32,
+        sig: Signature,
+        bytes: &[u8],
+    ) -> Result<Answer, Refusal> {
+        let mut request = self.post(rt, 0, comm, sig, bytes)?;
+        let port = self.ports.get_mut(0).ok_or(Refusal::Torn)?;
+        let outcome = calls::wait(rt, &NoGate, port, &mut request)?;
+        self.keep(outcome)
+    }
+
+    /// Keeps what a wait told.
+    fn keep(&mut self, outcome: Option<Outcome>) -> Result<Answer, Refusal> {
+        let Some(outcome) = outcome else {
+            return Ok(Answer::NoOutcome);
+        };
+        let answer = Answer::Outcome(Bytes::of(&outcome));
+        self.outcomes.push(outcome)?;
+        Ok(answer)
+    }
+
+    /// A call of rank 0 over all requests.
+    fn complete<R: Wait>(&mut self, rt: &R, call: Call) -> Result<Answer, Refusal> {
+        let port = self.ports.get_mut(0).ok_or(Refusal::Torn)?;
+        let list = self.requests.as_mut_slice();
+        match call {
+            Call::TestAny => completions::test_any(rt, port, list),
+            Call::WaitAny => completions::wait_any(rt, port, list),
+            Call::TestAll => completions::test_all(rt, self.alloc, port, list),
+            Call::WaitAll => completions::wait_all(rt, self.alloc, port, list),
+            Call::TestSome => completions::test_some(rt, self.alloc, port, list),
+            Call::WaitSome => completions::wait_some(rt, self.alloc, port, list),
+            _ => Err(Refusal::Torn),
+        }
+    }
+
+    fn is_null(&self, number: usize) -> Result<Answer, Refusal> {
+        let request = self.requests.get(number).ok_or(Refusal::Torn)?;
+        Ok(Answer::IsNull(request.is_null()))
+    }
+
+    fn left(&self) -> Answer {
+        let left = self.requests.iter().filter(|request| !request.is_null());
+        Answer::Left(left.count())
+    }
+
+    fn made(&self, rank: u8) -> Result<Answer, Refusal> {
+        let port = self.ports.get(usize::from(rank)).ok_or(Refusal::Torn)?;
+        Ok(Answer::Made(port.rank(), port.made()))
+    }
+
+    fn finish<R: Wait>(&mut self, rt: &R) -> Result<Answer, Refusal> {
+        let port = self.ports.pop().ok_or(Refusal::Torn)?;
+        let spent = port.finish(rt);
+        Ok(Answer::Ended(spent.rank(), spent.made()))
+    }
+
+    fn put_aside(&mut self) -> Result<Answer, Refusal> {
+        self.aside = self.ports.pop();
+        Ok(Answer::Accepted)
+    }
+
+    /// Ends the ports but the one that was put aside, and closes the engine.
+    pub fn close<R: Wait>(self, rt: &R) -> Result<Closed, Refusal>
+        requires { L.parts ≡ L.ranks }
+    {
+        let Driver {
+            alloc,
+            engine,
+            ports,
+            aside: _aside,
+            outcomes,
+            ..
+        } = self;
+        let spents = ends_of(rt, alloc, ports)?;
+        Ok(Closed {
+            outcomes,
+            report: report_of(rt, engine, spents),
+        })
+    }
+}
+
+/// The ends of these ports.
+fn ends_of<L: Entries, R: Wait>(
+    rt: &R,
+    alloc: Global,
+    ports: Vec<Port<L>>,
+) -> Result<Vec<Spent<L>>, Refusal> {
+    let mut spents = Vec::new(alloc);
+    for port in ports {
+        spents.push(port.finish(rt))?;
+    }
+    Ok(spents)
+}
+
+/// Closes an engine with these ends.
+fn report_of<L: Entries, R: Wait>(
+    rt: &R,
+    engine: Engine<L>,
+    spents: Vec<Spent<L>>,
+) -> Result<Report, (Refusal, usize)>
+    requires { L.parts ≡ L.ranks }
+{
+    match close(rt, engine, spents) {
+        Ok(report) => Ok(report),
+        Err(refused) => {
+            let (_engine, spents) = refused.back;
+            Err((refused.why, spents.len()))
+        }
+    }
+}

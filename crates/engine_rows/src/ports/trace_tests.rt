@@ -1,0 +1,78 @@
+//! A trace that fills up, and what it leaves room for.
+
+use crate::ports::answer::Answer;
+use crate::ports::call::Call;
+use crate::ports::noted::Bytes;
+use crate::ports::setup::{LONE, Setup};
+use crate::ports::{Row, first_misfit};
+use crate::signatures::{BCAST_OF_TWO, PERSISTENT_BCAST_OF_TWO};
+use coll_kinds::Refusal;
+use std::test::Fail;
+
+const BYTES: &[u8] = &[7, 9];
+
+// A rank that is alone gets back what it gave. Its request is gone then.
+const ONE_BCAST: &[Row] = &[
+    (Call::Post(0, 0, BCAST_OF_TWO, BYTES), Answer::Accepted),
+    (Call::Wait(0, 0), Answer::Outcome(Bytes::Two(7, 9))),
+    (Call::IsNull(0), Answer::IsNull(true)),
+    (Call::TestTicket(0, 0), Answer::Refused(Refusal::Stale)),
+    (Call::Finish, Answer::Ended(0, 2)),
+];
+
+#[test]
+fn made_and_completed(rt: HostRuntime) -> Result<(), Fail> {
+    let misfit = first_misfit(&rt, rt.alloc(), &LONE, &[ONE_BCAST])?;
+    assert_eq!(rt; misfit, None);
+    Ok(())
+}
+
+// A trace of three entries has room for one persistent request, and neither for its start nor for a second request; it can
+// still be freed, and its entry is counted.
+const FULL: &[Row] = &[
+    (Call::Init(0, 0, PERSISTENT_BCAST_OF_TWO), Answer::Accepted),
+    (
+        Call::Start(0, 0, BYTES),
+        Answer::Refused(Refusal::TraceFull),
+    ),
+    (
+        Call::Post(0, 0, BCAST_OF_TWO, BYTES),
+        Answer::Refused(Refusal::TraceFull),
+    ),
+    (Call::Made(0), Answer::Made(0, 1)),
+    (Call::Free(0, 0), Answer::Accepted),
+    (Call::Made(0), Answer::Made(0, 2)),
+];
+
+#[test]
+fn trace_full_then_free(rt: HostRuntime) -> Result<(), Fail> {
+    let setup = Setup { trace: 3, ..LONE };
+    let misfit = first_misfit(&rt, rt.alloc(), &setup, &[FULL])?;
+    assert_eq!(rt; misfit, None);
+    Ok(())
+}
+
+const POST: Call = Call::Post(0, 0, BCAST_OF_TWO, BYTES);
+
+const FIRST: &[Row] = &[(POST, Answer::Accepted)];
+
+// How many entries and places an engine has, and what refuses the second post of a rank that is alone.
+const LIMITS: &[(u32, u32, Refusal)] = &[(2, 8, Refusal::TraceFull), (4, 1, Refusal::PlacesUsed)];
+
+#[test]
+fn trace_limit(rt: HostRuntime) -> Result<(), Fail> {
+    for (trace, places, why) in LIMITS {
+        let setup = Setup {
+            trace: *trace,
+            places: *places,
+            ..LONE
+        };
+        let second = [
+            (POST, Answer::Refused(*why)),
+            (Call::Made(0), Answer::Made(0, 1)),
+        ];
+        let misfit = first_misfit(&rt, rt.alloc(), &setup, &[FIRST, &second])?;
+        assert_eq!(rt; misfit, None);
+    }
+    Ok(())
+}

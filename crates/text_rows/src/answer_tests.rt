@@ -1,0 +1,191 @@
+//! Texts, with what a user is shown of each.
+
+use crate::answering::{COMMENTS, SUM_OF_THREE, answer_text, text_of};
+use coll_job::JobFault;
+use std::alloc::Global;
+use std::io;
+use std::io::Write;
+use std::test::Fail;
+
+/// A text, and what is shown of it.
+type Row = (&'static str, &'static str);
+
+/// What a user sees of a text: the lines, or the fault's line behind its status.
+fn shown(alloc: Global, text: &str) -> Result<String, Fail> {
+    let mut out = Vec::new(alloc);
+    if let Err(fault) = answer_text(alloc, text, &mut out) {
+        tell(fault, &mut out)?;
+    }
+    Ok(text_of(out)?)
+}
+
+/// Appends the fault's line behind its status.
+fn tell(fault: JobFault, out: &mut Vec<u8>) -> io::Result<()> {
+    let status = fault.status();
+    write!(out, "{status}: ")?;
+    fault.print(out)
+}
+
+/// The first text of which something else was shown, by its index. None where there is none.
+fn first_misfit(alloc: Global, rows: &[Row]) -> Result<Option<(usize, String)>, Fail> {
+    for (index, (text, want)) in rows.iter().enumerate() {
+        let got = shown(alloc, text)?;
+        if got.as_str() != *want {
+            return Ok(Some((index, got)));
+        }
+    }
+    Ok(None)
+}
+
+const TEXTS: &[Row] = &[
+    ("", "2: line 1: missing ranks\n"),
+    (
+        SUM_OF_THREE,
+        "rank 0 req 0 start 0 : 6\nrank 1 req 0 start 0 : 6\nrank 2 req 0 start 0 : 6\n",
+    ),
+    (
+        "ranks 1\nrank 0\npost 0 allreduce land i32 1 : 5",
+        "rank 0 req 0 start 0 : 5\n",
+    ),
+    (
+        "ranks 2\nrank 0\npost 0 allreduce land i32 1 : 5\nrank 1\npost 0 allreduce land i32 1 : 5\n",
+        "rank 0 req 0 start 0 : 1\nrank 1 req 0 start 0 : 1\n",
+    ),
+    (
+        "ranks 2\nrank 0\npost 0 allreduce sum i8 1 : 127\nrank 1\npost 0 allreduce sum i8 1 : 1\n",
+        "rank 0 req 0 start 0 : -128\nrank 1 req 0 start 0 : -128\n",
+    ),
+    (
+        "ranks 2\nrank 0\npost 0 bcast 1 i32 0\nrank 1\npost 0 bcast 1 i32 0\n",
+        "rank 0 req 0 start 0 :\nrank 1 req 0 start 0 :\n",
+    ),
+    (COMMENTS, "rank 0 req 0 start 0 : -1 7\n"),
+    (
+        "ranks 1\nrank 0\npost 0 allreduce sum i8 2 : 1",
+        "2: line 3: wrong value count\n",
+    ),
+    (
+        "ranks 1\nrank 0\npost 0 allreduce sum i8 1 : 128",
+        "2: line 3: bad value\n",
+    ),
+    (
+        "ranks 1\nrank 0\npost 0 allreduce sum",
+        "2: line 3: bad words\n",
+    ),
+    (
+        "ranks 1\nrank 0\npost 0 allreduce sum byte 1 : 1",
+        "2: line 3: bad signature\n",
+    ),
+    (
+        "ranks 2\nrank 0\npost 0 bcast 0 i32 1 : 7\nrank 1\npost 0 allreduce sum i32 1 : 7\n",
+        "2: line 5: place mismatch\n",
+    ),
+    (
+        "ranks 2\nrank 0\npost 0 barrier\n",
+        "2: line 3: place missing\n",
+    ),
+    (
+        "ranks 3\nrank 0\npost 0 reduce 2 lastnz i32 1 : 3\nrank 1\npost 0 reduce 2 lastnz i32 1 : 0\n\
+         rank 2\npost 0 reduce 2 lastnz i32 1 : 5\n",
+        "rank 0 req 0 start 0 :\nrank 1 req 0 start 0 :\nrank 2 req 0 start 0 : 5\n",
+    ),
+    (
+        "ranks 3\nrank 0\npost 0 alltoall u8 1 : 1 2 3\nrank 1\npost 0 alltoall u8 1 : 4 5 6\n\
+         rank 2\npost 0 alltoall u8 1 : 7 8 9\n",
+        "rank 0 req 0 start 0 : 1 4 7\nrank 1 req 0 start 0 : 2 5 8\nrank 2 req 0 start 0 : 3 6 9\n",
+    ),
+    (
+        "ranks 3\nrank 0\npost 0 exscan sum i32 1 : 1\nrank 1\npost 0 exscan sum i32 1 : 2\n\
+         rank 2\npost 0 exscan sum i32 1 : 3\n",
+        "rank 0 req 0 start 0 :\nrank 1 req 0 start 0 : 1\nrank 2 req 0 start 0 : 3\n",
+    ),
+];
+
+#[test]
+fn texts_and_what_is_shown(rt: HostRuntime) -> Result<(), Fail> {
+    assert_eq!(rt; first_misfit(rt.alloc(), TEXTS)?, None);
+    Ok(())
+}
+
+const KINDS: &[Row] = &[
+    (
+        "ranks 3\nrank 0\npost 0 gather 1 u8 2 : 1 2\nrank 1\npost 0 gather 1 u8 2 : 3 4\n\
+         rank 2\npost 0 gather 1 u8 2 : 5 6\n",
+        "rank 0 req 0 start 0 :\nrank 1 req 0 start 0 : 1 2 3 4 5 6\nrank 2 req 0 start 0 :\n",
+    ),
+    (
+        "ranks 2\nrank 0\npost 0 scatter 1 u8 2\nrank 1\npost 0 scatter 1 u8 2 : 1 2 3 4\n",
+        "rank 0 req 0 start 0 : 1 2\nrank 1 req 0 start 0 : 3 4\n",
+    ),
+    (
+        "ranks 2\nrank 0\npost 0 allgather u16 1 : 10\nrank 1\npost 0 allgather u16 1 : 20\n",
+        "rank 0 req 0 start 0 : 10 20\nrank 1 req 0 start 0 : 10 20\n",
+    ),
+    (
+        "ranks 5\nrank 4\npost 0 allgather u16 1 : 50\nrank 0\npost 0 allgather u16 1 : 10\nrank 3\n\
+         post 0 allgather u16 1 : 40\nrank 2\npost 0 allgather u16 1 : 30\nrank 1\npost 0 allgather u16 1 : 20\n",
+        "rank 0 req 0 start 0 : 10 20 30 40 50\nrank 1 req 0 start 0 : 10 20 30 40 50\n\
+         rank 2 req 0 start 0 : 10 20 30 40 50\nrank 3 req 0 start 0 : 10 20 30 40 50\n\
+         rank 4 req 0 start 0 : 10 20 30 40 50\n",
+    ),
+    (
+        "ranks 2\nrank 0\npost 0 rsblock sum i16 1 : 1 2\nrank 1\npost 0 rsblock sum i16 1 : 10 20\n",
+        "rank 0 req 0 start 0 : 11\nrank 1 req 0 start 0 : 22\n",
+    ),
+    (
+        "ranks 3\nrank 0\npost 0 scan prod u8 1 : 20\nrank 1\npost 0 scan prod u8 1 : 13\n\
+         rank 2\npost 0 scan prod u8 1 : 2\n",
+        "rank 0 req 0 start 0 : 20\nrank 1 req 0 start 0 : 4\nrank 2 req 0 start 0 : 8\n",
+    ),
+    (
+        "ranks 3\nrank 0\npost 0 allreduce lxor i8 1 : 5\nrank 1\npost 0 allreduce lxor i8 1 : 5\n\
+         rank 2\npost 0 allreduce lxor i8 1 : 5\n",
+        "rank 0 req 0 start 0 : 1\nrank 1 req 0 start 0 : 1\nrank 2 req 0 start 0 : 1\n",
+    ),
+    (
+        "ranks 2\ncomm 0 1\ncomm 0 1\nrank 0\npost 1 barrier\nwait 0\npost 2 barrier\nwait 1\n\
+         rank 1\npost 2 barrier\nwait 0\npost 1 barrier\nwait 1\n",
+        "rank 0 req 0 start 0 :\nrank 0 req 1 start 0 :\nrank 1 req 0 start 0 :\nrank 1 req 1 start 0 :\n",
+    ),
+    (
+        "ranks 2\nrank 0\ninit 0 allreduce sum i32 1\ninit 0 allreduce max i32 1\n\
+         start 0 : 1\nstart 1 : 10\nwaitall\nstart 0 : 2\nstart 1 : 20\nwaitall\nstart 0 : 3\nstart 1 : 30\n\
+         rank 1\ninit 0 allreduce sum i32 1\ninit 0 allreduce max i32 1\n\
+         start 1 : 11\nstart 0 : 4\nwaitall\nstart 1 : 19\nstart 0 : 5\nwaitall\nstart 1 : 31\nstart 0 : 6\n",
+        "rank 0 req 0 start 0 : 5\nrank 0 req 0 start 1 : 7\nrank 0 req 0 start 2 : 9\n\
+         rank 0 req 1 start 0 : 11\nrank 0 req 1 start 1 : 20\nrank 0 req 1 start 2 : 31\n\
+         rank 1 req 0 start 0 : 5\nrank 1 req 0 start 1 : 7\nrank 1 req 0 start 2 : 9\n\
+         rank 1 req 1 start 0 : 11\nrank 1 req 1 start 1 : 20\nrank 1 req 1 start 2 : 31\n",
+    ),
+    (
+        "ranks 1\nrank 0\ninit 0 barrier\nstart 0\nstart 0\n",
+        "2: line 5: not startable\n",
+    ),
+    (
+        "ranks 2\ncomm 0\nrank 1\npost 1 barrier\n",
+        "2: line 4: bad rank\n",
+    ),
+    (
+        "ranks 2\nrank 0\ninit 0 barrier\nstart 0\nrank 1\ninit 0 barrier\n",
+        "2: line 6: start missing\n",
+    ),
+    (
+        "ranks 1\nrank 0\npost 0 barrier\nwaitany 0 0\n",
+        "2: line 4: named twice\n",
+    ),
+    (
+        "ranks 33\nrank 0\npost 0 gather 0 u64 65536\n",
+        "2: line 3: bad signature\n",
+    ),
+    (
+        "ranks 32\nrank 1\npost 0 gather 0 u64 65536\n",
+        "2: line 3: bad words\n",
+    ),
+    ("ranks 1\nrank 0\ninit 0 barrier\n", ""),
+];
+
+#[test]
+fn kinds_and_commands(rt: HostRuntime) -> Result<(), Fail> {
+    assert_eq!(rt; first_misfit(rt.alloc(), KINDS)?, None);
+    Ok(())
+}

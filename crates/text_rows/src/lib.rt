@@ -1,0 +1,46 @@
+//! Job texts as tests: how they are read, their faults, and their answers without an engine. All of it is built for tests
+//! alone.
+//!
+//! | Module | Has |
+//! |---|---|
+//! | `said` | `Said`, what a command says, in short |
+//! | `history_tests` | what is kept of the lines of a text |
+//! | `script_tests` | what is made of a text without a fault |
+//! | `faults` | the fault of a text, and rows of texts with their faults |
+//! | `fault_tests` | a fault in each word of a text |
+//! | `limit_tests` | the first text past a limit |
+//! | `cause_tests` | the words of each cause |
+//! | `answering` | the calls that read and answer a text |
+//! | `fakes` | readers and writers that fail, or never end |
+//! | `answer_tests` | texts, with what a user is shown |
+//! | `status_tests` | the status and the line of each fault of a job |
+//! | `reading_tests` | how often a reader is read, and what its errors and a writer's come to |
+//! | `large_tests` | a job with many ranks, bytes and starts |
+#![tactic(auto)]
+
+#[cfg(test)]
+mod answer_tests;
+#[cfg(test)]
+mod answering;
+#[cfg(test)]
+mod cause_tests;
+#[cfg(test)]
+mod fakes;
+#[cfg(test)]
+mod fault_tests;
+#[cfg(test)]
+mod faults;
+#[cfg(test)]
+mod history_tests;
+#[cfg(test)]
+mod large_tests;
+#[cfg(test)]
+mod limit_tests;
+#[cfg(test)]
+mod reading_tests;
+#[cfg(test)]
+mod said;
+#[cfg(test)]
+mod script_tests;
+#[cfg(test)]
+mod status_tests;
