@@ -28,7 +28,8 @@ const FIRST: Noted = Noted::One(1, TEN);
 
 const ALL: Noted = Noted::Two((1, TEN), (2, Bytes::One(11)));
 
-// A call with its answer, how many requests it leaves, and how many entries the port has made then: one more for each outcome.
+// A call with its answer, how many requests it leaves, and how many entries the port has made then: one more for each
+// outcome.
 const COMPLETIONS: &[(Call, Answer, usize, u64)] = &[
     (Call::Test(0, 1), Answer::Flag(true, FIRST), 1, 5),
     (Call::Wait(0, 1), Answer::Outcome(TEN), 1, 5),

@@ -14,10 +14,10 @@ use std::test::Fail;
 /// A call with its answer, and how many entries it must make.
 type Counted = (Call, Answer, u64);
 
-// The port of rank 1 ends, so that no request waits for it longer than others can go on.
+// The port of rank 1 ends: what waits for it can't go on.
 const LEFT_ALONE: Row = (Call::Finish, Answer::Ended(1, 0));
 
-// A request of both ranks stalls where no request is ready any more.
+// A wait for rank 1 stalls, so no request is ready any more.
 const QUIET: Row = (
     Call::PostAndWait(BOTH, SUM, &[0]),
     Answer::Refused(Refusal::Stalled),
