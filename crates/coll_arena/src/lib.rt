@@ -17,6 +17,3 @@ pub use arena::Arena;
 pub use coll_kinds::Ticket;
 pub use list_name::ListName;
 pub use tickets::Tickets;
-
-#[cfg(test)]
-mod tests;

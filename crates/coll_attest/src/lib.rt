@@ -19,8 +19,6 @@ mod following;
 mod index;
 pub mod laws;
 mod printing;
-#[cfg(test)]
-mod tests;
 
 pub use attested::attested_lines;
 pub use fault::AttestFault;

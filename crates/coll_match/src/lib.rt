@@ -17,6 +17,3 @@ mod matches;
 
 pub use key::Key;
 pub use matches::Matches;
-
-#[cfg(test)]
-mod tests;

@@ -15,6 +15,3 @@ mod words;
 pub use machine::main_of;
 pub use running::run;
 pub use words::Task;
-
-#[cfg(test)]
-mod tests;

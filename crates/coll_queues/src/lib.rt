@@ -15,6 +15,3 @@ mod posting_lists;
 mod queues;
 
 pub use queues::Queues;
-
-#[cfg(test)]
-mod tests;

@@ -17,6 +17,3 @@ mod threaded;
 
 pub use running::run_job;
 pub use threaded::threaded_job;
-
-#[cfg(test)]
-mod tests;

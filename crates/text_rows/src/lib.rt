@@ -1,8 +1,11 @@
-//! Job texts as tests: how they are read, their faults, and their answers without an engine. All of it is built for tests
-//! alone.
+//! Job texts as tests: their words, how they are read, their faults, and their answers without an engine. All of it is built
+//! for tests alone.
 //!
 //! | Module | Has |
 //! |---|---|
+//! | `element_tests` | elements at the ends of their types' ranges |
+//! | `signature_tests` | the rules of signatures, and their words |
+//! | `refusal_tests` | the number and the name of each refusal |
 //! | `said` | `Said`, what a command says, in short |
 //! | `history_tests` | what is kept of the lines of a text |
 //! | `script_tests` | what is made of a text without a fault |
@@ -25,6 +28,8 @@ mod answering;
 #[cfg(test)]
 mod cause_tests;
 #[cfg(test)]
+mod element_tests;
+#[cfg(test)]
 mod fakes;
 #[cfg(test)]
 mod fault_tests;
@@ -39,8 +44,12 @@ mod limit_tests;
 #[cfg(test)]
 mod reading_tests;
 #[cfg(test)]
+mod refusal_tests;
+#[cfg(test)]
 mod said;
 #[cfg(test)]
 mod script_tests;
+#[cfg(test)]
+mod signature_tests;
 #[cfg(test)]
 mod status_tests;

@@ -1,7 +1,7 @@
 use Rattle.std.proofs.Common.{arith}
 use Rattle.coll_match.specs.Instances.{HaveSize}
 use Rattle.coll_match.proofs.Sizes.{joined_gave, size_kept, size_put, size_roomed}
-use Rattle.coll_match.proofs.tests.enter.Goals as goal
+use Rattle.table_rows.proofs.matches.enter.Goals as goal
 
 pub returns-else-member-lt3 : goal.returns-else-member-lt3
 returns-else-member-lt3 c = size_put _ _ 3 c.args.key _ c.in_ok-room.ensures.members (c.requires c.args.key) c.requires

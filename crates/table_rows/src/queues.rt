@@ -1,7 +1,9 @@
+//! Random posts, each judged as by the calls before it.
+
 ghost use Rattle.std.specs.Prelude.{◌<◌, ◌≤◌, All, IfOk, length};
 
-use crate::queues::Queues;
 use coll_kinds::{Datatype, Kind, Mode, Op, Refusal, Signature};
+use coll_queues::Queues;
 use std::alloc::{AllocError, Global};
 use std::test::Fail;
 

@@ -1,6 +1,8 @@
-use super::run_job;
+//! Job texts run by threads, with their lines or their fault.
+
 use coll_job::JobFault;
 use coll_report::{Entry, Report};
+use coll_run::run_job;
 use coll_script::{Cause, Fault, Script};
 use coll_shared::NoGate;
 use std::alloc::Global;

@@ -3,9 +3,7 @@
 ghost use Rattle.std.specs.Prelude.{◌≡◌, ◌<◌, ◌≤◌};
 ghost use Rattle.coll_arena.specs.ListNames.{number_of};
 
-use crate::arena::Arena;
-use crate::list_name::ListName;
-use crate::tickets::Tickets;
+use coll_arena::{Arena, ListName, Tickets};
 use coll_kinds::{Refusal, Ticket};
 use std::alloc::Global;
 

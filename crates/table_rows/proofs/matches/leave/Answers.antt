@@ -2,7 +2,7 @@ use Rattle.std.proofs.Common.{◌≡◌, ℕ, Bool, true, false, Option, None, r
 use Rattle.std.specs.Prelude.{if◌then◌else◌, unwrap_or}
 use Rattle.coll_match.specs.Instances.{members}
 use Rattle.coll_match.proofs.Sizes.{size_put}
-use Rattle.coll_match.proofs.tests.leave.Goals as goal
+use Rattle.table_rows.proofs.matches.leave.Goals as goal
 
 none_or : (b : Bool) (o : Option ℕ) → unwrap_or o 3 ≡ 3 → unwrap_or (if b then None else o) 3 ≡ 3
 none_or true o e = refl

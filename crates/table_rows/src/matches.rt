@@ -1,8 +1,9 @@
+//! Contributions and messages, each found by its key.
+
 ghost use Rattle.coll_match.specs.Instances.{HaveSize};
 
-use crate::key::Key;
-use crate::matches::Matches;
 use coll_kinds::Refusal;
+use coll_match::{Key, Matches};
 use std::alloc::Global;
 use std::test::Fail;
 

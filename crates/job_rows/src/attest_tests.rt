@@ -1,3 +1,5 @@
+//! Lines that a report attests, and reports of other runs than the text's.
+
 ghost use Rattle.std.specs.Prelude.{◌≡◌, ◌∷◌, [], IfOk};
 ghost use Rattle.coll_machine.specs.Entries.{Posted, Retired};
 ghost use Rattle.coll_machine.specs.Rows.{bcast, i32, late_bcast, two_ranks};
@@ -5,7 +7,7 @@ ghost use Rattle.coll_core.specs.Configs.{setting_by};
 ghost use Rattle.coll_report.specs.Rows.{two};
 ghost use Rattle.coll_report.specs.Views.{seen, trace_seen};
 
-use super::*;
+use coll_attest::{AttestFault, attested_lines};
 use coll_core::Config;
 use coll_kinds::{Datatype, Kind, Mode, Signature, Ticket};
 use coll_report::laws::rows_are_closed;

@@ -1,4 +1,4 @@
-//! Rows of calls with the answers that must come.
+//! Rows of calls of an arena, with the answers that must come.
 
 mod driver;
 
@@ -7,8 +7,7 @@ ghost use Rattle.std.specs.Option.{ForSome};
 ghost use Rattle.coll_arena.specs.Changes.{rewritten};
 ghost use Rattle.coll_arena.specs.Slots.{names, record_in};
 
-use crate::arena::Arena;
-use crate::list_name::ListName;
+use coll_arena::{Arena, ListName};
 use coll_kinds::{Refusal, Ticket};
 use driver::{Answer, Call, Driver, END, Live, On};
 use std::alloc::Global;

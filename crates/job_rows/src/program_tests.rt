@@ -1,4 +1,6 @@
-use crate::running::run;
+//! What a user of the program sees: the status, and what goes to standard output and to standard error.
+
+use coll_program::run;
 use std::alloc::Global;
 use std::io;
 use std::io::{Cursor, Write};
