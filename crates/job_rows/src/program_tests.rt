@@ -1,5 +1,6 @@
 //! What a user of the program sees: the status, and what goes to standard output and to standard error.
 
+use crate::run_tests::CROSSED_BARRIERS;
 use coll_program::run;
 use std::alloc::Global;
 use std::io;
@@ -12,10 +13,6 @@ const SUM_OF_TWO: &str =
     "ranks 2\nrank 0\npost 0 allreduce sum i32 1 : 1\nrank 1\npost 0 allreduce sum i32 1 : 2\n";
 
 const ITS_LINES: &str = "rank 0 req 0 start 0 : 3\nrank 1 req 0 start 0 : 3\n";
-
-const CROSSED_BARRIERS: &str =
-    "ranks 2\ncomm 0 1\ncomm 0 1\nrank 0\npost 1 barrier\nwait 0\npost 2 barrier\nwait 1\n\
-                                rank 1\npost 2 barrier\nwait 0\npost 1 barrier\nwait 1\n";
 
 /// A writer that takes so many bytes and then fails.
 #[derive(Drop)]

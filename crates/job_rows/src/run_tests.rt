@@ -98,7 +98,7 @@ const ANY_AND_SOME: (&str, &str) = (
 );
 
 /// Two ranks wait for one another's first posts on two communicators.
-const CROSSED_BARRIERS: &str =
+pub(crate) const CROSSED_BARRIERS: &str =
     "ranks 2\ncomm 0 1\ncomm 0 1\nrank 0\npost 1 barrier\nwait 0\npost 2 barrier\nwait 1\n\
      rank 1\npost 2 barrier\nwait 0\npost 1 barrier\nwait 1\n";
 
