@@ -1,5 +1,5 @@
 -- A rank has as many active requests as it has posts and starts beyond its completions.
-use Rattle.std.proofs.Common.{◌≡◌, ℕ, zero, suc, ◌+◌, ◌<◌, ◌≤◌, ◌⊎◌, inl, inr, Bool, true, false, cond, eqb, List, [], ◌∷◌, ◌++◌, length, Option, Some, None, refl, sym, ap, subst, ◌∙◌, arith}
+use Rattle.std.proofs.Common.{◌≡◌, ℕ, zero, suc, ◌+◌, ◌<◌, ◌≤◌, ◌⊎◌, inl, inr, Bool, true, false, cond, eqb, List, [], ◌∷◌, ◌++◌, Option, Some, None, refl, sym, ap, subst, ◌∙◌, arith}
 use Rattle.std.specs.Prelude.{◌&&◌, count_by}
 use Rattle.std.proofs.lemmas.Bool.{cases_eq, eqb-true, eq-eqb, and_parts}
 use Rattle.std.proofs.lemmas.List.Sums.{sum_by-cons}
@@ -7,7 +7,7 @@ use Rattle.coll_kinds.specs.declared.kind.Mode.{Mode}
 use Rattle.coll_kinds.specs.declared.kind.Mode.TheVariants.{Once, Persistent}
 use Rattle.coll_kinds.specs.Puts.{put}
 use Rattle.coll_kinds.proofs.Puts.{put_same}
-use Rattle.coll_machine.specs.Settings.{Setting, AreGroups, group, size, rank_of}
+use Rattle.coll_machine.specs.Settings.{Setting, AreGroups}
 use Rattle.coll_machine.specs.States.{Request, State, nothing, key_of}
 use Rattle.coll_machine.specs.Changes.{new_request, once_more, rested, rested_by, holding}
 use Rattle.coll_machine.specs.Steps.{Clears}
@@ -20,7 +20,7 @@ use Rattle.coll_machine.proofs.Slots.{Slots, over_put, live_low}
 use Rattle.coll_machine.proofs.Tracing.{leads_push}
 use Rattle.coll_trace.specs.Told.{IsIdle}
 use Rattle.coll_report.specs.Traces.{completes_by}
-use Rattle.coll_shared.specs.Closings.{IsBusy, IsFirstBusy, begins_by}
+use Rattle.coll_shared.specs.Closings.{IsBusy, begins_by}
 
 abbrev one_if : Bool → ℕ
 one_if b = cond b 1 0

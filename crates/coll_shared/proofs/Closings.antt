@@ -1,24 +1,20 @@
 -- Closing an engine.
-use Rattle.std.proofs.Common.{◌≡◌, ℕ, suc, ◌+◌, ◌<◌, ◌⊎◌, inl, inr, Bool, false, List, [], ◌∷◌, ◌++◌, length, get_or, take, map, Option, Some, None, refl, sym, ap, subst, ◌∙◌, arith}
+use Rattle.std.proofs.Common.{◌≡◌, ℕ, suc, ◌+◌, ◌<◌, ◌⊎◌, inl, inr, Bool, false, List, [], ◌∷◌, ◌++◌, length, get_or, take, Option, Some, None, sym, ap, subst, ◌∙◌, arith}
 use Rattle.std.specs.Prelude.{◌↔◌, IfSome, IsNone, IsTrue}
-use Rattle.std.specs.List.{range_with_len}
 use Rattle.std.proofs.Math.Seq.{take-suc}
 use Rattle.std.proofs.lemmas.Bool.{cases_eq}
 use Rattle.std.proofs.lemmas.List.FromFn.{length-map-range_with_len, get_or-map-range_with_len, map-range_with_len_more}
-use Rattle.coll_kinds.specs.declared.refusal.Refusal.{Refusal}
 use Rattle.coll_machine.specs.Entries.{Entry}
 use Rattle.coll_machine.specs.Settings.{Setting, AreGroups}
-use Rattle.coll_machine.specs.States.{State}
-use Rattle.coll_machine.specs.Traces.{LegalTrace}
 use Rattle.coll_trace.specs.Told.{IsIdle}
 use Rattle.coll_core.specs.declared.config.Config.{Config}
 use Rattle.coll_core.specs.Configs.{setting_by}
 use Rattle.coll_core.specs.Cores.{Parts, seen, setting}
-use Rattle.coll_report.specs.Reports.{Closed, IsClosed}
+use Rattle.coll_report.specs.Reports.{IsClosed}
 use Rattle.coll_report.specs.Traces.{entries_of}
 use Rattle.coll_shared.specs.declared.spaces.Space.{Space}
-use Rattle.coll_shared.specs.Halls.{Hall, IsKept}
-use Rattle.coll_shared.specs.Closings.{IsBalanced, IsBusy, IsFirstBusy, IsClosing, Objects, ends_of}
+use Rattle.coll_shared.specs.Halls.{IsKept}
+use Rattle.coll_shared.specs.Closings.{IsBalanced, IsFirstBusy, ends_of}
 use Rattle.coll_shared.proofs.Balances.{balanced, unbalanced, all_balanced}
 
 abbrev pub Ends : Type 0

@@ -39,7 +39,7 @@ use Rattle.coll_core.specs.Works.{Made, Piece}
 use Rattle.coll_core.specs.declared.about.About.{About}
 use Rattle.coll_core.specs.Phases.{about_in, about_of}
 use Rattle.coll_core.specs.Cores.{Parts, seen, setting, tables}
-use Rattle.coll_shared.specs.declared.note.Note.{Note}
+use Rattle.coll_shared.specs.Notes.{Note}
 use Rattle.coll_shared.specs.declared.spaces.Space.{Space}
 use Rattle.coll_shared.specs.Halls.{Hall, IsKept, IsFull, Denies}
 use Rattle.coll_shared.specs.Spaced.{AreSpaced, Respaces}

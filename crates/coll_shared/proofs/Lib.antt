@@ -11,3 +11,4 @@ pub mod Closings
 pub mod Counting
 pub mod Telling
 pub mod Wishes
+pub mod Noting

@@ -1,5 +1,5 @@
 -- What the tests of requests tell once the lock is free.
-use Rattle.std.proofs.Common.{◌≡◌, ◌++◌, ℕ, Bool, true, false, not, List, [], length, drop, map, Option, Some, None, Vec, cond, is_some, refl, sym, ap, ◌∙◌}
+use Rattle.std.proofs.Common.{◌≡◌, ◌++◌, ℕ, Bool, true, false, not, List, [], length, drop, map, Option, Some, None, Vec, is_some, refl, sym, ap, ◌∙◌}
 use Rattle.std.specs.Prelude.{IfNone, IfSome, OnSome, if◌then◌else◌}
 use Rattle.std.specs.Bool.{OnFalse, OnTrue}
 use Rattle.std.specs.Global.{Global}

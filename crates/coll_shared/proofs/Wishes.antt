@@ -1,9 +1,9 @@
 -- What a port that waits for some of its requests is told.
-use Rattle.std.proofs.Common.{◌≡◌, ℕ, zero, suc, ◌<◌, ◌+◌, ◌++◌, Bool, true, false, cond, List, [], ◌∷◌, length, get_or, take, Option, Some, None, is_some, refl, sym, ap, subst, ◌∙◌, arith}
+use Rattle.std.proofs.Common.{◌≡◌, ℕ, zero, suc, ◌<◌, ◌+◌, ◌≤◌, ◌++◌, Bool, true, false, cond, List, [], ◌∷◌, length, get_or, take, drop, Option, Some, None, is_some, refl, sym, ap, subst, ◌∙◌, arith}
 use Rattle.std.specs.Prelude.{IfSome, filter, position}
 use Rattle.std.specs.List.{cons_option, list_any, range_with_len}
 use Rattle.std.proofs.lemmas.Bool.{false≢true}
-use Rattle.std.proofs.lemmas.List.{append-nil, take_more}
+use Rattle.std.proofs.lemmas.List.{append-nil, length-append, take-append-drop, take_more}
 use Rattle.std.proofs.lemmas.List.Elements.{filter_map-append}
 use Rattle.std.proofs.lemmas.List.FromFn.{get_or-range_with_len, length-range_with_len}
 use Rattle.std.proofs.lemmas.List.Quantifiers.{position-Some}
@@ -65,3 +65,20 @@ no_ticket (Some t) none = absurd (none t refl)
 pub none_added : (ts : List Ticket) (ticket : Option Ticket) → ((t : Ticket) → ticket ≡ Some t → ⊥)
     → ts ++ cons_option ticket [] ≡ ts
 none_added ts ticket none = ap (λ o. ts ++ cons_option o []) (no_ticket ticket none) ∙ append-nil ts
+
+-- the first requests have no more tickets than all
+pub length-tickets_in-take : (list : List (Option Ticket)) (i : ℕ) → length (tickets_in (take i list)) ≤ length (tickets_in list)
+length-tickets_in-take list i =
+    let whole : tickets_in list ≡ tickets_in (take i list) ++ tickets_in (drop i list) =
+    ap tickets_in (sym (take-append-drop i list)) ∙ filter_map-append (λ request. request) (take i list) (drop i list) in
+    let sum : length (tickets_in list) ≡ length (tickets_in (take i list)) + length (tickets_in (drop i list)) =
+    ap length whole ∙ length-append (tickets_in (take i list)) (tickets_in (drop i list)) in
+    omega arith
+
+-- a ticket that comes after the first makes one more
+pub length-tickets_more : (list : List (Option Ticket)) (i : ℕ) (r : Option Ticket) (t : Ticket) → i < length list
+    → r ≡ get_or list i r → Some t ≡ r → length (tickets_in (take i list)) < length (tickets_in list)
+length-tickets_more list i r t lt is same =
+    let more = ap length (tickets_more list i r (Some t) lt is same) ∙ length-append (tickets_in (take i list)) (t ∷ []) in
+    let whole = length-tickets_in-take list (i + 1) in
+    omega arith

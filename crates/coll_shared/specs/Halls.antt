@@ -10,7 +10,7 @@ use Rattle.coll_core.specs.declared.config.Config.{Config}
 use Rattle.coll_core.specs.Configs.{setting_by}
 use Rattle.coll_core.specs.Calls.{Refuses}
 use Rattle.coll_core.specs.Cores.{Parts, seen, setting}
-use Rattle.coll_shared.specs.declared.note.Note.{Note}
+use Rattle.coll_shared.specs.Notes.{Note}
 use Rattle.coll_shared.specs.declared.spaces.Space.{Space}
 use Rattle.coll_shared.specs.Spaced.{AreSpaced}
 

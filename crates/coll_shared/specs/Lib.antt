@@ -1,5 +1,6 @@
 -- what lies under the lock, what a caller sees of a port, and what its calls tell
 pub mod Halls
+pub mod Notes
 pub mod Ports
 pub mod Tests
 pub mod Wishes

@@ -6,8 +6,7 @@ use Rattle.coll_machine.specs.Refusals.{refusal}
 use Rattle.coll_core.specs.declared.phase.Phase.TheVariants.{Done}
 use Rattle.coll_core.specs.Cores.{Parts, seen, setting}
 use Rattle.coll_core.specs.Phases.{IsQuiet, phase_in}
-use Rattle.coll_shared.specs.declared.note.Note.{Note}
-use Rattle.coll_shared.specs.declared.note.Note.TheVariants.{Awake, Sleeps, SleepsForAny, Ended}
+use Rattle.coll_shared.specs.Notes.{Note, Awake, ForOne, ForAny, Ended}
 use Rattle.coll_shared.specs.Halls.{Hall}
 
 -- the ticket names a request of the rank that can be completed
@@ -17,8 +16,8 @@ IsDone p rank t = (refusal (setting p) (seen p).state (Retire rank t) ≡ None) 
 -- the port sleeps for what isn't the case, or has ended
 abbrev pub Rests : Parts → Note → Type 0
 Rests p Awake = ⊥
-Rests p (Sleeps rank t) = IsDone p rank t → ⊥
-Rests p (SleepsForAny rank ts) = All (λ t. IsDone p rank t → ⊥) ts.items
+Rests p (ForOne rank t) = IsDone p rank t → ⊥
+Rests p (ForAny rank ts) = All (λ t. IsDone p rank t → ⊥) ts
 Rests p Ended = Unit {0}
 
 -- no request is ready, no combination is handed out, and no port can go on

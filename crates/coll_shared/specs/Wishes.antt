@@ -1,14 +1,12 @@
 -- What a waiting port wants: what it notes before it sleeps, and what its wait and a progress thread may be given up for.
-use Rattle.std.specs.Prelude.{◌≡◌, ◌⊎◌, ℕ, List, Contains, filter_map, Option, Some, Vec}
-use Rattle.std.specs.Global.{Global}
+use Rattle.std.specs.Prelude.{◌≡◌, ◌⊎◌, ℕ, List, Contains, filter_map, Option, Some, slice_set}
 use Rattle.coll_kinds.specs.declared.refusal.Refusal.{Refusal}
 use Rattle.coll_kinds.specs.declared.refusal.Refusal.TheVariants.{NoMemory, Stale, Stalled}
 use Rattle.coll_kinds.specs.declared.ticket.Ticket.{Ticket}
 use Rattle.coll_machine.specs.States.{Machine}
 use Rattle.coll_core.specs.declared.phase.Phase.TheVariants.{Pending}
 use Rattle.coll_core.specs.Phases.{phase_in}
-use Rattle.coll_shared.specs.declared.note.Note.{Note}
-use Rattle.coll_shared.specs.declared.note.Note.TheVariants.{Sleeps, SleepsForAny}
+use Rattle.coll_shared.specs.Notes.{Note, ForOne, ForAny}
 use Rattle.coll_shared.specs.declared.wish.Wish.{Wish}
 use Rattle.coll_shared.specs.declared.wish.Wish.TheVariants as wish
 
@@ -17,8 +15,8 @@ use Rattle.coll_shared.specs.declared.wish.Wish.TheVariants as wish
 abbrev pub IsSetback : Refusal → Type 0
 IsSetback why = (why ≡ NoMemory) ⊎ (why ≡ Stale)
 
--- why a wait is given up whose requests aren't refused: it would sleep and nothing can go on any more; its note was refused
--- memory; or as a progress thread
+-- why a wait is given up whose requests aren't refused: it would sleep and nothing can go on any more; its list names a
+-- request twice, and memory for its note was refused; or as a progress thread
 abbrev pub IsHindrance : Refusal → Type 0
 IsHindrance why = (why ≡ Stalled) ⊎ IsSetback why
 
@@ -33,18 +31,18 @@ IsListed list t = Contains list (Some t)
 -- the port sleeps for one request of the list, which is Pending
 pub record SleepsForOne (m : Machine) (rank : ℕ) (list : List (Option Ticket)) (note : Note) : Type 0 where
   pub ticket : Ticket
-  pub note_is : note ≡ Sleeps rank ticket
+  pub note_is : note ≡ ForOne rank ticket
   pub listed : IsListed list ticket
   pub pending : phase_in m ticket ≡ Some Pending
 
--- the port sleeps for any request of the list
-pub record SleepsForList (rank : ℕ) (list : List (Option Ticket)) (note : Note) : Type 0 where
-  pub noted : Vec Ticket Global
-  pub note_is : note ≡ SleepsForAny rank noted
-  pub all : noted.items ≡ tickets_in list
-
 -- the port sleeps for what has to be before the wish is fulfilled
 abbrev pub IsNoteFor : Machine → ℕ → Wish → Note → Type 0
-IsNoteFor m rank (wish.One request) note = (t : Ticket) × (request.now ≡ Some t) × (note ≡ Sleeps rank t)
-IsNoteFor m rank (wish.Any requests) note = SleepsForList rank requests.now note
+IsNoteFor m rank (wish.One request) note = (t : Ticket) × (request.now ≡ Some t) × (note ≡ ForOne rank t)
+IsNoteFor m rank (wish.Any requests) note = note ≡ ForAny rank (tickets_in requests.now)
 IsNoteFor m rank (wish.All requests) note = SleepsForOne m rank requests.now note
+
+-- of all notes only the port's is made anew, for its wish
+pub record NotesFor (m : Machine) (rank : ℕ) (wanted : Wish) (old new : List Note) : Type 0 where
+  pub note : Note
+  pub is_for : IsNoteFor m rank wanted note
+  pub notes_are : new ≡ slice_set old rank note

@@ -62,7 +62,8 @@ impl<L: Entries> Engine<L> {
 }
 
 /// Opens an engine, with a port for each rank, in their order. `entries` names the ledger of the trace's entries, in as
-/// many parts as there are ranks.
+/// many parts as there are ranks. All memory for notes of what ports wait for is taken here: eight bytes for each slot at
+/// each port.
 ///
 /// # Errors
 ///

@@ -226,8 +226,8 @@ impl<L: Entries> Hall<L> {
     ///
     /// # Errors
     ///
-    /// NoMemory of a step, of a combination, which is given back, or of a note; Stale where a result isn't wanted any
-    /// longer; Stalled where it would sleep and nothing can go on any more.
+    /// NoMemory of a step, of a combination, which is given back, or of the note of a list that names a request twice;
+    /// Stale where a result isn't wanted any longer; Stalled where it would sleep and nothing can go on any more.
     fn go_on<R: Wait, G: Gate>(
         &self,
         rt: &R,
@@ -268,12 +268,12 @@ impl<L: Entries> Hall<L> {
     ) -> Result<u32, Refusal>
         ensures { IfErr result IsHindrance }
     {
-        let note = match shared.note_for(rank, wish) {
-            Ok(Some(note)) => note,
-            Ok(None) => return Ok(0),
+        match shared.note_for(rank, wish) {
+            Ok(true) => {}
+            Ok(false) => return Ok(0),
             Err(why) => return Err(why),
-        };
-        if !shared.lie_down(rank, note) {
+        }
+        if !shared.lie_down(rank) {
             self.call_all(shared);
             return Err(Refusal::Stalled);
         }

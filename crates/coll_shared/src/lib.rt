@@ -17,13 +17,16 @@
 //! | `closing` | `close`, which ends an engine and makes its report |
 //! | `vacant` | `Vacant`, what is left of an engine that was closed |
 //! | `balance` | what a trace tells of its ranks when the engine is to be closed |
-//! | `note` | `Note`, what a port waits for |
+//! | `notes` | `Notes`, what each port waits for |
+//! | `bed` | `Bed`, what one port waits for, with memory for a list |
+//! | `rest` | `Rest`, how a port rests |
 //! | `wish` | `Wish`, what a waiting port wants |
 //! | `spent` | `Spent`, what is left of a port |
 //! | `shared` | `Shared`, the core with its trace, and the calls on both |
 #![tactic(auto)]
 
 mod balance;
+mod bed;
 mod closing;
 mod doors;
 mod engine;
@@ -31,10 +34,11 @@ mod gate;
 mod groups;
 mod hall;
 mod kept;
-mod note;
+mod notes;
 mod port;
 mod receipt;
 mod receipts;
+mod rest;
 mod shared;
 mod spaces;
 mod spent;
@@ -47,7 +51,6 @@ pub use closing::close;
 pub use engine::{Engine, open};
 pub use gate::{Gate, NoGate};
 pub use kept::Kept;
-pub use note::Note;
 pub use port::Port;
 pub use receipt::Receipt;
 pub use receipts::Receipts;

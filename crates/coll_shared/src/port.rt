@@ -12,7 +12,7 @@ ghost use Rattle.coll_shared.specs.Ports.{group_at, opened, unseated};
 
 use crate::groups::seat;
 use crate::hall::Hall;
-use crate::note::Note;
+use crate::rest::Rest;
 use crate::spent::Spent;
 use crate::tally::{Entries, Tally};
 use coll_kinds::{Refusal, Signature};
@@ -114,7 +114,7 @@ impl<L: Entries> Port<L> {
         } = self;
         let hall: &Hall<L> = &*hall;
         let mut shared = hall.enter(rt);
-        shared.note(rank, Note::Ended);
+        shared.note(rank, Rest::Ended);
         hall.call_all(shared);
         Spent::new(rank, tally)
     }

@@ -16,9 +16,10 @@ ghost use Rattle.coll_machine.specs.States.{found};
 ghost use Rattle.coll_core.specs.Configs.{idle, setting_by, IsUnopened};
 ghost use Rattle.coll_core.specs.Cores.{seen, setting};
 ghost use Rattle.coll_core.specs.Phases.{about_in};
+ghost use Rattle.coll_shared.specs.Notes.{Awake};
 
 use crate::groups::copied_config;
-use crate::note::Note;
+use crate::notes::Notes;
 use crate::spaces::Spaces;
 use crate::tally::Entries;
 use crate::trace::Trace;
@@ -37,7 +38,7 @@ pub struct Shared<L: Entries> {
     core: Core,
     trace: Trace<L>,
     spaces: Spaces,
-    notes: Vec<Note>,
+    notes: Notes,
     stalled: bool,
     stopped: bool,
     unsettled: bool,
@@ -50,7 +51,7 @@ impl<L: Entries> Model for Shared<L> {
 
     ghost Value = { Hall };
 
-    ghost view = { λ s. record { core = s.core; entries = s.trace.entries; notes = s.notes.items; stalled = s.stalled } };
+    ghost view = { λ s. record { core = s.core; entries = s.trace.entries; notes = s.notes.notes; stalled = s.stalled } };
 
     ghost invariant = { λ s. IsKept L.ranks s.config s.core s.trace.entries s.trace.reserved s.spaces.slots.items };
 }
@@ -66,18 +67,6 @@ fn live(core: &Core, ticket: Ticket) -> About
     }
 }
 
-/// The notes of so many ports that are awake.
-fn awake(alloc: Global, ranks: u8) -> Result<Vec<Note>, Refusal>
-    ensures notes { IfOk result (λ notes. notes.items ≡ replicate ranks Note.Awake) }
-    ensures refused { IfErr result (λ why. why ≡ Refusal.NoMemory) }
-{
-    let mut notes = Vec::with_capacity(alloc, ranks as usize)?;
-    for _rank in 0..ranks {
-        notes.push_reserved(Note::Awake);
-    }
-    Ok(notes)
-}
-
 impl<L: Entries> Shared<L> {
     /// An engine without requests, and an empty trace.
     ///
@@ -90,13 +79,13 @@ impl<L: Entries> Shared<L> {
         ensures setting { IfOk result (λ shared. setting shared.core ≡ setting_by config) }
         ensures idle { IfOk result (λ shared. seen shared.core ≡ idle) }
         ensures entries { IfOk result (λ shared. shared.entries ≡ []) }
-        ensures notes { IfOk result (λ shared. shared.notes ≡ replicate config.ranks Note.Awake) }
+        ensures notes { IfOk result (λ shared. shared.notes ≡ replicate config.ranks Awake) }
         ensures refused { IfErr result (IsUnopened config) }
     {
         config.check()?;
         let copy = copied_config(alloc, &config)?;
         let spaces = Spaces::open(alloc, config.slots)?;
-        let notes = awake(alloc, config.ranks)?;
+        let notes = Notes::open(alloc, config.ranks, config.slots)?;
         let core = Core::open(alloc, config)?;
         Ok(Shared {
             alloc,

@@ -1,81 +1,14 @@
 //! Notes of who sleeps for what, the marks of a stall and of the stop, and the count of pieces.
 
-ghost use Rattle.std.specs.Prelude.{◌≡◌, ◌↔◌, All, IsTrue, false, slice_set, true};
+ghost use Rattle.std.specs.Prelude.{◌≡◌, [], ◌↔◌, IsTrue, slice_set, true};
 ghost use Rattle.std.specs.Bool.{OnFalse, OnTrue};
-ghost use Rattle.coll_shared.specs.Stalls.{IsDone, IsStalled, Rests};
+ghost use Rattle.coll_shared.specs.Notes.{Awake, note_of};
+ghost use Rattle.coll_shared.specs.Stalls.{IsStalled};
 
 use crate::doors::Ranks;
-use crate::note::Note;
+use crate::rest::Rest;
 use crate::shared::Shared;
 use crate::tally::Entries;
-use coll_core::{Core, Phase};
-use coll_kinds::Ticket;
-
-/// Whether the ticket names a request of the rank that can be completed.
-fn is_done(core: &Core, rank: u8, ticket: Ticket) -> bool
-    ensures { IsTrue result ↔ IsDone core.now rank ticket }
-{
-    match core.phase(rank, ticket) {
-        Ok(Phase::Idle) => false,
-        Ok(Phase::Pending) => false,
-        Ok(Phase::Done) => true,
-        Err(_) => false,
-    }
-}
-
-/// Whether none of the tickets names a request of the rank that can be completed.
-fn none_is_done(core: &Core, rank: u8, tickets: &[Ticket]) -> bool
-    ensures { IsTrue result ↔ All (λ t. IsDone core.now rank t → ⊥) tickets.now }
-{
-    tickets.iter().all(|ticket| !is_done(core, rank, *ticket))
-}
-
-/// Whether the note is of a port that sleeps for what isn't the case, or has ended.
-fn rests(core: &Core, note: &Note) -> bool
-    ensures { IsTrue result ↔ Rests core.now note.now }
-{
-    match note {
-        Note::Awake => false,
-        Note::Sleeps { rank, ticket } => !is_done(core, *rank, *ticket),
-        Note::SleepsForAny { rank, tickets } => none_is_done(core, *rank, tickets),
-        Note::Ended => true,
-    }
-}
-
-fn all_rest(core: &Core, notes: &[Note]) -> bool
-    ensures { IsTrue result ↔ All (Rests core.now) notes.now }
-{
-    notes.iter().all(|note| rests(core, note))
-}
-
-/// Notes that the ports wake which wait for what is the case now, and answers their ranks.
-fn roused(core: &Core, notes: &mut [Note]) -> Ranks {
-    let mut called = 0u64;
-    for rank in 0..64u8 {
-        let Some(note) = notes.get_mut(usize::from(rank)) else {
-            break;
-        };
-        if !matches!(note, Note::Awake) && !rests(core, note) {
-            called |= 1u64 << rank;
-            *note = Note::Awake;
-        }
-    }
-    Ranks(called)
-}
-
-/// The ranks of the ports that wait.
-fn sleeping(notes: &[Note]) -> Ranks {
-    let mut called = 0u64;
-    for rank in 0..64u8 {
-        match notes.get(usize::from(rank)) {
-            Some(Note::Sleeps { .. }) => called |= 1u64 << rank,
-            Some(Note::SleepsForAny { .. }) => called |= 1u64 << rank,
-            Some(_) => {}
-            None => break,
-        }
-    }
-    Ranks(called)
-}
 
 impl<L: Entries> Shared<L> {
     /// Whether nothing can go on: no request is ready, no combination is handed out, and each port has ended or sleeps
@@ -83,41 +16,38 @@ impl<L: Entries> Shared<L> {
     pub fn stall_now(&self) -> bool
         ensures { IsTrue result ↔ IsStalled self.now }
     {
-        self.core.quiet() && all_rest(&self.core, &self.notes)
+        self.core.quiet() && self.notes.all_rest(&self.core)
     }
 
-    /// Notes what a port waits for. A number that is no rank is left out.
-    pub fn note(&mut self, rank: u8, note: Note)
+    /// Notes how a port rests that sleeps for no list. A number that is no rank is left out.
+    pub(crate) fn note(&mut self, rank: u8, rest: Rest)
         ensures core { self.new.core ≡ self.old.core }
         ensures entries { self.new.entries ≡ self.old.entries }
-        ensures notes { self.new.notes ≡ slice_set self.old.notes rank note }
+        ensures notes { self.new.notes ≡ slice_set self.old.notes rank (note_of rest []) }
         ensures stalled { self.new.stalled ≡ self.old.stalled }
     {
-        if (rank as usize) < self.notes.len() {
-            self.notes[rank as usize] = note;
-        }
+        self.notes.put(rank, rest);
     }
 
     /// Notes that a port is awake.
     pub(crate) fn rise(&mut self, rank: u8)
         ensures core { self.new.core ≡ self.old.core }
         ensures entries { self.new.entries ≡ self.old.entries }
-        ensures notes { self.new.notes ≡ slice_set self.old.notes rank Note.Awake }
+        ensures notes { self.new.notes ≡ slice_set self.old.notes rank Awake }
         ensures stalled { self.new.stalled ≡ self.old.stalled }
     {
-        self.note(rank, Note::Awake);
+        self.note(rank, Rest::Awake);
     }
 
-    /// Notes that a port sleeps, unless nothing could go on then: the note is taken back, and the engine is marked as
-    /// stalled for good. Answers whether it may sleep.
-    pub(crate) fn lie_down(&mut self, rank: u8, note: Note) -> bool
+    /// Whether a port may sleep whose note was just made. Where nothing could go on then the note is taken back, and the
+    /// engine is marked as stalled for good.
+    pub(crate) fn lie_down(&mut self, rank: u8) -> bool
         ensures core { self.new.core ≡ self.old.core }
         ensures entries { self.new.entries ≡ self.old.entries }
-        ensures sleeps { OnTrue result ((self.new.notes ≡ slice_set self.old.notes rank note) × (IsStalled self.new → ⊥)) }
-        ensures awake { OnFalse result (self.new.notes ≡ slice_set self.old.notes rank Note.Awake) }
+        ensures sleeps { OnTrue result ((self.new.notes ≡ self.old.notes) × (IsStalled self.new → ⊥)) }
+        ensures awake { OnFalse result (self.new.notes ≡ slice_set self.old.notes rank Awake) }
         ensures stalled { OnFalse result (self.new.stalled ≡ true) }
     {
-        self.note(rank, note);
         if !self.stalled && !self.stall_now() {
             return true;
         }
@@ -132,12 +62,12 @@ impl<L: Entries> Shared<L> {
         ensures entries { self.new.entries ≡ self.old.entries }
         ensures stalled { self.new.stalled ≡ self.old.stalled }
     {
-        roused(&self.core, &mut self.notes)
+        self.notes.rouse(&self.core)
     }
 
     /// The ranks that wait. Linear in the ports.
     pub(crate) fn waiting(&self) -> Ranks {
-        sleeping(&self.notes)
+        self.notes.sleeping()
     }
 
     /// Notes whether requests may be ready.

@@ -1,46 +1,22 @@
 //! What a waiting port asks under one hold of the lock: whether its wish is fulfilled, and else for what it is to sleep.
 
-ghost use Rattle.std.specs.Prelude.{◌≡◌, ◌+◌, ◌<◌, ◌≤◌, IfErr, IfOk, IfSome, IsNone, None, OnErr, Some, length, option_map, slice_set, true, vec_capacity, vec_len};
+ghost use Rattle.std.specs.Prelude.{◌≡◌, ◌+◌, ◌<◌, ◌≤◌, IfErr, IfOk, IfSome, IsNone, IsTrue, None, OnErr, Some, false, length, slice_set, true, vec_capacity, vec_len};
 ghost use Rattle.coll_core.specs.Cores.{seen};
 ghost use Rattle.coll_core.specs.Phases.{phase_in};
 ghost use Rattle.coll_core.specs.declared.phase.Phase.TheVariants.{Pending};
 ghost use Rattle.coll_complete.specs.Requests.{AreDistinct};
+ghost use Rattle.coll_shared.specs.Notes.{Awake, ForOne};
 ghost use Rattle.coll_shared.specs.Tests.{RefusesList, RefusesOne, TestsAll, TestsAny, TestsOne, TestsSome, any_of};
-ghost use Rattle.coll_shared.specs.Wishes.{IsListed, IsNoteFor, tickets_in};
+ghost use Rattle.coll_shared.specs.Wishes.{IsListed, NotesFor};
 
-use crate::note::Note;
 use crate::receipts::Receipts;
+use crate::rest::Rest;
 use crate::shared::Shared;
 use crate::tally::{Entries, Tally};
 use crate::wish::Wish;
 use coll_complete::{Any, Request};
 use coll_core::{Outcome, Phase};
 use coll_kinds::{Refusal, Ticket};
-use std::alloc::Global;
-
-/// The note of a port that sleeps for a request, if there is one.
-fn asleep(rank: u8, ticket: Option<Ticket>) -> Option<Note>
-    ensures { result ≡ option_map (Note.Sleeps rank) ticket }
-{
-    match ticket {
-        Some(ticket) => Some(Note::Sleeps { rank, ticket }),
-        None => None,
-    }
-}
-
-/// The tickets of the requests that aren't null, in their order.
-fn tickets_of(alloc: Global, requests: &[Request]) -> Result<Vec<Ticket>, Refusal>
-    ensures tickets { IfOk result (λ v. v.items ≡ tickets_in requests.now) }
-    ensures refused { IfErr result (λ why. why ≡ Refusal.NoMemory) }
-{
-    let mut tickets = Vec::with_capacity(alloc, requests.len())?;
-    for request in requests {
-        if let Some(ticket) = request.ticket() {
-            tickets.push(ticket)?;
-        }
-    }
-    Ok(tickets)
-}
 
 impl<L: Entries> Shared<L> {
     /// `tested` by a port that is awake again, unless the request is Pending: then None.
@@ -50,7 +26,7 @@ impl<L: Entries> Shared<L> {
         rank: u8,
         request: &mut Request,
     ) -> Result<Option<(Option<Outcome>, Receipts)>, Refusal>
-        ensures awake { (self.new.notes ≡ slice_set self.old.notes rank Note.Awake) × (self.new.stalled ≡ self.old.stalled) }
+        ensures awake { (self.new.notes ≡ slice_set self.old.notes rank Awake) × (self.new.stalled ≡ self.old.stalled) }
         ensures told { IfOk result (λ found. IfSome found (λ r. TestsOne rank request.old request.new true r.0 r.1)) }
         ensures counted { IfOk result (λ found. IfSome found (λ r. IfSome r.0 (λ outcome. mine.new ≡ mine.old + 1))) }
         ensures none { IfOk result (λ found. IfSome found (λ r. r.0 ≡ None → mine.new ≡ mine.old)) }
@@ -77,7 +53,7 @@ impl<L: Entries> Shared<L> {
         rank: u8,
         requests: &mut [Request],
     ) -> Result<Option<(Option<(usize, Outcome)>, Receipts)>, Refusal>
-        ensures awake { (self.new.notes ≡ slice_set self.old.notes rank Note.Awake) × (self.new.stalled ≡ self.old.stalled) }
+        ensures awake { (self.new.notes ≡ slice_set self.old.notes rank Awake) × (self.new.stalled ≡ self.old.stalled) }
         ensures told { IfOk result (λ found. IfSome found (λ r. TestsAny rank requests.old requests.new (any_of r.0) r.1)) }
         ensures counted { IfOk result (λ found. IfSome found (λ r. IfSome r.0 (λ at. mine.new ≡ mine.old + 1))) }
         ensures none { IfOk result (λ found. IfSome found (λ r. r.0 ≡ None → mine.new ≡ mine.old)) }
@@ -107,7 +83,7 @@ impl<L: Entries> Shared<L> {
     ) -> Result<Option<Receipts>, Refusal>
         requires distinct { AreDistinct requests.old }
         requires room { vec_len out.old + length requests.old ≤ vec_capacity out.old }
-        ensures awake { (self.new.notes ≡ slice_set self.old.notes rank Note.Awake) × (self.new.stalled ≡ self.old.stalled) }
+        ensures awake { (self.new.notes ≡ slice_set self.old.notes rank Awake) × (self.new.stalled ≡ self.old.stalled) }
         ensures told { IfOk result (λ found. IfSome found (λ r. TestsAll rank requests.old requests.new out.old.items out.new.items true r)) }
         ensures counted { IfOk result (λ found. IfSome found (λ r. mine.new + vec_len out.old ≡ mine.old + vec_len out.new)) }
         ensures waits { IfOk result (λ found. IsNone found → (requests.new ≡ requests.old) × (out.new ≡ out.old) × (mine.new ≡ mine.old)) }
@@ -132,7 +108,7 @@ impl<L: Entries> Shared<L> {
     ) -> Result<Option<(Option<usize>, Receipts)>, Refusal>
         requires distinct { AreDistinct requests.old }
         requires room { vec_len out.old + length requests.old ≤ vec_capacity out.old }
-        ensures awake { (self.new.notes ≡ slice_set self.old.notes rank Note.Awake) × (self.new.stalled ≡ self.old.stalled) }
+        ensures awake { (self.new.notes ≡ slice_set self.old.notes rank Awake) × (self.new.stalled ≡ self.old.stalled) }
         ensures told { IfOk result (λ found. IfSome found (λ r. TestsSome rank requests.old requests.new out.old.items out.new.items r.0 r.1)) }
         ensures some { IfOk result (λ found. IfSome found (λ r. IfSome r.0 (λ n. 0 < n))) }
         ensures counted { IfOk result (λ found. IfSome found (λ r. IfSome r.0 (λ n. mine.new ≡ mine.old + n))) }
@@ -171,21 +147,45 @@ impl<L: Entries> Shared<L> {
         None
     }
 
-    /// For what a port is to sleep, as long as its wish isn't fulfilled; None where it needn't sleep.
+    /// Notes that a port sleeps until the request is Done, if there is one, and answers whether there is.
+    fn note_one(&mut self, rank: u8, ticket: Option<Ticket>) -> bool
+        ensures core { self.new.core ≡ self.old.core }
+        ensures entries { self.new.entries ≡ self.old.entries }
+        ensures some { IfSome ticket (λ t. (result ≡ true) × (self.new.notes ≡ slice_set self.old.notes rank (ForOne rank t))) }
+        ensures none { IsNone ticket → (result ≡ false) × (self.new.notes ≡ self.old.notes) }
+        ensures stalled { self.new.stalled ≡ self.old.stalled }
+    {
+        match ticket {
+            Some(ticket) => {
+                self.note(rank, Rest::ForOne { rank, ticket });
+                true
+            }
+            None => false,
+        }
+    }
+
+    /// Notes for what a port is to sleep, as long as its wish isn't fulfilled. Answers whether it needs to sleep.
     ///
     /// # Errors
     ///
-    /// NoMemory.
-    pub(crate) fn note_for(&self, rank: u8, wish: Wish<'_>) -> Result<Option<Note>, Refusal>
-        ensures note { IfOk result (λ found. IfSome found (IsNoteFor (seen self.now.core) rank wish.entry)) }
+    /// NoMemory, for a list of more tickets than the engine has slots: one that names a request twice.
+    pub(crate) fn note_for(&mut self, rank: u8, wish: Wish<'_>) -> Result<bool, Refusal>
+        ensures core { self.new.core ≡ self.old.core }
+        ensures entries { self.new.entries ≡ self.old.entries }
+        ensures note { IfOk result (λ sleeps. sleeps ≡ true → NotesFor (seen self.old.core) rank wish.entry self.old.notes self.new.notes) }
+        ensures stalled { self.new.stalled ≡ self.old.stalled }
         ensures refused { IfErr result (λ why. why ≡ Refusal.NoMemory) }
+        ensures err { OnErr result (self.new.notes ≡ slice_set self.old.notes rank Awake) }
     {
         match wish {
-            Wish::One(request) => Ok(asleep(rank, request.ticket())),
-            Wish::All(requests) => Ok(asleep(rank, self.last_pending(rank, requests))),
+            Wish::One(request) => Ok(self.note_one(rank, request.ticket())),
+            Wish::All(requests) => {
+                let last = self.last_pending(rank, requests);
+                Ok(self.note_one(rank, last))
+            }
             Wish::Any(requests) => {
-                let tickets = tickets_of(self.alloc, requests)?;
-                Ok(Some(Note::SleepsForAny { rank, tickets }))
+                self.notes.put_list(rank, requests)?;
+                Ok(true)
             }
         }
     }

@@ -1,4 +1,4 @@
-use Rattle.std.proofs.Common.{◌≡◌, ◌∙◌, ◌<◌, length, rules, sym, ap, arith}
+use Rattle.std.proofs.Common.{◌∙◌, ◌<◌, rules, sym, ap, arith}
 use Rattle.std.proofs.lemmas.Bool.{false≢true}
 use Rattle.coll_report.specs.Views.{trace_seen}
 use Rattle.coll_shared.proofs.Closings.{ends_len, ends_at, ends_more, wrong_end}

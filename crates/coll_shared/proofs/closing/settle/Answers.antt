@@ -1,4 +1,4 @@
-use Rattle.std.proofs.Common.{◌≡◌, ◌∙◌, length, refl, sym, ap}
+use Rattle.std.proofs.Common.{◌∙◌, length, refl, sym, ap}
 use Rattle.coll_shared.proofs.Closings.{ends_len}
 use Rattle.coll_shared.proofs.closing.settle.Goals as goal
 

@@ -1,4 +1,4 @@
-use Rattle.std.proofs.Common.{◌≡◌, ◌∙◌, ap, sym, subst, map, length}
+use Rattle.std.proofs.Common.{◌∙◌, ap, map}
 use Rattle.std.specs.List.{range_with_len}
 use Rattle.coll_report.specs.Views.{groups_seen}
 use Rattle.coll_shared.specs.Ports.{opened}

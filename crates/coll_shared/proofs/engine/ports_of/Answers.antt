@@ -1,7 +1,7 @@
-use Rattle.std.proofs.Common.{◌≡◌, ◌+◌, ◌++◌, ◌∷◌, [], rules, sym, ap, ◌∙◌, arith}
+use Rattle.std.proofs.Common.{◌≡◌, ◌++◌, ◌∷◌, [], rules, sym, ap, ◌∙◌, arith}
 use Rattle.std.proofs.lemmas.List.FromFn.{map-range_with_len_more}
 use Rattle.coll_report.specs.Views.{groups_seen}
-use Rattle.coll_shared.specs.Ports.{Holding, opened}
+use Rattle.coll_shared.specs.Ports.{opened}
 use Rattle.coll_shared.proofs.engine.ports_of.Goals as goal
 
 pub loop-rank-preserved : goal.loop-rank-preserved

@@ -1,4 +1,4 @@
-use Rattle.std.proofs.Common.{◌≡◌, ◌∙◌, ◌<◌, length, sym, arith}
+use Rattle.std.proofs.Common.{◌∙◌, ◌<◌, length, sym, arith}
 use Rattle.coll_shared.proofs.Seats.{seated, unknown}
 use Rattle.coll_shared.proofs.groups.seat.Goals as goal
 

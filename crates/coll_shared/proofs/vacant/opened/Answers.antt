@@ -1,4 +1,4 @@
-use Rattle.std.proofs.Common.{◌≡◌, [], refl, ap}
+use Rattle.std.proofs.Common.{[], refl, ap}
 use Rattle.coll_machine.specs.Settings.{Setting}
 use Rattle.coll_shared.proofs.Halls.{opened_kept}
 use Rattle.coll_shared.proofs.vacant.opened.Goals as goal

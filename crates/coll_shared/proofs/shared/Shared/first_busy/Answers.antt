@@ -1,4 +1,4 @@
-use Rattle.std.proofs.Common.{◌≡◌, ap, subst}
+use Rattle.std.proofs.Common.{subst}
 use Rattle.std.specs.Prelude.{IfSome, IsNone}
 use Rattle.coll_core.specs.Cores.{seen}
 use Rattle.coll_trace.specs.Told.{IsIdle}

@@ -1,4 +1,4 @@
-use Rattle.std.proofs.Common.{◌≡◌, ap, subst, sym}
+use Rattle.std.proofs.Common.{ap, subst, sym}
 use Rattle.coll_core.specs.Configs.{setting_by}
 use Rattle.coll_core.specs.Cores.{seen}
 use Rattle.coll_trace.specs.Told.{IsIdle}

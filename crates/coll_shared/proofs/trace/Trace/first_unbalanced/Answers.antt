@@ -1,4 +1,4 @@
-use Rattle.std.proofs.Common.{◌≡◌, ℕ, ◌<◌, List, ap, subst, ◌∙◌}
+use Rattle.std.proofs.Common.{ℕ, ◌<◌, List, ap, subst, ◌∙◌}
 use Rattle.std.specs.Prelude.{IfSome, IsNone}
 use Rattle.coll_machine.specs.Entries.{Entry}
 use Rattle.coll_report.specs.Views.{trace_seen}

@@ -1,0 +1,14 @@
+use coll_kinds::Ticket;
+
+/// How a port rests.
+#[derive(Clone, Copy, Debug)]
+pub(crate) enum Rest {
+    /// Not at all: its thread runs.
+    Awake,
+    /// It sleeps until the request of the rank is Done.
+    ForOne { rank: u8, ticket: Ticket },
+    /// It sleeps until one of the requests of the rank is Done that are listed beside.
+    ForAny { rank: u8 },
+    /// It was finished.
+    Ended,
+}
