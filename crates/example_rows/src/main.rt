@@ -1,5 +1,5 @@
-//! Answers the stored examples, directly and by threads: each job text of the folder that this program runs in, against the lines or the
-//! fault that are stored beside it. It prints one line for each text.
+//! Answers the stored examples, directly and by threads: each job text of the folder that this program runs in, against
+//! the lines or the fault that are stored beside it. It prints one line for each text.
 #![tactic(auto)]
 
 mod example;
