@@ -48,7 +48,7 @@ impl<L: Entries> Port<L> {
     /// # Errors
     ///
     /// Stale where a ticket names no live request, NotYours where it names another rank's: that of the first such request;
-    /// then as `wait`, and NoMemory also of what it notes before it sleeps.
+    /// then as `wait`; and where the list names a request more than once, NoMemory also of what it notes before it sleeps.
     pub fn wait_any<R: Wait, G: Gate>(
         &mut self,
         rt: &R,
@@ -99,7 +99,7 @@ impl<L: Entries> Port<L> {
     ///
     /// # Errors
     ///
-    /// As `wait_any`.
+    /// Of the list as `wait_any`, and then as `wait`.
     pub fn wait_some<R: Wait, G: Gate>(
         &mut self,
         rt: &R,
