@@ -1,5 +1,5 @@
 -- What a waiting port wants: what it notes before it sleeps, and what its wait and a progress thread may be given up for.
-use Rattle.std.specs.Prelude.{◌≡◌, ◌⊎◌, ℕ, List, Contains, filter_map, Option, Some, slice_set}
+use Rattle.std.specs.Prelude.{◌≡◌, ◌⊎◌, ℕ, List, Contains, filter_map, Option, None, Some, slice_set}
 use Rattle.coll_kinds.specs.declared.refusal.Refusal.{Refusal}
 use Rattle.coll_kinds.specs.declared.refusal.Refusal.TheVariants.{NoMemory, Stale, Stalled}
 use Rattle.coll_kinds.specs.declared.ticket.Ticket.{Ticket}
@@ -40,6 +40,12 @@ abbrev pub IsNoteFor : Machine → ℕ → Wish → Note → Type 0
 IsNoteFor m rank (wish.One request) note = (t : Ticket) × (request.now ≡ Some t) × (note ≡ ForOne rank t)
 IsNoteFor m rank (wish.Any requests) note = note ≡ ForAny rank (tickets_in requests.now)
 IsNoteFor m rank (wish.All requests) note = SleepsForOne m rank requests.now note
+
+-- the port needs no sleep, since it waits for no request; of a wish for all of a list this tells nothing
+abbrev pub NeedsNoSleep : Wish → Type 0
+NeedsNoSleep (wish.One request) = request.now ≡ None
+NeedsNoSleep (wish.Any requests) = ⊥
+NeedsNoSleep (wish.All requests) = Unit {0}
 
 -- of all notes only the port's is made anew, for its wish
 pub record NotesFor (m : Machine) (rank : ℕ) (wanted : Wish) (old new : List Note) : Type 0 where

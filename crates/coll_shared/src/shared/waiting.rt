@@ -7,7 +7,7 @@ ghost use Rattle.coll_core.specs.declared.phase.Phase.TheVariants.{Pending};
 ghost use Rattle.coll_complete.specs.Requests.{AreDistinct};
 ghost use Rattle.coll_shared.specs.Notes.{Awake, ForOne};
 ghost use Rattle.coll_shared.specs.Tests.{RefusesList, RefusesOne, TestsAll, TestsAny, TestsOne, TestsSome, any_of};
-ghost use Rattle.coll_shared.specs.Wishes.{IsListed, NotesFor};
+ghost use Rattle.coll_shared.specs.Wishes.{IsListed, NeedsNoSleep, NotesFor};
 
 use crate::receipts::Receipts;
 use crate::rest::Rest;
@@ -173,6 +173,7 @@ impl<L: Entries> Shared<L> {
         ensures core { self.new.core ≡ self.old.core }
         ensures entries { self.new.entries ≡ self.old.entries }
         ensures note { IfOk result (λ sleeps. sleeps ≡ true → NotesFor (seen self.old.core) rank wish.entry self.old.notes self.new.notes) }
+        ensures sleepless { IfOk result (λ sleeps. sleeps ≡ false → NeedsNoSleep wish.entry) }
         ensures stalled { self.new.stalled ≡ self.old.stalled }
         ensures refused { IfErr result (λ why. why ≡ Refusal.NoMemory) }
         ensures err { OnErr result (self.new.notes ≡ slice_set self.old.notes rank Awake) }
