@@ -1,5 +1,6 @@
 -- A slot whose request was written, and which then went to another list.
-use Rattle.std.proofs.Common.{◌≡◌, ◌∙◌, ◌<◌, ℕ, suc, Bool, true, Option, Some, ap, refl, subst}
+use Rattle.std.proofs.Common.{◌≡◌, ◌∙◌, ◌<◌, ◌&&◌, ◌==◌, ℕ, suc, Bool, true, Option, Some, ap, refl, sym, subst, eqb-true}
+use Rattle.std.proofs.lemmas.Bool.{and_parts}
 use Rattle.coll_kinds.specs.declared.ticket.Ticket.{Ticket}
 use Rattle.coll_kinds.specs.Puts.{put}
 use Rattle.coll_kinds.proofs.Puts.{put_put, put_same}
@@ -9,7 +10,7 @@ use Rattle.coll_arena.specs.Changes.{rewritten}
 use Rattle.coll_arena.specs.Lookups.{PutsSlot}
 use Rattle.coll_arena.specs.Slots.{Slots, count, generation_of, home, names, record_in, weight_of}
 use Rattle.coll_arena.specs.Sound.{IsSound}
-use Rattle.coll_arena.proofs.Lookups.{PutsSlot-rewritten}
+use Rattle.coll_arena.proofs.Lookups.{PutsSlot-rewritten, put-own, still-out}
 use Rattle.coll_arena.proofs.Sounds.{Named-names}
 use Rattle.coll_match.specs.Instances.{mail}
 use Rattle.coll_tables.specs.Requests.{Live}
@@ -40,6 +41,27 @@ puts_written a b i gen w list y o sound low p = record {
 
 pub record_written : (a : Slots Request) (i : ℕ) (y : Request) → IsSound a → i < count a → record_in (rewritten a i y) i ≡ Some y
 record_written a i y sound low = ap (λ (f : ℕ → Option Request). f i) (PutsSlot-rewritten a sound i low y).records ∙ put_same (record_in a) i (Some y)
+
+-- a request that is on that list lies there without a move
+pub placed : (a : Slots Request) (t : Ticket) (list : ℕ) → IsSound a
+    → (names a t && (home a t.slot == list)) ≡ true
+    → PutsSlot a a t.slot t.generation (weight_of a t.slot) (record_in a t.slot) list
+placed a t list sound on =
+    let both = and_parts (names a t) (home a t.slot == list) on in
+    let named = Named-names a t both.0 in
+    let there = eqb-true (home a t.slot) list both.1 in
+    record {
+      count_is = refl;
+      comms_is = refl;
+      wear_is = refl;
+      generations = put-own (generation_of a) t.slot ∙ ap (put (generation_of a) t.slot) named.generation;
+      weights = put-own (weight_of a) t.slot;
+      records = put-own (record_in a) t.slot;
+      homes = put-own (home a) t.slot ∙ ap (put (home a) t.slot) there;
+      lists_is = refl;
+      others = λ other off away. refl;
+      from = λ other away. sym (still-out (count a) t.slot a.lists sound.lawful other (λ same. away (same ∙ there)));
+    }
 
 pub gone_on : (a b : Slots Request) (n : Instances) (t : Ticket) (x y : Request) (list : ListName) (finished : Bool)
     → IsSound a → names a t ≡ true → record_in a t.slot ≡ Some x

@@ -101,14 +101,4 @@ impl Bed {
             Rest::Ended => true,
         }
     }
-
-    /// Whether the port is awake.
-    pub(crate) fn is_awake(&self) -> bool {
-        matches!(self.rest, Rest::Awake)
-    }
-
-    /// Whether the port sleeps.
-    pub(crate) fn sleeps(&self) -> bool {
-        matches!(self.rest, Rest::ForOne { .. } | Rest::ForAny { .. })
-    }
 }

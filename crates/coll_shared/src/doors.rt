@@ -17,7 +17,27 @@ pub(crate) struct Doors {
 #[derive(Clone, Copy, Debug, PartialEq, Eq)]
 pub(crate) struct Ranks(pub(crate) u64);
 
+fn bit(rank: u8) -> u64 {
+    1u64.wrapping_shl(u32::from(rank))
+}
+
 impl Ranks {
+    pub(crate) const NONE: Ranks = Ranks(0);
+
+    pub(crate) fn has(self, rank: u8) -> bool {
+        self.0 & bit(rank) != 0
+    }
+
+    /// These and the rank.
+    pub(crate) fn with(self, rank: u8) -> Ranks {
+        Ranks(self.0 | bit(rank))
+    }
+
+    /// These but the rank.
+    pub(crate) fn without(self, rank: u8) -> Ranks {
+        Ranks(self.0 & !bit(rank))
+    }
+
     pub(crate) fn is_empty(self) -> bool {
         self.0 == 0
     }
@@ -62,7 +82,10 @@ impl Doors {
             return;
         }
         for rank in 0..64u8 {
-            if (called.0 >> rank) & 1 == 1 {
+            if called.0 >> rank == 0 {
+                break;
+            }
+            if called.has(rank) {
                 self.of(rank).notify_all();
             }
         }

@@ -85,7 +85,10 @@ fn advance<L: Entries>(shared: &mut Shared<L>) -> Progress
     for _step in 0..STEPS {
         match shared.step() {
             Ok(Stepped::Moved) => {}
-            Ok(Stepped::Finished) => finished = true,
+            Ok(Stepped::Finished) => {
+                shared.announce();
+                finished = true;
+            }
             Ok(Stepped::Quiet) => {
                 shared.settle(false);
                 return Progress {
@@ -348,9 +351,13 @@ impl<L: Entries> Hall<L> {
         ensures { IfErr result IsSetback }
     {
         let mut shared = self.enter(rt);
-        if let Err(why) = shared.commit(done) {
-            self.call_all(shared);
-            return Err(why);
+        match shared.commit(done) {
+            Ok(Stepped::Finished) => shared.announce(),
+            Ok(_) => {}
+            Err(why) => {
+                self.call_all(shared);
+                return Err(why);
+            }
         }
         shared.settle(true);
         if !goes_on {

@@ -20,6 +20,8 @@ use std::marker::Model;
 pub(crate) struct Notes {
     slots: u32,
     beds: Vec<Bed>,
+    /// Ranks, with all among them whose ports sleep.
+    asleep: Ranks,
 }
 
 impl Model for Notes {
@@ -51,7 +53,11 @@ impl Notes {
         for _rank in 0..ranks {
             beds.push_reserved(Bed::new(alloc, slots)?);
         }
-        Ok(Notes { slots, beds })
+        Ok(Notes {
+            slots,
+            beds,
+            asleep: Ranks::NONE,
+        })
     }
 
     /// Notes how a port rests that sleeps for no list. A number that is no rank is left out.
@@ -59,6 +65,11 @@ impl Notes {
         ensures notes { self.new.notes ≡ slice_set self.old.notes rank (note_of rest []) }
         ensures slots { self.new.slots ≡ self.old.slots }
     {
+        self.asleep = if rest.is_asleep() {
+            self.asleep.with(rank)
+        } else {
+            self.asleep.without(rank)
+        };
         if (rank as usize) < self.beds.len() {
             self.beds[rank as usize].put(rest);
         }
@@ -76,6 +87,7 @@ impl Notes {
         ensures longer { OnErr result (self.old.slots < length (tickets_in requests.now)) }
         ensures err { OnErr result (self.new.notes ≡ slice_set self.old.notes rank Awake) }
     {
+        self.asleep = self.asleep.with(rank);
         if (rank as usize) < self.beds.len() {
             return self.beds[rank as usize].put_list(rank, requests);
         }
@@ -89,31 +101,24 @@ impl Notes {
         all_rest(&self.beds, core)
     }
 
-    /// Notes that the ports wake which wait for what is the case now, and answers their ranks.
+    /// Notes that the ports wake which wait for what is the case now, and answers their ranks. Linear in the ports and in
+    /// what those wait for that sleep.
     pub(crate) fn rouse(&mut self, core: &Core) -> Ranks {
-        let mut called = 0u64;
+        let mut called = Ranks::NONE;
         for rank in 0..64u8 {
             let Some(bed) = self.beds.get(usize::from(rank)) else {
                 break;
             };
-            if !bed.is_awake() && !bed.rests(core) {
-                called |= 1u64 << rank;
+            if self.asleep.has(rank) && !bed.rests(core) {
+                called = called.with(rank);
                 self.put(rank, Rest::Awake);
             }
         }
-        Ranks(called)
+        called
     }
 
-    /// The ranks of the ports that sleep. Linear in the ports.
+    /// Ranks, with all among them whose ports sleep.
     pub(crate) fn sleeping(&self) -> Ranks {
-        let mut called = 0u64;
-        for rank in 0..64u8 {
-            match self.beds.get(usize::from(rank)) {
-                Some(bed) if bed.sleeps() => called |= 1u64 << rank,
-                Some(_) => {}
-                None => break,
-            }
-        }
-        Ranks(called)
+        self.asleep
     }
 }

@@ -12,3 +12,10 @@ pub(crate) enum Rest {
     /// It was finished.
     Ended,
 }
+
+impl Rest {
+    /// Whether the port sleeps.
+    pub(crate) fn is_asleep(self) -> bool {
+        matches!(self, Rest::ForOne { .. } | Rest::ForAny { .. })
+    }
+}

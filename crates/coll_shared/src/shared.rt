@@ -42,6 +42,7 @@ pub struct Shared<L: Entries> {
     stalled: bool,
     stopped: bool,
     unsettled: bool,
+    news: bool,
     sleepers: u32,
     pieces: u64,
 }
@@ -97,6 +98,7 @@ impl<L: Entries> Shared<L> {
             stalled: false,
             stopped: false,
             unsettled: false,
+            news: false,
             sleepers: 0,
             pieces: 0,
         })

@@ -165,7 +165,7 @@ ReceiveCore R =
     → o.buf ≡ written (shown x).buf into bytes
     → ActsOnce shown g a b q m n
 
--- the message is delivered, and then the sender goes on: whom it wakes is before the sender on Ready
+-- the message is delivered, and then the sender goes on
 abbrev pub SendCore : Type 0 → Type 0
 SendCore R =
     (shown : R → Live) (g : Setting) (a b c : Slots R) (q : Postings) (m n : Instances)

@@ -1,11 +1,12 @@
 //! Steps.
 
-ghost use Rattle.std.specs.Prelude.{◌≡◌, ◌+◌, ◌↔◌, [], IfOk, IfSome, IsOkUnless, None, Ok, OnErr, OnOk};
+ghost use Rattle.std.specs.Prelude.{◌≡◌, ◌<◌, ◌≤◌, ◌+◌, ◌↔◌, [], true, IfOk, IfSome, IsOkUnless, None, Ok, OnErr, OnOk};
 ghost use Rattle.coll_lists.specs.Layouts.{sequence};
 ghost use Rattle.coll_sched.specs.Actions.{IsLocal};
 ghost use Rattle.coll_arena.specs.declared.list_name.ListName.TheVariants.{Ready, Running};
-ghost use Rattle.coll_arena.specs.ListNames.{number_of};
-ghost use Rattle.coll_arena.specs.Lookups.{IsFirst};
+ghost use Rattle.coll_arena.specs.ListNames.{list_count, number_of};
+ghost use Rattle.coll_arena.specs.Lookups.{IsFirst, PutsSlot};
+ghost use Rattle.coll_arena.specs.Slots.{names, record_in, weight_of};
 ghost use Rattle.coll_tables.specs.Engines.{Delivers};
 ghost use Rattle.coll_core.specs.declared.stepped.Stepped.TheVariants.{Quiet};
 ghost use Rattle.coll_core.specs.Cores.{seen, setting};
@@ -96,7 +97,7 @@ impl Core {
         }
     }
 
-    /// Sends a message. A receiver that waits for it is woken first, so that it comes before the sender on Ready.
+    /// Sends a message. A receiver that waits for it comes to the back of Ready.
     fn send(&mut self, ticket: Ticket, to: u8, from: Region) -> Result<bool, Refusal>
         requires { IsActing self.old ticket (Action.Send to from) }
         ensures acts { IfOk result (Acts self.old self.new) }
@@ -179,10 +180,25 @@ pub(super) fn go_on(arena: &mut Arena<Request>, matches: &Matches, ticket: Ticke
     };
     request.go_on();
     let list = request.list(matches);
+    place(arena, ticket, list);
+    is_end(list)
+}
+
+/// Takes a request to the back of a list, unless it is on that list: one that is the first of Ready, and can go on, stays
+/// the first.
+fn place(arena: &mut Arena<Request>, ticket: Ticket, list: ListName)
+    requires live { names arena.old ticket ≡ true }
+    requires live_list { 2 ≤ number_of list }
+    requires list_in { number_of list < list_count arena.old.comms }
+    ensures { PutsSlot arena.old arena.new ticket.slot ticket.generation (weight_of arena.old ticket.slot) (record_in arena.old ticket.slot) (number_of list) }
+{
+    is_sound(arena);
+    if arena.is_on(ticket, list) {
+        return;
+    }
     let Ok(()) = arena.shift(ticket, list) else {
         unreachable!()
     };
-    is_end(list)
 }
 
 /// Whether requests on that list are Done.

@@ -56,16 +56,28 @@ impl<L: Entries> Shared<L> {
         false
     }
 
-    /// The ranks that wait for what is the case now, which are awake then. Linear in the ports.
+    /// Notes that a request was finished.
+    pub(crate) fn announce(&mut self)
+        ensures { self.new ≡ self.old }
+    {
+        self.news = true;
+    }
+
+    /// The ranks that wait for what is the case now, which are awake then: none where no request was announced since it was
+    /// asked before. Else linear in the ports.
     pub(crate) fn fulfilled(&mut self) -> Ranks
         ensures core { self.new.core ≡ self.old.core }
         ensures entries { self.new.entries ≡ self.old.entries }
         ensures stalled { self.new.stalled ≡ self.old.stalled }
     {
+        if !self.news {
+            return Ranks::NONE;
+        }
+        self.news = false;
         self.notes.rouse(&self.core)
     }
 
-    /// The ranks that wait. Linear in the ports.
+    /// Ranks, with all among them whose ports wait.
     pub(crate) fn waiting(&self) -> Ranks {
         self.notes.sleeping()
     }

@@ -100,6 +100,26 @@ fn barrier_by_steps(rt: HostRuntime) -> Result<(), Fail> {
     Ok(())
 }
 
+// Rank 1's message wakes rank 0, behind rank 1 on Ready, which has rank 0's message and goes on first.
+const FIRST_OF_BARRIER: &[Row] = &[
+    (Call::Post(0, BARRIER, &[]), Answer::Accepted),
+    (Call::Post(1, BARRIER, &[]), Answer::Accepted),
+    MOVED,
+    MOVED,
+    (Call::Step, Answer::Finished),
+    (Call::Phase(0, 0), Answer::Phase(Phase::Pending)),
+    (Call::Phase(1, 1), Answer::Phase(Phase::Done)),
+    (Call::Step, Answer::Finished),
+    (Call::Phase(0, 0), Answer::Phase(Phase::Done)),
+    (Call::Step, Answer::Still),
+];
+
+#[test]
+fn first_of_ready_stays_first(rt: HostRuntime) -> Result<(), Fail> {
+    assert_eq!(rt; first_misfit(rt.alloc(), &PAIR, FIRST_OF_BARRIER)?, None);
+    Ok(())
+}
+
 const SUMS: Values = Values::Three(5, 7, 9);
 
 // Each of two members gives 12 bytes and gets 12, until it has left.
