@@ -16,12 +16,12 @@ const BESIDE_RUNNING: &[Row] = &[
     (Call::Post(1, SUM, &[2]), Answer::Accepted),
     (Call::StepsToWork, OUT),
     (Call::Rest, Answer::Accepted),
-    (Call::Phase(0, 0), Answer::Phase(Phase::Pending)),
-    (Call::Phase(1, 1), Answer::Phase(Phase::Done)),
+    (Call::Phase(0, 0), Answer::Phase(Phase::Done)),
+    (Call::Phase(1, 1), Answer::Phase(Phase::Pending)),
     (Call::Quiet, Answer::Quiet(false)),
     (Call::Commit, Answer::Finished),
     (Call::Quiet, Answer::Quiet(true)),
-    (Call::Phase(0, 0), Answer::Phase(Phase::Done)),
+    (Call::Phase(1, 1), Answer::Phase(Phase::Done)),
 ];
 
 #[test]
@@ -55,7 +55,7 @@ const FOREIGN: &[Row] = &[
     (Call::Abandon, Answer::Refused(Refusal::Stale)),
     (Call::Quiet, Answer::Quiet(false)),
     (Call::Rest, Answer::Accepted),
-    (Call::Phase(0, 0), Answer::Phase(Phase::Pending)),
+    (Call::Phase(1, 1), Answer::Phase(Phase::Pending)),
 ];
 
 // A combination is accepted once.
