@@ -48,6 +48,7 @@ pub record Gone (a b : Slots Request) (n : Instances) (t : Ticket) (x : Request)
   pub point : Progress
   pub list : ListName
   pub puts : PutsSlot a b t.slot t.generation (weight_of a t.slot) (Some to) (number_of list)
+  pub stays : home a t.slot ≡ number_of list → b.lists ≡ a.lists
   pub is : shown to ≡ went (shown x) point
   pub buf : point.buf ≡ bytes
   pub over : Over (schedule (shown x)) x.round (suc x.index) point.round point.index
@@ -64,6 +65,7 @@ gone_from a b n t x finished here g =
       point = g.point;
       list = g.list;
       puts = g.puts;
+      stays = g.stays;
       is = g.is;
       buf = g.buf;
       over = g.over;
@@ -87,6 +89,7 @@ gone_written a b n t x y bytes finished sound low w g = record {
   point = on.point;
   list = on.list;
   puts = puts_written a b t.slot t.generation (weight_of a t.slot) (number_of on.list) y (Some on.to) sound low on.puts;
+  stays = on.stays;
   is = on.is ∙ ap (λ (q : Live). went q on.point) w.is;
   buf = on.buf ∙ w.buf;
   over = subst (λ (q : Live). Over (schedule q) q.round (suc q.index) on.point.round on.point.index) w.is on.over;

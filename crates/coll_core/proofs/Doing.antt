@@ -6,6 +6,8 @@ use Rattle.std.specs.Vec.{with_items}
 use Rattle.std.proofs.Math.Nat.{ℕ_set}
 use Rattle.std.proofs.lemmas.List.{set-get_or, with_items_is}
 use Rattle.coll_kinds.specs.declared.ticket.Ticket.{Ticket}
+use Rattle.coll_lists.specs.Layouts.{sequence}
+use Rattle.coll_lists.specs.Neighbours.{first_in}
 use Rattle.coll_sched.specs.declared.action.Action.{Action}
 use Rattle.coll_sched.specs.declared.action.Action.TheVariants.{Recv}
 use Rattle.coll_sched.specs.declared.region.Region.{Region}
@@ -13,7 +15,7 @@ use Rattle.coll_sched.specs.Actions.{IsLocal, wrote}
 use Rattle.coll_sched.specs.Regions.{written}
 use Rattle.coll_arena.specs.ListNames.{number_of}
 use Rattle.coll_arena.specs.Changes.{rewritten}
-use Rattle.coll_arena.specs.Slots.{Slots, home, record_in}
+use Rattle.coll_arena.specs.Slots.{Slots, home, record_in, weight_of}
 use Rattle.coll_arena.specs.Sound.{IsSound}
 use Rattle.coll_arena.proofs.Sounds.{Named-names}
 use Rattle.coll_queues.specs.Postings.{Postings}
@@ -30,6 +32,7 @@ use Rattle.coll_core.specs.Requests.{instance, shown}
 use Rattle.coll_core.specs.Goings.{GoneOn}
 use Rattle.coll_core.specs.Steps.{Acts, IsActingAt}
 use Rattle.coll_core.proofs.Reading.{acting}
+use Rattle.coll_core.proofs.Firsts.{first_stays, if_some}
 use Rattle.coll_core.proofs.Acting.{Gone, Rewrites, core_after, done_here, goes, goes_on, going_not_done, gone_written, list_low, none_ends, parts}
 
 -- ---- nothing was written
@@ -63,6 +66,8 @@ module _ (ranks starts trace : ℕ) (a b : Slots Request) (q : Postings) (m n : 
           (going_not_done a t.slot x at.here (inl at.on_ready)) (done_here a b n t x bytes finished g)
           (λ e. none_ends a b n t x bytes (subst (λ f. Gone a b n t x bytes f) e g));
       running_is = g.puts.others 3 (λ e. off (home a t.slot) at.on_ready e) (λ e. list_low x.comm g.list g.onto (sym e));
+      stays_first = if_some (first_in (sequence a.lists 2)) _
+          (first_stays a b t.slot t.generation (weight_of a t.slot) (number_of g.list) (Some g.to) at.on_ready g.puts g.stays);
     },
   )
     where

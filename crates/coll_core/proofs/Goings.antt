@@ -69,9 +69,10 @@ pub gone_on : (a b : Slots Request) (n : Instances) (t : Ticket) (x y : Request)
     → Stands y.plan.n (mail n (instance (shown y))) (number_of list) (shown y)
     → IsListOf y.comm list
     → PutsSlot (rewritten a t.slot y) b t.slot t.generation (weight_of a t.slot) (record_in (rewritten a t.slot y) t.slot) (number_of list)
+    → (home a t.slot ≡ number_of list → b ≡ rewritten a t.slot y)
     → finished ≡ is_end list
     → GoneOn a b n t finished
-gone_on a b n t x y list finished sound live here goes stands onto puts end = record {
+gone_on a b n t x y list finished sound live here goes stands onto puts stays end = record {
   from = x;
   to = y;
   point = record { round = y.round; index = y.index; buf = x.buffer.items };
@@ -79,6 +80,7 @@ gone_on a b n t x y list finished sound live here goes stands onto puts end = re
   here = here;
   puts = puts_written a b t.slot t.generation (weight_of a t.slot) (number_of list) y (Some y) sound low
       (subst (λ (o : Option Request). PutsSlot (rewritten a t.slot y) b t.slot t.generation (weight_of a t.slot) o (number_of list)) (record_written a t.slot y sound low) puts);
+  stays = λ e. ap (λ (z : Slots Request). z.lists) (stays e);
   is = goes.is;
   buf = refl;
   over = goes.over;

@@ -3,6 +3,7 @@ pub mod Options
 pub mod Works
 pub mod Goings
 pub mod Hearings
+pub mod Firsts
 pub mod Acting
 pub mod Reading
 pub mod Doing

@@ -1,16 +1,17 @@
 -- A Send with its delivery.
 use Rattle.std.proofs.Common.{◌≡◌, ◌≢◌, ◌∙◌, ◌<◌, ◌+◌, ◌*◌, ◌==◌, ◌&&◌, ◌⊎◌, nat_lt, inl, inr, ℕ, Bool, true, false, List, Option, Some, None, ap, refl, sym, subst, arith, ne_eqb}
-use Rattle.std.specs.Prelude.{option_map}
+use Rattle.std.specs.Prelude.{IfSome, option_map}
 use Rattle.std.proofs.lemmas.Bool.{cases_eq}
-use Rattle.std.proofs.lemmas.Option.{none-some}
+use Rattle.std.proofs.lemmas.Option.{IfSome_then, none-some}
 use Rattle.coll_kinds.specs.declared.ticket.Ticket.{Ticket}
 use Rattle.coll_kinds.proofs.Puts.{put_same, put_other}
 use Rattle.coll_lists.specs.Layouts.{sequence}
+use Rattle.coll_lists.specs.Neighbours.{first_in}
 use Rattle.coll_sched.specs.declared.action.Action.TheVariants.{Send}
 use Rattle.coll_sched.specs.declared.region.Region.{Region}
 use Rattle.coll_sched.specs.Regions.{read_of}
 use Rattle.coll_arena.specs.ListNames.{number_of}
-use Rattle.coll_arena.specs.Slots.{Slots, count, generation_of, home, names, record_in}
+use Rattle.coll_arena.specs.Slots.{Slots, count, generation_of, home, names, record_in, weight_of}
 use Rattle.coll_queues.specs.Postings.{Postings}
 use Rattle.coll_match.specs.declared.key.Key.{Key}
 use Rattle.coll_match.specs.Held.{put_mail}
@@ -28,6 +29,7 @@ use Rattle.coll_core.specs.Goings.{CanGoOn, GoneOn}
 use Rattle.coll_core.specs.Steps.{Acts, IsActingAt}
 use Rattle.coll_core.proofs.Acting.{Gone, core_after, done_by, done_here, done_in, goes, goes_on, going_not_done, gone_from, list_low, none_ends, parts}
 use Rattle.coll_core.proofs.Reading.{acting}
+use Rattle.coll_core.proofs.Firsts.{first_stays}
 
 -- ---- what the calls ask for
 
@@ -128,9 +130,10 @@ pub sent : (ranks starts trace : ℕ) (a b d : Slots Request) (q : Postings) (m 
     → mail n ≡ put_key (mail m) k (put_mail (mail m k) member to x.round (Some message))
     → Delivers shown a b n k to
     → sequence b.lists 3 ≡ sequence a.lists 3
+    → IfSome (first_in (sequence a.lists 2)) (λ slot. first_in (sequence b.lists 2) ≡ Some slot)
     → GoneOn b d n t finished
     → IsCore (parts ranks starts trace d q n) × Acts (parts ranks starts trace a q m) (parts ranks starts trace d q n) finished
-sent ranks starts trace a b d q m n t x to from k member message finished core at k_is member_is message_is keeps mails delivered runs gone = (
+sent ranks starts trace a b d q m n t x to from k member message finished core at k_is member_is message_is keeps mails delivered runs first gone = (
   core_after ranks starts trace a d q m n count_is wear_is once,
   record {
     goes = goes ranks starts trace a d q m n count_is wear_is once t.slot finished
@@ -139,6 +142,8 @@ sent ranks starts trace a b d q m n t x to from k member message finished core a
         (λ e i done. sym (done_same a b n k to delivered i)
         ∙ none_ends b d n t x x.buffer.items (subst (λ f. Gone b d n t x x.buffer.items f) e on) i done);
     running_is = on.puts.others 3 (λ e. off (home b t.slot) (at_b.home_is ∙ at.on_ready) e) (λ e. list_low x.comm on.list on.onto (sym e)) ∙ runs;
+    stays_first = IfSome_then (first_in (sequence a.lists 2)) first
+        (first_stays b d t.slot t.generation (weight_of b t.slot) (number_of on.list) (Some on.to) (at_b.home_is ∙ at.on_ready) on.puts on.stays);
   },
 )
   where

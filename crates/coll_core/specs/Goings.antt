@@ -44,6 +44,8 @@ pub record GoneOn (a b : Slots Request) (n : Instances) (t : Ticket) (finished :
   pub list : ListName
   pub here : record_in a t.slot ≡ Some from
   pub puts : PutsSlot a b t.slot t.generation (weight_of a t.slot) (Some to) (number_of list)
+  -- a request that is on its list already keeps its place there
+  pub stays : home a t.slot ≡ number_of list → b.lists ≡ a.lists
   pub is : shown to ≡ went (shown from) point
   pub buf : point.buf ≡ from.buffer.items
   pub over : Over (schedule (shown from)) from.round (suc from.index) point.round point.index

@@ -70,6 +70,9 @@ pub record Goes (p r : Parts) (finished : Bool) : Type 0 where
 pub record Acts (p r : Parts) (finished : Bool) : Type 0 where
   pub goes : Goes p r finished
   pub running_is : running r ≡ running p
+  -- the first of Ready stays the first where it can still go on
+  pub stays_first :
+      IfSome (first_in (ready p)) (λ slot. home r.arena slot ≡ number_of Ready → first_in (ready r) ≡ Some slot)
 
 -- the work is out: its request runs, and stands before that combination with these operands
 pub record IsOut (p : Parts) (w : Piece) : Type 0 where

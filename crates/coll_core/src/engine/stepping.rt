@@ -1,12 +1,13 @@
 //! Steps.
 
-ghost use Rattle.std.specs.Prelude.{◌≡◌, ◌<◌, ◌≤◌, ◌+◌, ◌↔◌, [], true, IfOk, IfSome, IsOkUnless, None, Ok, OnErr, OnOk};
+ghost use Rattle.std.specs.Prelude.{◌≡◌, ◌<◌, ◌≤◌, ◌+◌, ◌↔◌, [], true, IfOk, IfSome, IsOkUnless, None, Ok, OnErr, OnOk, Some};
 ghost use Rattle.coll_lists.specs.Layouts.{sequence};
+ghost use Rattle.coll_lists.specs.Neighbours.{first_in};
 ghost use Rattle.coll_sched.specs.Actions.{IsLocal};
 ghost use Rattle.coll_arena.specs.declared.list_name.ListName.TheVariants.{Ready, Running};
 ghost use Rattle.coll_arena.specs.ListNames.{list_count, number_of};
 ghost use Rattle.coll_arena.specs.Lookups.{IsFirst, PutsSlot};
-ghost use Rattle.coll_arena.specs.Slots.{names, record_in, weight_of};
+ghost use Rattle.coll_arena.specs.Slots.{home, names, record_in, weight_of};
 ghost use Rattle.coll_tables.specs.Engines.{Delivers};
 ghost use Rattle.coll_core.specs.declared.stepped.Stepped.TheVariants.{Quiet};
 ghost use Rattle.coll_core.specs.Cores.{seen, setting};
@@ -25,8 +26,8 @@ use coll_match::{Key, Matches};
 use coll_sched::{Action, Region};
 
 impl Core {
-    /// Carries out the next action of the first ready request, or hands it out where it is a combination. It touches a
-    /// bounded number of requests, and copies bytes at most once.
+    /// Carries out the next action of the first ready request, or hands it out where it is a combination. A request that
+    /// can go on after its action stays the first. It touches a bounded number of requests, and copies bytes at most once.
     ///
     /// # Errors
     ///
@@ -190,7 +191,8 @@ fn place(arena: &mut Arena<Request>, ticket: Ticket, list: ListName)
     requires live { names arena.old ticket ≡ true }
     requires live_list { 2 ≤ number_of list }
     requires list_in { number_of list < list_count arena.old.comms }
-    ensures { PutsSlot arena.old arena.new ticket.slot ticket.generation (weight_of arena.old ticket.slot) (record_in arena.old ticket.slot) (number_of list) }
+    ensures puts { PutsSlot arena.old arena.new ticket.slot ticket.generation (weight_of arena.old ticket.slot) (record_in arena.old ticket.slot) (number_of list) }
+    ensures stays { home arena.old ticket.slot ≡ number_of list → arena.new ≡ arena.old }
 {
     is_sound(arena);
     if arena.is_on(ticket, list) {
@@ -213,7 +215,9 @@ fn deliver(arena: &mut Arena<Request>, matches: &Matches, key: Key, member: u8)
     requires { HaveLists arena.old }
     ensures delivers { Delivers shown arena.old arena.new matches.now key member }
     ensures running { sequence arena.new.lists (number_of Running) ≡ sequence arena.old.lists (number_of Running) }
+    ensures first { IfSome (first_in (sequence arena.old.lists (number_of Ready))) (λ slot. first_in (sequence arena.new.lists (number_of Ready)) ≡ Some slot) }
 {
+    is_sound(arena);
     let Some(ticket) = hearer(arena, matches, key, member) else {
         return;
     };

@@ -39,7 +39,7 @@ invariant_of-self-2 c =
     c.args.ticket x c.args.to c.args.from c.key-key.result c.member-member.result c.in_ok-message.message.items c.go_on.result c.self.invariant at c.key-key.ensures c.member-member.ensures.member
     (c.in_ok-message.ensures.ok ∙ ap (λ b. read_of b c.args.from) c.deref.ensures.value)
     (record { members = c.in_default-put.ensures.members; given = c.in_default-put.ensures.given; seats = c.in_default-put.ensures.seats })
-    c.in_default-put.ensures.mail c.deliver.ensures.delivers c.deliver.ensures.running c.go_on.ensures).0
+    c.in_default-put.ensures.mail c.deliver.ensures.delivers c.deliver.ensures.running c.deliver.ensures.first c.go_on.ensures).0
 
 pub returns-clause-acts : goal.returns-clause-acts
 returns-clause-acts c =
@@ -50,4 +50,4 @@ returns-clause-acts c =
     c.args.ticket x c.args.to c.args.from c.key-key.result c.member-member.result c.in_ok-message.message.items c.go_on.result c.self.invariant at c.key-key.ensures c.member-member.ensures.member
     (c.in_ok-message.ensures.ok ∙ ap (λ b. read_of b c.args.from) c.deref.ensures.value)
     (record { members = c.in_default-put.ensures.members; given = c.in_default-put.ensures.given; seats = c.in_default-put.ensures.seats })
-    c.in_default-put.ensures.mail c.deliver.ensures.delivers c.deliver.ensures.running c.go_on.ensures).1
+    c.in_default-put.ensures.mail c.deliver.ensures.delivers c.deliver.ensures.running c.deliver.ensures.first c.go_on.ensures).1

@@ -2,5 +2,5 @@ use Rattle.std.proofs.Common.{sym}
 use Rattle.coll_core.proofs.Goings.{placed}
 use Rattle.coll_core.proofs.engine.stepping.place.Goals as goal
 
-pub returns-then-is_on : goal.returns-then-is_on
-returns-then-is_on c = placed c.args.arena.now c.args.ticket _ c.is_sound.ensures (sym c.if-is_on.ensures)
+pub returns-then-is_on-clause-puts : goal.returns-then-is_on-clause-puts
+returns-then-is_on-clause-puts c = placed c.args.arena.now c.args.ticket _ c.is_sound.ensures (sym c.if-is_on.ensures)
