@@ -1,17 +1,18 @@
 -- What a post and an initialisation hand in, in the machine's words, and what they leave where they are refused.
-use Rattle.std.specs.Prelude.{◌≡◌, ◌<◌, ◌==◌, ◌&&◌, ℕ, List, [], ◌∷◌, Option, option_map}
+use Rattle.std.specs.Prelude.{◌≡◌, ◌<◌, ◌==◌, ◌&&◌, ℕ, List, [], ◌∷◌, length, Option, option_map}
 use Rattle.coll_kinds.specs.declared.kind.Mode.{Mode}
 use Rattle.coll_kinds.specs.declared.refusal.Refusal.{Refusal}
 use Rattle.coll_kinds.specs.declared.refusal.Refusal.TheVariants.{BadSignature}
 use Rattle.coll_kinds.specs.declared.refusal.SignatureFault.TheVariants.{Mode as WrongMode, Group as WrongGroup}
 use Rattle.coll_kinds.specs.Checks.{broken}
 use Rattle.coll_kinds.specs.Sameness.{mode_number}
-use Rattle.coll_plans.specs.Plans.{Planned as Plan}
+use Rattle.coll_plans.specs.Plans.{Planned as Plan, family}
 use Rattle.coll_queues.specs.Postings.{Postings, HasRoom, place_of}
 use Rattle.coll_match.specs.declared.key.Key.{Key as Instance}
 use Rattle.coll_match.specs.Instances as instances
 use Rattle.coll_machine.specs.Calls.{Call, Planned, Post, Init}
 use Rattle.coll_machine.specs.Refusals.{refusal, unless}
+use Rattle.coll_sched.specs.Families.{laid_in}
 use Rattle.coll_core.specs.declared.offer.Offer.{Offer}
 use Rattle.coll_core.specs.Cores.{Parts, seen, setting, tables}
 
@@ -46,6 +47,12 @@ next_instance q rank comm = record { comm = comm; place = place_of q comm rank; 
 pub record IsRoomy (p : Parts) (rank comm : ℕ) (plan : Plan) : Type 0 where
   pub posting : HasRoom p.queues comm rank
   pub sharing : plan.member < instances.size p.matches (next_instance p.queues rank comm)
+
+-- the buffer of the plan's schedule with what is given laid in, if that has the right length
+abbrev pub IsLaid : Offer → List ℕ → Type 0
+IsLaid offer buffer =
+    length offer.bytes.items ≡ (family offer.plan.sig offer.plan.n offer.plan.member).input.len
+    → buffer ≡ laid_in (family offer.plan.sig offer.plan.n offer.plan.member) offer.bytes.items
 
 -- memory may have grown, and nothing else has changed
 pub record Unchanged (old new : Parts) : Type 0 where

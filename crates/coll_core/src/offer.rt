@@ -1,4 +1,9 @@
+ghost use Rattle.std.specs.Prelude.{◌≡◌, IfErr, IfOk};
+ghost use Rattle.coll_core.specs.Posts.{IsLaid};
+
+use coll_kinds::Refusal;
 use coll_plans::Plan;
+use std::alloc::Global;
 
 /// What a post hands in: the member's plan of the collective, and its contribution.
 #[derive(Debug, Drop)]
@@ -6,4 +11,24 @@ pub struct Offer {
     pub plan: Plan,
     /// As many bytes as the plan's member gives.
     pub bytes: Vec<u8>,
+}
+
+impl Offer {
+    /// The schedule's buffer with the contribution laid in, which `Core::post_laid` takes. It needs no engine, so it can be made
+    /// before a lock is taken. Where the contribution hasn't the length that the plan's member gives, which a post refuses, it
+    /// has no bytes.
+    ///
+    /// # Errors
+    ///
+    /// NoMemory.
+    pub fn lay_in(&self, alloc: Global) -> Result<Vec<u8>, Refusal>
+        ensures laid { IfOk result (λ buffer. IsLaid self.now buffer.items) }
+        ensures refused { IfErr result (λ why. why ≡ Refusal.NoMemory) }
+    {
+        let schedule = self.plan.schedule();
+        if self.bytes.len() != schedule.input().len as usize {
+            return Ok(Vec::new(alloc));
+        }
+        schedule.lay_in(alloc, &self.bytes)
+    }
 }

@@ -3,6 +3,7 @@ use Rattle.std.specs.Prelude.{◌≡◌, ℕ, true, List, length, slice_get, Som
 use Rattle.coll_kinds.specs.declared.signature.Signature.{Signature}
 use Rattle.coll_plans.specs.Plans.{family}
 use Rattle.coll_core.specs.declared.offer.Offer.{Offer}
+use Rattle.coll_core.specs.Posts.{IsLaid}
 use Rattle.coll_machine.specs.Settings.{Setting, size}
 use Rattle.coll_machine.specs.States.{Request, State, signature_of}
 use Rattle.coll_shared.specs.declared.kept.Kept.{Kept}
@@ -32,8 +33,9 @@ pub record Respaces (old new : List Space) (slot len bytes : ℕ) : Type 0 where
   pub others : (other : ℕ) → (other ≡ slot → ⊥) → slice_get new other ≡ slice_get old other
   pub as_many : length new ≡ length old
 
--- what a post keeps: as many bytes as its member gets, and a copy of what it gives
+-- what a post keeps: as many bytes as its member gets, a copy of what it gives, and the schedule's buffer with that laid in
 pub record KeepsFor (offer : Offer) (kept : Kept) : Type 0 where
   pub len_is : kept.space.len ≡ (family offer.plan.sig offer.plan.n offer.plan.member).output.len
   pub filled : length kept.space.bytes.items ≡ kept.space.len
   pub copied : kept.bytes.items ≡ offer.bytes.items
+  pub laid_in : IsLaid offer kept.laid.items

@@ -6,15 +6,17 @@ use coll_core::Offer;
 use coll_kinds::Refusal;
 use std::alloc::Global;
 
-/// What a post or a start keeps: a space for its outcome, and a copy of what it gives for the trace.
+/// What a post or a start keeps: a space for its outcome, a copy of what it gives for the trace, and of a post the schedule's
+/// buffer with what it gives laid in.
 #[derive(Drop)]
 pub struct Kept {
     pub(crate) space: Space,
     pub(crate) bytes: Vec<u8>,
+    pub(crate) laid: Vec<u8>,
 }
 
 impl Kept {
-    /// For an outcome of so many bytes and these given ones.
+    /// For an outcome of so many bytes and these given ones, which are laid in nowhere.
     pub(crate) fn new(alloc: Global, len: usize, bytes: &[u8]) -> Result<Kept, Refusal>
         ensures len { IfOk result (λ kept. kept.space.len ≡ len) }
         ensures space { IfOk result (λ kept. length kept.space.bytes.items ≡ len) }
@@ -23,7 +25,11 @@ impl Kept {
     {
         let space = Space::filled(alloc, len)?;
         let bytes = Vec::from_slice(alloc, bytes)?;
-        Ok(Kept { space, bytes })
+        Ok(Kept {
+            space,
+            bytes,
+            laid: Vec::new(alloc),
+        })
     }
 
     /// For a post. It is made before the lock is taken.
@@ -31,6 +37,8 @@ impl Kept {
         ensures kept { IfOk result (KeepsFor offer.now) }
         ensures refused { IfErr result (λ why. why ≡ Refusal.NoMemory) }
     {
-        Kept::new(alloc, outcome_len(&offer.plan), &offer.bytes)
+        let Kept { space, bytes, .. } = Kept::new(alloc, outcome_len(&offer.plan), &offer.bytes)?;
+        let laid = offer.lay_in(alloc)?;
+        Ok(Kept { space, bytes, laid })
     }
 }

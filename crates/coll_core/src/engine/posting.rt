@@ -9,7 +9,7 @@ ghost use Rattle.coll_machine.specs.Machines.{MachineStep};
 ghost use Rattle.coll_machine.specs.Refusals.{first_of};
 ghost use Rattle.coll_machine.specs.Settings.{size};
 ghost use Rattle.coll_match.specs.Instances as instances;
-ghost use Rattle.coll_plans.specs.Plans.{family};
+ghost use Rattle.coll_plans.specs.Plans.{family, IsPlanned};
 ghost use Rattle.coll_queues.specs.Postings.{HasRoom};
 ghost use Rattle.coll_queues.specs.Refusing.{member_refusal};
 ghost use Rattle.coll_sched.specs.Families.{laid_in};
@@ -17,7 +17,7 @@ ghost use Rattle.coll_tables.specs.EngineTests.{entry_refusals};
 ghost use Rattle.coll_tables.specs.Machines.{StepsTo};
 ghost use Rattle.coll_core.specs.Calls.{Refuses};
 ghost use Rattle.coll_core.specs.Cores.{seen, setting};
-ghost use Rattle.coll_core.specs.Posts.{init_of, next_instance, plan_refusals, planned, post_of, refused_in, IsRoomy, Unchanged};
+ghost use Rattle.coll_core.specs.Posts.{init_of, next_instance, plan_refusals, planned, post_of, refused_in, IsLaid, IsRoomy, Unchanged};
 
 use crate::engine::Core;
 use crate::offer::Offer;
@@ -60,6 +60,13 @@ fn want(plan: &Plan) -> u32
     plan.sig().given_len(plan.n(), plan.member()) as u32
 }
 
+/// A plan's family serves its signature.
+fn is_planned(plan: &Plan)
+    ensures { IsPlanned plan.now.sig plan.now.n (family plan.now.sig plan.now.n) }
+{
+    let _schedule = plan.schedule();
+}
+
 /// Each byte is one.
 fn are_bytes(bytes: &[u8])
     ensures { AreBytes bytes.now }
@@ -81,10 +88,34 @@ impl Core {
         ensures refused { IfErr result (λ refused. Refuses (setting self.old) (seen self.old) (post_of rank comm offer) refused.why) }
         ensures unchanged { OnErr result (Unchanged self.old self.new) }
     {
+        let laid = offer.lay_in(self.alloc);
+        self.post_laid(rank, comm, offer, laid)
+    }
+
+    /// `post` with the schedule's buffer made before: `laid` is `Offer::lay_in` of the offer.
+    ///
+    /// # Errors
+    ///
+    /// As `post`.
+    pub fn post_laid(
+        &mut self,
+        rank: u8,
+        comm: u32,
+        offer: Offer,
+        laid: Result<Vec<u8>, Refusal>,
+    ) -> Result<Ticket, Refused<Offer>>
+        requires laid { IfOk laid (λ buffer. IsLaid offer buffer.items) }
+        requires short { IfErr laid (λ why. why ≡ Refusal.NoMemory) }
+        ensures setting { setting self.new ≡ setting self.old }
+        ensures posted { IfOk result (λ ticket. StepsTo (setting self.old) (seen self.old) (post_of rank comm offer) (Ticketed ticket) (seen self.new)) }
+        ensures back { IfErr result (λ refused. refused.back ≡ offer) }
+        ensures refused { IfErr result (λ refused. Refuses (setting self.old) (seen self.old) (post_of rank comm offer) refused.why) }
+        ensures unchanged { OnErr result (Unchanged self.old self.new) }
+    {
         if let Err(why) = self.may_post(rank, comm, &offer) {
             return Err(Refused { why, back: offer });
         }
-        let buffer = match self.make_room(rank, comm, &offer) {
+        let buffer = match self.make_room(rank, comm, &offer, laid) {
             Ok(buffer) => buffer,
             Err(why) => return Err(Refused { why, back: offer }),
         };
@@ -195,9 +226,17 @@ impl Core {
         self.matches.room(key, n)
     }
 
-    /// Makes room for all that a post takes, and the schedule's buffer with the contribution laid in.
-    fn make_room(&mut self, rank: u8, comm: u32, offer: &Offer) -> Result<Vec<u8>, Refusal>
-        requires { refused_in self.old (post_of rank comm offer.now) ≡ None }
+    /// Makes room for all that a post takes beside the schedule's buffer, and answers that.
+    fn make_room(
+        &mut self,
+        rank: u8,
+        comm: u32,
+        offer: &Offer,
+        laid: Result<Vec<u8>, Refusal>,
+    ) -> Result<Vec<u8>, Refusal>
+        requires accepted { refused_in self.old (post_of rank comm offer.now) ≡ None }
+        requires laid { IfOk laid (λ buffer. IsLaid offer.now buffer.items) }
+        requires short { IfErr laid (λ why. why ≡ Refusal.NoMemory) }
         ensures unchanged { Unchanged self.old self.new }
         ensures room { OnOk result (IsRoomy self.new rank comm offer.now.plan) }
         ensures buffer { IfOk result (λ buffer. buffer.items ≡ laid_in (family offer.now.plan.sig offer.now.plan.n offer.now.plan.member) offer.now.bytes.items) }
@@ -205,7 +244,8 @@ impl Core {
     {
         is_sound(&self.arena);
         entry_core(&self.arena);
-        let buffer = match offer.plan.schedule().lay_in(self.alloc, &offer.bytes) {
+        is_planned(&offer.plan);
+        let buffer = match laid {
             Ok(buffer) => buffer,
             Err(why) => return Err(why),
         };

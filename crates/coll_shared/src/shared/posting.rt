@@ -21,13 +21,13 @@ use coll_plans::Plan;
 use coll_report::Entry;
 
 impl<L: Entries> Shared<L> {
-    /// Starts a collective, as the core's `post` does, and appends its entry. `kept` is `Kept::of` of the offer: with room
-    /// for two entries it is all memory that the entries of the request take.
+    /// Starts a collective, as the core's `post` does, and appends its entry. `kept` is `Kept::of` of the offer: the schedule's
+    /// buffer, and with room for two entries all memory that the entries of the request take.
     ///
     /// # Errors
     ///
-    /// TraceFull where two entries more would pass the trace's limit; then NoMemory for them; then the errors of the
-    /// core's `post`, in its order. The offer is handed back, and nothing changes.
+    /// TraceFull where two entries more would pass the trace's limit; then NoMemory for them, or for the buffer; then the
+    /// errors of the core's `post`, in its order. The offer is handed back, and nothing changes.
     pub fn post(
         &mut self,
         mine: &mut Tally<L>,
@@ -58,12 +58,12 @@ impl<L: Entries> Shared<L> {
         if let Err(why) = self.trace.make_room() {
             return Err(Refused { why, back: offer });
         }
-        let Kept { space, bytes } = match kept {
+        let Kept { space, bytes, laid } = match kept {
             Ok(kept) => kept,
             Err(why) => return Err(Refused { why, back: offer }),
         };
         let sig = offer.plan.sig();
-        let ticket = match self.core.post(rank, comm, offer) {
+        let ticket = match self.core.post_laid(rank, comm, offer, Ok(laid)) {
             Ok(ticket) => ticket,
             Err(refused) => return Err(refused),
         };

@@ -1,34 +1,37 @@
-use Rattle.std.proofs.Common.{◌≡◌, ◌∙◌, ◌<◌, ℕ, None, length, ap, sym, subst, arith}
+use Rattle.std.proofs.Common.{IfOk, Ok, Result, Vec, ◌≡◌, ◌∙◌, ◌<◌, ℕ, None, length, ap, sym, subst, arith}
 use Rattle.coll_kinds.specs.declared.kind.Mode.TheVariants.{Once}
 use Rattle.coll_kinds.specs.Lengths.{given_len}
 use Rattle.coll_machine.specs.Calls.{Post}
 use Rattle.coll_machine.specs.Settings.{Setting, size}
 use Rattle.coll_queues.specs.Postings.{Postings, HasRoom}
-use Rattle.coll_sched.specs.Schedules.{Parts as Schedule}
 use Rattle.coll_tables.specs.EngineTests.{MayEnter}
 use Rattle.coll_core.specs.Requests.{shown}
 use Rattle.coll_core.specs.Cores.{Parts, setting}
-use Rattle.coll_core.specs.Posts.{planned, refused_in}
+use Rattle.coll_core.specs.declared.offer.Offer.{Offer}
+use Rattle.coll_core.specs.Posts.{planned, refused_in, IsLaid}
+use Rattle.coll_kinds.specs.declared.refusal.Refusal.{Refusal}
+use Rattle.std.specs.Global.{Global}
 use Rattle.coll_core.proofs.Posting.{accepted_from}
 use Rattle.coll_core.proofs.engine.Core.make_room.Goals as goal
 
-pub lay_in-requires : goal.lay_in-requires
-lay_in-requires c =
+laid_for : (r : Result (Vec ℕ Global) Refusal) (offer : Offer) (buffer : Vec ℕ Global) → IfOk r (λ b. IsLaid offer b.items) → r ≡ Ok buffer → IsLaid offer buffer.items
+laid_for r offer buffer all is = subst (λ x. IfOk x (λ b. IsLaid offer b.items)) is all
+
+pub returns-clause-buffer : goal.returns-clause-buffer
+returns-clause-buffer c =
     let p : Parts = record { ranks = c.self.inside.ranks; starts = c.self.inside.starts; trace = c.self.inside.trace; arena = c.self.inside.arena; queues = c.self.inside.queues; matches = c.self.inside.matches } in
     let plan = planned c.args.offer.now.plan in
     let bytes = c.args.offer.now.bytes.items in
-    let accepted : refused_in p (Post c.args.rank c.args.comm plan bytes) ≡ None = accepted_from p c.args.self.now (Post c.args.rank c.args.comm plan bytes) c.self.view_is c.requires in
+    let accepted : refused_in p (Post c.args.rank c.args.comm plan bytes) ≡ None = accepted_from p c.args.self.now (Post c.args.rank c.args.comm plan bytes) c.self.view_is c.requires.accepted in
     let tested : MayEnter (setting p) p.arena p.queues c.args.rank c.args.comm Once plan × (length bytes ≡ given_len plan.sig plan.n plan.member) = (c.entry_core.ensures shown (setting p) p.arena p.queues p.matches c.args.rank c.args.comm plan c.self.invariant c.is_sound.ensures).0 bytes accepted in
-    ap length c.deref.ensures.value
-    ∙ (tested.1 ∙ (sym (c.schedule.ensures.family.serves.takes_given plan.member tested.0.low)
-    ∙ sym (ap (λ (s : Schedule). s.input.len) c.schedule.ensures.schedule)))
+    laid_for c.args.laid c.args.offer.now c.in-Ok.buffer c.requires.laid c.in-Ok.is (tested.1 ∙ sym (c.is_planned.ensures.serves.takes_given plan.member tested.0.low))
 
 pub make_instance-requires-clause-members : goal.make_instance-requires-clause-members
 make_instance-requires-clause-members c =
     let p : Parts = record { ranks = c.self.inside.ranks; starts = c.self.inside.starts; trace = c.self.inside.trace; arena = c.self.inside.arena; queues = c.self.inside.queues; matches = c.self.inside.matches } in
     let plan = planned c.args.offer.now.plan in
     let bytes = c.args.offer.now.bytes.items in
-    let accepted : refused_in p (Post c.args.rank c.args.comm plan bytes) ≡ None = accepted_from p c.args.self.now (Post c.args.rank c.args.comm plan bytes) c.self.view_is c.requires in
+    let accepted : refused_in p (Post c.args.rank c.args.comm plan bytes) ≡ None = accepted_from p c.args.self.now (Post c.args.rank c.args.comm plan bytes) c.self.view_is c.requires.accepted in
     let tested : MayEnter (setting p) p.arena p.queues c.args.rank c.args.comm Once plan × (length bytes ≡ given_len plan.sig plan.n plan.member) = (c.entry_core.ensures shown (setting p) p.arena p.queues p.matches c.args.rank c.args.comm plan c.self.invariant c.is_sound.ensures).0 bytes accepted in
     c.n.ensures.n ∙ (tested.0.size_is ∙ (ap (λ (x : Parts). size (setting x) c.args.comm) c.self.view_is
     ∙ sym (ap (λ (g : Setting). size g c.args.comm) c.make_place.ensures.unchanged.setting_is)))
@@ -41,7 +44,7 @@ returns-clause-room c =
     let p : Parts = record { ranks = c.self.inside.ranks; starts = c.self.inside.starts; trace = c.self.inside.trace; arena = c.self.inside.arena; queues = c.self.inside.queues; matches = c.self.inside.matches } in
     let plan = planned c.args.offer.now.plan in
     let bytes = c.args.offer.now.bytes.items in
-    let accepted : refused_in p (Post c.args.rank c.args.comm plan bytes) ≡ None = accepted_from p c.args.self.now (Post c.args.rank c.args.comm plan bytes) c.self.view_is c.requires in
+    let accepted : refused_in p (Post c.args.rank c.args.comm plan bytes) ≡ None = accepted_from p c.args.self.now (Post c.args.rank c.args.comm plan bytes) c.self.view_is c.requires.accepted in
     let tested : MayEnter (setting p) p.arena p.queues c.args.rank c.args.comm Once plan × (length bytes ≡ given_len plan.sig plan.n plan.member) = (c.entry_core.ensures shown (setting p) p.arena p.queues p.matches c.args.rank c.args.comm plan c.self.invariant c.is_sound.ensures).0 bytes accepted in
     record {
       posting = subst (λ (q : Postings). HasRoom q c.args.comm c.args.rank) (sym c.make_instance.ensures.same) c.in_default.ensures.room;

@@ -1,7 +1,7 @@
 use Rattle.std.proofs.Common.{refl, sym}
 use Rattle.coll_core.specs.Posts.{post_of}
 use Rattle.coll_core.proofs.Posting.{refused_so, short_of, still_accepted}
-use Rattle.coll_core.proofs.engine.Core.post.Goals as goal
+use Rattle.coll_core.proofs.engine.Core.post_laid.Goals as goal
 
 pub returns-in-Err-clause-refused : goal.returns-in-Err-clause-refused
 returns-in-Err-clause-refused c =
