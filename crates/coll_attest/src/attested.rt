@@ -19,8 +19,8 @@ use std::alloc::Global;
 
 /// The output lines of a job, in rising rank, request and start, with the bytes that the completions of the report
 /// handed out. Nothing is computed again: the report is compared with the script, rank by rank, and then read. The cost
-/// is linear in the output, the script's commands for each rank, and the report for each rank, and for each completion
-/// logarithmic in their number.
+/// is linear in the output, the script's commands for each rank, and the report for each rank; each completion is found in
+/// constant time on average.
 ///
 /// # Errors
 ///

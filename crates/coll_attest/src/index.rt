@@ -6,10 +6,10 @@ ghost use Rattle.coll_attest.specs.Lines.{further, told};
 
 use coll_report::Entry;
 use std::alloc::{AllocError, Global};
-use std::collections::BTreeMap;
+use std::collections::HashMap;
 
 /// Which start of which request of a rank was completed.
-#[derive(Clone, Copy, Debug, PartialEq, Eq, PartialOrd, Ord)]
+#[derive(Clone, Copy, Debug, PartialEq, Eq, Hash)]
 pub(crate) struct Completion {
     pub(crate) rank: u8,
     pub(crate) comm: u32,
@@ -19,15 +19,15 @@ pub(crate) struct Completion {
     pub(crate) start: u32,
 }
 
-/// What the completions of a trace handed out. Takes a time linear in the trace, times a logarithm.
+/// What the completions of a trace handed out. Takes a time linear in the trace, on average.
 pub(crate) fn index_completions<'a>(
     alloc: Global,
     trace: &'a [Entry],
-) -> Result<BTreeMap<Completion, &'a [u8]>, AllocError>
+) -> Result<HashMap<Completion, &'a [u8]>, AllocError>
     ensures { IfOk result (λ index. (rank comm place start : ℕ)
         → handed_in index.entries rank comm place start ≡ told (trace_seen trace.now) rank comm place start) }
 {
-    let mut index = BTreeMap::new(alloc);
+    let mut index = HashMap::new(alloc);
     for entry in trace {
         note(entry, &mut index)?;
     }
@@ -35,7 +35,7 @@ pub(crate) fn index_completions<'a>(
 }
 
 /// Takes up what an entry handed out, if it is a completion.
-fn note<'a>(entry: &'a Entry, index: &mut BTreeMap<Completion, &'a [u8]>) -> Result<(), AllocError>
+fn note<'a>(entry: &'a Entry, index: &mut HashMap<Completion, &'a [u8]>) -> Result<(), AllocError>
     ensures { OnOk result ((rank comm place start : ℕ)
         → handed_in index.new.entries rank comm place start
         ≡ further (seen entry.now) (handed_in index.old.entries) rank comm place start) }
@@ -62,7 +62,7 @@ fn note<'a>(entry: &'a Entry, index: &mut BTreeMap<Completion, &'a [u8]>) -> Res
 
 /// What that start of the request was given.
 pub(crate) fn find<'a>(
-    index: &BTreeMap<Completion, &'a [u8]>,
+    index: &HashMap<Completion, &'a [u8]>,
     completion: Completion,
 ) -> Option<&'a [u8]>
     ensures { option_copied result ≡ handed_at index.now.entries completion }

@@ -14,7 +14,7 @@ use coll_history::Request;
 use coll_kinds::{MAX_COMMUNICATORS, Signature};
 use coll_script::print_outcome;
 use std::alloc::Global;
-use std::collections::BTreeMap;
+use std::collections::HashMap;
 
 /// Appends the lines of a rank. A request's place is the number of the rank's requests on the same communicator before
 /// it.
@@ -22,7 +22,7 @@ pub(crate) fn print_rank(
     alloc: Global,
     rank: u8,
     requests: &[Request],
-    index: &BTreeMap<Completion, &[u8]>,
+    index: &HashMap<Completion, &[u8]>,
     out: &mut Vec<u8>,
 ) -> Result<(), AttestFault>
     requires few { length requests.now ≤ 4096 }
@@ -49,7 +49,7 @@ fn print_request(
     number: u32,
     place: u32,
     request: &Request,
-    index: &BTreeMap<Completion, &[u8]>,
+    index: &HashMap<Completion, &[u8]>,
     out: &mut Vec<u8>,
 ) -> Result<(), AttestFault>
     requires { IsFew (request_view request.now) }
@@ -77,7 +77,7 @@ fn print_start(
     number: u32,
     sig: Signature,
     completion: Completion,
-    index: &BTreeMap<Completion, &[u8]>,
+    index: &HashMap<Completion, &[u8]>,
     out: &mut Vec<u8>,
 ) -> Result<(), AttestFault>
     ensures ok { OnOk result (out.new.items ≡ out.old.items

@@ -1,14 +1,13 @@
 -- The messages of an instance, as a map's entries.
-use Rattle.std.proofs.Common.{◌≡◌, ℕ, Bool, cond, ◌&&◌, eqb, List, [], ◌∷◌, map, refl, sym, ap, ◌∙◌, Option, Some, None}
+use Rattle.std.proofs.Common.{◌≡◌, ℕ, Bool, cond, ◌&&◌, List, [], ◌∷◌, map, refl, sym, ap, ◌∙◌, Option, Some, None}
 use Rattle.std.specs.Prelude.{is_some, option_map, Vec}
 use Rattle.std.specs.Global.{Global}
 use Rattle.std.specs.Map.{lookup}
-use Rattle.std.specs.Ordering.{is_eq, nat_cmp, ordering_then}
 use Rattle.coll_match.specs.declared.instance.Share.{Share}
 use Rattle.coll_match.specs.declared.key.Address.{Address}
 use Rattle.coll_match.specs.Held.{mail_in, put_mail, same_address}
 use Rattle.coll_match.specs.Views.{held_of}
-use Rattle.coll_match.proofs.Puts.{cond_map, eqb_sym, found_by, is_eq-nat_cmp, is_eq-then, updated}
+use Rattle.coll_match.proofs.Puts.{cond_map, eqb_sym, updated}
 
 abbrev pub Letters : Type 0
 Letters = List (Address × Vec ℕ Global)
@@ -16,12 +15,6 @@ Letters = List (Address × Vec ℕ Global)
 lookup-map : {K X Y : Type 0} (test : K → Bool) (g : X → Y) (es : List (K × X)) → lookup test (map (λ (e : K × X). (e.0, g e.1)) es) ≡ option_map g (lookup test es)
 lookup-map test g [] = refl
 lookup-map {K} {X} {Y} test g (e ∷ es) = ap (cond (test e.0) (Some (g e.1))) (lookup-map test g es) ∙ sym (cond_map (option_map g) (test e.0) (Some e.1) (lookup test es))
-
--- the order of addresses tests whether they are the same
-order_is : (a b : Address) → is_eq (ordering_then (nat_cmp a.from b.from) (ordering_then (nat_cmp a.to b.to) (nat_cmp a.round b.round))) ≡ same_address a b
-order_is a b =
-    is_eq-then (nat_cmp a.from b.from) _ ∙ (λ z. is_eq-nat_cmp a.from b.from z && is_eq-then (nat_cmp a.to b.to) (nat_cmp a.round b.round) z)
-    ∙ (λ z. eqb a.from b.from && (is_eq-nat_cmp a.to b.to z && is_eq-nat_cmp a.round b.round z))
 
 turned : (a b : Address) → same_address a b ≡ same_address b a
 turned a b = λ z. eqb_sym a.from b.from z && (eqb_sym a.to b.to z && eqb_sym a.round b.round z)
@@ -32,18 +25,17 @@ found_some g (Some x) = refl
 
 module _ (shares : List Share) (letters : Letters) where
   -- what the map has
-  pub mail_found : (w : Address) → option_map (λ (m : Vec ℕ Global). m.items) (lookup (λ k. is_eq (ordering_then (nat_cmp w.from k.from) (ordering_then (nat_cmp w.to k.to) (nat_cmp w.round k.round)))) letters) ≡ mail_in (held_of shares letters) w.from w.to w.round
-  mail_found w = ap (option_map (λ (m : Vec ℕ Global). m.items)) (found_by same_address (λ a b. ordering_then (nat_cmp a.from b.from) (ordering_then (nat_cmp a.to b.to) (nat_cmp a.round b.round))) order_is turned letters w)
-      ∙ sym (lookup-map (same_address w) (λ (m : Vec ℕ Global). m.items) letters)
+  pub mail_found : (w : Address) → option_map (λ (m : Vec ℕ Global). m.items) (lookup (same_address w) letters) ≡ mail_in (held_of shares letters) w.from w.to w.round
+  mail_found w = sym (lookup-map (same_address w) (λ (m : Vec ℕ Global). m.items) letters)
 
   pub mail_updated : (new : Letters) (w : Address) (x : Option (Vec ℕ Global))
-      → ((q : Address) → lookup (λ k. is_eq (ordering_then (nat_cmp q.from k.from) (ordering_then (nat_cmp q.to k.to) (nat_cmp q.round k.round)))) new
-      ≡ cond (is_eq (ordering_then (nat_cmp w.from q.from) (ordering_then (nat_cmp w.to q.to) (nat_cmp w.round q.round)))) x (lookup (λ k. is_eq (ordering_then (nat_cmp q.from k.from) (ordering_then (nat_cmp q.to k.to) (nat_cmp q.round k.round)))) letters))
+      → ((q : Address) → lookup (same_address q) new
+      ≡ cond (same_address w q) x (lookup (same_address q) letters))
       → mail_in (held_of shares new) ≡ put_mail (mail_in (held_of shares letters)) w.from w.to w.round (option_map (λ m. m.items) x)
   mail_updated new w x change = λ z a b c. at (record { from = a; to = b; round = c }) z
     where
       at : (q : Address) → mail_in (held_of shares new) q.from q.to q.round ≡ put_mail (mail_in (held_of shares letters)) w.from w.to w.round (option_map (λ m. m.items) x) q.from q.to q.round
       at q = lookup-map (same_address q) (λ (m : Vec ℕ Global). m.items) new
-          ∙ ap (option_map (λ (m : Vec ℕ Global). m.items)) (updated same_address (λ a b. ordering_then (nat_cmp a.from b.from) (ordering_then (nat_cmp a.to b.to) (nat_cmp a.round b.round))) order_is turned letters new w x change q)
+          ∙ ap (option_map (λ (m : Vec ℕ Global). m.items)) (updated same_address turned letters new w x change q)
           ∙ cond_map (option_map (λ (m : Vec ℕ Global). m.items)) (same_address q w) x (lookup (same_address q) letters)
           ∙ ap (cond (same_address q w) (option_map (λ m. m.items) x)) (sym (lookup-map (same_address q) (λ (m : Vec ℕ Global). m.items) letters))

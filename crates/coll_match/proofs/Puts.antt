@@ -1,11 +1,8 @@
 -- Functions with another value at one argument.
-use Rattle.std.proofs.Common.{◌≡◌, ℕ, ◌<◌, Bool, true, false, cond, ◌&&◌, eqb, List, length, set, get_or, refl, sym, ap, ◌∙◌, Option, Some, inl, inr, arith, eq-eqb, ne_eqb}
+use Rattle.std.proofs.Common.{◌≡◌, ℕ, ◌<◌, Bool, true, false, cond, eqb, List, length, set, get_or, refl, sym, ap, ◌∙◌, Option, Some, inl, inr, arith, eq-eqb, ne_eqb}
 use Rattle.std.specs.Prelude.{slice_get}
 use Rattle.std.specs.Map.{lookup}
-use Rattle.std.specs.declared.cmp.Ordering.{Ordering}
-use Rattle.std.specs.declared.cmp.Ordering.TheVariants.{Less, Equal, Greater}
-use Rattle.std.specs.Ordering.{is_eq, nat_cmp, ordering_then}
-use Rattle.std.proofs.lemmas.Bool.{cases_eq, cases_lt, lt-ltb, le-ltb}
+use Rattle.std.proofs.lemmas.Bool.{cases_eq, cases_lt}
 use Rattle.std.proofs.lemmas.List.{get_or-set_same, get_or-set_other, length-set}
 use Rattle.std.proofs.lemmas.Option.{slice_get-get_or, slice_get_past}
 use Rattle.coll_kinds.specs.Puts.{put}
@@ -33,35 +30,15 @@ slice_get-set xs i x low m = elim (cases_eq m i) [
   ]
 ]
 
--- ---- the order of keys, as a test
-
-pub is_eq-then : (o p : Ordering) → is_eq (ordering_then o p) ≡ is_eq o && is_eq p
-is_eq-then Less p = refl
-is_eq-then Equal p = refl
-is_eq-then Greater p = refl
-
-pub is_eq-nat_cmp : (a b : ℕ) → is_eq (nat_cmp a b) ≡ eqb a b
-is_eq-nat_cmp a b = elim (cases_lt a b) [
-  | inl lt ↦ rw (lt-ltb a b lt) (sym (ne_eqb a b (λ e. absurd (omega (arith, lt, e)))))
-  | inr le ↦ rw (le-ltb a b le) (go (eqb a b))
-]
-  where
-    go : (t : Bool) → is_eq (cond t Equal Greater) ≡ t
-    go true = refl
-    go false = refl
-
 pub eqb_sym : (a b : ℕ) → eqb a b ≡ eqb b a
 eqb_sym a b = elim (cases_eq a b) [
   | inl e ↦ eq-eqb a b e ∙ sym (eq-eqb b a (sym e))
   | inr d ↦ ne_eqb a b d ∙ sym (ne_eqb b a (λ e. d (sym e)))
 ]
 
--- ---- a map's entries, by a test that says what the keys' order says
+-- ---- a map's entries after a change at one key
 
-module _ {K X : Type 0} (same : K → K → Bool) (order : K → K → Ordering) (law : (a b : K) → is_eq (order a b) ≡ same a b) (turned : (a b : K) → same a b ≡ same b a) where
-  pub found_by : (es : List (K × X)) (q : K) → lookup (λ k. is_eq (order q k)) es ≡ lookup (same q) es
-  found_by es q = λ z. lookup (λ k. law q k z) es
-
-  pub updated : (es new : List (K × X)) (w : K) (x : Option X) → ((q : K) → lookup (λ k. is_eq (order q k)) new ≡ cond (is_eq (order w q)) x (lookup (λ k. is_eq (order q k)) es))
-      → (q : K) → lookup (same q) new ≡ cond (same q w) x (lookup (same q) es)
-  updated es new w x change q = sym (found_by new q) ∙ change q ∙ (λ z. cond ((law w q ∙ turned w q) z) x (found_by es q z))
+pub updated : {K X : Type 0} (same : K → K → Bool) (turned : (a b : K) → same a b ≡ same b a) (es new : List (K × X)) (w : K) (x : Option X)
+    → ((q : K) → lookup (same q) new ≡ cond (same w q) x (lookup (same q) es))
+    → (q : K) → lookup (same q) new ≡ cond (same q w) x (lookup (same q) es)
+updated same turned es new w x change q = change q ∙ (λ z. cond (turned w q z) x (lookup (same q) es))

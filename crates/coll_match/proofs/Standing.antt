@@ -2,7 +2,6 @@
 use Rattle.std.proofs.Common.{◌≡◌, ◌≢◌, ℕ, ◌<◌, ◌≤◌, Bool, true, false, cond, ◌&&◌, eqb, List, [], ◌∷◌, length, Result, Ok, Err, refl, sym, ap, subst, ◌∙◌, Option, Some, None, inl, inr, arith}
 use Rattle.std.specs.Prelude.{◌==◌, is_some, unwrap_or, OnOk, OnErr}
 use Rattle.std.specs.Map.{lookup, set_value}
-use Rattle.std.specs.Ordering.{is_eq, nat_cmp, ordering_then}
 use Rattle.std.proofs.lemmas.Bool.{cases_Bool, cases_lt, and_parts, and_from, eqb-true, eq-eqb}
 use Rattle.std.proofs.lemmas.Option.{same_Some, slice_get_past}
 use Rattle.coll_kinds.specs.Puts.{put}
@@ -10,30 +9,17 @@ use Rattle.coll_kinds.proofs.Puts.{put_cases}
 use Rattle.coll_match.specs.declared.key.Key.{Key}
 use Rattle.coll_match.specs.Held.{Held, IsOver, gift_of, slot_of, given_in, mail_in, seat_in, put_mail}
 use Rattle.coll_match.specs.Instances.{IsLast, given, given_of, mail, mail_of, members, members_of, put_key, same_key, seats, seats_of, size, standing}
-use Rattle.coll_match.proofs.Puts.{cond_map, eqb_sym, found_by, is_eq-nat_cmp, is_eq-then, updated}
-
--- the order of keys tests whether they are the same
-order_is : (a b : Key) → is_eq (ordering_then (nat_cmp a.comm b.comm) (ordering_then (nat_cmp a.place b.place) (nat_cmp a.start b.start))) ≡ same_key a b
-order_is a b =
-    is_eq-then (nat_cmp a.comm b.comm) _ ∙ (λ z. is_eq-nat_cmp a.comm b.comm z && is_eq-then (nat_cmp a.place b.place) (nat_cmp a.start b.start) z)
-    ∙ (λ z. eqb a.comm b.comm && (is_eq-nat_cmp a.place b.place z && is_eq-nat_cmp a.start b.start z))
+use Rattle.coll_match.proofs.Puts.{cond_map, eqb_sym, updated}
 
 turned : (a b : Key) → same_key a b ≡ same_key b a
 turned a b = λ z. eqb_sym a.comm b.comm z && (eqb_sym a.place b.place z && eqb_sym a.start b.start z)
 
-pub found : (t : List (Key × Held)) (k : Key) → lookup (λ q. is_eq (ordering_then (nat_cmp k.comm q.comm) (ordering_then (nat_cmp k.place q.place) (nat_cmp k.start q.start)))) t ≡ standing t k
-found t k = found_by same_key (λ a b. ordering_then (nat_cmp a.comm b.comm) (ordering_then (nat_cmp a.place b.place) (nat_cmp a.start b.start))) order_is turned t k
-
--- a look-up by the keys' order
-abbrev pub by_order : List (Key × Held) → Key → Option Held
-by_order t k = lookup (λ q. is_eq (ordering_then (nat_cmp k.comm q.comm) (ordering_then (nat_cmp k.place q.place) (nat_cmp k.start q.start)))) t
-
 -- the map has another value, or none, at one key
 abbrev pub Alters : List (Key × Held) → List (Key × Held) → Key → Option Held → Type 0
-Alters t u k x = (q : Key) → by_order u q ≡ cond (is_eq (ordering_then (nat_cmp k.comm q.comm) (ordering_then (nat_cmp k.place q.place) (nat_cmp k.start q.start)))) x (by_order t q)
+Alters t u k x = (q : Key) → standing u q ≡ cond (same_key k q) x (standing t q)
 
 changed : (t u : List (Key × Held)) (k : Key) (x : Option Held) → Alters t u k x → standing u ≡ put_key (standing t) k x
-changed t u k x change = λ z q. updated same_key (λ a b. ordering_then (nat_cmp a.comm b.comm) (ordering_then (nat_cmp a.place b.place) (nat_cmp a.start b.start))) order_is turned t u k x change q z
+changed t u k x change = λ z q. updated same_key turned t u k x change q z
 
 same_at : (a k : Key) → same_key a k ≡ true → a ≡ k
 same_at a k e =
@@ -73,9 +59,9 @@ module _ (t u v : List (Key × Held)) (e : t ≡ v) (k : Key) (x : Option Held) 
   kept g same = lifted g ∙ put_key_own (λ a. g (standing v a)) k (g x) same
 
 -- of one that stands, h, to w
-module _ (t u v : List (Key × Held)) (e : t ≡ v) (k : Key) (h w : Held) (was : Some h ≡ by_order t k) (alters : Alters t u k (Some w)) where
+module _ (t u v : List (Key × Held)) (e : t ≡ v) (k : Key) (h w : Held) (was : Some h ≡ standing t k) (alters : Alters t u k (Some w)) where
   stood : standing v k ≡ Some h
-  stood = ap (λ t. standing t k) (sym e) ∙ sym (found t k) ∙ sym was
+  stood = ap (λ t. standing t k) (sym e) ∙ sym was
 
   pub members_kept : length w.shares ≡ length h.shares → members u ≡ members v
   members_kept same = kept t u v e k (Some w) alters members_of (ap Some same ∙ ap members_of (sym stood))
@@ -120,9 +106,9 @@ module _ (t u v : List (Key × Held)) (e : t ≡ v) (k : Key) (h w : Held) (was 
 
 -- ---- a member that has something is one
 
-module _ (t v : List (Key × Held)) (e : t ≡ v) (k : Key) (h : Held) (was : Some h ≡ by_order t k) (member : ℕ) where
+module _ (t v : List (Key × Held)) (e : t ≡ v) (k : Key) (h : Held) (was : Some h ≡ standing t k) (member : ℕ) where
   pub stands : standing v k ≡ Some h
-  stands = ap (λ t. standing t k) (sym e) ∙ sym (found t k) ∙ sym was
+  stands = ap (λ t. standing t k) (sym e) ∙ sym was
 
   pub sized : member < size v k → member < length h.shares
   sized low = omega (arith, low, ap (λ o. unwrap_or (members_of o) 0) stands)
@@ -141,22 +127,22 @@ module _ (t v : List (Key × Held)) (e : t ≡ v) (k : Key) (h : Held) (was : So
 
 -- ---- an instance that doesn't stand
 
-pub nothing_stands : (t v : List (Key × Held)) (e : t ≡ v) (k : Key) → is_some (by_order t k) ≡ false → standing v k ≡ None
-nothing_stands t v e k absent = ap (λ t. standing t k) (sym e) ∙ sym (found t k) ∙ none (by_order t k) absent
+pub nothing_stands : (t v : List (Key × Held)) (e : t ≡ v) (k : Key) → is_some (standing t k) ≡ false → standing v k ≡ None
+nothing_stands t v e k absent = ap (λ t. standing t k) (sym e) ∙ none (standing t k) absent
   where
     none : (o : Option Held) → is_some o ≡ false → o ≡ None
     none None is = refl
     none (Some h) is = absurd cc
 
-pub kept_members : (t v : List (Key × Held)) (e : t ≡ v) (k : Key) (n : ℕ) → is_some (by_order t k) ≡ true → members v ≡ put_key (members v) k (Some (unwrap_or (members v k) n))
-kept_members t v e k n there = sym (put_key_own (members v) k (Some (unwrap_or (members v k) n)) (count (standing v k) (ap (λ t. is_some (standing t k)) (sym e) ∙ ap is_some (sym (found t k)) ∙ there)))
+pub kept_members : (t v : List (Key × Held)) (e : t ≡ v) (k : Key) (n : ℕ) → is_some (standing t k) ≡ true → members v ≡ put_key (members v) k (Some (unwrap_or (members v k) n))
+kept_members t v e k n there = sym (put_key_own (members v) k (Some (unwrap_or (members v k) n)) (count (standing v k) (ap (λ t. is_some (standing t k)) (sym e) ∙ there)))
   where
     count : (o : Option Held) → is_some o ≡ true → Some (unwrap_or (members_of o) n) ≡ members_of o
     count None is = absurd cc
     count (Some h) is = refl
 
 -- a new one, to which none has given
-module _ (t u v : List (Key × Held)) (e : t ≡ v) (k : Key) (w : Held) (absent : is_some (by_order t k) ≡ false) (alters : Alters t u k (Some w)) where
+module _ (t u v : List (Key × Held)) (e : t ≡ v) (k : Key) (w : Held) (absent : is_some (standing t k) ≡ false) (alters : Alters t u k (Some w)) where
   pub members_new : (n : ℕ) → length w.shares ≡ n → members u ≡ put_key (members v) k (Some (unwrap_or (members v k) n))
   members_new n is = lifted t u v e k (Some w) alters members_of ∙ ap (λ m. put_key (members v) k (Some m)) (is ∙ ap (λ o. unwrap_or (members_of o) n) (sym (nothing_stands t v e k absent)))
 
@@ -170,7 +156,7 @@ module _ (t u v : List (Key × Held)) (e : t ≡ v) (k : Key) (w : Held) (absent
   mail_new is = kept t u v e k (Some w) alters mail_of (is ∙ ap mail_of (sym (nothing_stands t v e k absent)))
 
 -- taking what isn't there
-pub mail_missing : (t v : List (Key × Held)) (e : t ≡ v) (k : Key) (from to round : ℕ) → is_some (by_order t k) ≡ false → mail v ≡ put_key (mail v) k (put_mail (mail v k) from to round None)
+pub mail_missing : (t v : List (Key × Held)) (e : t ≡ v) (k : Key) (from to round : ℕ) → is_some (standing t k) ≡ false → mail v ≡ put_key (mail v) k (put_mail (mail v k) from to round None)
 mail_missing t v e k from to round absent = sym (put_key_own (mail v) k (put_mail (mail v k) from to round None) (same (standing v k) (nothing_stands t v e k absent)))
   where
     at : (b : Bool) → ◌≡◌ {A = Option (List ℕ)} (cond b None None) None

@@ -8,7 +8,7 @@ ghost use Rattle.coll_match.specs.Held.{IsOver, given_in, mail_in, put_mail, sea
 use crate::key::Address;
 use coll_kinds::{Refusal, Refused};
 use std::alloc::{AllocError, Global};
-use std::collections::BTreeMap;
+use std::collections::HashMap;
 use std::marker::Model;
 
 /// What an instance has of one member: the bytes that it gave, and the slot of its active request.
@@ -22,7 +22,7 @@ struct Share {
 #[derive(Debug, Drop)]
 pub(crate) struct Instance {
     shares: Vec<Share>,
-    letters: BTreeMap<Address, Vec<u8>>,
+    letters: HashMap<Address, Vec<u8>>,
 }
 
 impl Model for Instance {
@@ -69,7 +69,7 @@ impl Instance {
         let shares = empty_shares(alloc, members)?;
         Ok(Instance {
             shares,
-            letters: BTreeMap::new(alloc),
+            letters: HashMap::new(alloc),
         })
     }
 

@@ -1,5 +1,5 @@
 /// One collective: a start of a place of a communicator.
-#[derive(Clone, Copy, Debug, PartialEq, Eq, PartialOrd, Ord)]
+#[derive(Clone, Copy, Debug, PartialEq, Eq, Hash)]
 pub struct Key {
     pub comm: u32,
     /// The index in each member's posting list on the communicator.
@@ -9,7 +9,7 @@ pub struct Key {
 }
 
 /// The way of a message within an instance: its sender and receiver, by member number, and its round.
-#[derive(Clone, Copy, Debug, PartialEq, Eq, PartialOrd, Ord)]
+#[derive(Clone, Copy, Debug, PartialEq, Eq, Hash)]
 pub(crate) struct Address {
     pub(crate) from: u8,
     pub(crate) to: u8,

@@ -9,18 +9,17 @@ use crate::instance::Instance;
 use crate::key::{Address, Key};
 use coll_kinds::{Refusal, Refused};
 use std::alloc::Global;
-use std::collections::BTreeMap;
+use std::collections::HashMap;
 use std::marker::Model;
 
 /// The instances that stand: what their members gave, the slots of the members' active requests, and the messages.
 ///
-/// A member has left an instance where it has given to it and has no slot noted. Every call takes a time logarithmic
-/// in the number of instances, and in that of an instance's messages; `room` and `leave` are linear in its members
-/// besides.
+/// A member has left an instance where it has given to it and has no slot noted. Every call takes constant time on
+/// average, however many instances and messages stand; `room` and `leave` are linear in an instance's members besides.
 #[derive(Debug, Drop)]
 pub struct Matches {
     alloc: Global,
-    instances: BTreeMap<Key, Instance>,
+    instances: HashMap<Key, Instance>,
 }
 
 impl Model for Matches {
@@ -43,7 +42,7 @@ impl Matches {
     {
         Matches {
             alloc,
-            instances: BTreeMap::new(alloc),
+            instances: HashMap::new(alloc),
         }
     }
 

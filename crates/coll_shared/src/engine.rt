@@ -91,7 +91,10 @@ pub fn open<L: Entries>(
         },
     )?;
     let vacant = Vacant::open(alloc, ranks)?;
-    let ports = ports_of(alloc, &hall, &groups, ranks, rest)?;
+    let ports = match ports_of(alloc, &hall, &groups, ranks, rest) {
+        Ok(ports) => ports,
+        Err(why) => return Err(why),
+    };
     Ok((Engine { hall, vacant }, ports))
 }
 

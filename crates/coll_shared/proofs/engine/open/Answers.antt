@@ -11,4 +11,4 @@ ports_of-requires-clause-groups g c = few_members c.args.config c.in_ok-check.en
 pub returns-clause-ports : goal.returns-clause-ports
 returns-clause-ports g c =
     let groups = ap groups_seen c.deref-2.ensures.value ∙ (c.in_ok-groups.ensures.groups ∙ ap groups_seen c.deref.ensures.value) in
-    c.in_ok-ports.ensures.ports ∙ ap (λ gs. map (opened gs) (range_with_len 0 c.args.config.ranks)) groups
+    c.in-Ok.ensures.ports ∙ ap (λ gs. map (opened gs) (range_with_len 0 c.args.config.ranks)) groups

@@ -1,7 +1,7 @@
 use Rattle.std.proofs.Common.{◌≡◌, ◌∙◌, ap, sym, false}
 use Rattle.std.specs.Prelude.{is_some}
-use Rattle.coll_match.specs.Instances.{given, mail, members, seats}
-use Rattle.coll_match.proofs.Standing.{by_order, given_new, kept_members, mail_new, members_new, seats_new}
+use Rattle.coll_match.specs.Instances.{given, mail, members, seats, standing}
+use Rattle.coll_match.proofs.Standing.{given_new, kept_members, mail_new, members_new, seats_new}
 use Rattle.coll_match.proofs.matches.Matches.room.Goals as goal
 use Rattle.coll_match.proofs.matches.Matches.room.Goals.{in-Some-1, in-None-1}
 
@@ -11,7 +11,7 @@ returns-else-not-contains_key-clause-members c = kept_members _ _ c.self.view_is
 entered : (c : goal.Joined-branch-3) → c.match-branch-3.self ≡ c.insert.new.self.entries
 entered c = elim c.match-branch-3.branch [ in-Some-1 w ↦ w.self-is | in-None-1 w ↦ w.self-is ]
 
-absent : (c : goal.Joined-branch-3) → is_some (by_order c.self.inside.instances.entries c.args.key) ≡ false
+absent : (c : goal.Joined-branch-3) → is_some (standing c.self.inside.instances.entries c.args.key) ≡ false
 absent c = sym c.contains_key.ensures ∙ c.if-not-contains_key.true
 
 pub returns-in_ok-insert-clause-members : goal.returns-in_ok-insert-clause-members
