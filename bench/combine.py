@@ -2,7 +2,7 @@
 """Compares `combine` with the same loops in C at -O3, over every operation and type: microseconds for 256 turns over two
 rows of 64 KiB, the best of five runs each, and their ratio. Both have to give the same results, on rows of 1 MiB too.
 
-Run it at the top of the repository after `rt run` in crates/combine_bench has built the program. It needs gcc.
+Run it at the top of the repository after `rt run` in crates/coll_bench has built the program. It needs gcc.
 """
 
 import os
@@ -11,7 +11,7 @@ import sys
 import tempfile
 
 HERE = os.path.dirname(os.path.abspath(__file__))
-PROGRAM = os.path.join(HERE, "..", "crates", "combine_bench", "out", "combine_bench")
+PROGRAM = os.path.join(HERE, "..", "crates", "coll_bench", "out", "coll_bench")
 
 # What the kit compiles for, and signed sums that wrap.
 FLAGS = ["-O3", "-march=x86-64-v2", "-fwrapv", "-fno-strict-aliasing"]
@@ -40,7 +40,7 @@ def compare_long_rows(folder):
     loops = os.path.join(folder, "long")
     subprocess.run(["gcc", *FLAGS, "-DBYTES=1048576", "-DTURNS=1", os.path.join(HERE, "combine.c"), "-o", loops], check=True)
     wanted = [" ".join(line.split()[:3]) for line in output([loops])]
-    given = [line for line in output([PROGRAM]) if not is_bitwise_byte(line)]
+    given = [line for line in output([PROGRAM, "reductions"]) if not is_bitwise_byte(line)]
     if given != wanted:
         sys.exit("on rows of 1 MiB the results differ")
 
@@ -51,13 +51,13 @@ def output(command):
 
 def main():
     if not os.path.exists(PROGRAM):
-        sys.exit(f"{PROGRAM} isn't built: call `rt run` in crates/combine_bench first")
+        sys.exit(f"{PROGRAM} isn't built: call `rt run` in crates/coll_bench first")
     with tempfile.TemporaryDirectory() as folder:
         loops = os.path.join(folder, "combine")
         subprocess.run(["gcc", *FLAGS, os.path.join(HERE, "combine.c"), "-o", loops], check=True)
         plain = rows([loops])
         compare_long_rows(folder)
-    proved = rows([PROGRAM, "times"])
+    proved = rows([PROGRAM, "reductions", "times"])
     print(f"{'operation':10}{'type':6}{'C':>8}{'proved':>8}{'C/proved':>10}")
     for (op, ty), (results, took) in plain.items():
         mine, mine_took = proved[op, ty]

@@ -1,9 +1,12 @@
-//! The core's calls as tests: worked rows, and random jobs; and those of the crates round it: values, schedules, plans and
-//! completions.
-//! All of it is built for tests alone.
+//! The core's calls as tests: worked rows, and random jobs; and those of the crates below and above it: the structures that its
+//! state is made of, values, schedules, plans and completions. All of it is built for tests alone.
 //!
 //! | Module | Has |
 //! |---|---|
+//! | `lists` | nodes moved between lists |
+//! | `queues` | random posts, each judged as by the calls before it |
+//! | `matches` | contributions and messages, found by their keys |
+//! | `arena` | rows of calls of an arena |
 //! | `job` | `Job`, a random job on one engine |
 //! | `seat` | `Seat`, one member's part of one of its collectives |
 //! | `random` | `Random`, numbers that look random |
@@ -16,15 +19,23 @@
 #![tactic(auto)]
 
 #[cfg(test)]
+mod arena;
+#[cfg(test)]
 mod completions;
 #[cfg(test)]
 mod job;
 #[cfg(test)]
 mod job_tests;
 #[cfg(test)]
+mod lists;
+#[cfg(test)]
+mod matches;
+#[cfg(test)]
 mod plain;
 #[cfg(test)]
 mod plans;
+#[cfg(test)]
+mod queues;
 #[cfg(test)]
 mod random;
 #[cfg(test)]

@@ -1,0 +1,39 @@
+//! Times what the engine is made of. A word on the command line names a part: `reductions` of rows of bytes, `calls` of the
+//! core, or `operations` over ports in threads; with a second word it is timed. Without a word each part is run once, and
+//! tells what it did.
+#![tactic(auto)]
+
+mod bench;
+mod calls;
+mod measure;
+mod operations;
+mod player;
+mod reductions;
+mod rows;
+mod running;
+
+use std::env;
+
+/// Whether a part is to be run: it is named, or none is.
+fn is_wanted(named: &Option<String>, part: &str) -> bool {
+    match named {
+        Some(word) => word.as_str() == part,
+        None => true,
+    }
+}
+
+fn main(rt: HostRuntime) -> anyhow::Result<()> {
+    let mut words = env::args(&rt)?.skip(1);
+    let named = words.next();
+    let is_timed = words.next().is_some();
+    if is_wanted(&named, "reductions") {
+        reductions::run(&rt, is_timed)?;
+    }
+    if is_wanted(&named, "calls") {
+        calls::run(&rt, is_timed)?;
+    }
+    if is_wanted(&named, "operations") {
+        operations::run(&rt, rt.alloc(), is_timed)?;
+    }
+    Ok(())
+}

@@ -1,0 +1,8 @@
+use Rattle.coll_match.proofs.Sizes.{size_kept}
+use Rattle.core_rows.proofs.matches.taken.Goals as goal
+
+pub returns-in_err-take : goal.returns-in_err-take
+returns-in_err-take c = size_kept _ _ 3 c.take.ensures.members c.requires
+
+pub returns : goal.returns
+returns c = size_kept _ _ 3 c.take.ensures.members c.requires
