@@ -1,4 +1,4 @@
-ghost use Rattle.std.specs.Prelude.{◌≡◌, ◌≢◌, ◌≤◌, ◌<◌, ◌+◌, ◌^◌, suc, length, None, Some, IsTrue, ◌↔◌, IsSome, IfSome, IfOk, IsOkUnless, IfErr, []};
+ghost use Rattle.std.specs.Prelude.{◌≡◌, ◌≢◌, ◌≤◌, ◌<◌, ◌+◌, ◌^◌, suc, length, take, drop, None, Some, IsTrue, ◌↔◌, IsSome, IfSome, IfOk, IsOkUnless, IfErr, []};
 ghost use Rattle.coll_arena.specs.ListNames.{number_of};
 ghost use Rattle.coll_match.specs.Instances.{mail};
 ghost use Rattle.coll_sched.specs.Actions.{Fits, IsCombine};
@@ -14,7 +14,7 @@ use coll_arena::{ListName, Ticket};
 use coll_kinds::Refusal;
 use coll_match::{Key, Matches};
 use coll_plans::Plan;
-use coll_sched::Action;
+use coll_sched::{Action, Region};
 use std::alloc::Global;
 
 /// What the engine keeps of a live request.
@@ -33,6 +33,36 @@ pub(crate) struct Request {
     pub(crate) index: usize,
     /// The schedule's buffer; empty where the request isn't active.
     pub(crate) buffer: Vec<u8>,
+}
+
+/// The bytes of a region, in the memory of the buffer. They are moved at most once, all at one time where they don't overlap the
+/// place where they go: bytes that may overlap are moved one by one.
+fn cut(buffer: Vec<u8>, region: Region) -> Vec<u8>
+    requires { Inside (length buffer.items) region }
+    ensures { result.items ≡ read_of buffer.items region }
+{
+    let start = region.at as usize;
+    let len = region.len as usize;
+    let mut bytes = buffer;
+    if start > 0 {
+        to_front(&mut bytes, start, len);
+    }
+    bytes.truncate(len);
+    bytes
+}
+
+/// Moves so many bytes from a place to the front.
+fn to_front(bytes: &mut [u8], start: usize, len: usize)
+    requires { start + len ≤ length bytes.old }
+    ensures moved { take len bytes.new ≡ take len (drop start bytes.old) }
+    ensures length { length bytes.new ≡ length bytes.old }
+{
+    if len <= start {
+        let (front, back) = bytes.split_at_mut(start);
+        front[..len].copy_from_slice(&back[..len]);
+    } else {
+        bytes.copy_within(start..start + len, 0);
+    }
 }
 
 impl Request {
@@ -186,13 +216,9 @@ impl Request {
         ensures left { shown self.new ≡ went (shown self.old) (record { round = 0; index = 0; buf = [] }) }
     {
         let output = self.plan.schedule().output();
-        let start = output.at as usize;
-        let len = output.len as usize;
-        let mut bytes = std::mem::replace(&mut self.buffer, Vec::new(alloc));
+        let buffer = std::mem::replace(&mut self.buffer, Vec::new(alloc));
         self.round = 0;
         self.index = 0;
-        bytes.copy_within(start..start + len, 0);
-        bytes.truncate(len);
-        bytes
+        cut(buffer, output)
     }
 }
