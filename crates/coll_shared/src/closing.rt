@@ -63,7 +63,7 @@ fn settle<L: Entries, R: Wait>(
     ensures back { IfErr result (λ refused. (refused.back.0 ≡ vacant) × (refused.back.1 ≡ spents)) }
     ensures refused { IfErr result (λ refused. IsClosing refused.why) }
 {
-    let mut shared = hall.shared.lock(rt);
+    let mut shared = hall.enter(rt);
     if let Some(why) = shared.objection(&spents) {
         return Err(Refused {
             why,

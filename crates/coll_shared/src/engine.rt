@@ -19,7 +19,7 @@ use coll_core::Config;
 use coll_kinds::Refusal;
 use std::alloc::Global;
 use std::sync::ledger::{Blank, Share};
-use std::sync::{Arc, Mutex, Wait};
+use std::sync::{Arc, Wait};
 
 /// An engine that ranks share, each by its port.
 #[derive(Drop)]
@@ -83,13 +83,8 @@ pub fn open<L: Entries>(
     let groups = copied_groups(alloc, &config.groups)?;
     let (book, rest) = entries.open::<L>();
     let shared = Shared::open(alloc, config, book)?;
-    let hall = Arc::new(
-        alloc,
-        Hall {
-            shared: Mutex::new(shared),
-            doors: Doors::open(alloc, ranks)?,
-        },
-    )?;
+    let doors = Doors::open(alloc, ranks)?;
+    let hall = Arc::new(alloc, Hall::new(shared, doors))?;
     let vacant = Vacant::open(alloc, ranks)?;
     let ports = match ports_of(alloc, &hall, &groups, ranks, rest) {
         Ok(ports) => ports,

@@ -11,38 +11,32 @@ ghost use Rattle.coll_shared.specs.Wishes.{IsHindrance, IsSetback};
 
 use crate::doors::Doors;
 use crate::gate::Gate;
+use crate::lock::Lock;
 use crate::shared::Shared;
 use crate::tally::Entries;
 use crate::wish::Wish;
 use coll_core::{DoneWork, Stepped, Work};
 use coll_kinds::Refusal;
 use std::hint::spin_loop;
-use std::sync::{Condvar, Mutex, MutexGuard, Wait};
+use std::sync::{Condvar, MutexGuard, Wait};
 use std::thread::yield_now;
 
 /// The one lock of an engine, and the places to wait.
 #[derive(Drop)]
 pub(crate) struct Hall<L: Entries> {
-    pub(crate) shared: Mutex<Shared<L>>,
-    pub(crate) doors: Doors,
+    shared: Lock<Shared<L>>,
+    doors: Doors,
 }
 
 /// How many steps are made under one hold of the lock.
 const STEPS: u32 = 64;
 
-/// How often the lock is asked for before a thread sleeps for it: so often with a pause before each, and then so often
-/// with a turn for other threads. To sleep and to be woken takes longer than most of what is done under the lock.
-const TRIES: u32 = 20;
-
-const TURNS: u32 = 100;
-
-const PAUSES: u32 = 4;
-
 /// How often a waiting port looks at its door before it sleeps there: so often in a row, and then so often with a turn for
-/// other threads before each.
-const LOOKS: u32 = 100;
+/// other threads before each, which takes a millisecond where no other thread wants a turn. To wake a thread can take a tenth
+/// of that: where ports sleep sooner, each wakes too late for the others, which sleep too by then.
+const LOOKS: u32 = 10;
 
-const YIELDS: u32 = 300;
+const YIELDS: u32 = 3_000;
 
 /// From how many bytes on a combination is worth calling others to those that are left.
 const LONG: usize = 4_096;
@@ -68,12 +62,6 @@ struct Progress {
     finished: bool,
     /// The last of them; Moved where more may follow.
     last: Result<Stepped, Refusal>,
-}
-
-fn pause() {
-    for _ in 0..PAUSES {
-        spin_loop();
-    }
 }
 
 /// Steps as long as requests are ready and no combination is handed out, at most so many times.
@@ -121,19 +109,17 @@ fn linger(door: &Condvar, seen: u64) -> bool {
 }
 
 impl<L: Entries> Hall<L> {
+    /// Round what lies under the lock, with the places to wait.
+    pub(crate) fn new(shared: Shared<L>, doors: Doors) -> Hall<L> {
+        Hall {
+            shared: Lock::new(shared),
+            doors,
+        }
+    }
+
     /// Takes the lock.
     pub(crate) fn enter<R: Wait>(&self, rt: &R) -> MutexGuard<'_, Shared<L>> {
-        for round in 0..TRIES + TURNS {
-            if let Some(shared) = self.shared.try_lock() {
-                return shared;
-            }
-            if round < TRIES {
-                pause();
-            } else {
-                yield_now();
-            }
-        }
-        self.shared.lock(rt)
+        self.shared.enter(rt)
     }
 
     /// Gives the lock up after requests were finished, and calls those who waited for them.

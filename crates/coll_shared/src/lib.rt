@@ -10,6 +10,7 @@
 //! | `spaces` | `Spaces`, memory for the outcomes of live requests |
 //! | `gate` | `Gate`, which may hold a thread up before and after a combination |
 //! | `doors` | `Doors`, where threads wait to be called |
+//! | `lock` | `Lock`, a lock that is taken by who may wait alone |
 //! | `hall` | `Hall`, the lock round it, and what is done while a thread has or wants it |
 //! | `kept` | `Kept`, what a post or a start keeps |
 //! | `port` | `Port`, a rank's way into the engine |
@@ -34,6 +35,7 @@ mod gate;
 mod groups;
 mod hall;
 mod kept;
+mod lock;
 mod notes;
 mod port;
 mod receipt;
