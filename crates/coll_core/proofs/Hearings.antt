@@ -1,5 +1,5 @@
 -- Whom a message wakes.
-use Rattle.std.proofs.Common.{◌≡◌, ◌∙◌, ◌+◌, ◌*◌, ◌&&◌, ◌==◌, inr, ℕ, Bool, true, false, cond, Some, None, ap, refl, sym, eqb-true}
+use Rattle.std.proofs.Common.{◌≡◌, ◌≢◌, ◌∙◌, ◌+◌, ◌*◌, ◌&&◌, ◌==◌, inr, ℕ, Bool, true, false, cond, Some, None, ap, refl, sym, subst, eqb-true}
 use Rattle.std.proofs.lemmas.Bool.{and_parts}
 use Rattle.std.proofs.lemmas.Option.{none-some, same_Some}
 use Rattle.coll_kinds.specs.declared.ticket.Ticket.{Ticket}
@@ -54,3 +54,25 @@ delivers a b n k to t h puts = inr (
     puts = one_shifted a b t.slot t.generation 2 h.request h.here puts;
   },
 )
+
+-- the message that was sent is the one that is awaited
+abbrev pub is_awaited : Key → Key → ℕ → ℕ → ℕ → ℕ → ℕ → ℕ → Bool
+is_awaited k l of from member to round r =
+    ((k.comm == l.comm) && ((k.place == l.place) && (k.start == l.start))) && ((of == from) && ((member == to) && (round == r)))
+
+same_key : (k l : Key) → ((k.comm == l.comm) && ((k.place == l.place) && (k.start == l.start))) ≡ true → l ≡ k
+same_key k l e =
+    let one = and_parts (k.comm == l.comm) _ e in
+    let two = and_parts (k.place == l.place) (k.start == l.start) one.1 in
+    λ z. record { comm = sym (eqb-true k.comm l.comm one.0) z; place = sym (eqb-true k.place l.place two.0) z; start = sym (eqb-true k.start l.start two.1) z }
+
+pub came : (n : Instances) (k l : Key) (of from member to round r : ℕ) → is_awaited k l of from member to round r ≡ true
+    → mail n l from to r ≢ None → mail n k of member round ≢ None
+came n k l of from member to round r e sent =
+    let keys = and_parts ((k.comm == l.comm) && ((k.place == l.place) && (k.start == l.start))) _ e in
+    let froms = and_parts (of == from) _ keys.1 in
+    let tos = and_parts (member == to) (round == r) froms.1 in
+    subst (λ x. mail n k of member x ≢ None) (sym (eqb-true round r tos.1))
+    (subst (λ x. mail n k of x r ≢ None) (sym (eqb-true member to tos.0))
+    (subst (λ x. mail n k x to r ≢ None) (sym (eqb-true of from froms.0))
+    (subst (λ x. mail n x from to r ≢ None) (same_key k l keys.0) sent)))

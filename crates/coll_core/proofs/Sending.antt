@@ -1,7 +1,7 @@
 -- A Send with its delivery.
-use Rattle.std.proofs.Common.{◌≡◌, ◌≢◌, ◌∙◌, ◌<◌, ◌+◌, ◌*◌, ◌==◌, ◌&&◌, ◌⊎◌, nat_lt, inl, inr, ℕ, Bool, true, false, List, Option, Some, None, ap, refl, sym, subst, arith, ne_eqb}
+use Rattle.std.proofs.Common.{◌≡◌, ◌≢◌, ◌∙◌, ◌<◌, ◌+◌, ◌*◌, ◌==◌, ◌&&◌, ◌⊎◌, nat_lt, inl, inr, ℕ, Bool, true, false, List, Option, Some, None, ap, refl, sym, subst, arith, cond, ne_eqb}
 use Rattle.std.specs.Prelude.{IfSome, option_map}
-use Rattle.std.proofs.lemmas.Bool.{cases_eq}
+use Rattle.std.proofs.lemmas.Bool.{and_from, cases_eq, eq-eqb}
 use Rattle.std.proofs.lemmas.Option.{IfSome_then, none-some}
 use Rattle.coll_kinds.specs.declared.ticket.Ticket.{Ticket}
 use Rattle.coll_kinds.proofs.Puts.{put_same, put_other}
@@ -16,6 +16,7 @@ use Rattle.coll_queues.specs.Postings.{Postings}
 use Rattle.coll_match.specs.declared.key.Key.{Key}
 use Rattle.coll_match.specs.Held.{put_mail}
 use Rattle.coll_match.specs.Instances.{given, mail, put_key}
+use Rattle.coll_match.proofs.Standing.{put_key_at}
 use Rattle.coll_tables.specs.Tables.{is_done}
 use Rattle.coll_tables.specs.Engines.{Delivers, KeepsGifts, Wakens}
 use Rattle.coll_tables.specs.EngineLaws.{ActsOnce}
@@ -120,6 +121,18 @@ can_go_then p b t x to from at s = record {
   round_in = at.round_in;
   some = λ none. none-some (Send to from) (sym none ∙ at.next_is);
 }
+
+-- ---- the message stands then
+
+pub stands_sent : (m n : Instances) (k : Key) (from to round : ℕ) (message : List ℕ)
+    → mail n ≡ put_key (mail m) k (put_mail (mail m k) from to round (Some message)) → mail n k from to round ≢ None
+stands_sent m n k from to round message mails none = none-some message (sym none ∙ there)
+  where
+    there : mail n k from to round ≡ Some message
+    there =
+        ap (λ f. f k from to round) mails
+        ∙ ap (λ f. f from to round) (put_key_at (mail m) k (put_mail (mail m k) from to round (Some message)))
+        ∙ ap (λ b. cond b (Some message) (mail m k from to round)) (and_from _ _ (eq-eqb from from refl) (and_from _ _ (eq-eqb to to refl) (eq-eqb round round refl)))
 
 -- ---- both
 

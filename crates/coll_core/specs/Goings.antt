@@ -15,6 +15,7 @@ use Rattle.coll_tables.specs.Requests.{went}
 use Rattle.coll_tables.specs.Shown.{Instances}
 use Rattle.coll_tables.specs.Sound.{Stands}
 use Rattle.coll_core.specs.declared.request.Request.{Request}
+use Rattle.coll_core.specs.declared.sent.Sent.{Sent}
 use Rattle.coll_core.specs.Requests.{Hears, IsListOf, instance, next_of, schedule, shown}
 
 -- the ticket names a request that has a next action
@@ -56,6 +57,10 @@ pub record GoneOn (a b : Slots Request) (n : Instances) (t : Ticket) (finished :
 -- each request's communicator has lists
 abbrev pub HaveLists : Slots Request → Type 0
 HaveLists a = (slot : ℕ) (r : Request) → record_in a slot ≡ Some r → r.comm < a.comms
+
+-- the message stands
+abbrev pub IsSent : Instances → Sent → Type 0
+IsSent n sent = mail n sent.key sent.from sent.to sent.round ≢ None
 
 -- the ticket is that of a member's request, which waits for a message that is there
 pub record CanHear (a : Slots Request) (n : Instances) (k : Key) (to : ℕ) (t : Ticket) : Type 0 where

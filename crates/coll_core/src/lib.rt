@@ -8,6 +8,7 @@
 //! | `about` | `About`, what a ticket names |
 //! | `outcome` | `Outcome`, what a completion hands out |
 //! | `request` | `Request`, what the engine keeps of a live request |
+//! | `sent` | `Sent`, the way of a message |
 //! | `work` | `Work` and `DoneWork`, a combination that is computed outside the engine |
 //! | `stepped` | `Stepped`, what a step did |
 //! | `engine` | `Core`, with its calls by what they do |
@@ -22,6 +23,7 @@ mod offer;
 mod outcome;
 mod phase;
 mod request;
+mod sent;
 mod stepped;
 mod work;
 

@@ -7,9 +7,11 @@ ghost use Rattle.coll_sched.specs.Regions.{Inside, read_of};
 ghost use Rattle.coll_tables.specs.Requests.{went};
 ghost use Rattle.coll_tables.specs.Sound.{Stands};
 ghost use Rattle.coll_core.specs.Requests.{GoesOver, Hears, IsListOf, instance, next_of, schedule, shown};
+ghost use Rattle.coll_core.specs.Goings.{IsSent};
 ghost use Rattle.coll_core.specs.Works.{Combined, StandsAt};
 
-use crate::work::{DoneWork, Work};
+use crate::sent::Sent;
+use crate::work::{DoneWork, Row, Work};
 use coll_arena::{ListName, Ticket};
 use coll_kinds::Refusal;
 use coll_match::{Key, Matches};
@@ -108,19 +110,21 @@ impl Request {
         }
     }
 
-    /// Whether it waits for a message that is there.
-    pub(crate) fn hears(&self, matches: &Matches) -> bool
+    /// Whether it waits for a message that is there. Where that is the one that was sent, no look-up is needed to tell so.
+    pub(crate) fn hears(&self, matches: &Matches, sent: Sent) -> bool
+        requires { IsSent matches.now sent }
         ensures { IsTrue result ↔ Hears (mail matches.now (instance (shown self.now))) (shown self.now) }
     {
-        match self.next() {
-            Some(Action::Recv { of, .. }) => matches.ready(
-                self.key(),
-                of,
-                self.plan.member(),
-                self.round,
-            ),
-            _ => false,
-        }
+        let Some(Action::Recv { of, .. }) = self.next() else {
+            return false;
+        };
+        let awaited = Sent {
+            key: self.key(),
+            from: of,
+            to: self.plan.member(),
+            round: self.round,
+        };
+        awaited == sent || matches.ready(awaited.key, of, awaited.to, self.round)
     }
 
     /// Goes past ends of rounds to the next action, or to the end.
@@ -166,8 +170,8 @@ impl Request {
         else {
             unreachable!()
         };
-        let left = Vec::from_slice(alloc, left.read(&self.buffer))?;
-        let right = Vec::from_slice(alloc, right.read(&self.buffer))?;
+        let left = Row::from_slice(alloc, left.read(&self.buffer))?;
+        let right = Row::from_slice(alloc, right.read(&self.buffer))?;
         Ok(Work::new(alloc, ticket, self.round, self.index, op, ty, left, right))
     }
 

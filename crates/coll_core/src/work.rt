@@ -2,9 +2,13 @@ ghost use Rattle.std.specs.Prelude.{◌≡◌, IfOk, IfErr};
 ghost use Rattle.coll_core.specs.Works.{IsPiece, result_of};
 
 use coll_kinds::{Datatype, Op, Refusal, Refused, Ticket};
-use coll_ops::combine;
+use coll_ops::combine_into;
+use smallvec::SmallVec;
 use std::alloc::Global;
 use std::marker::Model;
+
+/// The bytes of an operand or of a result: a few elements need no memory of their own.
+pub(crate) type Row = SmallVec<u8, 16>;
 
 /// A combination that was handed out, with copies of its operands, to be computed outside the engine. It is spent by
 /// `commit` or `abandon`.
@@ -16,8 +20,8 @@ pub struct Work {
     index: usize,
     op: Op,
     ty: Datatype,
-    left: Vec<u8>,
-    right: Vec<u8>,
+    left: Row,
+    right: Row,
 }
 
 impl Model for Work {
@@ -34,7 +38,7 @@ impl Model for Work {
 #[derive(Debug, Drop)]
 pub struct DoneWork {
     work: Work,
-    result: Vec<u8>,
+    result: Row,
 }
 
 impl Model for DoneWork {
@@ -57,8 +61,8 @@ impl Work {
         index: usize,
         op: Op,
         ty: Datatype,
-        left: Vec<u8>,
-        right: Vec<u8>,
+        left: Row,
+        right: Row,
     ) -> Work
         requires { IsPiece (record { ticket = ticket; round = round; index = index; op = op; ty = ty; left = left.items; right = right.items }) }
         ensures { result ≡ record { ticket = ticket; round = round; index = index; op = op; ty = ty; left = left.items; right = right.items } }
@@ -122,14 +126,14 @@ impl Work {
         &self.right
     }
 
-    /// Computes the combination. Only NoMemory is refused, and hands the work back.
+    /// Computes the combination. Only NoMemory is refused, and hands the work back; rows of up to 16 bytes take none.
     pub fn run(self) -> Result<DoneWork, Refused<Work>>
         ensures made { IfOk result (λ done. done.piece ≡ self) }
         ensures refused { IfErr result (λ refused. refused ≡ record { why = Refusal.NoMemory; back = self }) }
     {
-        match vec![in self.alloc; 0; self.left.len()] {
+        match Row::from_slice(self.alloc, &self.left) {
             Ok(mut result) => {
-                combine(self.op, self.ty, &self.left, &self.right, &mut result);
+                combine_into(self.op, self.ty, &mut result, &self.right);
                 Ok(DoneWork { work: self, result })
             }
             Err(_) => Err(Refused {

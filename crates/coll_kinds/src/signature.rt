@@ -162,8 +162,19 @@ impl Signature {
         }
     }
 
-    /// Asks each member in turn, so the cost is linear in `n`.
+    /// Nobody gives or gets more than a block for each member. Only where that is too much is each member asked, at a cost
+    /// linear in `n`.
     fn sizes_fit(self, n: u8) -> bool
+        ensures { result ≡ sizes_fit self n n }
+    {
+        let all = usize::from(n) * self.block_len();
+        if all <= MAX_LEN {
+            return true;
+        }
+        self.each_size_fits(n)
+    }
+
+    fn each_size_fits(self, n: u8) -> bool
         ensures { result ≡ sizes_fit self n n }
     {
         let mut fits = true;

@@ -59,7 +59,8 @@ fn empty_shares(alloc: Global, members: u8) -> Result<Vec<Share>, AllocError>
 }
 
 impl Instance {
-    /// An instance of that many members, to which none has given.
+    /// An instance of that many members, to which none has given, with room for a message from each other member, so that
+    /// most collectives grow it no more.
     pub(crate) fn new(alloc: Global, members: u8) -> Result<Instance, AllocError>
         ensures members { IfOk result (λ made. length made.shares ≡ members) }
         ensures given { IfOk result (λ made. given_in made ≡ (λ _. None)) }
@@ -67,10 +68,8 @@ impl Instance {
         ensures mail { IfOk result (λ made. mail_in made ≡ (λ _ _ _. None)) }
     {
         let shares = empty_shares(alloc, members)?;
-        Ok(Instance {
-            shares,
-            letters: HashMap::new(alloc),
-        })
+        let letters = HashMap::with_capacity(alloc, usize::from(members.saturating_sub(1)))?;
+        Ok(Instance { shares, letters })
     }
 
     /// Keeps what a member gives.
@@ -123,8 +122,13 @@ impl Instance {
         all_have_left(&self.shares)
     }
 
-    /// Keeps a message until it is taken. Only NoMemory is refused.
-    pub(crate) fn put(&mut self, address: Address, message: Vec<u8>) -> Result<(), Refused<Vec<u8>>>
+    /// Keeps a message until it is taken, and answers the slot of the receiver's active request. Only NoMemory is refused.
+    pub(crate) fn put(
+        &mut self,
+        address: Address,
+        message: Vec<u8>,
+    ) -> Result<Option<u32>, Refused<Vec<u8>>>
+        ensures receiver { IfOk result (λ slot. slot ≡ seat_in self.old address.to) }
         ensures refused { IfErr result (λ refused. refused ≡ record { why = Refusal.NoMemory; back = message }) }
         ensures err { OnErr result (self.new ≡ self.old) }
         ensures members { OnOk result (length self.new.shares ≡ length self.old.shares) }
@@ -133,7 +137,7 @@ impl Instance {
         ensures mail { OnOk result (mail_in self.new ≡ put_mail (mail_in self.old) address.from address.to address.round (Some message.items)) }
     {
         match self.letters.insert(address, message) {
-            Ok(_) => Ok(()),
+            Ok(_) => Ok(self.seated(address.to)),
             Err(failed) => Err(Refused {
                 why: Refusal::NoMemory,
                 back: failed.value.1,

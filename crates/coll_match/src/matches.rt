@@ -1,4 +1,4 @@
-ghost use Rattle.std.specs.Prelude.{◌≡◌, ◌<◌, ◌≢◌, Some, None, option_map, unwrap_or, is_some, if◌then◌else◌, IsTrue, ◌↔◌, OnOk, IfErr, OnErr};
+ghost use Rattle.std.specs.Prelude.{◌≡◌, ◌<◌, ◌≢◌, Some, None, option_map, unwrap_or, is_some, if◌then◌else◌, IsTrue, ◌↔◌, OnOk, IfOk, IfErr, OnErr};
 ghost use Rattle.std.specs.Option.{option_copied};
 ghost use Rattle.coll_kinds.specs.declared.refusal.Refused.{Refused};
 ghost use Rattle.coll_kinds.specs.Puts.{put};
@@ -148,8 +148,8 @@ impl Matches {
         self.instances.remove(&key);
     }
 
-    /// Keeps a message of a member that has joined until it is taken. Only NoMemory is refused, and hands the message
-    /// back.
+    /// Keeps a message of a member that has joined until it is taken, and answers the slot of the receiver's active
+    /// request, so that a sender needs no second look-up. Only NoMemory is refused, and hands the message back.
     pub fn put(
         &mut self,
         key: Key,
@@ -157,9 +157,10 @@ impl Matches {
         to: u8,
         round: usize,
         message: Vec<u8>,
-    ) -> Result<(), Refused<Vec<u8>>>
+    ) -> Result<Option<u32>, Refused<Vec<u8>>>
         requires joined { given self.old key from ≢ None }
         requires new { mail self.old key from to round ≡ None }
+        ensures receiver { IfOk result (λ slot. slot ≡ seats self.old key to) }
         ensures members { OnOk result (members self.new ≡ members self.old) }
         ensures given { OnOk result (given self.new ≡ given self.old) }
         ensures seats { OnOk result (seats self.new ≡ seats self.old) }

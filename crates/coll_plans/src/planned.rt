@@ -1,38 +1,41 @@
-ghost use Rattle.std.specs.Prelude.{◌≡◌, ◌<◌, ◌≤◌, None};
+ghost use Rattle.std.specs.Prelude.{◌≡◌, ◌<◌, ◌≤◌, None, IfOk, IsOkUnless};
+ghost use Rattle.std.specs.Arc.{arc_value};
 ghost use Rattle.coll_kinds.specs.Checks.{broken};
 ghost use Rattle.coll_kinds.specs.Lengths.{given_len, got_len};
 
-use coll_kinds::Signature;
+use coll_kinds::{Refusal, Signature};
 use coll_sched::Schedule;
 use std::marker::Model;
+use std::sync::Arc;
 
 /// One member's part of one collective: its schedule in the family that the signature and the number of
 /// members fix. So the plans of one signature for all members of a communicator fit together. Only
-/// [`plan`](crate::plan) makes one.
+/// [`plan`](crate::plan) makes one. Its copies share the schedule, and may go to other threads.
 #[derive(Debug, Drop)]
 pub struct Plan {
     sig: Signature,
     n: u8,
     member: u8,
-    schedule: Schedule,
+    schedule: Arc<Schedule>,
 }
 
 impl Model for Plan {
+    ghost use Rattle.std.specs.Arc.{arc_value};
     ghost use Rattle.coll_plans.specs.Plans.{Planned, IsPlan};
 
     ghost Value = { Planned };
 
     ghost view = { λ p. record { sig = p.sig; n = p.n; member = p.member } };
 
-    ghost invariant = { λ p. IsPlan p.sig p.n p.member p.schedule };
+    ghost invariant = { λ p. IsPlan p.sig p.n p.member (arc_value p.schedule) };
 }
 
 impl Plan {
     ghost use Rattle.coll_plans.specs.Plans.{family, IsPlan, IsPlanned};
 
     // The plan of these parts.
-    pub(crate) fn of_parts(sig: Signature, n: u8, member: u8, schedule: Schedule) -> Self
-        requires { IsPlan sig n member schedule }
+    pub(crate) fn of_parts(sig: Signature, n: u8, member: u8, schedule: Arc<Schedule>) -> Self
+        requires { IsPlan sig n member (arc_value schedule) }
         ensures { result ≡ record { sig = sig; n = n; member = member } }
     {
         Plan {
@@ -41,6 +44,24 @@ impl Plan {
             member,
             schedule,
         }
+    }
+
+    /// Another plan of the same member's part. It takes no memory.
+    ///
+    /// # Errors
+    ///
+    /// NoMemory where the schedule has as many owners as can be counted.
+    pub fn share(&self) -> Result<Plan, Refusal>
+        ensures same { IfOk result (λ plan. plan ≡ self.now) }
+        ensures refused { IsOkUnless result Refusal.NoMemory }
+    {
+        let schedule = self.schedule.clone()?;
+        Ok(Plan {
+            sig: self.sig,
+            n: self.n,
+            member: self.member,
+            schedule,
+        })
     }
 
     /// The signature, which breaks no rule.

@@ -1,4 +1,5 @@
 ghost use Rattle.std.specs.Prelude.{◌≡◌, ◌<◌, ◌≤◌, None, IfOk, IsOkUnless, IsErrOf, MatchOption};
+ghost use Rattle.std.specs.Arc.{arc_value};
 ghost use Rattle.coll_kinds.specs.Checks.{broken};
 ghost use Rattle.coll_kinds.specs.declared.kind.Kind.TheVariants.{Bcast};
 ghost use Rattle.coll_plans.specs.Plans.{family, family_by, IsPlanned};
@@ -13,6 +14,7 @@ use coll_kinds::{Kind, Refusal, Signature};
 use coll_sched::Schedule;
 use coll_trees::{bcast, reduce};
 use std::alloc::Global;
+use std::sync::Arc;
 
 /// Member `r`'s plan of a collective among `n` members (MPI 4.1, 6.12). Refuses [`Refusal::BadSignature`]
 /// exactly as [`Signature::check`] does, with its cause, and else [`Refusal::NoMemory`] alone. The cost is linear in
@@ -27,8 +29,20 @@ pub fn plan(alloc: Global, sig: Signature, n: u8, r: u8) -> Result<Plan, Refusal
         (λ cause. IsErrOf result (Refusal.BadSignature cause)) }
 {
     sig.check(n)?;
-    let schedule = schedule_of(alloc, sig, n, r)?;
+    let schedule = owned_schedule_of(alloc, sig, n, r)?;
     Ok(Plan::of_parts(sig, n, r, schedule))
+}
+
+// The same with an owner, which can be copied.
+fn owned_schedule_of(alloc: Global, sig: Signature, n: u8, r: u8) -> Result<Arc<Schedule>, Refusal>
+    requires checked { broken sig n ≡ None }
+    requires member { r < n }
+    requires few { n ≤ 64 }
+    ensures schedule { IfOk result (λ s. arc_value s ≡ family sig n r) }
+    ensures refusal { IsOkUnless result Refusal.NoMemory }
+{
+    let schedule = schedule_of(alloc, sig, n, r)?;
+    Ok(Arc::new(alloc, schedule)?)
 }
 
 // By the builder of the signature's kind.

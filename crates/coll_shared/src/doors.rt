@@ -3,13 +3,15 @@
 ghost use Rattle.std.specs.Prelude.{◌≡◌, IfErr};
 
 use coll_kinds::Refusal;
+use crossbeam_utils::CachePadded;
 use std::alloc::Global;
 use std::sync::Condvar;
 
-/// The places to wait: one for each rank's port, and one for progress threads.
+/// The places to wait: one for each rank's port, and one for progress threads. Those of ports lie on cache lines of their own,
+/// since each is looked at again and again while others are called.
 #[derive(Drop)]
 pub(crate) struct Doors {
-    ports: Vec<Condvar>,
+    ports: Vec<CachePadded<Condvar>>,
     workers: Condvar,
 }
 
@@ -55,7 +57,7 @@ impl Doors {
     {
         let mut ports = Vec::with_capacity(alloc, usize::from(ranks))?;
         for _rank in 0..ranks {
-            ports.push(Condvar::new())?;
+            ports.push(CachePadded::new(Condvar::new()))?;
         }
         Ok(Doors {
             ports,

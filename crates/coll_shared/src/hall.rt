@@ -32,8 +32,8 @@ pub(crate) struct Hall<L: Entries> {
 const STEPS: u32 = 64;
 
 /// How often a waiting port looks at its door before it sleeps there: so often in a row, and then so often with a turn for
-/// other threads before each, which takes a millisecond where no other thread wants a turn. To wake a thread can take a tenth
-/// of that: where ports sleep sooner, each wakes too late for the others, which sleep too by then.
+/// other threads before each, which takes a millisecond where no other thread wants a turn. Where ports slept sooner, an
+/// operation now and then took ten times as long, and then all that followed for a while.
 const LOOKS: u32 = 10;
 
 const YIELDS: u32 = 3_000;

@@ -13,6 +13,7 @@
 //! | `lock` | `Lock`, a lock that is taken by who may wait alone |
 //! | `hall` | `Hall`, the lock round it, and what is done while a thread has or wants it |
 //! | `kept` | `Kept`, what a post or a start keeps |
+//! | `plans` | `Plans`, those that a port made last |
 //! | `port` | `Port`, a rank's way into the engine |
 //! | `engine` | `Engine`, and `open`, which makes one |
 //! | `closing` | `close`, which ends an engine and makes its report |
@@ -37,6 +38,7 @@ mod hall;
 mod kept;
 mod lock;
 mod notes;
+mod plans;
 mod port;
 mod receipt;
 mod receipts;

@@ -12,11 +12,12 @@ ghost use Rattle.coll_shared.specs.Ports.{group_at, opened, unseated};
 
 use crate::groups::seat;
 use crate::hall::Hall;
+use crate::plans::Plans;
 use crate::rest::Rest;
 use crate::spent::Spent;
 use crate::tally::{Entries, Tally};
 use coll_kinds::{Refusal, Signature};
-use coll_plans::{Plan, plan};
+use coll_plans::Plan;
 use std::alloc::Global;
 use std::marker::Model;
 use std::sync::{Arc, Wait};
@@ -29,6 +30,7 @@ pub struct Port<L: Entries> {
     hall: Arc<Hall<L>>,
     rank: u8,
     groups: Vec<Vec<u8>>,
+    plans: Plans,
     tally: Tally<L>,
 }
 
@@ -62,6 +64,7 @@ impl<L: Entries> Port<L> {
             hall,
             rank,
             groups,
+            plans: Plans::new(alloc),
             tally,
         }
     }
@@ -81,17 +84,18 @@ impl<L: Entries> Port<L> {
     }
 
     /// The rank's plan of a collective, for a post or an initialisation. It takes no lock: plans are made while others
-    /// use the engine.
+    /// use the engine. The last ones are kept, so that a collective which is posted again isn't planned again.
     ///
     /// # Errors
     ///
     /// In this order: BadComm; NotMember; BadSignature; NoMemory.
-    pub fn ready_plan(&self, comm: u32, sig: Signature) -> Result<Plan, Refusal>
+    pub fn ready_plan(&mut self, comm: u32, sig: Signature) -> Result<Plan, Refusal>
+        ensures same { self.new ≡ self.old }
         ensures sig { IfOk result (λ plan. plan.sig ≡ sig) }
-        ensures n { IfOk result (λ plan. plan.n ≡ length (group_at self.now.groups comm)) }
-        ensures member { IfOk result (λ plan. member_of self.now.rank (group_at self.now.groups comm) ≡ Some plan.member) }
-        ensures unseated { IfSome (unseated self.now.groups self.now.rank comm) (λ why. IsErrOf result why) }
-        ensures refused { IfNone (unseated self.now.groups self.now.rank comm) (MatchOption (broken sig (length (group_at self.now.groups comm)))
+        ensures n { IfOk result (λ plan. plan.n ≡ length (group_at self.old.groups comm)) }
+        ensures member { IfOk result (λ plan. member_of self.old.rank (group_at self.old.groups comm) ≡ Some plan.member) }
+        ensures unseated { IfSome (unseated self.old.groups self.old.rank comm) (λ why. IsErrOf result why) }
+        ensures refused { IfNone (unseated self.old.groups self.old.rank comm) (MatchOption (broken sig (length (group_at self.old.groups comm)))
             (IsOkUnless result Refusal.NoMemory)
             (λ cause. IsErrOf result (Refusal.BadSignature cause))) }
     {
@@ -99,7 +103,7 @@ impl<L: Entries> Port<L> {
             Ok(seat) => seat,
             Err(why) => return Err(why),
         };
-        plan(self.alloc, sig, n, member)
+        self.plans.ready(sig, n, member)
     }
 
     /// Ends the port. No call waits for its rank any longer: it counts as one that can't go on.

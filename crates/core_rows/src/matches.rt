@@ -42,8 +42,10 @@ fn send(
 {
     let message = Vec::from_slice(alloc, &[byte])?;
     if matches.given(key, from).is_some() && !matches.ready(key, from, to, round) {
+        let seated = matches.seated(key, to);
         match matches.put(key, from, to, round, message) {
-            Ok(()) => {}
+            Ok(receiver) if receiver == seated => {}
+            Ok(_) => return Err(Refusal::Torn),
             Err(refused) => return Err(refused.why),
         }
     }

@@ -3,6 +3,7 @@
 ghost use Rattle.std.specs.Prelude.{◌≡◌, ◌<◌, ◌≤◌, ◌+◌, ◌↔◌, [], true, IfOk, IfSome, IsOkUnless, None, Ok, OnErr, OnOk, Some};
 ghost use Rattle.coll_lists.specs.Layouts.{sequence};
 ghost use Rattle.coll_lists.specs.Neighbours.{first_in};
+ghost use Rattle.coll_match.specs.Instances.{seats};
 ghost use Rattle.coll_sched.specs.Actions.{IsLocal};
 ghost use Rattle.coll_arena.specs.declared.list_name.ListName.TheVariants.{Ready, Running};
 ghost use Rattle.coll_arena.specs.ListNames.{list_count, number_of};
@@ -11,18 +12,19 @@ ghost use Rattle.coll_arena.specs.Slots.{home, names, record_in, weight_of};
 ghost use Rattle.coll_tables.specs.Engines.{Delivers};
 ghost use Rattle.coll_core.specs.declared.stepped.Stepped.TheVariants.{Quiet};
 ghost use Rattle.coll_core.specs.Cores.{seen, setting};
-ghost use Rattle.coll_core.specs.Goings.{CanGoOn, CanHear, GoneOn, HaveLists, NoneHears, is_end};
+ghost use Rattle.coll_core.specs.Goings.{CanGoOn, CanHear, GoneOn, HaveLists, IsSent, NoneHears, is_end};
 ghost use Rattle.coll_core.specs.Requests.{shown};
 ghost use Rattle.coll_core.specs.Steps.{Acts, CombinesNext, Finishings, HandsOut, IsActing, Steps, left, ready, running};
 
 use crate::engine::Core;
 use crate::request::Request;
+use crate::sent::Sent;
 use crate::stepped::Stepped;
 use crate::work::Work;
 use coll_arena::laws::is_sound;
 use coll_arena::{Arena, ListName, Ticket};
 use coll_kinds::Refusal;
-use coll_match::{Key, Matches};
+use coll_match::Matches;
 use coll_sched::{Action, Region};
 
 impl Core {
@@ -43,7 +45,7 @@ impl Core {
         };
         match self.next_of(ticket) {
             Action::Combine { .. } => Ok(Stepped::Out(self.hand_out(ticket)?)),
-            _ => Ok(Stepped::by(self.act(ticket)?)),
+            action => Ok(Stepped::by(self.act(ticket, action)?)),
         }
     }
 
@@ -62,7 +64,8 @@ impl Core {
         is_sound(&self.arena);
         let mut steps = 0;
         while let Some(ticket) = self.arena.first(ListName::Ready) {
-            self.act(ticket)?;
+            let action = self.next_of(ticket);
+            self.act(ticket, action)?;
             steps += 1;
         }
         Ok(steps)
@@ -82,14 +85,13 @@ impl Core {
         }
     }
 
-    /// Carries out the next action of a ready request. Answers whether it is Done.
-    fn act(&mut self, ticket: Ticket) -> Result<bool, Refusal>
-        requires { IsFirst self.old.arena (number_of Ready) ticket }
+    /// Carries out an action, which is the next one of a ready request. Answers whether that is Done.
+    fn act(&mut self, ticket: Ticket, action: Action) -> Result<bool, Refusal>
+        requires { IsActing self.old ticket action }
         ensures acts { IfOk result (Acts self.old self.new) }
         ensures err { OnErr result (self.new ≡ self.old) }
         ensures refusal { IsOkUnless result Refusal.NoMemory }
     {
-        let action = self.next_of(ticket);
         match action {
             Action::Send { to, from } => self.send(ticket, to, from),
             Action::Copy { .. } => self.compute(ticket, action),
@@ -111,10 +113,18 @@ impl Core {
         let message = Action::Send { to, from }.message(self.alloc, &request.buffer)?;
         let key = request.key();
         let member = request.plan.member();
-        if let Err(refused) = self.matches.put(key, member, to, request.round, message) {
-            return Err(refused.why);
-        }
-        deliver(&mut self.arena, &self.matches, key, to);
+        let round = request.round;
+        let seat = match self.matches.put(key, member, to, round, message) {
+            Ok(seat) => seat,
+            Err(refused) => return Err(refused.why),
+        };
+        let sent = Sent {
+            key,
+            from: member,
+            to,
+            round,
+        };
+        deliver(&mut self.arena, &self.matches, sent, seat);
         Ok(go_on(&mut self.arena, &self.matches, ticket))
     }
 
@@ -210,15 +220,17 @@ fn is_end(list: ListName) -> bool
     matches!(list, ListName::Done(_))
 }
 
-/// Makes a member's request ready if it waits for a message that is there.
-fn deliver(arena: &mut Arena<Request>, matches: &Matches, key: Key, member: u8)
-    requires { HaveLists arena.old }
-    ensures delivers { Delivers shown arena.old arena.new matches.now key member }
+/// Makes the receiver's request ready if it waits for a message that is there. `seat` is the slot of that request.
+fn deliver(arena: &mut Arena<Request>, matches: &Matches, sent: Sent, seat: Option<u32>)
+    requires lists { HaveLists arena.old }
+    requires sent { IsSent matches.now sent }
+    requires seat { seat ≡ seats matches.now sent.key sent.to }
+    ensures delivers { Delivers shown arena.old arena.new matches.now sent.key sent.to }
     ensures running { sequence arena.new.lists (number_of Running) ≡ sequence arena.old.lists (number_of Running) }
     ensures first { IfSome (first_in (sequence arena.old.lists (number_of Ready))) (λ slot. first_in (sequence arena.new.lists (number_of Ready)) ≡ Some slot) }
 {
     is_sound(arena);
-    let Some(ticket) = hearer(arena, matches, key, member) else {
+    let Some(ticket) = hearer(arena, matches, sent, seat) else {
         return;
     };
     let Ok(()) = arena.shift(ticket, ListName::Ready) else {
@@ -226,19 +238,26 @@ fn deliver(arena: &mut Arena<Request>, matches: &Matches, key: Key, member: u8)
     };
 }
 
-/// A member's request that waits for a message that is there.
-fn hearer(arena: &Arena<Request>, matches: &Matches, key: Key, member: u8) -> Option<Ticket>
-    requires { HaveLists arena.now }
-    ensures hears { IfSome result (CanHear arena.now matches.now key member) }
-    ensures none { result ≡ None → NoneHears arena.now matches.now key member }
+/// The receiver's request, where it waits for a message that is there: mostly for the one that was just sent.
+fn hearer(
+    arena: &Arena<Request>,
+    matches: &Matches,
+    sent: Sent,
+    seat: Option<u32>,
+) -> Option<Ticket>
+    requires lists { HaveLists arena.now }
+    requires sent { IsSent matches.now sent }
+    requires seat { seat ≡ seats matches.now sent.key sent.to }
+    ensures hears { IfSome result (CanHear arena.now matches.now sent.key sent.to) }
+    ensures none { result ≡ None → NoneHears arena.now matches.now sent.key sent.to }
 {
     is_sound(arena);
-    let slot = matches.seated(key, member)?;
+    let slot = seat?;
     let ticket = arena.ticket_at(slot)?;
     let Ok(request) = arena.get(ticket) else {
         unreachable!()
     };
-    if arena.is_on(ticket, ListName::Queue(request.comm)) && request.hears(matches) {
+    if arena.is_on(ticket, ListName::Queue(request.comm)) && request.hears(matches, sent) {
         Some(ticket)
     } else {
         None

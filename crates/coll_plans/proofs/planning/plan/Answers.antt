@@ -10,8 +10,8 @@ returns-in_err-check-clause-refusal c =
     let p = err_from_is_err_and c.from_residual.result c.from_residual.ensures.1 in
     rw (p.1, p.2) (refused (broken c.args.sig c.args.n) c.in_err-check.field-0.0 c.in_err-check.ensures)
 
-pub schedule_of-requires-clause-checked : goal.schedule_of-requires-clause-checked
-schedule_of-requires-clause-checked c = unbroken (broken c.args.sig c.args.n) c.in_ok-check.field-0 c.in_ok-check.ensures
+pub owned_schedule_of-requires-clause-checked : goal.owned_schedule_of-requires-clause-checked
+owned_schedule_of-requires-clause-checked c = unbroken (broken c.args.sig c.args.n) c.in_ok-check.field-0 c.in_ok-check.ensures
 
 pub returns-in_err-schedule-clause-family : goal.returns-in_err-schedule-clause-family
 returns-in_err-schedule-clause-family c = λ checked. all_served c.args.sig c.args.n checked (omega arith) c.requires.few

@@ -1,10 +1,10 @@
-use Rattle.std.proofs.Common.{◌∙◌, ap, subst}
+use Rattle.std.proofs.Common.{◌∙◌, ap, subst, sym}
 use Rattle.coll_sched.specs.declared.action.Action.TheVariants.{Send}
 use Rattle.coll_sched.specs.Regions.{read_of}
 use Rattle.coll_core.specs.Cores.{Parts}
 use Rattle.coll_core.specs.Steps.{Acts}
 use Rattle.coll_core.proofs.Acting.{parts}
-use Rattle.coll_core.proofs.Sending.{can_go_then, has_given, no_message, sent, stood}
+use Rattle.coll_core.proofs.Sending.{can_go_then, has_given, no_message, sent, stands_sent, stood}
 use Rattle.coll_core.proofs.Reading.{acts_at, have_lists}
 use Rattle.coll_core.proofs.engine.Core.send.Goals as goal
 
@@ -21,8 +21,11 @@ put-requires-clause-new c =
     no_message _ c.args.ticket x c.args.to c.args.from c.self.invariant at c.key-key.result c.member-member.result c.key-key.ensures c.member-member.ensures.member
 
 pub deliver-requires : goal.deliver-requires
-deliver-requires c =
-    have_lists (parts c.self.inside.ranks c.self.inside.starts c.self.inside.trace c.self.inside.arena c.self.inside.queues c.self.inside.matches) c.self.invariant
+deliver-requires c = record {
+  lists = have_lists (parts c.self.inside.ranks c.self.inside.starts c.self.inside.trace c.self.inside.arena c.self.inside.queues c.self.inside.matches) c.self.invariant;
+  sent = stands_sent c.self.inside.matches c.put.new.self c.key-key.result c.member-member.result c.args.to c.in-Ok.request.now.round c.in_ok-message.message.items c.in-Ok-put.ensures.mail;
+  seat = c.in-Ok-put.ensures.receiver ∙ ap (λ f. f c.key-key.result c.args.to) (sym c.in-Ok-put.ensures.seats);
+}
 
 pub go_on-requires : goal.go_on-requires
 go_on-requires c =
@@ -38,8 +41,8 @@ invariant_of-self-2 c =
     (sent c.self.inside.ranks c.self.inside.starts c.self.inside.trace c.self.inside.arena c.deliver.new.arena c.go_on.new.arena c.self.inside.queues c.self.inside.matches c.put.new.self
     c.args.ticket x c.args.to c.args.from c.key-key.result c.member-member.result c.in_ok-message.message.items c.go_on.result c.self.invariant at c.key-key.ensures c.member-member.ensures.member
     (c.in_ok-message.ensures.ok ∙ ap (λ b. read_of b c.args.from) c.deref.ensures.value)
-    (record { members = c.in_default-put.ensures.members; given = c.in_default-put.ensures.given; seats = c.in_default-put.ensures.seats })
-    c.in_default-put.ensures.mail c.deliver.ensures.delivers c.deliver.ensures.running c.deliver.ensures.first c.go_on.ensures).0
+    (record { members = c.in-Ok-put.ensures.members; given = c.in-Ok-put.ensures.given; seats = c.in-Ok-put.ensures.seats })
+    c.in-Ok-put.ensures.mail c.deliver.ensures.delivers c.deliver.ensures.running c.deliver.ensures.first c.go_on.ensures).0
 
 pub returns-clause-acts : goal.returns-clause-acts
 returns-clause-acts c =
@@ -49,5 +52,5 @@ returns-clause-acts c =
     (sent c.self.inside.ranks c.self.inside.starts c.self.inside.trace c.self.inside.arena c.deliver.new.arena c.go_on.new.arena c.self.inside.queues c.self.inside.matches c.put.new.self
     c.args.ticket x c.args.to c.args.from c.key-key.result c.member-member.result c.in_ok-message.message.items c.go_on.result c.self.invariant at c.key-key.ensures c.member-member.ensures.member
     (c.in_ok-message.ensures.ok ∙ ap (λ b. read_of b c.args.from) c.deref.ensures.value)
-    (record { members = c.in_default-put.ensures.members; given = c.in_default-put.ensures.given; seats = c.in_default-put.ensures.seats })
-    c.in_default-put.ensures.mail c.deliver.ensures.delivers c.deliver.ensures.running c.deliver.ensures.first c.go_on.ensures).1
+    (record { members = c.in-Ok-put.ensures.members; given = c.in-Ok-put.ensures.given; seats = c.in-Ok-put.ensures.seats })
+    c.in-Ok-put.ensures.mail c.deliver.ensures.delivers c.deliver.ensures.running c.deliver.ensures.first c.go_on.ensures).1

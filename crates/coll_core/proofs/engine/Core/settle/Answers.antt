@@ -7,8 +7,8 @@ use Rattle.coll_core.proofs.engine.Core.settle.Goals as goal
 pub loop-ticket-init : goal.loop-ticket-init
 loop-ticket-init c = ran_none c.args.self.now
 
-pub act-requires : goal.act-requires
-act-requires c = first_of _ c.loop-ticket.self c.in-Some.ticket c.self-in-loop-ticket.view_is (c.first.ensures.found c.in-Some.ticket c.in-Some.is)
+pub next_of-action-requires : goal.next_of-action-requires
+next_of-action-requires c = first_of _ c.loop-ticket.self c.in-Some.ticket c.self-in-loop-ticket.view_is (c.first.ensures.found c.in-Some.ticket c.in-Some.is)
 
 pub overflow_add-steps : goal.overflow_add-steps
 overflow_add-steps c =

@@ -4,7 +4,7 @@ use Rattle.coll_core.proofs.engine.stepping.deliver.Goals as goal
 
 pub returns-clause-delivers : goal.returns-clause-delivers
 returns-clause-delivers c =
-    delivers c.args.arena.now _ c.args.matches.now c.args.key c.args.member c.in-Some.ticket c.in-Some.ensures.hears c.in-Ok.ensures.puts
+    delivers c.args.arena.now _ c.args.matches.now c.args.sent.key c.args.sent.to c.in-Some.ticket c.in-Some.ensures.hears c.in-Ok.ensures.puts
 
 pub returns-clause-first : goal.returns-clause-first
 returns-clause-first c =

@@ -1,6 +1,7 @@
 use Rattle.std.proofs.Common.{◌∙◌, ap, sym, Some}
 use Rattle.std.specs.Prelude.{is_some}
-use Rattle.coll_match.proofs.Standing.{given_kept, mail_put, members_kept, on_err, on_ok, seats_kept, set_value_own}
+use Rattle.coll_match.proofs.Standing.{given_kept, mail_put, if_ok, members_kept, on_err, on_ok, seats_kept, set_value_own, stands}
+use Rattle.coll_match.specs.Instances.{seats_of}
 use Rattle.coll_match.proofs.matches.Matches.put.Goals as goal
 
 pub returns-clause-members : goal.returns-clause-members
@@ -22,3 +23,7 @@ returns-clause-mail c =
 pub returns-clause-err : goal.returns-clause-err
 returns-clause-err c =
     on_err c.put.result (λ same. (c.get_mut.follows.holds c.put.new.self).0 ∙ set_value_own _ _ c.put.new.self (ap Some same ∙ c.in-Some.ensures.value) ∙ c.self.view_is) c.put.ensures.err
+
+pub returns-clause-receiver : goal.returns-clause-receiver
+returns-clause-receiver c =
+    if_ok c.put.result (λ slot is. is ∙ ap (λ o. seats_of o c.args.to) (sym (stands _ _ c.self.view_is c.args.key c.in-Some.instance.now c.in-Some.ensures.value c.args.to))) c.put.ensures.receiver

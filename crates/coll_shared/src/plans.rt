@@ -1,0 +1,84 @@
+//! The plans that a port made last.
+
+ghost use Rattle.std.specs.Prelude.{◌≡◌, ◌<◌, ◌≤◌, None, IfOk, IfSome, IsErrOf, IsOkUnless, IsSome, IsTrue, MatchOption};
+ghost use Rattle.coll_kinds.specs.Checks.{broken};
+
+use coll_kinds::{Refusal, Signature};
+use coll_plans::{Plan, plan};
+use std::alloc::Global;
+
+/// How many plans are kept.
+const MOST: usize = 8;
+
+/// The plans that a port made last, so that a collective which it posts again and again is planned once. To look one up is
+/// linear in those that are kept, which are eight at most.
+#[derive(Drop)]
+pub(crate) struct Plans {
+    alloc: Global,
+    kept: Vec<Plan>,
+}
+
+/// Whether a plan is that member's of such a collective.
+fn is_of(plan: &Plan, sig: Signature, n: u8, member: u8) -> bool
+    ensures is { IsTrue result → plan.now ≡ record { sig = sig; n = n; member = member } }
+    ensures checked { IsTrue result → broken sig n ≡ None }
+{
+    plan.sig().is_same(sig) && plan.n() == n && plan.member() == member
+}
+
+impl Plans {
+    /// No plan. It takes no memory.
+    pub(crate) fn new(alloc: Global) -> Self {
+        Plans {
+            alloc,
+            kept: Vec::new(alloc),
+        }
+    }
+
+    /// The member's plan of a collective, as `plan` of `coll_plans` answers it: a copy of one that is kept, or a new one.
+    ///
+    /// # Errors
+    ///
+    /// BadSignature; NoMemory.
+    pub(crate) fn ready(&mut self, sig: Signature, n: u8, member: u8) -> Result<Plan, Refusal>
+        requires member { member < n }
+        requires few { n ≤ 64 }
+        ensures plan { IfOk result (λ p. p ≡ record { sig = sig; n = n; member = member }) }
+        ensures refusal { MatchOption (broken sig n)
+            (IsOkUnless result Refusal.NoMemory)
+            (λ cause. IsErrOf result (Refusal.BadSignature cause)) }
+    {
+        if let Some(known) = self.known(sig, n, member) {
+            return known.share();
+        }
+        let made = match plan(self.alloc, sig, n, member) {
+            Ok(made) => made,
+            Err(why) => return Err(why),
+        };
+        self.keep(&made);
+        Ok(made)
+    }
+
+    /// The kept plan of such a collective.
+    fn known(&self, sig: Signature, n: u8, member: u8) -> Option<&Plan>
+        ensures is { IfSome result (λ plan. plan.now ≡ record { sig = sig; n = n; member = member }) }
+        ensures checked { IsSome result → broken sig n ≡ None }
+    {
+        for plan in &self.kept {
+            if is_of(plan, sig, n, member) {
+                return Some(plan);
+            }
+        }
+        None
+    }
+
+    /// Keeps a plan; those before it go where they are enough. Without memory it isn't kept.
+    fn keep(&mut self, made: &Plan) {
+        if self.kept.len() >= MOST {
+            self.kept.clear();
+        }
+        if let Ok(copy) = made.share() {
+            let _ = self.kept.push(copy);
+        }
+    }
+}
