@@ -1,41 +1,179 @@
--- The messages of an instance, as a map's entries.
-use Rattle.std.proofs.Common.{◌≡◌, ℕ, Bool, cond, ◌&&◌, List, [], ◌∷◌, map, refl, sym, ap, ◌∙◌, Option, Some, None}
-use Rattle.std.specs.Prelude.{is_some, option_map, Vec}
-use Rattle.std.specs.Global.{Global}
-use Rattle.std.specs.Map.{lookup}
-use Rattle.coll_match.specs.declared.instance.Share.{Share}
-use Rattle.coll_match.specs.declared.key.Address.{Address}
-use Rattle.coll_match.specs.Held.{mail_in, put_mail, same_address}
-use Rattle.coll_match.specs.Views.{held_of}
-use Rattle.coll_match.proofs.Puts.{cond_map, eqb_sym, updated}
+-- The messages of one member, as a map's entries.
+use Rattle.std.proofs.Common.{◌≡◌, ℕ, ◌<◌, ◌+◌, not, subst, one-add, lt-ltb, le-ltb, inl, inr, true≢false, zero, suc, Bool, true, false, cond, ◌&&◌, ◌||◌, ◌==◌, List, [], ◌∷◌, ◌++◌, length, get_or, map, remove, nat_lt, position, refl, sym, ap, ◌∙◌, Option, Some, None, is_some, arith, eq-eqb, eqb-true}
+use Rattle.std.specs.Map.{keys_of, lookup, remove_entry}
+use Rattle.std.specs.List.{list_any, position_or_len, AllByRecursion, IsDistinct}
+use Rattle.std.specs.Cmp.{IsEquivalence}
+use Rattle.std.proofs.lemmas.Bool.{and_from, and_parts, cases_lt}
+use Rattle.std.proofs.lemmas.List.Quantifiers.{position-Some}
+use Rattle.std.proofs.lemmas.Map.{lookup-remove_entry}
+use Rattle.std.proofs.lemmas.Map.Keys.{IsDistinct-push}
+use Rattle.std.proofs.lemmas.Map.Made.{is_some-lookup}
+use Rattle.coll_match.specs.declared.key.Way.{Way}
+use Rattle.coll_match.specs.declared.outbox.Letter.{Letter}
+use Rattle.coll_match.specs.Held.{put_sent, same_way, sent_in}
+use Rattle.coll_match.specs.Letters.{letters_of}
+use Rattle.coll_match.proofs.Puts.{eqb_sym}
 
-abbrev pub Letters : Type 0
-Letters = List (Address × Vec ℕ Global)
+pub same_ways : IsEquivalence same_way
+same_ways = record {
+  refl = λ a. and_from (a.to == a.to) (a.round == a.round) (eq-eqb a.to a.to refl) (eq-eqb a.round a.round refl);
+  symm = λ a b z. eqb_sym a.to b.to z && eqb_sym a.round b.round z;
+  congr = λ a b c e. let both = and_parts (a.to == b.to) (a.round == b.round) e in
+      λ z. (eqb-true a.to b.to both.0 z == c.to) && (eqb-true a.round b.round both.1 z == c.round);
+}
 
-lookup-map : {K X Y : Type 0} (test : K → Bool) (g : X → Y) (es : List (K × X)) → lookup test (map (λ (e : K × X). (e.0, g e.1)) es) ≡ option_map g (lookup test es)
-lookup-map test g [] = refl
-lookup-map {K} {X} {Y} test g (e ∷ es) = ap (cond (test e.0) (Some (g e.1))) (lookup-map test g es) ∙ sym (cond_map (option_map g) (test e.0) (Some e.1) (lookup test es))
+suc_lt : (i n : ℕ) → nat_lt (suc i) (suc n) ≡ nat_lt i n
+suc_lt i n = elim (cases_lt i n) [
+  | inl low ↦ lt-ltb (suc i) (suc n) (omega (arith, low)) ∙ sym (lt-ltb i n low)
+  | inr past ↦ le-ltb (suc i) (suc n) (omega (arith, past)) ∙ sym (le-ltb i n past)
+]
 
-turned : (a b : Address) → same_address a b ≡ same_address b a
-turned a b = λ z. eqb_sym a.from b.from z && (eqb_sym a.to b.to z && eqb_sym a.round b.round z)
+module _ (w : Way) where
+  abbrev pub is_it : Letter → Bool
+  is_it letter = same_way w letter.way
 
-pub found_some : {X Y : Type 0} (g : X → Y) (o : Option X) → is_some o ≡ is_some (option_map g o)
-found_some g None = refl
-found_some g (Some x) = refl
+  any_of : (b r : Bool) (x : List ℕ) (o : Option (List ℕ)) → r ≡ is_some o → (b || r) ≡ is_some (cond b (Some x) o)
+  any_of true r x o e = refl
+  any_of false r x o e = e
 
-module _ (shares : List Share) (letters : Letters) where
-  -- what the map has
-  pub mail_found : (w : Address) → option_map (λ (m : Vec ℕ Global). m.items) (lookup (same_address w) letters) ≡ mail_in (held_of shares letters) w.from w.to w.round
-  mail_found w = sym (lookup-map (same_address w) (λ (m : Vec ℕ Global). m.items) letters)
+  -- a message is among the letters exactly where a look-up finds it
+  pub list_any-is_it : (xs : List Letter) → list_any is_it xs ≡ is_some (lookup (same_way w) (letters_of xs))
+  list_any-is_it [] = refl
+  list_any-is_it (x ∷ xs) = any_of (is_it x) (list_any is_it xs) x.bytes.items (lookup (same_way w) (letters_of xs)) (list_any-is_it xs)
 
-  pub mail_updated : (new : Letters) (w : Address) (x : Option (Vec ℕ Global))
-      → ((q : Address) → lookup (same_address q) new
-      ≡ cond (same_address w q) x (lookup (same_address q) letters))
-      → mail_in (held_of shares new) ≡ put_mail (mail_in (held_of shares letters)) w.from w.to w.round (option_map (λ m. m.items) x)
-  mail_updated new w x change = λ z a b c. at (record { from = a; to = b; round = c }) z
+  -- none is it
+  pub lookup-none_is_it : (xs : List Letter) → list_any is_it xs ≡ false → lookup (same_way w) (letters_of xs) ≡ None
+  lookup-none_is_it xs none = absent (lookup (same_way w) (letters_of xs)) (sym (list_any-is_it xs) ∙ none)
     where
-      at : (q : Address) → mail_in (held_of shares new) q.from q.to q.round ≡ put_mail (mail_in (held_of shares letters)) w.from w.to w.round (option_map (λ m. m.items) x) q.from q.to q.round
-      at q = lookup-map (same_address q) (λ (m : Vec ℕ Global). m.items) new
-          ∙ ap (option_map (λ (m : Vec ℕ Global). m.items)) (updated same_address turned letters new w x change q)
-          ∙ cond_map (option_map (λ (m : Vec ℕ Global). m.items)) (same_address q w) x (lookup (same_address q) letters)
-          ∙ ap (cond (same_address q w) (option_map (λ m. m.items) x)) (sym (lookup-map (same_address q) (λ (m : Vec ℕ Global). m.items) letters))
+      absent : (o : Option (List ℕ)) → is_some o ≡ false → o ≡ None
+      absent None e = refl
+      absent (Some x) e = absurd cc
+
+  pub record FoundAt (xs : List Letter) (i : ℕ) (d : Letter) : Type 0 where
+    pub value : lookup (same_way w) (letters_of xs) ≡ Some (get_or xs i d).bytes.items
+    pub rest : letters_of (remove xs i) ≡ remove_entry (same_way w) (letters_of xs)
+
+  -- the first that is it, and what is left without it
+  pub found_at : (xs : List Letter) (i : ℕ) (d : Letter) → i < length xs → is_it (get_or xs i d) ≡ true → ((k : ℕ) → k < i → is_it (get_or xs k d) ≡ false) → FoundAt xs i d
+  found_at [] i d low here before = absurd (omega (arith, low))
+  found_at (x ∷ xs) zero d low here before = record {
+    value = λ z. cond (here z) (Some x.bytes.items) (lookup (same_way w) (letters_of xs));
+    rest = λ z. sym (ap (λ b. cond b (letters_of xs) ((x.way, x.bytes.items) ∷ remove_entry (same_way w) (letters_of xs))) here) z;
+  }
+  found_at (x ∷ xs) (suc i) d low here before =
+      let later = found_at xs i d (omega (arith, low)) here (λ k lt. before (suc k) (omega (arith, lt))) in
+      let away : is_it x ≡ false = before 0 (omega arith) in
+      record {
+        value = ap (λ b. cond b (Some x.bytes.items) (lookup (same_way w) (letters_of xs))) away ∙ later.value;
+        rest = ap (λ es. (x.way, x.bytes.items) ∷ es) later.rest
+            ∙ sym (ap (λ b. cond b (letters_of xs) ((x.way, x.bytes.items) ∷ remove_entry (same_way w) (letters_of xs))) away);
+      }
+
+  -- where the first lies
+  place_step : (b r : Bool) (i n : ℕ) → nat_lt i n ≡ r → nat_lt (cond (not b) (1 + i) 0) (suc n) ≡ (b || r)
+  place_step true r i n e = lt-ltb 0 (suc n) (omega arith)
+  place_step false r i n e = (λ z. nat_lt (one-add i z) (suc n)) ∙ suc_lt i n ∙ e
+
+  nat_lt-place : (xs : List Letter) → nat_lt (position_or_len is_it xs) (length xs) ≡ list_any is_it xs
+  nat_lt-place [] = refl
+  nat_lt-place (x ∷ xs) = place_step (is_it x) (list_any is_it xs) (position_or_len is_it xs) (length xs) (nat_lt-place xs)
+
+  pub none_placed : (xs : List Letter) → None ≡ position is_it xs → lookup (same_way w) (letters_of xs) ≡ None
+  none_placed xs none = lookup-none_is_it xs (sym (nat_lt-place xs) ∙ past (nat_lt (position_or_len is_it xs) (length xs)) (position_or_len is_it xs) none)
+    where
+      past : (b : Bool) (i : ℕ) → None ≡ cond b (Some i) None → b ≡ false
+      past true i e = absurd cc
+      past false i e = refl
+
+  pub placed : (xs : List Letter) (i : ℕ) (d : Letter) → Some i ≡ position is_it xs → FoundAt xs i d
+  placed xs i d is =
+      let at = position-Some is_it xs i d (sym is) in
+      found_at xs i d at.0 at.1 at.2
+
+-- ---- a message more, and one less
+
+step : (qe qw : Bool) (v x : List ℕ) (l m : Option (List ℕ)) → (qw ≡ true → qe ≡ false) → m ≡ cond qw (Some x) l → cond qe (Some v) m ≡ cond qw (Some x) (cond qe (Some v) l)
+step true true v x l m other ih = absurd (true≢false (other refl))
+step true false v x l m other ih = refl
+step false qw v x l m other ih = ih
+
+absent_parts : (b : Bool) (v : List ℕ) (o : Option (List ℕ)) → cond b (Some v) o ≡ None → (b ≡ false) × (o ≡ None)
+absent_parts true v o e = absurd cc
+absent_parts false v o e = (refl, e)
+
+lookup-push : (q w : Way) (x : List ℕ) (es : List (Way × List ℕ)) → lookup (same_way w) es ≡ None
+    → lookup (same_way q) (es ++ (w, x) ∷ []) ≡ cond (same_way q w) (Some x) (lookup (same_way q) es)
+lookup-push q w x [] absent = refl
+lookup-push q w x (e ∷ es) absent =
+    let both = absent_parts (same_way w e.0) e.1 (lookup (same_way w) es) absent in
+    step (same_way q e.0) (same_way q w) e.1 x (lookup (same_way q) es) (lookup (same_way q) (es ++ (w, x) ∷ []))
+    (λ same. same_ways.congr q w e.0 same ∙ both.0) (lookup-push q w x es both.1)
+
+letters_of-push : (xs : List Letter) (y : Letter) → letters_of (xs ++ y ∷ []) ≡ letters_of xs ++ (y.way, y.bytes.items) ∷ []
+letters_of-push [] y = refl
+letters_of-push (x ∷ xs) y = ap (λ es. (x.way, x.bytes.items) ∷ es) (letters_of-push xs y)
+
+keys_of-push : (es : List (Way × List ℕ)) (e : Way × List ℕ) → keys_of (es ++ e ∷ []) ≡ keys_of es ++ e.0 ∷ []
+keys_of-push [] e = refl
+keys_of-push (x ∷ es) e = ap (λ ks. x.0 ∷ ks) (keys_of-push es e)
+
+abbrev pub Apart : List Letter → Type 0
+Apart xs = IsDistinct same_way (keys_of (letters_of xs))
+
+pub none_apart : Apart []
+unfolding IsDistinct
+none_apart = tt
+
+pub pushed_apart : (xs : List Letter) (y : Letter) → Apart xs → lookup (same_way y.way) (letters_of xs) ≡ None → Apart (xs ++ y ∷ [])
+pushed_apart xs y apart absent = subst (λ es. IsDistinct same_way (keys_of es)) (sym (letters_of-push xs y))
+    (subst (IsDistinct same_way) (sym (keys_of-push (letters_of xs) (y.way, y.bytes.items)))
+    (IsDistinct-push same_ways (keys_of (letters_of xs)) y.way apart (sym (is_some-lookup (same_way y.way) (letters_of xs)) ∙ ap is_some absent)))
+
+pub sent_pushed : (xs : List Letter) (y : Letter) → lookup (same_way y.way) (letters_of xs) ≡ None
+    → sent_in (letters_of (xs ++ y ∷ [])) ≡ put_sent (sent_in (letters_of xs)) y.way.to y.way.round (Some y.bytes.items)
+sent_pushed xs y absent = λ z b c. (ap (lookup (same_way (record { to = b; round = c }))) (letters_of-push xs y)
+    ∙ lookup-push (record { to = b; round = c }) y.way y.bytes.items (letters_of xs) absent) z
+
+all_left : (P : Way → Type 0) (test : Way → Bool) (es : List (Way × List ℕ)) → AllByRecursion P (keys_of es) → AllByRecursion P (keys_of (remove_entry test es))
+all_left P test [] h = h
+all_left P test (e ∷ es) h = by (all_left P test es h.1) (test e.0)
+  where
+    by : AllByRecursion P (keys_of (remove_entry test es)) → (b : Bool) → AllByRecursion P (keys_of (cond b es (e ∷ remove_entry test es)))
+    by rest true = h.1
+    by rest false = (h.0, rest)
+
+distinct_left : (test : Way → Bool) (es : List (Way × List ℕ)) → IsDistinct same_way (keys_of es) → IsDistinct same_way (keys_of (remove_entry test es))
+unfolding IsDistinct
+distinct_left test [] h = h
+distinct_left test (e ∷ es) h = by (distinct_left test es h.1) (test e.0)
+  where
+    by : IsDistinct same_way (keys_of (remove_entry test es)) → (b : Bool) → IsDistinct same_way (keys_of (cond b es (e ∷ remove_entry test es)))
+    by rest true = h.1
+    by rest false = (all_left (λ y. same_way e.0 y ≡ false) test es h.0, rest)
+
+pub removed_apart : (w : Way) (xs : List Letter) (i : ℕ) (d : Letter) → Apart xs → FoundAt w xs i d → Apart (remove xs i)
+removed_apart w xs i d apart found = subst (λ es. IsDistinct same_way (keys_of es)) (sym found.rest) (distinct_left (same_way w) (letters_of xs) apart)
+
+pub sent_removed : (w : Way) (xs : List Letter) (i : ℕ) (d : Letter) → Apart xs → FoundAt w xs i d
+    → sent_in (letters_of (remove xs i)) ≡ put_sent (sent_in (letters_of xs)) w.to w.round None
+sent_removed w xs i d apart found = λ z b c. at (record { to = b; round = c }) z
+  where
+    at : (q : Way) → lookup (same_way q) (letters_of (remove xs i)) ≡ cond (same_way q w) None (lookup (same_way q) (letters_of xs))
+    at q = ap (lookup (same_way q)) found.rest
+        ∙ lookup-remove_entry same_ways (same_way w) (λ x y same. same_ways.congr w x y same) q (letters_of xs) apart
+        ∙ (λ z. cond (same_ways.symm w q z) None (lookup (same_way q) (letters_of xs)))
+
+-- nothing to take out
+pub sent_same : (w : Way) (es : List (Way × List ℕ)) → lookup (same_way w) es ≡ None → sent_in es ≡ put_sent (sent_in es) w.to w.round None
+sent_same w es absent = λ z b c. at (record { to = b; round = c }) z
+  where
+    by : (b : Bool) (o : Option (List ℕ)) → (b ≡ true → o ≡ None) → o ≡ cond b None o
+    by true o none = none refl
+    by false o none = refl
+
+    same : (q : Way) (es : List (Way × List ℕ)) → same_way q w ≡ true → lookup (same_way q) es ≡ lookup (same_way w) es
+    same q [] e = refl
+    same q (x ∷ es) e = λ z. cond (same_ways.congr q w x.0 e z) (Some x.1) (same q es e z)
+
+    at : (q : Way) → lookup (same_way q) es ≡ cond (same_way q w) None (lookup (same_way q) es)
+    at q = by (same_way q w) (lookup (same_way q) es) (λ e. same q es e ∙ absent)

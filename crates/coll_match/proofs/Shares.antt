@@ -1,5 +1,5 @@
 -- The shares of an instance's members, and a change of one of them.
-use Rattle.std.proofs.Common.{◌≡◌, ℕ, ◌<◌, ◌≢◌, Bool, true, List, [], ◌∷◌, length, map, set, get_or, refl, sym, ap, ◌∙◌, Option, Some, None, zero, suc, replicate, arith}
+use Rattle.std.proofs.Common.{◌≡◌, ℕ, ◌<◌, ◌≢◌, ◌==◌, Bool, true, false, cond, eqb-true, List, [], ◌∷◌, length, map, set, get_or, refl, sym, ap, ◌∙◌, Option, Some, None, zero, suc, replicate, arith}
 use Rattle.std.proofs.lemmas.Bool.{and_from, and_parts}
 use Rattle.std.specs.Prelude.{slice_get, option_map, is_some, is_none, ◌&&◌, Vec}
 use Rattle.std.specs.Global.{Global}
@@ -8,8 +8,7 @@ use Rattle.std.proofs.lemmas.List.{length-map}
 use Rattle.std.proofs.lemmas.Option.{slice_get-map, slice_get_read, none-some}
 use Rattle.coll_kinds.specs.Puts.{put}
 use Rattle.coll_match.specs.declared.instance.Share.{Share}
-use Rattle.coll_match.specs.declared.key.Address.{Address}
-use Rattle.coll_match.specs.Held.{Held, Part, gift_of, slot_of}
+use Rattle.coll_match.specs.Held.{Held, Part, gift_of, mail_in, put_mail, put_sent, sent_in, sent_of, slot_of}
 use Rattle.coll_match.specs.Views.{held_of, part_of}
 use Rattle.coll_match.proofs.Puts.{cond_map, put_own, slice_get-set}
 
@@ -23,10 +22,13 @@ module _ {X : Type 0} (f : Option Part → X) (shares : List Share) (i : ℕ) (s
   pub parts_set : ◌≡◌ {A = ℕ → X} (λ m. f (slice_get (map part_of (set shares i share)) m)) (put (λ m. f (slice_get (map part_of shares) m)) i (f (Some (part_of share))))
   parts_set = λ z m. part_set m z
 
+  pub part_read : (old : Share) → old ≡ get_or shares i old → f (slice_get (map part_of shares) i) ≡ f (Some (part_of old))
+  part_read old is = ap f (slice_get-map part_of shares i ∙ ap (option_map part_of) (slice_get_read shares (length shares) i old refl low is))
+
   -- a share that shows the same
   pub parts_kept : (old : Share) → old ≡ get_or shares i old → f (Some (part_of share)) ≡ f (Some (part_of old)) → ◌≡◌ {A = ℕ → X} (λ m. f (slice_get (map part_of (set shares i share)) m)) (λ m. f (slice_get (map part_of shares) m))
   parts_kept old is same = parts_set ∙ put_own (λ m. f (slice_get (map part_of shares) m)) i (f (Some (part_of share)))
-      (same ∙ ap f (sym (slice_get-map part_of shares i ∙ ap (option_map part_of) (slice_get_read shares (length shares) i old refl low is))))
+      (same ∙ sym (part_read old is))
 
 -- every member has given and has no active request
 abbrev pub has_left : Share → Bool
@@ -52,11 +54,31 @@ over_all [] h = refl
 over_all (share ∷ shares) h = and_from (has_left share) (list_all has_left shares) (share_left share.given share.slot (h 0 (omega arith))) (over_all shares (λ m lt. h (suc m) (omega (arith, lt))))
 
 -- shares without anything
-pub empty_part : {X : Type 0} (f : Option Part → X) (y : X) → f None ≡ y → f (Some (record { gift = None; slot = None })) ≡ y → (n m : ℕ) → f (slice_get (map part_of (replicate n (record { given = None; slot = None }))) m) ≡ y
+pub empty_part : {X : Type 0} (f : Option Part → X) (y : X) → f None ≡ y → f (Some (record { gift = None; slot = None; sent = [] })) ≡ y → (n m : ℕ) → f (slice_get (map part_of (replicate n (record { given = None; slot = None; outbox = [] }))) m) ≡ y
 empty_part f y none some zero m = none
 empty_part f y none some (suc n) zero = some
 empty_part f y none some (suc n) (suc m) = empty_part f y none some n m
 
 -- a member's number is an index of the shares
-pub low_share : (shares : List Share) (letters : List (Address × Vec ℕ Global)) (v : Held) (member i : ℕ) → held_of shares letters ≡ v → member < length v.shares → i ≡ member → i < length shares
-low_share shares letters v member i e low is = omega (arith, low, is, ap (λ (h : Held). length h.shares) e, length-map shares part_of)
+pub low_share : (shares : List Share) (v : Held) (member i : ℕ) → held_of shares ≡ v → member < length v.shares → i ≡ member → i < length shares
+low_share shares v member i e low is = omega (arith, low, is, ap (λ (h : Held). length h.shares) e, length-map shares part_of)
+
+-- ---- a member's messages
+
+pub put_sender : (f : ℕ → ℕ → ℕ → Option (List ℕ)) (from to round : ℕ) (x : Option (List ℕ)) → put f from (put_sent (f from) to round x) ≡ put_mail f from to round x
+put_sender f from to round x = λ z a b c. at a b c z
+  where
+    by : (here : Bool) (a b c : ℕ) → (here ≡ true → f from b c ≡ f a b c) → cond here (put_sent (f from) to round x) (f a) b c ≡ cond (here && ((b == to) && (c == round))) x (f a b c)
+    by true a b c same = ap (cond ((b == to) && (c == round)) x) (same refl)
+    by false a b c same = refl
+
+    at : (a b c : ℕ) → put f from (put_sent (f from) to round x) a b c ≡ put_mail f from to round x a b c
+    at a b c = by (a == from) a b c (λ e. ap (λ m. f m b c) (sym (eqb-true a from e)))
+
+pub mail_sent : (shares : List Share) (i : ℕ) (share old : Share) → i < length shares → old ≡ get_or shares i old → (to round : ℕ) (x : Option (List ℕ))
+    → sent_in share.outbox ≡ put_sent (sent_in old.outbox) to round x
+    → mail_in (held_of (set shares i share)) ≡ put_mail (mail_in (held_of shares)) i to round x
+mail_sent shares i share old low is to round x sent =
+    parts_set sent_of shares i share low
+    ∙ ap (put (mail_in (held_of shares)) i) (sent ∙ ap (λ f. put_sent f to round x) (sym (part_read sent_of shares i share low old is)))
+    ∙ put_sender (mail_in (held_of shares)) i to round x

@@ -1,17 +1,28 @@
 -- What stands of one instance.
 use Rattle.std.specs.Prelude.{◌≡◌, ◌≢◌, ◌<◌, ◌==◌, ◌&&◌, ℕ, Bool, cond, List, length, slice_get, Option, Some, None}
 use Rattle.std.specs.Map.{lookup}
-use Rattle.coll_match.specs.declared.key.Address.{Address}
+use Rattle.coll_match.specs.declared.key.Way.{Way}
 
--- of one member: what it gave, and the slot of its active request
+-- of one member: what it gave, the slot of its active request, and the messages that it sent and that weren't taken yet
 pub record Part : Type 0 where
   pub gift : Option (List ℕ)
   pub slot : Option ℕ
+  pub sent : List (Way × List ℕ)
 
--- of all members, and the messages that weren't taken yet
+-- of all members
 pub record Held : Type 0 where
   pub shares : List Part
-  pub letters : List (Address × List ℕ)
+
+abbrev pub same_way : Way → Way → Bool
+same_way a b = (a.to == b.to) && (a.round == b.round)
+
+-- the message to a receiver for a round, of those that one member sent
+abbrev pub sent_in : List (Way × List ℕ) → ℕ → ℕ → Option (List ℕ)
+sent_in letters to round = lookup (same_way (record { to = to; round = round })) letters
+
+-- a sender's messages with another one, or none, at one receiver and round
+abbrev pub put_sent : (ℕ → ℕ → Option (List ℕ)) → ℕ → ℕ → Option (List ℕ) → ℕ → ℕ → Option (List ℕ)
+put_sent f to round message b c = cond ((b == to) && (c == round)) message (f b c)
 
 abbrev pub gift_of : Option Part → Option (List ℕ)
 gift_of None = None
@@ -21,6 +32,10 @@ abbrev pub slot_of : Option Part → Option ℕ
 slot_of None = None
 slot_of (Some part) = part.slot
 
+abbrev pub sent_of : Option Part → ℕ → ℕ → Option (List ℕ)
+sent_of None to round = None
+sent_of (Some part) to round = sent_in part.sent to round
+
 -- what a member gave
 abbrev pub given_in : Held → ℕ → Option (List ℕ)
 given_in h member = gift_of (slice_get h.shares member)
@@ -29,12 +44,9 @@ given_in h member = gift_of (slice_get h.shares member)
 abbrev pub seat_in : Held → ℕ → Option ℕ
 seat_in h member = slot_of (slice_get h.shares member)
 
-abbrev pub same_address : Address → Address → Bool
-same_address a b = (a.from == b.from) && ((a.to == b.to) && (a.round == b.round))
-
 -- the message of a sender to a receiver for a round
 abbrev pub mail_in : Held → ℕ → ℕ → ℕ → Option (List ℕ)
-mail_in h from to round = lookup (same_address (record { from = from; to = to; round = round })) h.letters
+mail_in h from = sent_of (slice_get h.shares from)
 
 -- messages with another one, or none, at one way
 abbrev pub put_mail : (ℕ → ℕ → ℕ → Option (List ℕ)) → ℕ → ℕ → ℕ → Option (List ℕ) → ℕ → ℕ → ℕ → Option (List ℕ)

@@ -4,4 +4,5 @@ pub mod Instances
 -- worked rows
 pub mod Rows
 -- what functions promise one another: what the fields show
+pub mod Letters
 pub mod Views

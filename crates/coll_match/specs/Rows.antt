@@ -13,11 +13,10 @@ one = (
   key 0,
   record {
     shares =
-        record { gift = Some (7 ∷ []); slot = Some 5 }
-        ∷ record { gift = Some (8 ∷ []); slot = None }
-        ∷ record { gift = None; slot = None }
+        record { gift = Some (7 ∷ []); slot = Some 5; sent = (record { to = 2; round = 1 }, 9 ∷ []) ∷ [] }
+        ∷ record { gift = Some (8 ∷ []); slot = None; sent = [] }
+        ∷ record { gift = None; slot = None; sent = [] }
         ∷ [];
-    letters = (record { from = 0; to = 2; round = 1 }, 9 ∷ []) ∷ [];
   },
 ) ∷ []
 

@@ -2,12 +2,11 @@
 use Rattle.std.specs.Prelude.{ℕ, List, map, option_map, Vec}
 use Rattle.std.specs.Global.{Global}
 use Rattle.coll_match.specs.Held.{Part, Held}
-use Rattle.coll_match.specs.declared.key.Address.{Address}
 use Rattle.coll_match.specs.declared.instance.Share.{Share}
 
 abbrev pub part_of : Share → Part
-part_of share = record { gift = option_map (λ (bytes : Vec ℕ Global). bytes.items) share.given; slot = share.slot }
+part_of share =
+    record { gift = option_map (λ (bytes : Vec ℕ Global). bytes.items) share.given; slot = share.slot; sent = share.outbox }
 
-abbrev pub held_of : List Share → List (Address × Vec ℕ Global) → Held
-held_of shares letters =
-    record { shares = map part_of shares; letters = map (λ (e : Address × Vec ℕ Global). (e.0, e.1.items)) letters }
+abbrev pub held_of : List Share → Held
+held_of shares = record { shares = map part_of shares }

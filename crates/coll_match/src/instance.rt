@@ -1,28 +1,30 @@
-ghost use Rattle.std.specs.Prelude.{◌≡◌, ◌<◌, ◌&&◌, Some, None, length, option_map, is_some, is_none, IsTrue, ◌↔◌, IfOk, OnOk, IfErr, OnErr, replicate};
+ghost use Rattle.std.specs.Prelude.{◌≡◌, ◌<◌, ◌&&◌, [], Some, None, length, option_map, is_some, is_none, IsTrue, ◌↔◌, IfOk, OnOk, IfErr, OnErr, replicate};
 ghost use Rattle.std.specs.List.{list_all};
 ghost use Rattle.std.specs.Option.{option_copied};
+ghost use Rattle.coll_kinds.specs.declared.refusal.Refusal.TheVariants.{NoMemory};
 ghost use Rattle.coll_kinds.specs.declared.refusal.Refused.{Refused};
 ghost use Rattle.coll_kinds.specs.Puts.{put};
 ghost use Rattle.coll_match.specs.Held.{IsOver, given_in, mail_in, put_mail, seat_in};
 
-use crate::key::Address;
-use coll_kinds::{Refusal, Refused};
+use crate::key::Way;
+use crate::outbox::{Message, Outbox};
+use coll_kinds::Refused;
 use std::alloc::{AllocError, Global};
-use std::collections::HashMap;
 use std::marker::Model;
 
-/// What an instance has of one member: the bytes that it gave, and the slot of its active request.
+/// What an instance has of one member: the bytes that it gave, the slot of its active request, and the messages that it sent
+/// and that weren't taken yet.
 #[derive(Debug, Drop)]
 struct Share {
     given: Option<Vec<u8>>,
     slot: Option<u32>,
+    outbox: Outbox,
 }
 
-/// What stands of one collective: a share for each member, and the messages that weren't taken yet.
+/// What stands of one collective: a share for each member.
 #[derive(Debug, Drop)]
 pub(crate) struct Instance {
     shares: Vec<Share>,
-    letters: HashMap<Address, Vec<u8>>,
 }
 
 impl Model for Instance {
@@ -32,7 +34,7 @@ impl Model for Instance {
 
     ghost use Rattle.coll_match.specs.Views.{held_of};
 
-    ghost view = { λ a. held_of a.shares.items a.letters.entries };
+    ghost view = { λ a. held_of a.shares.items };
 }
 
 /// Every member has given and has no active request.
@@ -46,21 +48,21 @@ fn all_have_left(shares: &[Share]) -> bool
 
 /// That many shares without anything.
 fn empty_shares(alloc: Global, members: u8) -> Result<Vec<Share>, AllocError>
-    ensures { IfOk result (λ made. made.items ≡ replicate members (record { given = None; slot = None })) }
+    ensures { IfOk result (λ made. made.items ≡ replicate members (record { given = None; slot = None; outbox = [] })) }
 {
     let mut made = Vec::with_capacity(alloc, usize::from(members))?;
     for _member in 0..members {
         made.push(Share {
             given: None,
             slot: None,
+            outbox: Outbox::new(alloc),
         })?;
     }
     Ok(made)
 }
 
 impl Instance {
-    /// An instance of that many members, to which none has given, with room for a message from each other member, so that
-    /// most collectives grow it no more.
+    /// An instance of that many members, to which none has given.
     pub(crate) fn new(alloc: Global, members: u8) -> Result<Instance, AllocError>
         ensures members { IfOk result (λ made. length made.shares ≡ members) }
         ensures given { IfOk result (λ made. given_in made ≡ (λ _. None)) }
@@ -68,8 +70,7 @@ impl Instance {
         ensures mail { IfOk result (λ made. mail_in made ≡ (λ _ _ _. None)) }
     {
         let shares = empty_shares(alloc, members)?;
-        let letters = HashMap::with_capacity(alloc, usize::from(members.saturating_sub(1)))?;
-        Ok(Instance { shares, letters })
+        Ok(Instance { shares })
     }
 
     /// Keeps what a member gives.
@@ -122,44 +123,50 @@ impl Instance {
         all_have_left(&self.shares)
     }
 
-    /// Keeps a message until it is taken, and answers the slot of the receiver's active request. Only NoMemory is refused.
+    /// Keeps a message of a member until it is taken, and answers the slot of the receiver's active request. Only NoMemory is
+    /// refused, and hands the message back.
     pub(crate) fn put(
         &mut self,
-        address: Address,
-        message: Vec<u8>,
-    ) -> Result<Option<u32>, Refused<Vec<u8>>>
-        ensures receiver { IfOk result (λ slot. slot ≡ seat_in self.old address.to) }
-        ensures refused { IfErr result (λ refused. refused ≡ record { why = Refusal.NoMemory; back = message }) }
+        from: u8,
+        way: Way,
+        message: Message,
+    ) -> Result<Option<u32>, Refused<Message>>
+        requires member { from < length self.old.shares }
+        requires new { mail_in self.old from way.to way.round ≡ None }
+        ensures receiver { IfOk result (λ slot. slot ≡ seat_in self.old way.to) }
+        ensures refused { IfErr result (λ refused. refused ≡ record { why = NoMemory; back = message }) }
         ensures err { OnErr result (self.new ≡ self.old) }
         ensures members { OnOk result (length self.new.shares ≡ length self.old.shares) }
         ensures given { OnOk result (given_in self.new ≡ given_in self.old) }
         ensures seats { OnOk result (seat_in self.new ≡ seat_in self.old) }
-        ensures mail { OnOk result (mail_in self.new ≡ put_mail (mail_in self.old) address.from address.to address.round (Some message.items)) }
+        ensures mail { OnOk result (mail_in self.new ≡ put_mail (mail_in self.old) from way.to way.round (Some message.items)) }
     {
-        match self.letters.insert(address, message) {
-            Ok(_) => Ok(self.seated(address.to)),
-            Err(failed) => Err(Refused {
-                why: Refusal::NoMemory,
-                back: failed.value.1,
-            }),
+        self.shares[usize::from(from)].outbox.put(way, message)?;
+        Ok(self.seated(way.to))
+    }
+
+    /// A message of a member stands.
+    pub(crate) fn is_ready(&self, from: u8, way: Way) -> bool
+        ensures { result ≡ is_some (mail_in self.now from way.to way.round) }
+    {
+        match self.shares.get(usize::from(from)) {
+            Some(share) => share.outbox.is_ready(way),
+            None => false,
         }
     }
 
-    /// A message stands.
-    pub(crate) fn is_ready(&self, address: Address) -> bool
-        ensures { result ≡ is_some (mail_in self.now address.from address.to address.round) }
-    {
-        self.letters.contains_key(&address)
-    }
-
-    /// Takes a message out.
-    pub(crate) fn take(&mut self, address: Address) -> Option<Vec<u8>>
-        ensures taken { option_map (λ message. message.items) result ≡ mail_in self.old address.from address.to address.round }
+    /// Takes a message of a member out.
+    pub(crate) fn take(&mut self, from: u8, way: Way) -> Option<Message>
+        ensures taken { option_map (λ message. message.items) result ≡ mail_in self.old from way.to way.round }
         ensures members { length self.new.shares ≡ length self.old.shares }
         ensures given { given_in self.new ≡ given_in self.old }
         ensures seats { seat_in self.new ≡ seat_in self.old }
-        ensures mail { mail_in self.new ≡ put_mail (mail_in self.old) address.from address.to address.round None }
+        ensures mail { mail_in self.new ≡ put_mail (mail_in self.old) from way.to way.round None }
     {
-        self.letters.remove(&address)
+        let sender = usize::from(from);
+        if sender >= self.shares.len() {
+            return None;
+        }
+        self.shares[sender].outbox.take(way)
     }
 }

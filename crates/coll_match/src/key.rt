@@ -8,10 +8,9 @@ pub struct Key {
     pub start: u32,
 }
 
-/// The way of a message within an instance: its sender and receiver, by member number, and its round.
-#[derive(Clone, Copy, Debug, PartialEq, Eq, Hash)]
-pub(crate) struct Address {
-    pub(crate) from: u8,
+/// The way of a message from its sender: its receiver, by member number, and its round.
+#[derive(Clone, Copy, Debug, PartialEq, Eq)]
+pub(crate) struct Way {
     pub(crate) to: u8,
     pub(crate) round: usize,
 }

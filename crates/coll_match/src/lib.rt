@@ -6,7 +6,8 @@
 //!
 //! | Module | Has |
 //! |---|---|
-//! | `key` | `Key`, by which an instance goes, and the address of a message in it |
+//! | `key` | `Key`, by which an instance goes, and the way of a message in it |
+//! | `outbox` | `Outbox`, the messages of one member |
 //! | `instance` | `Instance`, what stands of one |
 //! | `matches` | `Matches`, all that stand |
 #![tactic(auto)]
@@ -14,6 +15,8 @@
 mod instance;
 mod key;
 mod matches;
+mod outbox;
 
 pub use key::Key;
 pub use matches::Matches;
+pub use outbox::Message;

@@ -6,7 +6,8 @@ ghost use Rattle.coll_match.specs.Held.{put_mail};
 ghost use Rattle.coll_match.specs.Instances.{IsLast, given, mail, members, put_key, seats, size};
 
 use crate::instance::Instance;
-use crate::key::{Address, Key};
+use crate::key::{Key, Way};
+use crate::outbox::Message;
 use coll_kinds::{Refusal, Refused};
 use std::alloc::Global;
 use std::collections::HashMap;
@@ -14,8 +15,9 @@ use std::marker::Model;
 
 /// The instances that stand: what their members gave, the slots of the members' active requests, and the messages.
 ///
-/// A member has left an instance where it has given to it and has no slot noted. Every call takes constant time on
-/// average, however many instances and messages stand; `room` and `leave` are linear in an instance's members besides.
+/// A member has left an instance where it has given to it and has no slot noted. Every call finds its instance in constant
+/// time on average, however many stand. `room` and `leave` are linear in an instance's members besides; `put`, `ready` and
+/// `take` in the messages of the sender that weren't taken yet.
 #[derive(Debug, Drop)]
 pub struct Matches {
     alloc: Global,
@@ -156,8 +158,8 @@ impl Matches {
         from: u8,
         to: u8,
         round: usize,
-        message: Vec<u8>,
-    ) -> Result<Option<u32>, Refused<Vec<u8>>>
+        message: Message,
+    ) -> Result<Option<u32>, Refused<Message>>
         requires joined { given self.old key from ≢ None }
         requires new { mail self.old key from to round ≡ None }
         ensures receiver { IfOk result (λ slot. slot ≡ seats self.old key to) }
@@ -169,7 +171,7 @@ impl Matches {
         ensures err { OnErr result (self.new ≡ self.old) }
     {
         match self.instances.get_mut(&key) {
-            Some(instance) => instance.put(Address { from, to, round }, message),
+            Some(instance) => instance.put(from, Way { to, round }, message),
             None => unreachable!(),
         }
     }
@@ -179,21 +181,19 @@ impl Matches {
         ensures { result ≡ is_some (mail self.now key from to round) }
     {
         match self.instances.get(&key) {
-            Some(instance) => instance.is_ready(Address { from, to, round }),
+            Some(instance) => instance.is_ready(from, Way { to, round }),
             None => false,
         }
     }
 
     /// Takes a message out; none where none stands for that sender, receiver and round.
-    pub fn take(&mut self, key: Key, from: u8, to: u8, round: usize) -> Option<Vec<u8>>
+    pub fn take(&mut self, key: Key, from: u8, to: u8, round: usize) -> Option<Message>
         ensures taken { option_map (λ message. message.items) result ≡ mail self.old key from to round }
         ensures members { members self.new ≡ members self.old }
         ensures given { given self.new ≡ given self.old }
         ensures seats { seats self.new ≡ seats self.old }
         ensures mail { mail self.new ≡ put_key (mail self.old) key (put_mail (mail self.old key) from to round None) }
     {
-        self.instances
-            .get_mut(&key)?
-            .take(Address { from, to, round })
+        self.instances.get_mut(&key)?.take(from, Way { to, round })
     }
 }

@@ -296,12 +296,12 @@ impl Job {
 
 // The calls of the core, with nothing that they promise: what they do is compared when the job runs.
 
-/// The plan of a seat; Torn where its member isn't one of at most 64.
+/// A copy of the plan of a seat; Torn where its member isn't one of at most 64.
 fn plan_of(alloc: Global, seat: &Seat) -> Result<Plan, Refusal> {
     if seat.member >= seat.size || seat.size > 64 {
         return Err(Refusal::Torn);
     }
-    plan(alloc, seat.sig, seat.size, seat.member)
+    plan(alloc, seat.sig, seat.size, seat.member)?.share()
 }
 
 fn post(core: &mut Core, seat: &Seat, plan: Plan, bytes: Vec<u8>) -> Result<Ticket, Refusal> {

@@ -3,7 +3,7 @@
 ghost use Rattle.coll_match.specs.Instances.{HaveSize};
 
 use coll_kinds::Refusal;
-use coll_match::{Key, Matches};
+use coll_match::{Key, Matches, Message};
 use std::alloc::Global;
 use std::test::Fail;
 
@@ -40,7 +40,7 @@ fn send(
     requires { HaveSize matches.old 3 }
     ensures { HaveSize matches.new 3 }
 {
-    let message = Vec::from_slice(alloc, &[byte])?;
+    let message = Message::from_slice(alloc, &[byte])?;
     if matches.given(key, from).is_some() && !matches.ready(key, from, to, round) {
         let seated = matches.seated(key, to);
         match matches.put(key, from, to, round, message) {

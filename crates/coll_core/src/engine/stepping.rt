@@ -24,7 +24,7 @@ use crate::work::Work;
 use coll_arena::laws::is_sound;
 use coll_arena::{Arena, ListName, Ticket};
 use coll_kinds::Refusal;
-use coll_match::Matches;
+use coll_match::{Matches, Message};
 use coll_sched::{Action, Region};
 
 impl Core {
@@ -110,7 +110,7 @@ impl Core {
         let Ok(request) = self.arena.get(ticket) else {
             unreachable!()
         };
-        let message = Action::Send { to, from }.message(self.alloc, &request.buffer)?;
+        let message = Message::from_slice(self.alloc, from.read(&request.buffer))?;
         let key = request.key();
         let member = request.plan.member();
         let round = request.round;

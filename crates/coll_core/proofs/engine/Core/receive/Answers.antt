@@ -13,7 +13,7 @@ pub accept-requires-clause-takes : goal.accept-requires-clause-takes
 accept-requires-clause-takes c =
     let x = c.in-Ok.request.now in
     let at = acts_at _ c.args.self.now c.args.ticket x (Recv c.args.of c.args.into) c.self.view_is c.requires c.in-Ok.ensures.found in
-    ap length c.deref.ensures.value
+    ap length c.deref.ensures
     ∙ message_long _ c.args.ticket x c.args.of c.args.into c.in-Some.message.items c.self.invariant at
     (message_came c.self.inside.matches x c.args.of c.key-key.result c.member-member.result c.key-key.ensures c.member-member.ensures.member c.in-Some.message.items c.in-Some.ensures.taken)
 
@@ -34,7 +34,7 @@ invariant_of-self c =
     (record { members = c.take.ensures.members; given = c.take.ensures.given; seats = c.take.ensures.seats })
     (message_came c.self.inside.matches x c.args.of c.key-key.result c.member-member.result c.key-key.ensures c.member-member.ensures.member c.in-Some.message.items c.in-Some.ensures.taken)
     (message_taken c.self.inside.matches x c.args.of c.key-key.result c.member-member.result c.key-key.ensures c.member-member.ensures.member c.take.new.self c.take.ensures.mail)
-    (c.accept.ensures ∙ (λ z. written (c.deref_mut.ensures.value z) c.args.into (c.deref.ensures.value z)))
+    (c.accept.ensures ∙ (λ z. written (c.deref_mut.ensures.value z) c.args.into (c.deref.ensures z)))
     (record { is = refl; round_is = refl; index_is = refl; buf = with_items_is x.buffer c.accept.new.buf k }) c.go_on.ensures).0
 
 pub returns : goal.returns
@@ -48,5 +48,5 @@ returns c =
     (record { members = c.take.ensures.members; given = c.take.ensures.given; seats = c.take.ensures.seats })
     (message_came c.self.inside.matches x c.args.of c.key-key.result c.member-member.result c.key-key.ensures c.member-member.ensures.member c.in-Some.message.items c.in-Some.ensures.taken)
     (message_taken c.self.inside.matches x c.args.of c.key-key.result c.member-member.result c.key-key.ensures c.member-member.ensures.member c.take.new.self c.take.ensures.mail)
-    (c.accept.ensures ∙ (λ z. written (c.deref_mut.ensures.value z) c.args.into (c.deref.ensures.value z)))
+    (c.accept.ensures ∙ (λ z. written (c.deref_mut.ensures.value z) c.args.into (c.deref.ensures z)))
     (record { is = refl; round_is = refl; index_is = refl; buf = with_items_is x.buffer c.accept.new.buf k }) c.go_on.ensures).1

@@ -1,9 +1,30 @@
-use Rattle.std.proofs.Common.{◌∙◌, ap, Some}
-use Rattle.coll_match.specs.Held.{Held, mail_in, put_mail}
-use Rattle.coll_match.proofs.Letters.{mail_updated}
+use Rattle.std.proofs.Common.{◌≡◌, ◌∙◌, ◌<◌, length, ap, refl, sym, Some, None}
+use Rattle.coll_match.specs.declared.instance.Share.{Share}
+use Rattle.coll_match.specs.Held.{gift_of, given_in, mail_in, put_mail, seat_in, slot_of}
+use Rattle.coll_match.proofs.Shares.{low_share, mail_sent, parts_kept}
 use Rattle.coll_match.proofs.instance.Instance.put.Goals as goal
 
-pub returns-in-Ok-clause-mail : goal.returns-in-Ok-clause-mail
-returns-in-Ok-clause-mail c =
-    mail_updated c.self.inside.shares.items c.self.inside.letters.entries c.insert.new.self.entries c.args.address (Some c.args.message) c.in-Ok.ensures.updates.0
-    ∙ ap (λ (v : Held). put_mail (mail_in v) c.args.address.from c.args.address.to c.args.address.round (Some c.args.message.items)) c.self.view_is
+abbrev after : (c : goal.After-seated) → Share
+after c = record { given = c.index_mut.result.now.given; slot = c.index_mut.result.now.slot; outbox = c.put.new.self }
+
+low : (c : goal.After-seated) → c.from.result < length c.self.inside.shares.items
+low c = low_share _ _ _ _ c.self.view_is c.requires.member c.from.ensures
+
+pub returns-clause-given : goal.returns-clause-given
+returns-clause-given c =
+    parts_kept gift_of c.self.inside.shares.items c.from.result (after c) (low c) c.index_mut.result.now c.index_mut.ensures.value refl
+    ∙ ap given_in c.self.view_is
+
+pub returns-clause-seats : goal.returns-clause-seats
+returns-clause-seats c =
+    parts_kept slot_of c.self.inside.shares.items c.from.result (after c) (low c) c.index_mut.result.now c.index_mut.ensures.value refl
+    ∙ ap seat_in c.self.view_is
+
+pub returns-clause-receiver : goal.returns-clause-receiver
+returns-clause-receiver c = c.seated.ensures ∙ ap (λ f. f c.args.way.to) (returns-clause-seats c)
+
+pub returns-clause-mail : goal.returns-clause-mail
+returns-clause-mail c =
+    mail_sent c.self.inside.shares.items c.from.result (after c) c.index_mut.result.now (low c) c.index_mut.ensures.value
+    c.args.way.to c.args.way.round (Some c.args.message.items) c.in_ok-put.ensures.sent
+    ∙ (λ z. put_mail (mail_in (c.self.view_is z)) (c.from.ensures z) c.args.way.to c.args.way.round (Some c.args.message.items))

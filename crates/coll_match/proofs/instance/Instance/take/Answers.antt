@@ -1,15 +1,27 @@
-use Rattle.std.proofs.Common.{◌∙◌, ap, None, ℕ, Vec, Global}
-use Rattle.std.specs.Prelude.{option_map}
-use Rattle.coll_match.specs.Held.{Held, mail_in, put_mail}
-use Rattle.coll_match.proofs.Letters.{mail_found, mail_updated}
+use Rattle.std.proofs.Common.{◌≡◌, ◌∙◌, ◌<◌, length, ap, refl, sym, arith, None}
+use Rattle.coll_match.specs.declared.instance.Share.{Share}
+use Rattle.coll_match.specs.Held.{gift_of, given_in, mail_in, put_mail, seat_in, slot_of}
+use Rattle.coll_match.proofs.Shares.{low_share, mail_sent, parts_kept}
 use Rattle.coll_match.proofs.instance.Instance.take.Goals as goal
 
-pub returns-clause-taken : goal.returns-clause-taken
-returns-clause-taken c =
-    ap (option_map (λ (m : Vec ℕ Global). m.items)) c.remove.ensures.value ∙ mail_found c.self.inside.shares.items c.self.inside.letters.entries c.args.address
-    ∙ ap (λ (v : Held). mail_in v c.args.address.from c.args.address.to c.args.address.round) c.self.view_is
+abbrev after : (c : goal.After-self-1) → Share
+after c = record { given = c.index_mut.result.now.given; slot = c.index_mut.result.now.slot; outbox = c.take.new.self }
+
+low : (c : goal.After-self-1) → c.from-sender.result < length c.self.inside.shares.items
+low c = omega (arith, c.if-sender-len.false)
+
+pub returns-clause-given : goal.returns-clause-given
+returns-clause-given c =
+    parts_kept gift_of c.self.inside.shares.items c.from-sender.result (after c) (low c) c.index_mut.result.now c.index_mut.ensures.value refl
+    ∙ ap given_in c.self.view_is
+
+pub returns-clause-seats : goal.returns-clause-seats
+returns-clause-seats c =
+    parts_kept slot_of c.self.inside.shares.items c.from-sender.result (after c) (low c) c.index_mut.result.now c.index_mut.ensures.value refl
+    ∙ ap seat_in c.self.view_is
 
 pub returns-clause-mail : goal.returns-clause-mail
 returns-clause-mail c =
-    mail_updated c.self.inside.shares.items c.self.inside.letters.entries c.remove.new.self.entries c.args.address None c.remove.ensures.updates.0
-    ∙ ap (λ (v : Held). put_mail (mail_in v) c.args.address.from c.args.address.to c.args.address.round None) c.self.view_is
+    mail_sent c.self.inside.shares.items c.from-sender.result (after c) c.index_mut.result.now (low c) c.index_mut.ensures.value
+    c.args.way.to c.args.way.round None c.take.ensures.sent
+    ∙ (λ z. put_mail (mail_in (c.self.view_is z)) (c.from-sender.ensures z) c.args.way.to c.args.way.round None)

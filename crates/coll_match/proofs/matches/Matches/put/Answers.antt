@@ -1,7 +1,7 @@
 use Rattle.std.proofs.Common.{◌∙◌, ap, sym, Some}
 use Rattle.std.specs.Prelude.{is_some}
-use Rattle.coll_match.proofs.Standing.{given_kept, mail_put, if_ok, members_kept, on_err, on_ok, seats_kept, set_value_own, stands}
-use Rattle.coll_match.specs.Instances.{seats_of}
+use Rattle.coll_match.proofs.Standing.{gave, given_kept, mail_put, if_ok, members_kept, on_err, on_ok, seats_kept, set_value_own, stands}
+use Rattle.coll_match.specs.Instances.{mail_of, seats_of}
 use Rattle.coll_match.proofs.matches.Matches.put.Goals as goal
 
 pub returns-clause-members : goal.returns-clause-members
@@ -27,3 +27,9 @@ returns-clause-err c =
 pub returns-clause-receiver : goal.returns-clause-receiver
 returns-clause-receiver c =
     if_ok c.put.result (λ slot is. is ∙ ap (λ o. seats_of o c.args.to) (sym (stands _ _ c.self.view_is c.args.key c.in-Some.instance.now c.in-Some.ensures.value c.args.to))) c.put.ensures.receiver
+
+pub put-requires-clause-member : goal.put-requires-clause-member
+put-requires-clause-member c = gave _ _ c.self.view_is c.args.key c.in-Some.instance.now c.in-Some.ensures.value c.args.from c.requires.joined
+
+pub put-requires-clause-new : goal.put-requires-clause-new
+put-requires-clause-new c = ap (λ o. mail_of o c.args.from c.args.to c.args.round) (sym (stands _ _ c.self.view_is c.args.key c.in-Some.instance.now c.in-Some.ensures.value 0)) ∙ c.requires.new
