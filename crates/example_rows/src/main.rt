@@ -1,19 +1,32 @@
 //! Answers the stored examples, directly and by threads: each job text of the folder that this program runs in, against
-//! the lines or the fault that are stored beside it. It prints one line for each text.
+//! the lines or the fault that are stored beside it. It prints one line for each text. Then it goes on as `colljob` does with
+//! its own words and standard input, which has a text with a fault: so it ends with the status for that, and writes no more.
 #![tactic(auto)]
 
 mod example;
 
+use coll_program::main_of;
 use example::Example;
 use std::fs::read_dir;
 use std::io;
+use std::process::ExitCode;
+use std::sync::Wait;
+use std::thread::Threads;
 
-fn main(rt: HostRuntime) -> anyhow::Result<()> {
-    let mut names = names(&rt)?;
+fn main(rt: HostRuntime) -> ExitCode {
+    match answer_all(&rt, &rt) {
+        Ok(()) => main_of(&rt, &rt),
+        Err(_) => ExitCode::FAILURE,
+    }
+}
+
+/// Answers each example and prints a line for it.
+fn answer_all<T: Threads + Wait + Sync>(rt: &HostRuntime, threads: &T) -> anyhow::Result<()> {
+    let mut names = names(rt)?;
     names.sort()?;
     for name in &names {
-        let example = Example::read(&rt, name)?;
-        let answer = if example.is_answered(&rt, rt.alloc())? {
+        let example = Example::read(rt, name)?;
+        let answer = if example.is_answered(threads, rt.alloc())? {
             "as stored"
         } else {
             "otherwise"
