@@ -9,7 +9,7 @@ use Rattle.coll_arena.specs.Lookups.{IsFirst}
 use Rattle.coll_core.specs.declared.stepped.Stepped.{Stepped}
 use Rattle.coll_core.specs.declared.stepped.Stepped.TheVariants.{Quiet, Moved, Finished, Out}
 use Rattle.coll_core.specs.Cores.{Parts}
-use Rattle.coll_core.specs.Steps.{Acts, Steps, ready, stepped_by}
+use Rattle.coll_core.specs.Steps.{Acts, Steps, ready, stepped_by, HandsNothingOut}
 
 abbrev tells_quiet : Result Stepped Refusal → Bool
 tells_quiet (Ok Quiet) = true
@@ -27,6 +27,10 @@ first_of p v t e h = subst (λ (z : Parts). IsFirst z.arena 2 t) e h
 
 pub not_empty : (p : Parts) (t : Ticket) → IsFirst p.arena 2 t → ready p ≡ [] → ⊥
 not_empty p t h e = none-some t.slot (sym (ap first_in e) ∙ h.first)
+
+pub by_inside : (finished : Bool) (s : Stepped) → s ≡ stepped_by finished → HandsNothingOut s
+by_inside true s e = subst HandsNothingOut (sym e) tt
+by_inside false s e = subst HandsNothingOut (sym e) tt
 
 pub steps_on : (p r : Parts) (finished : Bool) (s : Stepped) → s ≡ stepped_by finished → Acts p r finished → Steps p r s
 steps_on p r true s e acts = subst (λ (z : Stepped). Steps p r z) (sym e) acts

@@ -100,6 +100,12 @@ Steps p r Moved = Acts p r false
 Steps p r Finished = Acts p r true
 Steps p r (Out w) = HandsOut p r w
 
+abbrev pub HandsNothingOut : Stepped → Type 0
+HandsNothingOut Quiet = Unit {0}
+HandsNothingOut Moved = Unit {0}
+HandsNothingOut Finished = Unit {0}
+HandsNothingOut (Out w) = ⊥
+
 -- the work's result stands in its request's buffer
 pub record HasResult (p r : Parts) (d : Made) : Type 0 where
   pub from : Request

@@ -6,7 +6,7 @@ mod starting;
 mod stepping;
 mod working;
 
-ghost use Rattle.std.specs.Prelude.{◌≡◌, ◌↔◌, Some, true, IsTrue, OnOk, IfOk, IfErr, OnErr};
+ghost use Rattle.std.specs.Prelude.{◌≡◌, ◌↔◌, Some, true, length, IsTrue, OnOk, IfOk, IfErr, OnErr};
 ghost use Rattle.std.specs.Result.{result_err};
 ghost use Rattle.coll_machine.specs.Calls.{Retire};
 ghost use Rattle.coll_machine.specs.Lents.{lent_bytes};
@@ -17,6 +17,7 @@ ghost use Rattle.coll_tables.specs.Sound.{IsSound};
 ghost use Rattle.coll_core.specs.Configs.{IsUnopened, idle, setting_by};
 ghost use Rattle.coll_core.specs.Cores.{seen, setting, tables};
 ghost use Rattle.coll_core.specs.Phases.{IsQuiet, about_in, phase_in};
+ghost use Rattle.coll_core.specs.Steps.{ready};
 
 use crate::about::About;
 use crate::config::Config;
@@ -139,6 +140,13 @@ impl Core {
         is_sound(&self.arena);
         laws::lent_core(&self.arena);
         self.arena.lent()
+    }
+
+    /// How many requests are ready.
+    pub fn ready_count(&self) -> u32
+        ensures { result ≡ length (ready self.now) }
+    {
+        self.arena.len(ListName::Ready)
     }
 
     /// Whether no request is ready and no combination is handed out.

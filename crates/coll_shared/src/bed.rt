@@ -17,7 +17,7 @@ pub(crate) struct Bed {
 }
 
 /// Whether the ticket names a request of the rank that can be completed.
-fn is_done(core: &Core, rank: u8, ticket: Ticket) -> bool
+pub(crate) fn is_done(core: &Core, rank: u8, ticket: Ticket) -> bool
     ensures { IsTrue result ↔ IsDone core.now rank ticket }
 {
     match core.phase(rank, ticket) {

@@ -5,7 +5,10 @@ ghost use Rattle.std.specs.Prelude.{◌≡◌, IfErr};
 use coll_kinds::Refusal;
 use crossbeam_utils::CachePadded;
 use std::alloc::Global;
+use std::hint::spin_loop;
 use std::sync::Condvar;
+use std::sync::atomic::{AtomicU64, Ordering};
+use std::thread::yield_now;
 
 /// The places to wait: one for each rank's port, and one for progress threads. Those of ports lie on cache lines of their own,
 /// since each is looked at again and again while others are called.
@@ -13,6 +16,10 @@ use std::sync::Condvar;
 pub(crate) struct Doors {
     ports: Vec<CachePadded<Condvar>>,
     workers: Condvar,
+    /// How many progress threads there are.
+    crew: CachePadded<AtomicU64>,
+    /// How many ports linger without a note, and will look soon. They are counted only where there are progress threads.
+    hopeful: CachePadded<AtomicU64>,
 }
 
 /// Some of an engine's ranks, of which there are 64 at most: a bit for each.
@@ -40,6 +47,11 @@ impl Ranks {
         Ranks(self.0 & !bit(rank))
     }
 
+    /// These and those.
+    pub(crate) fn or(self, others: Ranks) -> Ranks {
+        Ranks(self.0 | others.0)
+    }
+
     pub(crate) fn is_empty(self) -> bool {
         self.0 == 0
     }
@@ -48,6 +60,24 @@ impl Ranks {
     pub(crate) fn first(self) -> Ranks {
         Ranks(self.0 & self.0.wrapping_neg())
     }
+}
+
+/// How often a lingering thread looks in a row; before each later look it gives others a turn.
+pub(crate) const LOOKS: u32 = 10;
+
+/// Waits for a call at a door, and looks so often. `seen` is how many there were before. Answers whether there was another one.
+pub(crate) fn linger(door: &Condvar, seen: u64, looks: u32) -> bool {
+    for round in 0..looks {
+        if door.notifications() != seen {
+            return true;
+        }
+        if round < LOOKS {
+            spin_loop();
+        } else {
+            yield_now();
+        }
+    }
+    false
 }
 
 impl Doors {
@@ -62,6 +92,8 @@ impl Doors {
         Ok(Doors {
             ports,
             workers: Condvar::new(),
+            crew: CachePadded::new(AtomicU64::new(0)),
+            hopeful: CachePadded::new(AtomicU64::new(0)),
         })
     }
 
@@ -76,6 +108,36 @@ impl Doors {
     /// The place of progress threads.
     pub(crate) fn of_workers(&self) -> &Condvar {
         &self.workers
+    }
+
+    /// Counts a progress thread.
+    pub(crate) fn enlist(&self) {
+        self.crew.fetch_add(1, Ordering::SeqCst);
+    }
+
+    /// Counts it no longer.
+    pub(crate) fn dismiss(&self) {
+        self.crew.fetch_sub(1, Ordering::SeqCst);
+    }
+
+    /// Waits at a rank's door for a call, and looks so often; `seen` is how many there were before. Progress threads are left
+    /// asleep meanwhile.
+    pub(crate) fn linger_in_hope(&self, rank: u8, seen: u64, looks: u32) {
+        let has_crew = self.crew.load(Ordering::SeqCst) != 0;
+        if has_crew {
+            self.hopeful.fetch_add(1, Ordering::SeqCst);
+        }
+        linger(self.of(rank), seen, looks);
+        if has_crew {
+            self.hopeful.fetch_sub(1, Ordering::SeqCst);
+        }
+    }
+
+    /// Calls a progress thread to go on with what is ready, unless a port lingers that will look soon.
+    pub(crate) fn call_worker(&self) {
+        if self.hopeful.load(Ordering::SeqCst) == 0 {
+            self.workers.notify_one();
+        }
     }
 
     /// Calls the ports of these ranks.

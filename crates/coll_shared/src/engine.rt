@@ -40,6 +40,17 @@ impl<L: Entries> Engine<L> {
         ensures refused { IfErr result IsSetback }
     {
         let hall: &Hall<L> = &*self.hall;
+        hall.enlist();
+        let pieces = self.chores(rt, gate);
+        hall.dismiss();
+        pieces
+    }
+
+    /// The turns of a progress thread.
+    fn chores<R: Wait, G: Gate>(&self, rt: &R, gate: &G) -> Result<u64, Refusal>
+        ensures refused { IfErr result IsSetback }
+    {
+        let hall: &Hall<L> = &*self.hall;
         let mut pieces = 0u64;
         for _ in rt.forever() {
             match hall.chore(rt, gate) {

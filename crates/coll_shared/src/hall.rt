@@ -1,25 +1,25 @@
 //! The one lock of an engine, and what is done round it.
 //!
-//! Who finds a request of its own Pending steps for all. Where no request is ready it notes what it waits for, gives the
-//! lock up and looks now and then at its door; only where nobody came for a while does it sleep there. Who finishes a
-//! request calls at the doors of those whose wish is fulfilled then, and at no others.
+//! Who posts does at once what can be done without a combination, for all. If nothing is left to do its port may linger at its
+//! door, without the lock, before it looks. Who finds a request of its own Pending steps for all. Where no request is ready it
+//! notes what it waits for, gives the lock up and looks now and then at its door; only where nobody came for a while does it sleep
+//! there. Who finishes a request calls at the doors of those whose wish or hope is fulfilled then, and at no others.
 
 mod waits;
 
 ghost use Rattle.std.specs.Prelude.{◌≡◌, IfErr, IsOkUnless};
 ghost use Rattle.coll_shared.specs.Wishes.{IsHindrance, IsSetback};
 
-use crate::doors::Doors;
+use crate::doors::{Doors, linger};
 use crate::gate::Gate;
+use crate::hope::Hope;
 use crate::lock::Lock;
 use crate::shared::Shared;
 use crate::tally::Entries;
 use crate::wish::Wish;
 use coll_core::{DoneWork, Stepped, Work};
-use coll_kinds::Refusal;
-use std::hint::spin_loop;
+use coll_kinds::{Refusal, Ticket};
 use std::sync::{Condvar, MutexGuard, Wait};
-use std::thread::yield_now;
 
 /// The one lock of an engine, and the places to wait.
 #[derive(Drop)]
@@ -31,12 +31,14 @@ pub(crate) struct Hall<L: Entries> {
 /// How many steps are made under one hold of the lock.
 const STEPS: u32 = 64;
 
-/// How often a waiting port looks at its door before it sleeps there: so often in a row, and then so often with a turn for
-/// other threads before each, which takes a millisecond where no other thread wants a turn. Where ports slept sooner, an
-/// operation now and then took ten times as long, and then all that followed for a while.
-const LOOKS: u32 = 10;
-
+/// How often a waiting port looks at its door before it sleeps there, mostly with a turn for other threads before each look, which
+/// takes a millisecond where no other thread wants a turn. Where ports slept sooner, an operation now and then took ten times as
+/// long, and then all that followed for a while.
 const YIELDS: u32 = 3_000;
+
+/// How often a port that hopes looks at its door before it looks under the lock: so few that it soon steps for others, and so
+/// many that it mostly needn't.
+const HOPES: u32 = 300;
 
 /// From how many bytes on a combination is worth calling others to those that are left.
 const LONG: usize = 4_096;
@@ -93,19 +95,19 @@ fn advance<L: Entries>(shared: &mut Shared<L>) -> Progress
     }
 }
 
-/// Waits a while for a call at a door. `seen` is how many there were before. Answers whether there was another one.
-fn linger(door: &Condvar, seen: u64) -> bool {
-    for round in 0..LOOKS + YIELDS {
-        if door.notifications() != seen {
-            return true;
-        }
-        if round < LOOKS {
-            spin_loop();
-        } else {
-            yield_now();
+/// Does what can be done without a combination, at most so many steps. Answers whether no request is ready then. Where a step
+/// is refused memory the request stays ready, and who steps next is told.
+fn do_at_once<L: Entries>(shared: &mut Shared<L>) -> bool {
+    for _step in 0..STEPS {
+        match shared.move_on() {
+            Ok(Stepped::Moved) => {}
+            Ok(Stepped::Finished) => shared.announce(),
+            _ => break,
         }
     }
-    false
+    let unsettled = shared.is_ready();
+    shared.settle(unsettled);
+    !unsettled
 }
 
 impl<L: Entries> Hall<L> {
@@ -139,22 +141,35 @@ impl<L: Entries> Hall<L> {
         drop(shared);
         self.doors.call(called);
         if called.is_empty() {
-            self.doors.of_workers().notify_one();
+            self.doors.call_worker();
         }
     }
 
-    /// Gives the lock up after a request became ready. Who lingers looks again soon; where ports sleep they are called, and
-    /// a progress thread where none waits.
-    pub(crate) fn go(&self, mut shared: MutexGuard<'_, Shared<L>>) {
-        shared.settle(true);
-        let waiting = shared.waiting();
-        let asleep = shared.has_sleepers();
-        drop(shared);
-        if asleep {
-            self.doors.call(waiting);
-        } else if waiting.is_empty() {
-            self.doors.of_workers().notify_one();
+    /// Gives the lock up after a post or a start, once what can be done without a combination was done. Where requests are ready
+    /// still, others are called as in `hand_on`. Else answers what the port may hope for, unless its request is Done.
+    pub(crate) fn go(
+        &self,
+        mut shared: MutexGuard<'_, Shared<L>>,
+        rank: u8,
+        ticket: Ticket,
+    ) -> Option<Hope> {
+        if !do_at_once(&mut *shared) {
+            self.hand_on(shared);
+            return None;
         }
+        let hopes = shared.hope(rank, ticket);
+        let calls = self.doors.of(rank).notifications();
+        self.leave(shared);
+        if hopes {
+            Some(Hope { ticket, calls })
+        } else {
+            None
+        }
+    }
+
+    /// Waits a while for what a port hopes for, without the lock.
+    pub(crate) fn hope(&self, rank: u8, hope: Hope) {
+        self.doors.linger_in_hope(rank, hope.calls, HOPES);
     }
 
     /// Gives the lock up to compute a combination, while requests may be ready still: calls those whose wish is fulfilled,
@@ -168,7 +183,7 @@ impl<L: Entries> Hall<L> {
         if asleep {
             self.doors.call(waiting.first());
         } else if waiting.is_empty() {
-            self.doors.of_workers().notify_one();
+            self.doors.call_worker();
         }
     }
 
@@ -178,6 +193,16 @@ impl<L: Entries> Hall<L> {
         drop(shared);
         self.doors.call(called);
         self.doors.of_workers().notify_all();
+    }
+
+    /// A progress thread begins.
+    pub(crate) fn enlist(&self) {
+        self.doors.enlist();
+    }
+
+    /// A progress thread ends.
+    pub(crate) fn dismiss(&self) {
+        self.doors.dismiss();
     }
 
     /// One turn of a progress thread. It sleeps where no request is ready.
@@ -270,7 +295,7 @@ impl<L: Entries> Hall<L> {
         if looks == 0 {
             let seen = door.notifications();
             drop(shared);
-            return Ok(if linger(door, seen) { 0 } else { 1 });
+            return Ok(if linger(door, seen, YIELDS) { 0 } else { 1 });
         }
         shared.fall_asleep();
         let mut shared = door.wait(rt, shared);

@@ -10,6 +10,8 @@
 //! | `spaces` | `Spaces`, memory for the outcomes of live requests |
 //! | `gate` | `Gate`, which may hold a thread up before and after a combination |
 //! | `doors` | `Doors`, where threads wait to be called |
+//! | `hopes` | `Hopes`, which requests ports hope to find Done before they look |
+//! | `hope` | `Hope`, what a port that just posted may wait for without the lock |
 //! | `lock` | `Lock`, a lock that is taken by who may wait alone |
 //! | `hall` | `Hall`, the lock round it, and what is done while a thread has or wants it |
 //! | `kept` | `Kept`, what a post or a start keeps |
@@ -35,6 +37,8 @@ mod engine;
 mod gate;
 mod groups;
 mod hall;
+mod hope;
+mod hopes;
 mod kept;
 mod lock;
 mod notes;

@@ -12,6 +12,7 @@ ghost use Rattle.coll_shared.specs.Ports.{group_at, opened, unseated};
 
 use crate::groups::seat;
 use crate::hall::Hall;
+use crate::hope::Hope;
 use crate::plans::Plans;
 use crate::rest::Rest;
 use crate::spent::Spent;
@@ -31,6 +32,8 @@ pub struct Port<L: Entries> {
     rank: u8,
     groups: Vec<Vec<u8>>,
     plans: Plans,
+    /// What it may wait for before it looks: its last post or start.
+    hope: Option<Hope>,
     tally: Tally<L>,
 }
 
@@ -65,6 +68,7 @@ impl<L: Entries> Port<L> {
             rank,
             groups,
             plans: Plans::new(alloc),
+            hope: None,
             tally,
         }
     }

@@ -19,6 +19,7 @@ ghost use Rattle.coll_core.specs.Phases.{about_in};
 ghost use Rattle.coll_shared.specs.Notes.{Awake};
 
 use crate::groups::copied_config;
+use crate::hopes::Hopes;
 use crate::notes::Notes;
 use crate::spaces::Spaces;
 use crate::tally::Entries;
@@ -39,6 +40,7 @@ pub struct Shared<L: Entries> {
     trace: Trace<L>,
     spaces: Spaces,
     notes: Notes,
+    hopes: Hopes,
     stalled: bool,
     stopped: bool,
     unsettled: bool,
@@ -87,6 +89,7 @@ impl<L: Entries> Shared<L> {
         let copy = copied_config(alloc, &config)?;
         let spaces = Spaces::open(alloc, config.slots)?;
         let notes = Notes::open(alloc, config.ranks, config.slots)?;
+        let hopes = Hopes::open(alloc, config.ranks)?;
         let core = Core::open(alloc, config)?;
         Ok(Shared {
             alloc,
@@ -95,6 +98,7 @@ impl<L: Entries> Shared<L> {
             trace: Trace::new(alloc, book),
             spaces,
             notes,
+            hopes,
             stalled: false,
             stopped: false,
             unsettled: false,

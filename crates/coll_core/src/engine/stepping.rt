@@ -14,7 +14,7 @@ ghost use Rattle.coll_core.specs.declared.stepped.Stepped.TheVariants.{Quiet};
 ghost use Rattle.coll_core.specs.Cores.{seen, setting};
 ghost use Rattle.coll_core.specs.Goings.{CanGoOn, CanHear, GoneOn, HaveLists, IsSent, NoneHears, is_end};
 ghost use Rattle.coll_core.specs.Requests.{shown};
-ghost use Rattle.coll_core.specs.Steps.{Acts, CombinesNext, Finishings, HandsOut, IsActing, Steps, left, ready, running};
+ghost use Rattle.coll_core.specs.Steps.{Acts, CombinesNext, Finishings, HandsNothingOut, HandsOut, IsActing, Steps, left, ready, running};
 
 use crate::engine::Core;
 use crate::request::Request;
@@ -45,6 +45,27 @@ impl Core {
         };
         match self.next_of(ticket) {
             Action::Combine { .. } => Ok(Stepped::Out(self.hand_out(ticket)?)),
+            action => Ok(Stepped::by(self.act(ticket, action)?)),
+        }
+    }
+
+    /// `step` that hands nothing out: where the next action of the first ready request is a combination it answers Quiet, with
+    /// nothing changed.
+    ///
+    /// # Errors
+    ///
+    /// NoMemory, with nothing changed.
+    pub fn move_on(&mut self) -> Result<Stepped, Refusal>
+        ensures steps { IfOk result (Steps self.old self.new) }
+        ensures inside { IfOk result HandsNothingOut }
+        ensures err { OnErr result (self.new ≡ self.old) }
+        ensures refusal { IsOkUnless result Refusal.NoMemory }
+    {
+        let Some(ticket) = self.arena.first(ListName::Ready) else {
+            return Ok(Stepped::Quiet);
+        };
+        match self.next_of(ticket) {
+            Action::Combine { .. } => Ok(Stepped::Quiet),
             action => Ok(Stepped::by(self.act(ticket, action)?)),
         }
     }

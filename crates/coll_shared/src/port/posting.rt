@@ -39,7 +39,7 @@ impl<L: Entries> Port<L> {
         let mut shared = hall.enter(rt);
         match shared.post(&mut self.tally, self.rank, comm, offer, kept) {
             Ok((ticket, receipt)) => {
-                hall.go(shared);
+                self.hope = hall.go(shared, self.rank, ticket);
                 Ok((Request::of(ticket), receipt))
             }
             Err(refused) => Err(refused),
@@ -100,7 +100,7 @@ impl<L: Entries> Port<L> {
         let mut shared = hall.enter(rt);
         match shared.start(&mut self.tally, self.rank, ticket, bytes) {
             Ok(receipt) => {
-                hall.go(shared);
+                self.hope = hall.go(shared, self.rank, ticket);
                 Ok(receipt)
             }
             Err(refused) => Err(refused),

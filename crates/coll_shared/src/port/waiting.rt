@@ -16,6 +16,20 @@ use coll_kinds::Refusal;
 use std::sync::Wait;
 
 impl<L: Entries> Port<L> {
+    /// Waits a while for a call, without the lock, where the request is the one that was just posted or started and nobody could
+    /// take it further then.
+    fn look_forward(&mut self, request: &Request)
+        ensures { self.new ≡ self.old }
+    {
+        if let Some(hope) = self.hope {
+            if hope.is_for(request) {
+                let hall: &Hall<L> = &*self.hall;
+                hall.hope(self.rank, hope);
+            }
+        }
+        self.hope = None;
+    }
+
     /// Waits until a request isn't Pending, and completes it if it is Done (`MPI_Wait`; MPI 4.1, 3.7.3); none where it is
     /// null or Idle.
     ///
@@ -38,6 +52,7 @@ impl<L: Entries> Port<L> {
         ensures refused { IfErr result (λ why. RefusesOne self.old.rank request.old (Some why) ⊎ IsHindrance why) }
         ensures err { OnErr result ((self.new.made ≡ self.old.made) × (request.new ≡ request.old)) }
     {
+        self.look_forward(request);
         let hall: &Hall<L> = &*self.hall;
         hall.wait(rt, gate, &mut self.tally, self.rank, request)
     }
@@ -89,6 +104,9 @@ impl<L: Entries> Port<L> {
         ensures refused { IfErr result (λ why. RefusesList self.old.rank requests.old (Some why) ⊎ IsHindrance why) }
         ensures err { OnErr result ((self.new.made ≡ self.old.made) × (requests.new ≡ requests.old) × (out.new ≡ out.old)) }
     {
+        if let Some(last) = requests.last() {
+            self.look_forward(last);
+        }
         let hall: &Hall<L> = &*self.hall;
         hall.wait_all(rt, gate, &mut self.tally, self.rank, requests, out)
     }

@@ -5,10 +5,12 @@ ghost use Rattle.std.specs.Bool.{OnFalse, OnTrue};
 ghost use Rattle.coll_shared.specs.Notes.{Awake, note_of};
 ghost use Rattle.coll_shared.specs.Stalls.{IsStalled};
 
+use crate::bed::is_done;
 use crate::doors::Ranks;
 use crate::rest::Rest;
 use crate::shared::Shared;
 use crate::tally::Entries;
+use coll_kinds::Ticket;
 
 impl<L: Entries> Shared<L> {
     /// Whether nothing can go on: no request is ready, no combination is handed out, and each port has ended or sleeps
@@ -63,8 +65,19 @@ impl<L: Entries> Shared<L> {
         self.news = true;
     }
 
-    /// The ranks that wait for what is the case now, which are awake then: none where no request was announced since it was
-    /// asked before. Else linear in the ports.
+    /// Notes that a port hopes for a request, unless that is Done. Answers whether it hopes.
+    pub(crate) fn hope(&mut self, rank: u8, ticket: Ticket) -> bool
+        ensures { self.new ≡ self.old }
+    {
+        if is_done(&self.core, rank, ticket) {
+            return false;
+        }
+        self.hopes.put(rank, ticket);
+        true
+    }
+
+    /// The ranks that wait or hope for what is the case now; who waited is awake then, who hoped doesn't any longer. None where
+    /// no request was announced since it was asked before. Else linear in the ports.
     pub(crate) fn fulfilled(&mut self) -> Ranks
         ensures core { self.new.core ≡ self.old.core }
         ensures entries { self.new.entries ≡ self.old.entries }
@@ -74,7 +87,8 @@ impl<L: Entries> Shared<L> {
             return Ranks::NONE;
         }
         self.news = false;
-        self.notes.rouse(&self.core)
+        let roused = self.notes.rouse(&self.core);
+        roused.or(self.hopes.come_true(&self.core))
     }
 
     /// Ranks, with all among them whose ports wait.

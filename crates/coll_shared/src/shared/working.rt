@@ -1,8 +1,8 @@
 //! Steps, and combinations that were handed out. None of these adds an entry.
 
-ghost use Rattle.std.specs.Prelude.{◌≡◌, ◌↔◌, [], IfErr, IfOk, IsOkUnless, IsTrue, Ok, OnErr, OnOk, is_ok};
+ghost use Rattle.std.specs.Prelude.{◌≡◌, ◌<◌, ◌↔◌, [], length, IfErr, IfOk, IsOkUnless, IsTrue, Ok, OnErr, OnOk, is_ok};
 ghost use Rattle.coll_core.specs.declared.stepped.Stepped.TheVariants.{Quiet};
-ghost use Rattle.coll_core.specs.Steps.{CommitSteps, IsOut, Returns, Steps, ready};
+ghost use Rattle.coll_core.specs.Steps.{CommitSteps, HandsNothingOut, IsOut, Returns, Steps, ready};
 
 use crate::shared::Shared;
 use crate::tally::Entries;
@@ -24,6 +24,29 @@ impl<L: Entries> Shared<L> {
         ensures refusal { IsOkUnless result Refusal.NoMemory }
     {
         self.core.step()
+    }
+
+    /// The core's `move_on`.
+    ///
+    /// # Errors
+    ///
+    /// NoMemory, with nothing changed.
+    pub fn move_on(&mut self) -> Result<Stepped, Refusal>
+        ensures steps { IfOk result (Steps self.old.core self.new.core) }
+        ensures inside { IfOk result HandsNothingOut }
+        ensures entries { self.new.entries ≡ self.old.entries }
+        ensures notes { (self.new.notes ≡ self.old.notes) × (self.new.stalled ≡ self.old.stalled) }
+        ensures err { OnErr result (self.new ≡ self.old) }
+        ensures refusal { IsOkUnless result Refusal.NoMemory }
+    {
+        self.core.move_on()
+    }
+
+    /// Whether a request is ready.
+    pub fn is_ready(&self) -> bool
+        ensures { IsTrue result ↔ (0 < length (ready self.now.core)) }
+    {
+        self.core.ready_count() > 0
     }
 
     /// The core's `commit`.
