@@ -68,6 +68,15 @@ impl Measure {
         }
     }
 
+    /// How many slots the engine has: a few more than requests are live at one time, as one would open it for such a load.
+    /// Slots are given out in turn, so with more of them each request lies in memory that was longer not used.
+    pub fn slots(self, ranks: u8) -> u32 {
+        match self {
+            Measure::Outstanding => 4_096,
+            _ => 4 * u32::from(ranks),
+        }
+    }
+
     /// How many collectives a sample has. So many requests of all ranks may be live at one time.
     pub fn turns(self, ranks: u8) -> u32 {
         match self {

@@ -44,7 +44,8 @@ fn measured_in<L: Entries + Send + Sync, R: Threads + Wait + Clock + Sync>(
     requires name { entries.name ≡ L.name }
     requires parts { (entries.parts ≡ L.parts) × (L.parts ≡ L.ranks) × (L.ranks ≡ crew.ranks) }
 {
-    let config = roomy(crew.ranks, world(alloc, crew.ranks)?);
+    let mut config = roomy(crew.ranks, world(alloc, crew.ranks)?);
+    config.slots = task.measure.slots(crew.ranks);
     let (engine, ports) = open::<L>(alloc, config, entries)?;
     run_task(rt, alloc, &engine, ports, task, crew.workers)
 }
