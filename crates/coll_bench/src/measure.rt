@@ -69,7 +69,7 @@ impl Measure {
     }
 
     /// How many slots the engine has: a few more than requests are live at one time, as one would open it for such a load.
-    /// Slots are given out in turn, so with more of them each request lies in memory that was longer not used.
+    /// Slots are given out in turn, so the more there are, the longer ago a request's memory was used last.
     pub fn slots(self, ranks: u8) -> u32 {
         match self {
             Measure::Outstanding => 4_096,

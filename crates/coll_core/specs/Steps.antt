@@ -1,5 +1,5 @@
 -- What steps do to an engine.
-use Rattle.std.specs.Prelude.{◌≡◌, ◌<◌, ◌≤◌, ◌+◌, ℕ, suc, length, List, Bool, true, false, IfSome, Some}
+use Rattle.std.specs.Prelude.{◌≡◌, ◌<◌, ◌≤◌, ◌+◌, ◌⊎◌, ℕ, suc, length, List, [], Bool, true, false, IfSome, Some}
 use Rattle.coll_kinds.specs.declared.ticket.Ticket.{Ticket}
 use Rattle.coll_lists.specs.Layouts.{sequence}
 use Rattle.coll_lists.specs.Moves.{taken_out}
@@ -100,11 +100,26 @@ Steps p r Moved = Acts p r false
 Steps p r Finished = Acts p r true
 Steps p r (Out w) = HandsOut p r w
 
-abbrev pub HandsNothingOut : Stepped → Type 0
-HandsNothingOut Quiet = Unit {0}
-HandsNothingOut Moved = Unit {0}
-HandsNothingOut Finished = Unit {0}
-HandsNothingOut (Out w) = ⊥
+-- a combination was handed out
+abbrev pub IsWork : Stepped → Type 0
+IsWork Quiet = ⊥
+IsWork Moved = ⊥
+IsWork Finished = ⊥
+IsWork (Out w) = Unit {0}
+
+-- the next action of the first ready request is a combination
+pub record CombinesFirst (p : Parts) : Type 0 where
+  pub slot : ℕ
+  pub request : Request
+  pub action : Action
+  pub first : first_in (ready p) ≡ Some slot
+  pub here : record_in p.arena slot ≡ Some request
+  pub next_is : next_of (shown request) ≡ Some action
+  pub combines : IsCombine action
+
+-- nothing can be done without a combination
+abbrev pub AwaitsWork : Parts → Type 0
+AwaitsWork p = (ready p ≡ []) ⊎ CombinesFirst p
 
 -- the work's result stands in its request's buffer
 pub record HasResult (p r : Parts) (d : Made) : Type 0 where

@@ -4,6 +4,7 @@ use Rattle.std.specs.Map.{keys_of, lookup, remove_entry}
 use Rattle.std.specs.List.{list_any, position_or_len, AllByRecursion, IsDistinct}
 use Rattle.std.specs.Cmp.{IsEquivalence}
 use Rattle.std.proofs.lemmas.Bool.{and_from, and_parts, cases_lt}
+use Rattle.std.proofs.lemmas.List.{map-append}
 use Rattle.std.proofs.lemmas.List.Quantifiers.{position-Some}
 use Rattle.std.proofs.lemmas.Map.{lookup-remove_entry}
 use Rattle.std.proofs.lemmas.Map.Keys.{IsDistinct-push}
@@ -58,7 +59,7 @@ module _ (w : Way) where
   found_at [] i d low here before = absurd (omega (arith, low))
   found_at (x ∷ xs) zero d low here before = record {
     value = λ z. cond (here z) (Some x.bytes.items) (lookup (same_way w) (letters_of xs));
-    rest = λ z. sym (ap (λ b. cond b (letters_of xs) ((x.way, x.bytes.items) ∷ remove_entry (same_way w) (letters_of xs))) here) z;
+    rest = sym (ap (λ b. cond b (letters_of xs) ((x.way, x.bytes.items) ∷ remove_entry (same_way w) (letters_of xs))) here);
   }
   found_at (x ∷ xs) (suc i) d low here before =
       let later = found_at xs i d (omega (arith, low)) here (λ k lt. before (suc k) (omega (arith, lt))) in
@@ -109,13 +110,11 @@ lookup-push q w x (e ∷ es) absent =
     step (same_way q e.0) (same_way q w) e.1 x (lookup (same_way q) es) (lookup (same_way q) (es ++ (w, x) ∷ []))
     (λ same. same_ways.congr q w e.0 same ∙ both.0) (lookup-push q w x es both.1)
 
-letters_of-push : (xs : List Letter) (y : Letter) → letters_of (xs ++ y ∷ []) ≡ letters_of xs ++ (y.way, y.bytes.items) ∷ []
-letters_of-push [] y = refl
-letters_of-push (x ∷ xs) y = ap (λ es. (x.way, x.bytes.items) ∷ es) (letters_of-push xs y)
+abbrev entry_of : Letter → Way × List ℕ
+entry_of letter = (letter.way, letter.bytes.items)
 
-keys_of-push : (es : List (Way × List ℕ)) (e : Way × List ℕ) → keys_of (es ++ e ∷ []) ≡ keys_of es ++ e.0 ∷ []
-keys_of-push [] e = refl
-keys_of-push (x ∷ es) e = ap (λ ks. x.0 ∷ ks) (keys_of-push es e)
+abbrev way_of : Way × List ℕ → Way
+way_of entry = entry.0
 
 abbrev pub Apart : List Letter → Type 0
 Apart xs = IsDistinct same_way (keys_of (letters_of xs))
@@ -125,13 +124,13 @@ unfolding IsDistinct
 none_apart = tt
 
 pub pushed_apart : (xs : List Letter) (y : Letter) → Apart xs → lookup (same_way y.way) (letters_of xs) ≡ None → Apart (xs ++ y ∷ [])
-pushed_apart xs y apart absent = subst (λ es. IsDistinct same_way (keys_of es)) (sym (letters_of-push xs y))
-    (subst (IsDistinct same_way) (sym (keys_of-push (letters_of xs) (y.way, y.bytes.items)))
+pushed_apart xs y apart absent = subst (λ es. IsDistinct same_way (keys_of es)) (sym (map-append entry_of xs (y ∷ [])))
+    (subst (IsDistinct same_way) (sym (map-append way_of (letters_of xs) ((y.way, y.bytes.items) ∷ [])))
     (IsDistinct-push same_ways (keys_of (letters_of xs)) y.way apart (sym (is_some-lookup (same_way y.way) (letters_of xs)) ∙ ap is_some absent)))
 
 pub sent_pushed : (xs : List Letter) (y : Letter) → lookup (same_way y.way) (letters_of xs) ≡ None
     → sent_in (letters_of (xs ++ y ∷ [])) ≡ put_sent (sent_in (letters_of xs)) y.way.to y.way.round (Some y.bytes.items)
-sent_pushed xs y absent = λ z b c. (ap (lookup (same_way (record { to = b; round = c }))) (letters_of-push xs y)
+sent_pushed xs y absent = λ z b c. (ap (lookup (same_way (record { to = b; round = c }))) (map-append entry_of xs (y ∷ []))
     ∙ lookup-push (record { to = b; round = c }) y.way y.bytes.items (letters_of xs) absent) z
 
 all_left : (P : Way → Type 0) (test : Way → Bool) (es : List (Way × List ℕ)) → AllByRecursion P (keys_of es) → AllByRecursion P (keys_of (remove_entry test es))

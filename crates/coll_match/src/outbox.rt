@@ -19,7 +19,7 @@ pub(crate) struct Letter {
     bytes: Message,
 }
 
-/// What one member has sent and wasn't taken yet. To find a message is linear in these: one for each other member where
+/// What one member has sent and nobody has taken yet. To find a message is linear in these: one for each other member where
 /// members exchange directly, one for each segment of a long bcast, and mostly one or two else.
 #[derive(Debug, Drop)]
 pub(crate) struct Outbox {

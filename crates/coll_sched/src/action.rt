@@ -67,8 +67,7 @@ impl Action {
     {
         match self {
             Action::Copy { from, into } => {
-                let start = from.at as usize;
-                buf.copy_within(start..start + from.len as usize, into.at as usize);
+                from.copy(into, buf);
                 Ok(())
             }
             Action::Combine {

@@ -63,6 +63,26 @@ impl Region {
         buf[self.at as usize..self.at as usize + self.len as usize].copy_from_slice(bytes);
     }
 
+    /// Copies the region into another of its length; where they share bytes, what stood there before is copied. Regions that
+    /// share none, which those of plans are, are copied at one time, others byte by byte.
+    pub(crate) fn copy(self, into: Region, buf: &mut [u8])
+        requires from { Inside (length buf.old) self }
+        requires into { Inside (length buf.old) into }
+        requires same { self.len ≡ into.len }
+        ensures { buf.new ≡ written buf.old into (read_of buf.old self) }
+    {
+        if self.end() <= u64::from(into.at) {
+            let (below, above) = buf.split_at_mut(into.at as usize);
+            Region::front(into.len).write(self.read(below), above);
+        } else if into.end() <= u64::from(self.at) {
+            let (below, above) = buf.split_at_mut(self.at as usize);
+            into.write(Region::front(self.len).read(above), below);
+        } else {
+            let start = self.at as usize;
+            buf.copy_within(start..start + self.len as usize, into.at as usize);
+        }
+    }
+
     // The number of the byte behind the region.
     fn end(self) -> u64
         ensures { result ≡ self.at + self.len }

@@ -17,7 +17,7 @@ pub(crate) struct Doors {
     ports: Vec<CachePadded<Condvar>>,
     workers: Condvar,
     /// How many progress threads there are.
-    crew: CachePadded<AtomicU64>,
+    progress_threads: CachePadded<AtomicU64>,
     /// How many ports linger without a note, and will look soon. They are counted only where there are progress threads.
     hopeful: CachePadded<AtomicU64>,
 }
@@ -63,7 +63,7 @@ impl Ranks {
 }
 
 /// How often a lingering thread looks in a row; before each later look it gives others a turn.
-pub(crate) const LOOKS: u32 = 10;
+const LOOKS: u32 = 10;
 
 /// Waits for a call at a door, and looks so often. `seen` is how many there were before. Answers whether there was another one.
 pub(crate) fn linger(door: &Condvar, seen: u64, looks: u32) -> bool {
@@ -92,7 +92,7 @@ impl Doors {
         Ok(Doors {
             ports,
             workers: Condvar::new(),
-            crew: CachePadded::new(AtomicU64::new(0)),
+            progress_threads: CachePadded::new(AtomicU64::new(0)),
             hopeful: CachePadded::new(AtomicU64::new(0)),
         })
     }
@@ -112,23 +112,23 @@ impl Doors {
 
     /// Counts a progress thread.
     pub(crate) fn enlist(&self) {
-        self.crew.fetch_add(1, Ordering::SeqCst);
+        self.progress_threads.fetch_add(1, Ordering::SeqCst);
     }
 
     /// Counts it no longer.
     pub(crate) fn dismiss(&self) {
-        self.crew.fetch_sub(1, Ordering::SeqCst);
+        self.progress_threads.fetch_sub(1, Ordering::SeqCst);
     }
 
     /// Waits at a rank's door for a call, and looks so often; `seen` is how many there were before. Progress threads are left
     /// asleep meanwhile.
     pub(crate) fn linger_in_hope(&self, rank: u8, seen: u64, looks: u32) {
-        let has_crew = self.crew.load(Ordering::SeqCst) != 0;
-        if has_crew {
+        let has_workers = self.progress_threads.load(Ordering::SeqCst) != 0;
+        if has_workers {
             self.hopeful.fetch_add(1, Ordering::SeqCst);
         }
         linger(self.of(rank), seen, looks);
-        if has_crew {
+        if has_workers {
             self.hopeful.fetch_sub(1, Ordering::SeqCst);
         }
     }

@@ -2,7 +2,6 @@
 
 ghost use Rattle.std.specs.Prelude.{◌≡◌, IfErr};
 
-use crate::bed::is_done;
 use crate::doors::Ranks;
 use coll_core::{Core, Phase};
 use coll_kinds::{Refusal, Ticket};
@@ -14,11 +13,6 @@ use std::alloc::Global;
 pub(crate) struct Hopes {
     tickets: Vec<Ticket>,
     hoping: Ranks,
-}
-
-/// A request that can't become Done any more: it was completed.
-fn is_past(core: &Core, rank: u8, ticket: Ticket) -> bool {
-    !matches!(core.phase(rank, ticket), Ok(Phase::Pending))
 }
 
 impl Hopes {
@@ -53,11 +47,15 @@ impl Hopes {
             let Some(ticket) = self.tickets.get(usize::from(rank)) else {
                 break;
             };
-            if self.hoping.has(rank) && is_past(core, rank, *ticket) {
+            if !self.hoping.has(rank) {
+                continue;
+            }
+            let phase = core.phase(rank, *ticket);
+            if !matches!(phase, Ok(Phase::Pending)) {
                 self.hoping = self.hoping.without(rank);
-                if is_done(core, rank, *ticket) {
-                    called = called.with(rank);
-                }
+            }
+            if matches!(phase, Ok(Phase::Done)) {
+                called = called.with(rank);
             }
         }
         called

@@ -14,7 +14,7 @@ ghost use Rattle.coll_core.specs.declared.stepped.Stepped.TheVariants.{Quiet};
 ghost use Rattle.coll_core.specs.Cores.{seen, setting};
 ghost use Rattle.coll_core.specs.Goings.{CanGoOn, CanHear, GoneOn, HaveLists, IsSent, NoneHears, is_end};
 ghost use Rattle.coll_core.specs.Requests.{shown};
-ghost use Rattle.coll_core.specs.Steps.{Acts, CombinesNext, Finishings, HandsNothingOut, HandsOut, IsActing, Steps, left, ready, running};
+ghost use Rattle.coll_core.specs.Steps.{Acts, AwaitsWork, CombinesFirst, CombinesNext, Finishings, HandsOut, IsActing, IsWork, Steps, left, ready, running};
 
 use crate::engine::Core;
 use crate::request::Request;
@@ -36,6 +36,7 @@ impl Core {
     /// NoMemory, with nothing changed.
     pub fn step(&mut self) -> Result<Stepped, Refusal>
         ensures quiet { (result ≡ Ok Quiet) ↔ (ready self.old ≡ []) }
+        ensures out { IfOk result (λ stepped. IsWork stepped ↔ CombinesFirst self.old) }
         ensures steps { IfOk result (Steps self.old self.new) }
         ensures err { OnErr result (self.new ≡ self.old) }
         ensures refusal { IsOkUnless result Refusal.NoMemory }
@@ -49,15 +50,15 @@ impl Core {
         }
     }
 
-    /// `step` that hands nothing out: where the next action of the first ready request is a combination it answers Quiet, with
-    /// nothing changed.
+    /// `step` that hands nothing out: it answers Quiet where nothing can be done without a combination.
     ///
     /// # Errors
     ///
     /// NoMemory, with nothing changed.
     pub fn move_on(&mut self) -> Result<Stepped, Refusal>
+        ensures quiet { IfOk result (λ stepped. (stepped ≡ Quiet) ↔ AwaitsWork self.old) }
+        ensures inside { IfOk result (λ stepped. IsWork stepped → ⊥) }
         ensures steps { IfOk result (Steps self.old self.new) }
-        ensures inside { IfOk result HandsNothingOut }
         ensures err { OnErr result (self.new ≡ self.old) }
         ensures refusal { IsOkUnless result Refusal.NoMemory }
     {

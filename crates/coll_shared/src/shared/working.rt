@@ -2,7 +2,7 @@
 
 ghost use Rattle.std.specs.Prelude.{◌≡◌, ◌<◌, ◌↔◌, [], length, IfErr, IfOk, IsOkUnless, IsTrue, Ok, OnErr, OnOk, is_ok};
 ghost use Rattle.coll_core.specs.declared.stepped.Stepped.TheVariants.{Quiet};
-ghost use Rattle.coll_core.specs.Steps.{CommitSteps, HandsNothingOut, IsOut, Returns, Steps, ready};
+ghost use Rattle.coll_core.specs.Steps.{AwaitsWork, CombinesFirst, CommitSteps, IsOut, IsWork, Returns, Steps, ready};
 
 use crate::shared::Shared;
 use crate::tally::Entries;
@@ -17,6 +17,7 @@ impl<L: Entries> Shared<L> {
     /// NoMemory, with nothing changed.
     pub fn step(&mut self) -> Result<Stepped, Refusal>
         ensures quiet { (result ≡ Ok Quiet) ↔ (ready self.old.core ≡ []) }
+        ensures out { IfOk result (λ stepped. IsWork stepped ↔ CombinesFirst self.old.core) }
         ensures steps { IfOk result (Steps self.old.core self.new.core) }
         ensures entries { self.new.entries ≡ self.old.entries }
         ensures notes { (self.new.notes ≡ self.old.notes) × (self.new.stalled ≡ self.old.stalled) }
@@ -32,8 +33,9 @@ impl<L: Entries> Shared<L> {
     ///
     /// NoMemory, with nothing changed.
     pub fn move_on(&mut self) -> Result<Stepped, Refusal>
+        ensures quiet { IfOk result (λ stepped. (stepped ≡ Quiet) ↔ AwaitsWork self.old.core) }
+        ensures inside { IfOk result (λ stepped. IsWork stepped → ⊥) }
         ensures steps { IfOk result (Steps self.old.core self.new.core) }
-        ensures inside { IfOk result HandsNothingOut }
         ensures entries { self.new.entries ≡ self.old.entries }
         ensures notes { (self.new.notes ≡ self.old.notes) × (self.new.stalled ≡ self.old.stalled) }
         ensures err { OnErr result (self.new ≡ self.old) }
