@@ -64,7 +64,7 @@ impl Region {
     }
 
     /// Copies the region into another of its length; where they share bytes, what stood there before is copied. Regions that
-    /// share none, which those of plans are, are copied at one time, others byte by byte.
+    /// share none are copied at one time, others byte by byte.
     pub(crate) fn copy(self, into: Region, buf: &mut [u8])
         requires from { Inside (length buf.old) self }
         requires into { Inside (length buf.old) into }
