@@ -2,13 +2,13 @@
 //! threads, and prints the median of the first rank's samples in nanoseconds a collective; or makes each once, among 2 ranks,
 //! and prints what it made.
 
-ghost use Rattle.std.specs.Prelude.{◌≡◌, ◌≤◌};
+ghost use Rattle.std.specs.Prelude.{◌≡◌, ◌≤◌, ◌*◌};
 
 use crate::measure::Measure;
 use crate::running::{Task, run_task};
 use coll_crew::roomy;
 use coll_kinds::Refusal;
-use coll_shared::{Entries, open};
+use coll_shared::{Entries, ledger_for, open};
 use std::alloc::Global;
 use std::marker::Brand;
 use std::rt::Clock;
@@ -42,7 +42,7 @@ fn measured_in<L: Entries + Send + Sync, R: Threads + Wait + Clock + Sync>(
     entries: Blank,
 ) -> Result<Vec<u128>, Refusal>
     requires name { entries.name ≡ L.name }
-    requires parts { (entries.parts ≡ L.parts) × (L.parts ≡ L.ranks) × (L.ranks ≡ crew.ranks) }
+    requires parts { (entries.parts ≡ L.parts) × (L.parts ≡ 2 * L.ranks) × (L.ranks ≡ crew.ranks) }
 {
     let mut config = roomy(crew.ranks, world(alloc, crew.ranks)?);
     config.slots = task.measure.slots(crew.ranks);
@@ -57,7 +57,7 @@ fn measured<R: Threads + Wait + Clock + Sync>(
     crew: Crew,
     task: Task,
 ) -> Result<Vec<u128>, Refusal> {
-    measured_in::<Brand, R>(rt, alloc, crew, task, Blank::new(u64::from(crew.ranks)))
+    measured_in::<Brand, R>(rt, alloc, crew, task, ledger_for(crew.ranks))
 }
 
 /// Prints a row: the median of a measure for each crew.

@@ -43,28 +43,12 @@ fn cut(buffer: Vec<u8>, region: Region) -> Vec<u8>
     requires { Inside (length buffer.items) region }
     ensures { result.items ≡ read_of buffer.items region }
 {
-    let start = region.at as usize;
-    let len = region.len as usize;
     let mut bytes = buffer;
-    if start > 0 {
-        to_front(&mut bytes, start, len);
+    if region.at > 0 {
+        region.copy(Region::front(region.len), &mut bytes);
     }
-    bytes.truncate(len);
+    bytes.truncate(region.len as usize);
     bytes
-}
-
-/// Moves so many bytes from a place to the front.
-fn to_front(bytes: &mut [u8], start: usize, len: usize)
-    requires { start + len ≤ length bytes.old }
-    ensures moved { take len bytes.new ≡ take len (drop start bytes.old) }
-    ensures length { length bytes.new ≡ length bytes.old }
-{
-    if len <= start {
-        let (front, back) = bytes.split_at_mut(start);
-        front[..len].copy_from_slice(&back[..len]);
-    } else {
-        bytes.copy_within(start..start + len, 0);
-    }
 }
 
 impl Request {

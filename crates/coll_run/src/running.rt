@@ -1,6 +1,6 @@
 //! A job text's answer by a run of its script.
 
-ghost use Rattle.std.specs.Prelude.{◌≡◌, ◌≤◌, Ok, All, IfErr, IfOk, IsTrue, OnOk};
+ghost use Rattle.std.specs.Prelude.{◌≡◌, ◌≤◌, ◌*◌, Ok, All, IfErr, IfOk, IsTrue, OnOk};
 ghost use Rattle.std.specs.Prelude.{◌↔◌};
 ghost use Rattle.coll_core.specs.declared.config.Config.{Config as TheConfig};
 ghost use Rattle.coll_script.specs.Jobs.{job_of, script_of};
@@ -22,7 +22,7 @@ use coll_job::JobFault;
 use coll_kinds::Refusal;
 use coll_report::Report;
 use coll_script::Script;
-use coll_shared::{Entries, Gate, Spent, close, open};
+use coll_shared::{Entries, Gate, Spent, close, ledger_for, open};
 use std::alloc::{AllocError, Global};
 use std::marker::Brand;
 use std::sync::Wait;
@@ -76,7 +76,7 @@ fn run_script<R: Threads + Wait + Sync, G: Gate + Sync>(
     ensures faults { IfErr result IsEnd }
 {
     let config = config_of(alloc, script)?;
-    let entries = Blank::new(u64::from(config.ranks));
+    let entries = ledger_for(config.ranks);
     run_in::<Brand, R, G>(rt, alloc, script, config, workers, gate, entries)
 }
 
@@ -106,7 +106,7 @@ fn run_in<L: Entries + Send + Sync, R: Threads + Wait + Sync, G: Gate + Sync>(
     entries: Blank,
 ) -> Result<(Vec<u8>, Report), JobFault>
     requires name { entries.name ≡ L.name }
-    requires parts { (entries.parts ≡ L.parts) × (L.parts ≡ L.ranks) × (L.ranks ≡ config.ranks) }
+    requires parts { (entries.parts ≡ L.parts) × (L.parts ≡ 2 * L.ranks) × (L.ranks ≡ config.ranks) }
     ensures run { IfOk result (λ done. IsRun script.now done.1) }
     ensures tells { IfOk result (λ done. Tells done.1 (λ rank. asked (commands_by script.now rank))) }
     ensures told { IfOk result (λ done. done.0.items ≡ told_lines (told done.1.entries) (job_of script.now)) }

@@ -65,7 +65,7 @@ impl Region {
 
     /// Copies the region into another of its length; where they share bytes, what stood there before is copied. Regions that
     /// share none are copied at one time, others byte by byte.
-    pub(crate) fn copy(self, into: Region, buf: &mut [u8])
+    pub fn copy(self, into: Region, buf: &mut [u8])
         requires from { Inside (length buf.old) self }
         requires into { Inside (length buf.old) into }
         requires same { self.len ≡ into.len }

@@ -5,6 +5,9 @@ pub mod Ports
 pub mod Tests
 pub mod Wishes
 pub mod Closings
+pub mod Denials
+pub mod Parcels
+pub mod Receipts
 pub mod Stalls
 -- what functions promise one another: the entries of completions, the trace's room, and memory for outcomes
 pub mod Outcomes

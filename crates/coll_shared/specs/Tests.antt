@@ -14,7 +14,7 @@ use Rattle.coll_complete.specs.declared.any.Any.{Any}
 use Rattle.coll_complete.specs.declared.any.Any.TheVariants.{Undefined, At}
 use Rattle.coll_complete.specs.Anys.{completion_any, is_undefined, left_at, position_of}
 use Rattle.coll_complete.specs.Completing.{CompletesDone, Pushes, completion_if, done_positions}
-use Rattle.coll_complete.specs.Requests.{is_active, is_done, is_pending, left_of, list_refusal, refusal_at}
+use Rattle.coll_complete.specs.Requests.{free_refusal, is_active, is_done, is_pending, left_of, list_refusal, refusal_at}
 use Rattle.coll_shared.specs.Retirements.{retirement_any, retirement_if, retirements}
 
 -- the test of one request, which is `new` then
@@ -76,6 +76,12 @@ pub record RefusesOne (rank : ℕ) (request : Option Ticket) (why : Option Refus
   pub setting : Setting
   pub engine : Machine
   pub why_is : why ≡ refusal_at setting engine.state rank request
+
+-- what a free is refused with, if it is
+pub record RefusesFree (rank : ℕ) (request : Option Ticket) (why : Option Refusal) : Type 0 where
+  pub setting : Setting
+  pub engine : Machine
+  pub why_is : why ≡ free_refusal setting engine.state rank request
 
 pub record RefusesList (rank : ℕ) (list : List (Option Ticket)) (why : Option Refusal) : Type 0 where
   pub setting : Setting

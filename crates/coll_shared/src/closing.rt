@@ -1,4 +1,4 @@
-ghost use Rattle.std.specs.Prelude.{◌≡◌, ◌<◌, length, sum_by, vec_len, IfErr, IfOk};
+ghost use Rattle.std.specs.Prelude.{◌≡◌, ◌<◌, ◌*◌, length, sum_by, vec_len, IfErr, IfOk};
 ghost use Rattle.coll_shared.specs.Closings.{IsClosing, ends_of};
 
 use crate::engine::Engine;
@@ -24,7 +24,7 @@ pub fn close<L: Entries, R: Wait>(
     engine: Engine<L>,
     spents: Vec<Spent<L>>,
 ) -> Result<Report, Refused<(Engine<L>, Vec<Spent<L>>)>>
-    requires { L.parts ≡ L.ranks }
+    requires { L.parts ≡ 2 * L.ranks }
     ensures all { IfOk result (λ report. report.setting.ranks ≡ L.ranks) }
     ensures each { IfOk result (λ report. spents.items ≡ ends_of L.ranks report.entries) }
     ensures total { IfOk result (λ report. sum_by (λ spent. spent.1) spents.items ≡ length report.entries) }
@@ -55,7 +55,7 @@ fn settle<L: Entries, R: Wait>(
     vacant: Vacant,
     spents: Vec<Spent<L>>,
 ) -> Result<Report, Refused<(Vacant, Vec<Spent<L>>)>>
-    requires parts { L.parts ≡ L.ranks }
+    requires parts { L.parts ≡ 2 * L.ranks }
     requires ranks { vacant ≡ L.ranks }
     ensures all { IfOk result (λ report. report.setting.ranks ≡ L.ranks) }
     ensures each { IfOk result (λ report. spents.items ≡ ends_of L.ranks report.entries) }
@@ -76,7 +76,13 @@ fn settle<L: Entries, R: Wait>(
             back: (vacant, spents),
         });
     }
-    let mut all = merged(spents);
+    let Some(mut all) = hall.parts(rt) else {
+        return Err(Refused {
+            why: Refusal::Torn,
+            back: (vacant, spents),
+        });
+    };
+    all.merge(merged(spents));
     Ok(shared.take_report(vacant, &mut all))
 }
 

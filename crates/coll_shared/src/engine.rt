@@ -1,6 +1,6 @@
 //! An engine that ranks share.
 
-ghost use Rattle.std.specs.Prelude.{◌≡◌, ◌≤◌, ℕ, length, IfErr, IfOk, map};
+ghost use Rattle.std.specs.Prelude.{◌≡◌, ◌≤◌, ◌*◌, ℕ, length, IfErr, IfOk, map};
 ghost use Rattle.std.specs.List.{range_with_len};
 ghost use Rattle.coll_core.specs.Configs.{IsUnopened};
 ghost use Rattle.coll_report.specs.Views.{groups_seen};
@@ -13,6 +13,7 @@ use crate::groups::copied_groups;
 use crate::hall::{Chore, Hall};
 use crate::port::Port;
 use crate::shared::Shared;
+use crate::shelves::Shelves;
 use crate::tally::{Entries, Tally};
 use crate::vacant::Vacant;
 use coll_core::Config;
@@ -72,8 +73,8 @@ impl<L: Entries> Engine<L> {
     }
 }
 
-/// Opens an engine, with a port for each rank, in their order. `entries` names the ledger of the trace's entries, in as
-/// many parts as there are ranks. All memory for notes of what ports wait for is taken here: eight bytes for each slot at
+/// Opens an engine, with a port for each rank, in their order. `entries` names the ledger of the trace's entries, in two
+/// parts for each rank. All memory for notes of what ports wait for is taken here: eight bytes for each slot at
 /// each port.
 ///
 /// # Errors
@@ -85,17 +86,18 @@ pub fn open<L: Entries>(
     entries: Blank,
 ) -> Result<(Engine<L>, Vec<Port<L>>), Refusal>
     requires name { entries.name ≡ L.name }
-    requires parts { (entries.parts ≡ L.parts) × (L.parts ≡ L.ranks) × (L.ranks ≡ config.ranks) }
+    requires parts { (entries.parts ≡ L.parts) × (L.parts ≡ 2 * L.ranks) × (L.ranks ≡ config.ranks) }
     ensures ports { IfOk result (λ r. r.1.items ≡ map (opened (groups_seen config.groups.items)) (range_with_len 0 config.ranks)) }
     ensures refused { IfErr result (IsUnopened config) }
 {
     config.check()?;
     let ranks = config.ranks;
     let groups = copied_groups(alloc, &config.groups)?;
-    let (book, rest) = entries.open::<L>();
+    let (book, mut rest) = entries.open::<L>();
     let shared = Shared::open(alloc, config, book)?;
     let doors = Doors::open(alloc, ranks)?;
-    let hall = Arc::new(alloc, Hall::new(shared, doors))?;
+    let shelves = Shelves::open(alloc, ranks, rest.split_off(u64::from(ranks), 0))?;
+    let hall = Arc::new(alloc, Hall::new(shared, doors, shelves))?;
     let vacant = Vacant::open(alloc, ranks)?;
     let ports = match ports_of(alloc, &hall, &groups, ranks, rest) {
         Ok(ports) => ports,

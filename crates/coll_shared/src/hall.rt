@@ -6,26 +6,34 @@
 //! there. Who finishes a request calls at the doors of those whose wish or hope is fulfilled then, and at no others.
 
 mod waits;
+mod working;
 
-ghost use Rattle.std.specs.Prelude.{◌≡◌, IfErr, IsOkUnless};
-ghost use Rattle.coll_shared.specs.Wishes.{IsHindrance, IsSetback};
+ghost use Rattle.std.specs.Prelude.{◌≡◌, ◌+◌, IfErr, IfSome, IsNone, IsOkUnless, Some, true};
+ghost use Rattle.coll_shared.specs.Tests.{TestsOne};
+ghost use Rattle.coll_shared.specs.Wishes.{IsHindrance};
 
-use crate::doors::{Doors, linger};
+use crate::doors::{Doors, Ranks, linger};
 use crate::gate::Gate;
 use crate::hope::Hope;
 use crate::lock::Lock;
+use crate::receipts::Receipts;
 use crate::shared::Shared;
-use crate::tally::Entries;
+use crate::shelves::Shelves;
+use crate::tally::{Entries, Tally};
 use crate::wish::Wish;
-use coll_core::{DoneWork, Stepped, Work};
+use coll_complete::Request;
+use coll_core::{Outcome, Stepped};
 use coll_kinds::{Refusal, Ticket};
+use std::sync::ledger::Share;
 use std::sync::{Condvar, MutexGuard, Wait};
+pub(crate) use working::Chore;
 
 /// The one lock of an engine, and the places to wait.
 #[derive(Drop)]
 pub(crate) struct Hall<L: Entries> {
     shared: Lock<Shared<L>>,
     doors: Doors,
+    shelves: Shelves<L>,
 }
 
 /// How many steps are made under one hold of the lock.
@@ -39,23 +47,6 @@ const YIELDS: u32 = 3_000;
 /// How often a port that hopes looks at its door before it looks under the lock: so few that it soon steps for others, and so
 /// many that it mostly needn't.
 const HOPES: u32 = 300;
-
-/// From how many bytes on a combination is worth calling others to those that are left.
-const LONG: usize = 4_096;
-
-/// How many combinations a thread computes before it looks whether its own wish is fulfilled.
-const CHAIN: u64 = 16;
-
-/// What a progress thread did in a turn.
-#[derive(Drop)]
-pub(crate) enum Chore {
-    /// Nothing: it is to end.
-    Stopped,
-    /// It computed so many combinations, whose results were written.
-    Committed(u64),
-    /// Anything else.
-    Moved,
-}
 
 /// What steps under one hold of the lock came to.
 #[derive(Drop)]
@@ -112,10 +103,11 @@ fn do_at_once<L: Entries>(shared: &mut Shared<L>) -> bool {
 
 impl<L: Entries> Hall<L> {
     /// Round what lies under the lock, with the places to wait.
-    pub(crate) fn new(shared: Shared<L>, doors: Doors) -> Hall<L> {
+    pub(crate) fn new(shared: Shared<L>, doors: Doors, shelves: Shelves<L>) -> Hall<L> {
         Hall {
             shared: Lock::new(shared),
             doors,
+            shelves,
         }
     }
 
@@ -124,9 +116,17 @@ impl<L: Entries> Hall<L> {
         self.shared.enter(rt)
     }
 
+    /// The ranks whose ports are to be called, since what they wait or hope for is the case now. Those that wait for one request
+    /// have it completed and left for them.
+    fn serve(&self, shared: &mut Shared<L>) -> Ranks {
+        let called = shared.fulfilled();
+        self.shelves.fill(called, shared);
+        called
+    }
+
     /// Gives the lock up after requests were finished, and calls those who waited for them.
     fn leave(&self, mut shared: MutexGuard<'_, Shared<L>>) {
-        let called = shared.fulfilled();
+        let called = self.serve(&mut *shared);
         drop(shared);
         self.doors.call(called);
     }
@@ -168,14 +168,42 @@ impl<L: Entries> Hall<L> {
     }
 
     /// Waits a while for what a port hopes for, without the lock.
-    pub(crate) fn hope(&self, rank: u8, hope: Hope) {
+    pub(crate) fn linger(&self, rank: u8, hope: Hope) {
         self.doors.linger_in_hope(rank, hope.calls, HOPES);
+    }
+
+    /// The same for a port that wants nothing else: who finishes the request completes it for the port.
+    fn hope<R: Wait>(
+        &self,
+        rt: &R,
+        mine: &mut Tally<L>,
+        rank: u8,
+        request: &mut Request,
+        hope: Hope,
+    ) -> Option<(Outcome, Receipts)>
+        ensures told { IfSome result (λ r. TestsOne rank request.old request.new true (Some r.0) r.1) }
+        ensures counted { IfSome result (λ r. mine.new ≡ mine.old + 1) }
+        ensures none { IsNone result → (request.new ≡ request.old) × (mine.new ≡ mine.old) }
+    {
+        if self.doors.of(rank).notifications() != hope.calls {
+            return None;
+        }
+        self.shelves.ask(rt, rank, hope.ticket);
+        self.linger(rank, hope);
+        self.shelves.collect(rt, mine, rank, request)
+    }
+
+    /// Takes the parts of the ledger of entries that lie at the shelves; none where something lies at one still.
+    pub(crate) fn parts<R: Wait>(&self, rt: &R) -> Option<Share<L>>
+        ensures { IfSome result (λ parts. (parts.parts ≡ L.ranks) × (parts.amount ≡ 0)) }
+    {
+        self.shelves.parts(rt)
     }
 
     /// Gives the lock up to compute a combination, while requests may be ready still: calls those whose wish is fulfilled,
     /// and one who sleeps to go on with what is ready, or a progress thread where no port waits.
     fn hand_on(&self, mut shared: MutexGuard<'_, Shared<L>>) {
-        let called = shared.fulfilled();
+        let called = self.serve(&mut *shared);
         let waiting = shared.waiting();
         let asleep = shared.has_sleepers();
         drop(shared);
@@ -203,36 +231,6 @@ impl<L: Entries> Hall<L> {
     /// A progress thread ends.
     pub(crate) fn dismiss(&self) {
         self.doors.dismiss();
-    }
-
-    /// One turn of a progress thread. It sleeps where no request is ready.
-    pub(crate) fn chore<R: Wait, G: Gate>(&self, rt: &R, gate: &G) -> Result<Chore, Refusal>
-        ensures { IfErr result IsSetback }
-    {
-        let mut shared = self.enter(rt);
-        if shared.is_stopped() {
-            self.depart(shared);
-            return Ok(Chore::Stopped);
-        }
-        let Progress { finished, last } = advance(&mut *shared);
-        match last {
-            Ok(Stepped::Quiet) if !finished => {
-                let _shared = self.doors.of_workers().wait(rt, shared);
-                Ok(Chore::Moved)
-            }
-            Ok(Stepped::Out(work)) => {
-                let written = self.carry_out(rt, gate, shared, work)?;
-                Ok(Chore::Committed(written))
-            }
-            Ok(_) => {
-                self.leave(shared);
-                Ok(Chore::Moved)
-            }
-            Err(why) => {
-                self.call_all(shared);
-                Err(why)
-            }
-        }
     }
 
     /// What a waiting port does whose wish isn't fulfilled: steps. Where no request is ready it lingers, and where nobody
@@ -291,6 +289,11 @@ impl<L: Entries> Hall<L> {
             self.call_all(shared);
             return Err(Refusal::Stalled);
         }
+        if let Wish::One(request) = wish {
+            if let Some(ticket) = request.ticket() {
+                self.shelves.ask(rt, rank, ticket);
+            }
+        }
         let door = self.doors.of(rank);
         if looks == 0 {
             let seen = door.notifications();
@@ -301,86 +304,5 @@ impl<L: Entries> Hall<L> {
         let mut shared = door.wait(rt, shared);
         shared.wake_up();
         Ok(0)
-    }
-
-    /// Gives the lock up to compute a combination, and calls others to go on: all where it takes long. Answers its number.
-    fn hand_out(&self, mut shared: MutexGuard<'_, Shared<L>>, work: &Work) -> u64 {
-        let piece = shared.next_piece();
-        if work.left().len() < LONG {
-            self.hand_on(shared);
-        } else {
-            self.call_all(shared);
-        }
-        piece
-    }
-
-    /// Computes a combination that was handed out with the lock free, then writes its result under the lock, and goes on
-    /// with what is handed out next. Answers how many results were written. Where one can't be computed it is given back.
-    fn carry_out<R: Wait, G: Gate>(
-        &self,
-        rt: &R,
-        gate: &G,
-        shared: MutexGuard<'_, Shared<L>>,
-        first: Work,
-    ) -> Result<u64, Refusal>
-        ensures { IfErr result IsSetback }
-    {
-        let mut piece = self.hand_out(shared, &first);
-        let mut work = first;
-        for count in 1..=CHAIN {
-            let goes_on = count < CHAIN && work.left().len() < LONG;
-            gate.before(piece);
-            let next = match work.run() {
-                Ok(done) => self.commit(rt, done, goes_on)?,
-                Err(refused) => {
-                    let mut shared = self.enter(rt);
-                    let _ = shared.abandon(refused.back);
-                    self.call_all(shared);
-                    return Err(refused.why);
-                }
-            };
-            gate.after(piece);
-            match next {
-                Some((number, other)) => {
-                    piece = number;
-                    work = other;
-                }
-                None => return Ok(count),
-            }
-        }
-        Ok(CHAIN)
-    }
-
-    /// Writes a result. Where it is to go on it steps under the same hold, and answers the next combination that is handed
-    /// out, with its number.
-    fn commit<R: Wait>(
-        &self,
-        rt: &R,
-        done: DoneWork,
-        goes_on: bool,
-    ) -> Result<Option<(u64, Work)>, Refusal>
-        ensures { IfErr result IsSetback }
-    {
-        let mut shared = self.enter(rt);
-        match shared.commit(done) {
-            Ok(Stepped::Finished) => shared.announce(),
-            Ok(_) => {}
-            Err(why) => {
-                self.call_all(shared);
-                return Err(why);
-            }
-        }
-        shared.settle(true);
-        if !goes_on {
-            self.leave(shared);
-            return Ok(None);
-        }
-        // where the next step is refused memory, it will be again once the caller steps, and is told then
-        if let Ok(Stepped::Out(work)) = advance(&mut *shared).last {
-            let piece = self.hand_out(shared, &work);
-            return Ok(Some((piece, work)));
-        }
-        self.leave(shared);
-        Ok(None)
     }
 }

@@ -24,6 +24,9 @@
 //! | `notes` | `Notes`, what each port waits for |
 //! | `bed` | `Bed`, what one port waits for, with memory for a list |
 //! | `rest` | `Rest`, how a port rests |
+//! | `parcel` | `Parcel`, a request that was completed for a port which waited for it |
+//! | `shelf` | `Shelf`, where it is left for the port |
+//! | `shelves` | `Shelves`, those of all ports |
 //! | `wish` | `Wish`, what a waiting port wants |
 //! | `spent` | `Spent`, what is left of a port |
 //! | `shared` | `Shared`, the core with its trace, and the calls on both |
@@ -42,12 +45,15 @@ mod hopes;
 mod kept;
 mod lock;
 mod notes;
+mod parcel;
 mod plans;
 mod port;
 mod receipt;
 mod receipts;
 mod rest;
 mod shared;
+mod shelf;
+mod shelves;
 mod spaces;
 mod spent;
 mod tally;
@@ -64,4 +70,4 @@ pub use receipt::Receipt;
 pub use receipts::Receipts;
 pub use shared::Shared;
 pub use spent::Spent;
-pub use tally::{Entries, Tally};
+pub use tally::{Entries, Tally, ledger_for};

@@ -1,26 +1,44 @@
-ghost use Rattle.std.specs.Prelude.{◌≡◌, drop, length};
+ghost use Rattle.std.specs.Prelude.{◌≡◌, [], ◌∷◌, drop, length};
 ghost use Rattle.coll_report.specs.Views.{trace_seen};
+ghost use Rattle.coll_shared.specs.Outcomes.{retired};
 
+use coll_core::Outcome;
+use coll_kinds::Ticket;
 use coll_report::Entry;
 use std::marker::Model;
 use std::snapshot::Snapshot;
 
-/// Shows which entries a call appended to the trace. Contracts see it as the list of them; it takes no bytes, and only
-/// what lies under the lock makes one.
+/// Shows which entries a call appended to the trace. Contracts see it as the list of them; only what knows of the entries
+/// makes one.
 #[derive(Drop)]
 pub struct Receipts {
-    before: Snapshot<Vec<Entry>>,
-    after: Snapshot<Vec<Entry>>,
+    shown: Shown,
+}
+
+/// What shows them.
+#[derive(Drop)]
+pub(crate) enum Shown {
+    /// Two moments of the trace: what was appended between.
+    Between {
+        before: Snapshot<Vec<Entry>>,
+        after: Snapshot<Vec<Entry>>,
+    },
+    /// A completion with this outcome.
+    Completion {
+        rank: u8,
+        ticket: Ticket,
+        outcome: Snapshot<Outcome>,
+    },
 }
 
 impl Model for Receipts {
-    ghost use Rattle.std.specs.Prelude.{List, drop, length};
+    ghost use Rattle.std.specs.Prelude.{List};
     ghost use Rattle.coll_machine.specs.Entries.{Entry};
-    ghost use Rattle.coll_report.specs.Views.{trace_seen};
+    ghost use Rattle.coll_shared.specs.Receipts.{entries_shown};
 
     ghost Value = { List Entry };
 
-    ghost view = { λ r. drop (length (trace_seen r.before.value.items)) (trace_seen r.after.value.items) };
+    ghost view = { λ r. entries_shown r.shown };
 }
 
 impl Receipts {
@@ -28,6 +46,21 @@ impl Receipts {
     pub(crate) fn between(before: Snapshot<Vec<Entry>>, after: Snapshot<Vec<Entry>>) -> Self
         ensures { result ≡ drop (length (trace_seen before.value.items)) (trace_seen after.value.items) }
     {
-        Receipts { before, after }
+        Receipts {
+            shown: Shown::Between { before, after },
+        }
+    }
+
+    /// Of the completion of a request with this outcome.
+    pub(crate) fn of_completion(rank: u8, ticket: Ticket, outcome: &Outcome) -> Self
+        ensures { result ≡ retired rank ticket outcome.now ∷ [] }
+    {
+        Receipts {
+            shown: Shown::Completion {
+                rank,
+                ticket,
+                outcome: Snapshot::of(outcome),
+            },
+        }
     }
 }

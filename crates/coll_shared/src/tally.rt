@@ -1,9 +1,11 @@
-ghost use Rattle.std.specs.Prelude.{◌≡◌, ◌+◌, ◌<◌, ◌^◌, ℕ};
+ghost use Rattle.std.specs.Prelude.{◌≡◌, ◌+◌, ◌*◌, ◌<◌, ◌^◌, ℕ};
+ghost use Rattle.std.specs.Bool.{OnFalse, OnTrue};
 
 use std::marker::{Brand, Model};
-use std::sync::ledger::{Book, Ledger, Share};
+use std::sync::ledger::{Blank, Book, Ledger, Share};
 
-/// The ledger of an engine's entries, in as many parts as there are ranks.
+/// The ledger of an engine's entries, in two parts for each rank: one for its port, and one for what others complete for it
+/// while it waits.
 pub trait Entries: Ledger {
     /// How many ranks there are.
     ghost ranks: { ℕ };
@@ -13,8 +15,15 @@ impl Entries for Brand {
     ghost ranks = { 0 };
 }
 
-/// How many entries of the trace one port made. Contracts see it as that number, and the tallies of all ports add up to
-/// the length of the trace.
+/// A new ledger for the entries of an engine of so many ranks.
+pub fn ledger_for(ranks: u8) -> Blank
+    ensures { result.parts ≡ 2 * ranks }
+{
+    Blank::new(2 * u64::from(ranks))
+}
+
+/// How many entries of the trace one port made, or lie on its shelf. Contracts see it as that number, and all tallies add up
+/// to the length of the trace.
 #[derive(Drop)]
 pub struct Tally<L: Entries> {
     share: Share<L>,
@@ -63,5 +72,20 @@ impl<L: Entries> Tally<L> {
         book.audit(&mut self.share);
         book.add(&mut self.share, 1);
         self.made += 1;
+    }
+
+    /// Counts an entry here that was counted there, unless this is the greatest number already. Answers whether it did.
+    pub(crate) fn take_one(&mut self, other: &mut Tally<L>) -> bool
+        requires { 0 < other.old }
+        ensures taken { OnTrue result ((self.new ≡ self.old + 1) × (other.new + 1 ≡ other.old)) }
+        ensures left { OnFalse result ((self.new ≡ self.old) × (other.new ≡ other.old)) }
+    {
+        if self.made == u64::MAX {
+            return false;
+        }
+        other.share.transfer(&mut self.share, 1);
+        other.made -= 1;
+        self.made += 1;
+        true
     }
 }

@@ -28,13 +28,13 @@ mod noted;
 mod setup;
 mod trace_tests;
 
-ghost use Rattle.std.specs.Prelude.{◌≡◌};
+ghost use Rattle.std.specs.Prelude.{◌≡◌, ◌*◌};
 
 use answer::Answer;
 use call::Call;
 use closed::Closed;
 use coll_kinds::Refusal;
-use coll_shared::Entries;
+use coll_shared::{Entries, ledger_for};
 use driver::Driver;
 use setup::Setup;
 use std::alloc::Global;
@@ -60,7 +60,7 @@ fn first_misfit_in<L: Entries, R: Wait>(
     entries: Blank,
 ) -> Result<Option<Misfit>, Refusal>
     requires name { entries.name ≡ L.name }
-    requires parts { (entries.parts ≡ L.parts) × (L.parts ≡ L.ranks) × (L.ranks ≡ setup.now.ranks) }
+    requires parts { (entries.parts ≡ L.parts) × (L.parts ≡ 2 * L.ranks) × (L.ranks ≡ setup.now.ranks) }
 {
     let mut driver = Driver::<L>::open(alloc, setup, entries)?;
     Ok(driver.first_misfit(rt, parts))
@@ -77,7 +77,7 @@ pub fn first_misfit<R: Wait>(
     setup: &Setup,
     parts: &[&[Row]],
 ) -> Result<Option<Misfit>, Refusal> {
-    let entries = Blank::new(u64::from(setup.ranks));
+    let entries = ledger_for(setup.ranks);
     first_misfit_in::<Brand, R>(rt, alloc, setup, parts, entries)
 }
 
@@ -89,7 +89,7 @@ fn closed_after_in<L: Entries, R: Wait>(
     entries: Blank,
 ) -> Result<Closed, Refusal>
     requires name { entries.name ≡ L.name }
-    requires parts { (entries.parts ≡ L.parts) × (L.parts ≡ L.ranks) × (L.ranks ≡ setup.now.ranks) }
+    requires parts { (entries.parts ≡ L.parts) × (L.parts ≡ 2 * L.ranks) × (L.ranks ≡ setup.now.ranks) }
 {
     let mut driver = Driver::<L>::open(alloc, setup, entries)?;
     if driver.first_misfit(rt, &[rows]).is_some() {
@@ -109,6 +109,6 @@ pub fn closed_after<R: Wait>(
     setup: &Setup,
     rows: &[Row],
 ) -> Result<Closed, Refusal> {
-    let entries = Blank::new(u64::from(setup.ranks));
+    let entries = ledger_for(setup.ranks);
     closed_after_in::<Brand, R>(rt, alloc, setup, rows, entries)
 }

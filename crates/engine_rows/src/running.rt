@@ -1,6 +1,6 @@
 //! A job from the opening of its engine to the last outcome.
 
-ghost use Rattle.std.specs.Prelude.{◌≡◌, ◌<◌, ◌≤◌};
+ghost use Rattle.std.specs.Prelude.{◌≡◌, ◌<◌, ◌≤◌, ◌*◌};
 
 use crate::crew::carry_out;
 use crate::job::Job;
@@ -11,7 +11,7 @@ use coll_core::Outcome;
 use coll_crew::{copied_groups, roomy};
 use coll_kinds::Refusal;
 use coll_report::Report;
-use coll_shared::{Engine, Entries, Spent, close, open};
+use coll_shared::{Engine, Entries, Spent, close, ledger_for, open};
 use std::alloc::Global;
 use std::marker::Brand;
 use std::sync::Wait;
@@ -24,7 +24,7 @@ fn closed<L: Entries, R: Wait>(
     engine: Engine<L>,
     spents: Vec<Spent<L>>,
 ) -> Result<Report, Refusal>
-    requires { L.parts ≡ L.ranks }
+    requires { L.parts ≡ 2 * L.ranks }
 {
     match close(rt, engine, spents) {
         Ok(report) => Ok(report),
@@ -58,7 +58,7 @@ fn run_in<L: Entries + Send + Sync, R: Threads + Wait + Sync, G: Pace + Sync>(
     entries: Blank,
 ) -> Result<usize, Refusal>
     requires name { entries.name ≡ L.name }
-    requires parts { (entries.parts ≡ L.parts) × (L.parts ≡ L.ranks) × (L.ranks ≡ job.now.ranks) }
+    requires parts { (entries.parts ≡ L.parts) × (L.parts ≡ 2 * L.ranks) × (L.ranks ≡ job.now.ranks) }
 {
     let config = roomy(job.ranks, copied_groups(alloc, &job.groups)?);
     let (engine, ports) = open::<L>(alloc, config, entries)?;
@@ -87,12 +87,5 @@ pub fn run<R: Threads + Wait + Sync, G: Pace + Sync>(
     job: &Job,
     workers: u8,
 ) -> Result<usize, Refusal> {
-    run_in::<Brand, R, G>(
-        rt,
-        alloc,
-        pace,
-        job,
-        workers,
-        Blank::new(u64::from(job.ranks)),
-    )
+    run_in::<Brand, R, G>(rt, alloc, pace, job, workers, ledger_for(job.ranks))
 }

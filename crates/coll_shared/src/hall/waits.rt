@@ -7,6 +7,7 @@ ghost use Rattle.coll_shared.specs.Wishes.{IsHindrance};
 
 use crate::gate::Gate;
 use crate::hall::Hall;
+use crate::hope::Hope;
 use crate::receipts::Receipts;
 use crate::tally::{Entries, Tally};
 use crate::wish::Wish;
@@ -16,7 +17,7 @@ use coll_kinds::Refusal;
 use std::sync::Wait;
 
 impl<L: Entries> Hall<L> {
-    /// Until the request isn't Pending.
+    /// Until the request isn't Pending; in hope first, where there is any.
     pub(crate) fn wait<R: Wait, G: Gate>(
         &self,
         rt: &R,
@@ -24,6 +25,7 @@ impl<L: Entries> Hall<L> {
         mine: &mut Tally<L>,
         rank: u8,
         request: &mut Request,
+        hope: Option<Hope>,
     ) -> Result<(Option<Outcome>, Receipts), Refusal>
         ensures told { IfOk result (λ r. TestsOne rank request.old request.new true r.0 r.1) }
         ensures counted { IfOk result (λ r. IfSome r.0 (λ outcome. mine.new ≡ mine.old + 1)) }
@@ -31,6 +33,11 @@ impl<L: Entries> Hall<L> {
         ensures refused { IfErr result (λ why. RefusesOne rank request.old (Some why) ⊎ IsHindrance why) }
         ensures err { OnErr result ((request.new ≡ request.old) × (mine.new ≡ mine.old)) }
     {
+        if let Some(hope) = hope {
+            if let Some((outcome, receipts)) = self.hope(rt, mine, rank, request, hope) {
+                return Ok((Some(outcome), receipts));
+            }
+        }
         let mut looks = 0u32;
         for _ in rt.forever() {
             let mut shared = self.enter(rt);
@@ -48,6 +55,9 @@ impl<L: Entries> Hall<L> {
             match self.go_on(rt, gate, shared, rank, Wish::One(request), looks) {
                 Ok(now) => looks = now,
                 Err(why) => return Err(why),
+            }
+            if let Some((outcome, receipts)) = self.shelves.collect(rt, mine, rank, request) {
+                return Ok((Some(outcome), receipts));
             }
         }
         unreachable!()

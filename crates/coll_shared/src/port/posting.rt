@@ -1,8 +1,12 @@
 //! A port's posts, and the life of its persistent requests.
 
-ghost use Rattle.std.specs.Prelude.{◌≡◌, ◌+◌, [], ◌∷◌, IfErr, IfOk, None, OnErr, OnOk};
+ghost use Rattle.std.specs.Result.{result_err};
+ghost use Rattle.std.specs.Prelude.{◌≡◌, ◌+◌, [], ◌∷◌, IfErr, IfOk, None, Some, OnErr, OnOk};
+ghost use Rattle.coll_core.specs.Posts.{init_of, post_of};
+ghost use Rattle.coll_shared.specs.Denials.{DeniesStart, IsDenied};
 ghost use Rattle.coll_shared.specs.Ports.{IsInited, IsPosted, IsStarted};
 ghost use Rattle.coll_shared.specs.Retirements.{release};
+ghost use Rattle.coll_shared.specs.Tests.{RefusesFree};
 
 use crate::hall::Hall;
 use crate::kept::Kept;
@@ -32,6 +36,7 @@ impl<L: Entries> Port<L> {
         ensures made { OnOk result (self.new.made ≡ self.old.made + 1) }
         ensures receipt { IfOk result (λ r. IsPosted self.old.rank r.0 comm offer.plan.sig offer.bytes.items r.1) }
         ensures err { OnErr result (self.new.made ≡ self.old.made) }
+        ensures refused { IfErr result (λ refused. IsDenied (post_of self.old.rank comm offer) refused.why) }
         ensures back { IfErr result (λ refused. refused.back ≡ offer) }
     {
         let kept = Kept::of(self.alloc, &offer);
@@ -62,6 +67,7 @@ impl<L: Entries> Port<L> {
         ensures made { OnOk result (self.new.made ≡ self.old.made + 1) }
         ensures receipt { IfOk result (λ r. IsInited self.old.rank r.0 comm plan.sig r.1) }
         ensures err { OnErr result (self.new.made ≡ self.old.made) }
+        ensures refused { IfErr result (λ refused. IsDenied (init_of self.old.rank comm plan) refused.why) }
         ensures back { IfErr result (λ refused. refused.back ≡ plan) }
     {
         let hall: &Hall<L> = &*self.hall;
@@ -88,6 +94,7 @@ impl<L: Entries> Port<L> {
         ensures made { OnOk result (self.new.made ≡ self.old.made + 1) }
         ensures receipt { IfOk result (λ receipt. IsStarted self.old.rank request.now bytes.items receipt) }
         ensures err { OnErr result (self.new.made ≡ self.old.made) }
+        ensures refused { IfErr result (λ refused. DeniesStart self.old.rank request.now bytes.items refused.why) }
         ensures back { IfErr result (λ refused. refused.back ≡ bytes) }
     {
         let Some(ticket) = request.ticket() else {
@@ -118,6 +125,7 @@ impl<L: Entries> Port<L> {
         ensures groups { self.new.groups ≡ self.old.groups }
         ensures made { OnOk result (self.new.made ≡ self.old.made + 1) }
         ensures receipt { IfOk result (λ receipt. receipt ∷ [] ≡ release self.old.rank request.old) }
+        ensures refused { RefusesFree self.old.rank request.old (result_err result) }
         ensures null { OnOk result (request.new ≡ None) }
         ensures err { OnErr result ((self.new.made ≡ self.old.made) × (request.new ≡ request.old)) }
     {

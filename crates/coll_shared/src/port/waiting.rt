@@ -7,6 +7,7 @@ ghost use Rattle.coll_shared.specs.Wishes.{IsHindrance};
 
 use crate::gate::Gate;
 use crate::hall::Hall;
+use crate::hope::Hope;
 use crate::port::Port;
 use crate::receipts::Receipts;
 use crate::tally::Entries;
@@ -16,18 +17,16 @@ use coll_kinds::Refusal;
 use std::sync::Wait;
 
 impl<L: Entries> Port<L> {
-    /// Waits a while for a call, without the lock, where the request is the one that was just posted or started and nobody could
-    /// take it further then.
-    fn look_forward(&mut self, request: &Request)
+    /// What the port may hope for of the request, if it is the one that it posted or started last. It hopes once.
+    fn hope_for(&mut self, request: &Request) -> Option<Hope>
         ensures { self.new ≡ self.old }
     {
-        if let Some(hope) = self.hope {
-            if hope.is_for(request) {
-                let hall: &Hall<L> = &*self.hall;
-                hall.hope(self.rank, hope);
-            }
+        let hope = self.hope.take()?;
+        if hope.is_for(request) {
+            Some(hope)
+        } else {
+            None
         }
-        self.hope = None;
     }
 
     /// Waits until a request isn't Pending, and completes it if it is Done (`MPI_Wait`; MPI 4.1, 3.7.3); none where it is
@@ -52,9 +51,9 @@ impl<L: Entries> Port<L> {
         ensures refused { IfErr result (λ why. RefusesOne self.old.rank request.old (Some why) ⊎ IsHindrance why) }
         ensures err { OnErr result ((self.new.made ≡ self.old.made) × (request.new ≡ request.old)) }
     {
-        self.look_forward(request);
+        let hope = self.hope_for(request);
         let hall: &Hall<L> = &*self.hall;
-        hall.wait(rt, gate, &mut self.tally, self.rank, request)
+        hall.wait(rt, gate, &mut self.tally, self.rank, request, hope)
     }
 
     /// Waits until a request of a list is Done, and completes the lowest such one (`MPI_Waitany`; MPI 4.1, 3.7.5); none
@@ -104,10 +103,14 @@ impl<L: Entries> Port<L> {
         ensures refused { IfErr result (λ why. RefusesList self.old.rank requests.old (Some why) ⊎ IsHindrance why) }
         ensures err { OnErr result ((self.new.made ≡ self.old.made) × (requests.new ≡ requests.old) × (out.new ≡ out.old)) }
     {
-        if let Some(last) = requests.last() {
-            self.look_forward(last);
-        }
+        let hope = match requests.last() {
+            Some(last) => self.hope_for(last),
+            None => None,
+        };
         let hall: &Hall<L> = &*self.hall;
+        if let Some(hope) = hope {
+            hall.linger(self.rank, hope);
+        }
         hall.wait_all(rt, gate, &mut self.tally, self.rank, requests, out)
     }
 

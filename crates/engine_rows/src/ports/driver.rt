@@ -1,6 +1,6 @@
 //! An engine that makes the calls of rows.
 
-ghost use Rattle.std.specs.Prelude.{◌≡◌};
+ghost use Rattle.std.specs.Prelude.{◌≡◌, ◌*◌};
 
 use crate::calls;
 use crate::ports::answer::Answer;
@@ -36,7 +36,7 @@ pub struct Driver<L: Entries> {
 impl<L: Entries> Driver<L> {
     pub fn open(alloc: Global, setup: &Setup, entries: Blank) -> Result<Driver<L>, Refusal>
         requires name { entries.name ≡ L.name }
-        requires parts { (entries.parts ≡ L.parts) × (L.parts ≡ L.ranks) × (L.ranks ≡ setup.now.ranks) }
+        requires parts { (entries.parts ≡ L.parts) × (L.parts ≡ 2 * L.ranks) × (L.ranks ≡ setup.now.ranks) }
     {
         let config = setup.config(alloc)?;
         let (engine, ports) = open::<L>(alloc, config, entries)?;
@@ -245,7 +245,7 @@ impl<L: Entries> Driver<L> {
 
     /// Ends the ports but the one that was put aside, and closes the engine.
     pub fn close<R: Wait>(self, rt: &R) -> Result<Closed, Refusal>
-        requires { L.parts ≡ L.ranks }
+        requires { L.parts ≡ 2 * L.ranks }
     {
         let Driver {
             alloc,
@@ -282,7 +282,7 @@ fn report_of<L: Entries, R: Wait>(
     engine: Engine<L>,
     spents: Vec<Spent<L>>,
 ) -> Result<Report, (Refusal, usize)>
-    requires { L.parts ≡ L.ranks }
+    requires { L.parts ≡ 2 * L.ranks }
 {
     match close(rt, engine, spents) {
         Ok(report) => Ok(report),

@@ -4,4 +4,4 @@ abbrev pub ghosts-run_in-L-Ledger : goal.ghosts-run_in-L-Ledger
 ghosts-run_in-L-Ledger g a = record { name = a.entries.name; parts = a.entries.parts }
 
 abbrev pub ghosts-run_in-L-Entries : goal.ghosts-run_in-L-Entries
-ghosts-run_in-L-Entries g a = record { ranks = a.entries.parts }
+ghosts-run_in-L-Entries g a = record { ranks = a.config.ranks }

@@ -4,4 +4,4 @@ abbrev pub ghosts-first_misfit_in-L-Ledger : goal.ghosts-first_misfit_in-L-Ledge
 ghosts-first_misfit_in-L-Ledger g a = record { name = a.entries.name; parts = a.entries.parts }
 
 abbrev pub ghosts-first_misfit_in-L-Entries : goal.ghosts-first_misfit_in-L-Entries
-ghosts-first_misfit_in-L-Entries g a = record { ranks = a.entries.parts }
+ghosts-first_misfit_in-L-Entries g a = record { ranks = a.setup.now.ranks }
