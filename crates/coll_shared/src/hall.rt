@@ -3,7 +3,9 @@
 //! Who posts does at once what can be done without a combination, for all. If nothing is left to do its port may linger at its
 //! door, without the lock, before it looks. Who finds a request of its own Pending steps for all. Where no request is ready it
 //! notes what it waits for, gives the lock up and looks now and then at its door; only where nobody came for a while does it sleep
-//! there. Who finishes a request calls at the doors of those whose wish or hope is fulfilled then, and at no others.
+//! there. Who finishes a request calls at the doors of those whose wish or hope is fulfilled then, and at no others. A port that
+//! waits for just one request says so on its shelf: whoever finishes that completes it for the port, which takes it from there
+//! without the lock.
 
 mod waits;
 mod working;
@@ -185,6 +187,7 @@ impl<L: Entries> Hall<L> {
         ensures counted { IfSome result (λ r. mine.new ≡ mine.old + 1) }
         ensures none { IsNone result → (request.new ≡ request.old) × (mine.new ≡ mine.old) }
     {
+        // who called already has gone by, and completes nothing for the port
         if self.doors.of(rank).notifications() != hope.calls {
             return None;
         }

@@ -8,8 +8,8 @@ use coll_report::Entry;
 use std::marker::Model;
 use std::snapshot::Snapshot;
 
-/// Shows which entries a call appended to the trace. Contracts see it as the list of them; only what knows of the entries
-/// makes one.
+/// Shows which entries a call appended to the trace, or another thread for it. Contracts see it as the list of them; only what
+/// lies under the lock, and a parcel that was made there, makes one.
 #[derive(Drop)]
 pub struct Receipts {
     shown: Shown,

@@ -30,7 +30,7 @@ impl<L: Entries> Port<L> {
     }
 
     /// Waits until a request isn't Pending, and completes it if it is Done (`MPI_Wait`; MPI 4.1, 3.7.3); none where it is
-    /// null or Idle.
+    /// null or Idle. Whoever finishes the request meanwhile may complete it for the port.
     ///
     /// # Errors
     ///
