@@ -1,4 +1,4 @@
-ghost use Rattle.std.specs.Prelude.{◌≡◌, [], ◌∷◌, IsTrue, Some, true};
+ghost use Rattle.std.specs.Prelude.{◌≡◌, ◌↔◌, [], ◌∷◌, IsTrue, Some, true};
 ghost use Rattle.coll_shared.specs.Outcomes.{retired};
 ghost use Rattle.coll_shared.specs.Tests.{TestsOne};
 
@@ -46,7 +46,7 @@ impl Parcel {
 
     /// Whether it is for the rank, and of the request that the ticket names.
     pub(crate) fn is_for(&self, rank: u8, ticket: Ticket) -> bool
-        ensures { IsTrue result → self.now ≡ (rank, ticket) }
+        ensures { IsTrue result ↔ (self.now ≡ (rank, ticket)) }
     {
         self.rank == rank && self.ticket == ticket
     }

@@ -1,5 +1,5 @@
 ghost use Rattle.std.specs.Option.{ForSome};
-ghost use Rattle.std.specs.Prelude.{◌≡◌, ◌+◌, IfSome, IsNone};
+ghost use Rattle.std.specs.Prelude.{◌≡◌, ◌+◌, ◌^◌, ◌⊎◌, IfSome, IsNone, None, Some};
 ghost use Rattle.coll_shared.specs.Parcels.{entries_on};
 
 use crate::parcel::Parcel;
@@ -64,6 +64,7 @@ impl<L: Entries> Shelf<L> {
         ensures parcel { IfSome result (λ parcel. parcel ≡ (rank, ticket)) }
         ensures counted { IfSome result (λ parcel. mine.new ≡ mine.old + 1) }
         ensures none { IsNone result → mine.new ≡ mine.old }
+        ensures left { IsNone result → self.old.parcel ≡ Some (rank, ticket) → (self.old.tally ≡ None) ⊎ (mine.old + 1 ≡ 2 ^ 64) }
     {
         self.wanted = None;
         let Some(parcel) = &self.parcel else {
@@ -83,7 +84,8 @@ impl<L: Entries> Shelf<L> {
 
     /// Takes its part of the ledger of entries, unless something lies here.
     pub(crate) fn take_part(&mut self) -> Option<Share<L>>
-        ensures { IfSome result (λ part. (part.parts ≡ 1) × (part.amount ≡ 0)) }
+        ensures part { IfSome result (λ part. (part.parts ≡ 1) × (part.amount ≡ 0)) }
+        ensures none { IsNone result → self.old.parcel ≡ None → self.old.tally ≡ None }
     {
         if self.parcel.is_some() {
             return None;

@@ -79,6 +79,7 @@ impl<L: Entries> Tally<L> {
         requires { 0 < other.old }
         ensures taken { OnTrue result ((self.new ≡ self.old + 1) × (other.new + 1 ≡ other.old)) }
         ensures left { OnFalse result ((self.new ≡ self.old) × (other.new ≡ other.old)) }
+        ensures full { OnFalse result (self.old + 1 ≡ 2 ^ 64) }
     {
         if self.made == u64::MAX {
             return false;
