@@ -12,3 +12,4 @@ pub mod Counting
 pub mod Telling
 pub mod Wishes
 pub mod Noting
+pub mod Places

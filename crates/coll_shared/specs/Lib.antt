@@ -7,6 +7,7 @@ pub mod Wishes
 pub mod Closings
 pub mod Denials
 pub mod Parcels
+pub mod Places
 pub mod Receipts
 pub mod Stalls
 -- what functions promise one another: the entries of completions, the trace's room, and memory for outcomes

@@ -20,6 +20,10 @@ pub(crate) struct Doors {
     progress_threads: CachePadded<AtomicU64>,
     /// How many ports linger without a note, and will look soon. They are counted only where there are progress threads.
     hopeful: CachePadded<AtomicU64>,
+    /// The ranks whose ports left something on their shelves for whoever has the engine's lock.
+    asking: CachePadded<AtomicU64>,
+    /// How many threads compute short combinations, and will have the engine's lock again soon.
+    returning: CachePadded<AtomicU64>,
 }
 
 /// Some of an engine's ranks, of which there are 64 at most: a bit for each.
@@ -94,6 +98,8 @@ impl Doors {
             workers: Condvar::new(),
             progress_threads: CachePadded::new(AtomicU64::new(0)),
             hopeful: CachePadded::new(AtomicU64::new(0)),
+            asking: CachePadded::new(AtomicU64::new(0)),
+            returning: CachePadded::new(AtomicU64::new(0)),
         })
     }
 
@@ -120,17 +126,55 @@ impl Doors {
         self.progress_threads.fetch_sub(1, Ordering::SeqCst);
     }
 
-    /// Waits at a rank's door for a call, and looks so often; `seen` is how many there were before. Progress threads are left
-    /// asleep meanwhile.
-    pub(crate) fn linger_in_hope(&self, rank: u8, seen: u64, looks: u32) {
+    /// A port begins to linger, and will look soon: progress threads are left asleep meanwhile. Answers whether there are any.
+    pub(crate) fn begin_hope(&self) -> bool {
         let has_workers = self.progress_threads.load(Ordering::SeqCst) != 0;
         if has_workers {
             self.hopeful.fetch_add(1, Ordering::SeqCst);
         }
-        linger(self.of(rank), seen, looks);
-        if has_workers {
+        has_workers
+    }
+
+    /// It looks now; `counted` is what was answered when it began.
+    pub(crate) fn end_hope(&self, counted: bool) {
+        if counted {
             self.hopeful.fetch_sub(1, Ordering::SeqCst);
         }
+    }
+
+    /// Waits at a rank's door for a call, and looks so often; `seen` is how many there were before.
+    pub(crate) fn linger_in_hope(&self, rank: u8, seen: u64, looks: u32) {
+        let counted = self.begin_hope();
+        linger(self.of(rank), seen, looks);
+        self.end_hope(counted);
+    }
+
+    /// A rank's port left something on its shelf.
+    pub(crate) fn ask(&self, rank: u8) {
+        self.asking.fetch_or(bit(rank), Ordering::SeqCst);
+    }
+
+    /// The ranks whose ports left something on their shelves since this was asked before.
+    pub(crate) fn asked(&self) -> Ranks {
+        if self.asking.load(Ordering::SeqCst) == 0 {
+            return Ranks::NONE;
+        }
+        Ranks(self.asking.swap(0, Ordering::SeqCst))
+    }
+
+    /// A thread gives the engine's lock up, to have it again soon.
+    pub(crate) fn go_out(&self) {
+        self.returning.fetch_add(1, Ordering::SeqCst);
+    }
+
+    /// It is back for good.
+    pub(crate) fn come_back(&self) {
+        self.returning.fetch_sub(1, Ordering::SeqCst);
+    }
+
+    /// Whether a thread will have the engine's lock again soon.
+    pub(crate) fn is_awaited(&self) -> bool {
+        self.returning.load(Ordering::SeqCst) != 0
     }
 
     /// Calls a progress thread to go on with what is ready, unless a port lingers that will look soon.

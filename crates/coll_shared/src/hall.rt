@@ -5,8 +5,10 @@
 //! notes what it waits for, gives the lock up and looks now and then at its door; only where nobody came for a while does it sleep
 //! there. Who finishes a request calls at the doors of those whose wish or hope is fulfilled then, and at no others. A port that
 //! waits for just one request says so on its shelf: whoever finishes that completes it for the port, which takes it from there
-//! without the lock.
+//! without the lock. A port that finds the lock taken leaves a short post or a start on its shelf: whoever has the lock makes it
+//! before the lock is given up.
 
+mod ordering;
 mod waits;
 mod working;
 
@@ -128,6 +130,7 @@ impl<L: Entries> Hall<L> {
 
     /// Gives the lock up after requests were finished, and calls those who waited for them.
     fn leave(&self, mut shared: MutexGuard<'_, Shared<L>>) {
+        self.serve_asked(&mut *shared);
         let called = self.serve(&mut *shared);
         drop(shared);
         self.doors.call(called);
@@ -136,13 +139,17 @@ impl<L: Entries> Hall<L> {
     /// Gives the lock up for good. Where requests are ready still, one who waits is called to go on with them, or else a
     /// progress thread.
     pub(crate) fn depart(&self, mut shared: MutexGuard<'_, Shared<L>>) {
+        self.serve_asked(&mut *shared);
+        let called = self.serve(&mut *shared);
         if !shared.is_unsettled() {
+            drop(shared);
+            self.doors.call(called);
             return;
         }
-        let called = shared.waiting().first();
+        let next = shared.waiting().first();
         drop(shared);
-        self.doors.call(called);
-        if called.is_empty() {
+        self.doors.call(called.or(next));
+        if next.is_empty() {
             self.doors.call_worker();
         }
     }
@@ -155,6 +162,7 @@ impl<L: Entries> Hall<L> {
         rank: u8,
         ticket: Ticket,
     ) -> Option<Hope> {
+        self.serve_asked(&mut *shared);
         if !do_at_once(&mut *shared) {
             self.hand_on(shared);
             return None;
@@ -206,6 +214,7 @@ impl<L: Entries> Hall<L> {
     /// Gives the lock up to compute a combination, while requests may be ready still: calls those whose wish is fulfilled,
     /// and one who sleeps to go on with what is ready, or a progress thread where no port waits.
     fn hand_on(&self, mut shared: MutexGuard<'_, Shared<L>>) {
+        self.serve_asked(&mut *shared);
         let called = self.serve(&mut *shared);
         let waiting = shared.waiting();
         let asleep = shared.has_sleepers();

@@ -25,7 +25,8 @@
 //! | `bed` | `Bed`, what one port waits for, with memory for a list |
 //! | `rest` | `Rest`, how a port rests |
 //! | `parcel` | `Parcel`, a request that was completed for a port which waited for it |
-//! | `shelf` | `Shelf`, where it is left for the port |
+//! | `order` | `Order`, what a port leaves for the thread that has the lock: a `PostOrder` or a `StartOrder` |
+//! | `shelf` | `Shelf`, where both are left |
 //! | `shelves` | `Shelves`, those of all ports |
 //! | `wish` | `Wish`, what a waiting port wants |
 //! | `spent` | `Spent`, what is left of a port |
@@ -45,9 +46,11 @@ mod hopes;
 mod kept;
 mod lock;
 mod notes;
+mod order;
 mod parcel;
 mod plans;
 mod port;
+mod post_order;
 mod receipt;
 mod receipts;
 mod rest;
@@ -56,6 +59,7 @@ mod shelf;
 mod shelves;
 mod spaces;
 mod spent;
+mod start_order;
 mod tally;
 mod trace;
 mod vacant;

@@ -31,6 +31,11 @@ impl<T> Lock<T> {
         }
     }
 
+    /// Takes the lock, unless a thread has it.
+    pub(crate) fn try_enter(&self) -> Option<MutexGuard<'_, T>> {
+        self.mutex.try_lock()
+    }
+
     /// Takes the lock.
     pub(crate) fn enter<R: Wait>(&self, rt: &R) -> MutexGuard<'_, T> {
         for round in 0..TRIES + TURNS {

@@ -6,7 +6,7 @@ use std::marker::Model;
 use std::snapshot::Snapshot;
 
 /// Shows which entry a call appended to the trace. Contracts see it as that entry; it takes no bytes, and only the trace
-/// makes one.
+/// makes one, or a shelf on which the entry of an order lies.
 #[derive(Drop)]
 pub struct Receipt {
     entry: Snapshot<Entry>,
@@ -22,7 +22,7 @@ impl Model for Receipt {
 }
 
 impl Receipt {
-    /// Of an entry that is about to be appended.
+    /// Of an entry that is about to be appended, or was.
     pub(crate) fn of(entry: &Entry) -> Self
         ensures { result ≡ seen entry.now }
     {

@@ -1,16 +1,19 @@
 //! The shelves of all ports.
 
 ghost use Rattle.std.specs.Prelude.{◌≡◌, ◌+◌, ◌<◌, IfErr, IfSome, IsNone, Some, true, vec_len};
+ghost use Rattle.coll_shared.specs.Ports.{IsPosted, IsStarted};
 ghost use Rattle.coll_shared.specs.Tests.{TestsOne};
 
 use crate::doors::Ranks;
+use crate::order::Order;
+use crate::receipt::Receipt;
 use crate::receipts::Receipts;
 use crate::shared::Shared;
 use crate::shelf::Shelf;
 use crate::tally::{Entries, Tally};
 use coll_complete::Request;
 use coll_core::Outcome;
-use coll_kinds::{Refusal, Ticket};
+use coll_kinds::{Refusal, Signature, Ticket};
 use crossbeam_utils::CachePadded;
 use std::alloc::Global;
 use std::sync::ledger::Share;
@@ -38,6 +41,70 @@ impl<L: Entries> Shelves<L> {
             shelves.push_reserved(CachePadded::new(Mutex::new(Shelf::new(tally))));
         }
         Ok(Shelves { shelves })
+    }
+
+    /// A port leaves an order: whoever has the engine's lock may make it.
+    pub(crate) fn put<R: Wait>(&self, rt: &R, rank: u8, order: Order) {
+        if let Some(shelf) = self.shelves.get(usize::from(rank)) {
+            shelf.lock(rt).put(order);
+        }
+    }
+
+    /// Makes what these ranks ordered, and notes what they wait for. Answers whose orders were made. A shelf that its port has is
+    /// passed over: the port will look under the engine's lock.
+    pub(crate) fn serve(&self, ranks: Ranks, shared: &mut Shared<L>) -> Ranks {
+        let mut made = Ranks::NONE;
+        for rank in 0..64u8 {
+            if ranks.0 >> rank == 0 {
+                break;
+            }
+            if !ranks.has(rank) {
+                continue;
+            }
+            if let Some(shelf) = self.shelves.get(usize::from(rank)) {
+                if let Some(mut shelf) = shelf.try_lock() {
+                    if shelf.serve(shared, rank) {
+                        made = made.with(rank);
+                    }
+                }
+            }
+        }
+        made
+    }
+
+    /// The ticket of a port's post, if another thread made just this one, with what shows its entry.
+    pub(crate) fn take_post<R: Wait>(
+        &self,
+        rt: &R,
+        mine: &mut Tally<L>,
+        rank: u8,
+        comm: u32,
+        sig: Signature,
+        bytes: &[u8],
+    ) -> Option<(Ticket, Receipt)>
+        ensures posted { IfSome result (λ r. IsPosted rank (Some r.0) comm sig bytes.now r.1) }
+        ensures counted { IfSome result (λ r. mine.new ≡ mine.old + 1) }
+        ensures none { IsNone result → mine.new ≡ mine.old }
+    {
+        let shelf = self.shelves.get(usize::from(rank))?;
+        shelf.lock(rt).take_post(mine, rank, comm, sig, bytes)
+    }
+
+    /// What shows the entry of a port's start, if another thread made just this one.
+    pub(crate) fn take_start<R: Wait>(
+        &self,
+        rt: &R,
+        mine: &mut Tally<L>,
+        rank: u8,
+        ticket: Ticket,
+        bytes: &[u8],
+    ) -> Option<Receipt>
+        ensures started { IfSome result (λ receipt. IsStarted rank (Some ticket) bytes.now receipt) }
+        ensures counted { IfSome result (λ receipt. mine.new ≡ mine.old + 1) }
+        ensures none { IsNone result → mine.new ≡ mine.old }
+    {
+        let shelf = self.shelves.get(usize::from(rank))?;
+        shelf.lock(rt).take_start(mine, rank, ticket, bytes)
     }
 
     /// A port waits for this request: whoever finishes it may complete it.

@@ -1,5 +1,6 @@
 ghost use Rattle.std.specs.Prelude.{◌≡◌, ◌↔◌, ◌+◌, ◌<◌, ◌≤◌, ◌^◌, ℕ, [], ◌∷◌, ◌++◌, length, IfErr, IfSome, IsNone, IsTrue, OnOk};
 ghost use Rattle.coll_report.specs.Views.{seen, trace_seen};
+ghost use Rattle.coll_shared.specs.Places.{NamesLast, place_in};
 ghost use Rattle.coll_shared.specs.Closings.{IsBalanced, ends_of};
 
 use crate::balance::{are_ends, first_unbalanced};
@@ -32,6 +33,19 @@ impl<L: Entries> Model for Trace<L> {
     ghost view = { λ t. record { entries = trace_seen t.entries.items; reserved = t.reserved; capacity = vec_capacity t.entries } };
 
     ghost invariant = { λ t. IsTraced (record { entries = trace_seen t.entries.items; reserved = t.reserved; capacity = vec_capacity t.entries }) t.book.total };
+}
+
+/// Which of its kind the entry names.
+fn place(entry: &Entry) -> u32
+    ensures { result ≡ place_in (seen entry.now) }
+{
+    match entry {
+        Entry::Posted { place, .. } => *place,
+        Entry::Inited { place, .. } => *place,
+        Entry::Started { start, .. } => *start,
+        Entry::Retired { place, .. } => *place,
+        Entry::Freed { .. } => 0,
+    }
 }
 
 impl<L: Entries> Trace<L> {
@@ -100,6 +114,16 @@ impl<L: Entries> Trace<L> {
         let book = &mut self.book;
         mine.count(book);
         receipt
+    }
+
+    /// Which of its kind the last entry names.
+    pub(crate) fn last_place(&self) -> u32
+        ensures { NamesLast self.now.entries result }
+    {
+        match self.entries.last() {
+            Some(entry) => place(entry),
+            None => 0,
+        }
     }
 
     /// The entries as they are now, for receipts.

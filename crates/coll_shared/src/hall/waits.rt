@@ -40,7 +40,10 @@ impl<L: Entries> Hall<L> {
         }
         let mut looks = 0u32;
         for _ in rt.forever() {
-            let mut shared = self.enter(rt);
+            let mut shared = match self.enter_for(rt, mine, rank, request) {
+                Ok(shared) => shared,
+                Err((outcome, receipts)) => return Ok((Some(outcome), receipts)),
+            };
             match shared.fulfil(mine, rank, request) {
                 Ok(Some(answer)) => {
                     self.depart(shared);
@@ -55,9 +58,6 @@ impl<L: Entries> Hall<L> {
             match self.go_on(rt, gate, shared, rank, Wish::One(request), looks) {
                 Ok(now) => looks = now,
                 Err(why) => return Err(why),
-            }
-            if let Some((outcome, receipts)) = self.shelves.collect(rt, mine, rank, request) {
-                return Ok((Some(outcome), receipts));
             }
         }
         unreachable!()

@@ -70,9 +70,29 @@ impl<L: Entries> Hall<L> {
         piece
     }
 
+    /// Carries a combination out, and those that are handed out next. While they are short, those who wait don't ask for the lock,
+    /// since this thread will have it again soon. Answers how many results were written.
+    pub(super) fn carry_out<R: Wait, G: Gate>(
+        &self,
+        rt: &R,
+        gate: &G,
+        shared: MutexGuard<'_, Shared<L>>,
+        first: Work,
+    ) -> Result<u64, Refusal>
+        ensures { IfErr result IsSetback }
+    {
+        if first.left().len() >= LONG {
+            return self.compute(rt, gate, shared, first);
+        }
+        self.doors.go_out();
+        let written = self.compute(rt, gate, shared, first);
+        self.doors.come_back();
+        written
+    }
+
     /// Computes a combination that was handed out with the lock free, then writes its result under the lock, and goes on
     /// with what is handed out next. Answers how many results were written. Where one can't be computed it is given back.
-    pub(super) fn carry_out<R: Wait, G: Gate>(
+    fn compute<R: Wait, G: Gate>(
         &self,
         rt: &R,
         gate: &G,

@@ -41,7 +41,24 @@ impl<L: Entries> Port<L> {
     {
         let kept = Kept::of(self.alloc, &offer);
         let hall: &Hall<L> = &*self.hall;
-        let mut shared = hall.enter(rt);
+        let mut shared = match hall.try_enter() {
+            Some(shared) => shared,
+            None => {
+                let ordered = hall.post_by_order(
+                    rt,
+                    self.alloc,
+                    &mut self.tally,
+                    self.rank,
+                    comm,
+                    &offer,
+                );
+                if let Some((hope, receipt)) = ordered {
+                    self.hope = Some(hope);
+                    return Ok((Request::of(hope.ticket), receipt));
+                }
+                hall.enter(rt)
+            }
+        };
         match shared.post(&mut self.tally, self.rank, comm, offer, kept) {
             Ok((ticket, receipt)) => {
                 self.hope = hall.go(shared, self.rank, ticket);
@@ -104,7 +121,24 @@ impl<L: Entries> Port<L> {
             });
         };
         let hall: &Hall<L> = &*self.hall;
-        let mut shared = hall.enter(rt);
+        let mut shared = match hall.try_enter() {
+            Some(shared) => shared,
+            None => {
+                let ordered = hall.start_by_order(
+                    rt,
+                    self.alloc,
+                    &mut self.tally,
+                    self.rank,
+                    ticket,
+                    &bytes,
+                );
+                if let Some((hope, receipt)) = ordered {
+                    self.hope = Some(hope);
+                    return Ok(receipt);
+                }
+                hall.enter(rt)
+            }
+        };
         match shared.start(&mut self.tally, self.rank, ticket, bytes) {
             Ok(receipt) => {
                 self.hope = hall.go(shared, self.rank, ticket);

@@ -8,6 +8,7 @@ ghost use Rattle.coll_tables.specs.Machines.{StepsTo};
 ghost use Rattle.coll_core.specs.Cores.{seen, setting};
 ghost use Rattle.coll_core.specs.Posts.{init_of, post_of};
 ghost use Rattle.coll_shared.specs.Halls.{Denies, Stays};
+ghost use Rattle.coll_shared.specs.Places.{NamesLast};
 ghost use Rattle.coll_shared.specs.Spaced.{KeepsFor};
 
 use crate::kept::Kept;
@@ -21,6 +22,13 @@ use coll_plans::Plan;
 use coll_report::Entry;
 
 impl<L: Entries> Shared<L> {
+    /// Which of its kind the trace's last entry names.
+    pub(crate) fn last_place(&self) -> u32
+        ensures { NamesLast self.now.entries result }
+    {
+        self.trace.last_place()
+    }
+
     /// Starts a collective, as the core's `post` does, and appends its entry. `kept` is `Kept::of` of the offer: the schedule's
     /// buffer, and with room for two entries all memory that the entries of the request take.
     ///

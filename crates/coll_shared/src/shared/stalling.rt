@@ -76,6 +76,14 @@ impl<L: Entries> Shared<L> {
         true
     }
 
+    /// Notes that a port hopes for a request, which may be Done already.
+    pub(crate) fn expect(&mut self, rank: u8, ticket: Ticket)
+        ensures { self.new ≡ self.old }
+    {
+        self.hopes.put(rank, ticket);
+        self.news = true;
+    }
+
     /// The ranks that wait or hope for what is the case now; who waited is awake then, who hoped doesn't any longer. None where
     /// no request was announced since it was asked before. Else linear in the ports.
     pub(crate) fn fulfilled(&mut self) -> Ranks

@@ -1,0 +1,106 @@
+ghost use Rattle.std.specs.Prelude.{◌≡◌, ◌+◌, [], ◌∷◌, ◌++◌, IfSome, IsNone, Some};
+ghost use Rattle.coll_kinds.specs.declared.ticket.Ticket.{Ticket as Named};
+ghost use Rattle.coll_report.specs.Views.{seen};
+ghost use Rattle.coll_shared.specs.Ports.{IsPosted};
+ghost use Rattle.coll_shared.specs.Spaced.{KeepsFor};
+
+use crate::kept::Kept;
+use crate::shared::Shared;
+use crate::tally::{Entries, Tally};
+use coll_core::Offer;
+use coll_kinds::{Signature, Ticket};
+use coll_report::Entry;
+use std::alloc::Global;
+
+/// A post that a port orders, with what it keeps.
+#[derive(Drop)]
+pub(crate) struct PostOrder {
+    comm: u32,
+    offer: Offer,
+    kept: Kept,
+    /// What is given once more, for the entry that the port gets.
+    bytes: Vec<u8>,
+    ghost keeps: { KeepsFor offer kept },
+    ghost copied: { bytes.items ≡ offer.bytes.items },
+}
+
+impl PostOrder {
+    /// Of an offer, in copies; none where memory is short.
+    pub(crate) fn of(alloc: Global, comm: u32, offer: &Offer) -> Option<PostOrder> {
+        let given = Vec::from_slice(alloc, &offer.bytes).ok()?;
+        let bytes = Vec::from_slice(alloc, &given).ok()?;
+        let plan = offer.plan.share().ok()?;
+        let offer = Offer { plan, bytes: given };
+        let kept = Kept::of(alloc, &offer).ok()?;
+        Some(PostOrder {
+            comm,
+            offer,
+            kept,
+            bytes,
+        })
+    }
+
+    /// Makes the post, unless that is refused. Answers its ticket and its entry.
+    pub(crate) fn make<L: Entries>(
+        self,
+        shared: &mut Shared<L>,
+        mine: &mut Tally<L>,
+        rank: u8,
+    ) -> Option<(Ticket, Entry)>
+        ensures entry { IfSome result (λ r. shared.new.entries ≡ shared.old.entries ++ seen r.1 ∷ []) }
+        ensures counted { IfSome result (λ r. mine.new ≡ mine.old + 1) }
+        ensures none { IsNone result → (shared.new.entries ≡ shared.old.entries) × (mine.new ≡ mine.old) }
+    {
+        let PostOrder {
+            comm,
+            offer,
+            kept,
+            bytes,
+        } = self;
+        let sig = offer.plan.sig();
+        match shared.post(mine, rank, comm, offer, Ok(kept)) {
+            Ok((ticket, _receipt)) => {
+                let place = shared.last_place();
+                let entry = Entry::Posted {
+                    rank,
+                    ticket,
+                    comm,
+                    place,
+                    sig,
+                    bytes,
+                };
+                Some((ticket, entry))
+            }
+            Err(_) => None,
+        }
+    }
+}
+
+/// The ticket of the request that a post of just these made, where the entry is of that.
+pub(crate) fn posted_in(
+    entry: &Entry,
+    of: u8,
+    on: u32,
+    with: Signature,
+    given: &[u8],
+) -> Option<Ticket>
+    ensures found { IfSome result (λ ticket. IsPosted of (Some ticket) on with given.now (seen entry.now)) }
+    ensures none { IsNone result → (ticket : Named) → IsPosted of (Some ticket) on with given.now (seen entry.now) → ⊥ }
+{
+    match entry {
+        Entry::Posted {
+            rank,
+            ticket,
+            comm,
+            sig,
+            bytes,
+            ..
+        } => {
+            if *rank == of && *comm == on && sig.is_same(with) && bytes.as_slice() == given {
+                return Some(*ticket);
+            }
+            None
+        }
+        _ => None,
+    }
+}
