@@ -130,7 +130,7 @@ impl<L: Entries> Hall<L> {
 
     /// Gives the lock up after requests were finished, and calls those who waited for them.
     fn leave(&self, mut shared: MutexGuard<'_, Shared<L>>) {
-        self.serve_asked(&mut *shared);
+        self.do_asked(&mut *shared);
         let called = self.serve(&mut *shared);
         drop(shared);
         self.doors.call(called);
@@ -139,7 +139,7 @@ impl<L: Entries> Hall<L> {
     /// Gives the lock up for good. Where requests are ready still, one who waits is called to go on with them, or else a
     /// progress thread.
     pub(crate) fn depart(&self, mut shared: MutexGuard<'_, Shared<L>>) {
-        self.serve_asked(&mut *shared);
+        self.do_asked(&mut *shared);
         let called = self.serve(&mut *shared);
         if !shared.is_unsettled() {
             drop(shared);
@@ -162,7 +162,7 @@ impl<L: Entries> Hall<L> {
         rank: u8,
         ticket: Ticket,
     ) -> Option<Hope> {
-        self.serve_asked(&mut *shared);
+        self.do_asked(&mut *shared);
         if !do_at_once(&mut *shared) {
             self.hand_on(shared);
             return None;
@@ -214,7 +214,7 @@ impl<L: Entries> Hall<L> {
     /// Gives the lock up to compute a combination, while requests may be ready still: calls those whose wish is fulfilled,
     /// and one who sleeps to go on with what is ready, or a progress thread where no port waits.
     fn hand_on(&self, mut shared: MutexGuard<'_, Shared<L>>) {
-        self.serve_asked(&mut *shared);
+        self.do_asked(&mut *shared);
         let called = self.serve(&mut *shared);
         let waiting = shared.waiting();
         let asleep = shared.has_sleepers();

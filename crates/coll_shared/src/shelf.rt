@@ -1,5 +1,6 @@
+ghost use Rattle.std.specs.Bool.{OnFalse, OnTrue};
 ghost use Rattle.std.specs.Option.{ForSome};
-ghost use Rattle.std.specs.Prelude.{◌≡◌, ◌+◌, ◌^◌, ◌⊎◌, IfSome, IsNone, None, Some};
+ghost use Rattle.std.specs.Prelude.{◌≡◌, ◌+◌, ◌^◌, ◌⊎◌, [], ◌∷◌, ◌++◌, IfSome, IsNone, IsSome, None, Some};
 ghost use Rattle.coll_kinds.specs.declared.ticket.Ticket.{Ticket as Named};
 ghost use Rattle.coll_report.specs.Views.{seen};
 ghost use Rattle.coll_shared.specs.Parcels.{entries_on};
@@ -50,9 +51,13 @@ impl<L: Entries> Shelf<L> {
         self.order = Some(order);
     }
 
-    /// Makes what the port ordered, if it did, and leaves the entry here; who finishes the request calls the port. So does who
-    /// finishes what the port waits for here.
-    pub(crate) fn serve(&mut self, shared: &mut Shared<L>, rank: u8) -> bool {
+    /// Does what the port asked for here: makes its order, and leaves the entry; notes what it waits for, so that who finishes that
+    /// calls the port. Answers whether an order was made.
+    pub(crate) fn do_asked(&mut self, shared: &mut Shared<L>, rank: u8) -> bool
+        ensures made { OnTrue result (IsSome self.new.made) }
+        ensures entry { OnTrue result (IfSome self.new.made (λ entry. shared.new.entries ≡ shared.old.entries ++ seen entry ∷ [])) }
+        ensures none { OnFalse result (shared.new.entries ≡ shared.old.entries) }
+    {
         if let Some(ticket) = self.make(shared, rank) {
             shared.expect(rank, ticket);
             return true;
@@ -64,15 +69,23 @@ impl<L: Entries> Shelf<L> {
     }
 
     /// Makes what the port ordered, and leaves the entry here. Answers the ticket.
-    fn make(&mut self, shared: &mut Shared<L>, rank: u8) -> Option<Ticket> {
+    fn make(&mut self, shared: &mut Shared<L>, rank: u8) -> Option<Ticket>
+        ensures made { IfSome result (λ ticket. IsSome self.new.made) }
+        ensures entry { IfSome result (λ ticket. IfSome self.new.made (λ entry. shared.new.entries ≡ shared.old.entries ++ seen entry ∷ [])) }
+        ensures none { IsNone result → shared.new.entries ≡ shared.old.entries }
+    {
         if self.made.is_some() {
             return None;
         }
         let Some(tally) = &mut self.tally else {
             return None;
         };
-        let order = self.order.take()?;
-        let (ticket, entry) = order.make(shared, tally, rank)?;
+        let Some(order) = self.order.take() else {
+            return None;
+        };
+        let Some((ticket, entry)) = order.make(shared, tally, rank) else {
+            return None;
+        };
         self.made = Some(entry);
         Some(ticket)
     }

@@ -50,9 +50,9 @@ impl<L: Entries> Shelves<L> {
         }
     }
 
-    /// Makes what these ranks ordered, and notes what they wait for. Answers whose orders were made. A shelf that its port has is
+    /// Does what these ranks asked for. Answers whose orders were made. A shelf that its port has is
     /// passed over: the port will look under the engine's lock.
-    pub(crate) fn serve(&self, ranks: Ranks, shared: &mut Shared<L>) -> Ranks {
+    pub(crate) fn do_asked(&self, ranks: Ranks, shared: &mut Shared<L>) -> Ranks {
         let mut made = Ranks::NONE;
         for rank in 0..64u8 {
             if ranks.0 >> rank == 0 {
@@ -63,7 +63,7 @@ impl<L: Entries> Shelves<L> {
             }
             if let Some(shelf) = self.shelves.get(usize::from(rank)) {
                 if let Some(mut shelf) = shelf.try_lock() {
-                    if shelf.serve(shared, rank) {
+                    if shelf.do_asked(shared, rank) {
                         made = made.with(rank);
                     }
                 }

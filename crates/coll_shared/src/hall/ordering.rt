@@ -42,13 +42,13 @@ impl<L: Entries> Hall<L> {
     }
 
     /// Does what ports asked for on their shelves while the lock was taken.
-    pub(super) fn serve_asked(&self, shared: &mut Shared<L>) {
+    pub(super) fn do_asked(&self, shared: &mut Shared<L>) {
         for _round in 0..ROUNDS {
             let asked = self.doors.asked();
             if asked.is_empty() {
                 return;
             }
-            let made = self.shelves.serve(asked, shared);
+            let made = self.shelves.do_asked(asked, shared);
             if made.is_empty() {
                 continue;
             }
@@ -98,7 +98,7 @@ impl<L: Entries> Hall<L> {
         self.shelves.put(rt, rank, order);
         self.doors.ask(rank);
         if let Some(mut shared) = self.attend(rt, rank, seen) {
-            self.serve_asked(&mut *shared);
+            self.do_asked(&mut *shared);
             if shared.is_unsettled() {
                 self.hand_on(shared);
             } else {

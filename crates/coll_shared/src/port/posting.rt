@@ -20,7 +20,8 @@ use coll_plans::Plan;
 use std::sync::Wait;
 
 impl<L: Entries> Port<L> {
-    /// Starts a collective (`MPI_Ibcast` and its like; MPI 4.1, 6.12).
+    /// Starts a collective (`MPI_Ibcast` and its like; MPI 4.1, 6.12). Where another thread has the engine's lock, that thread may
+    /// make the post.
     ///
     /// # Errors
     ///
