@@ -6,6 +6,7 @@ pub mod Tests
 pub mod Wishes
 pub mod Closings
 pub mod Denials
+pub mod Orders
 pub mod Parcels
 pub mod Places
 pub mod Receipts

@@ -1,5 +1,6 @@
 ghost use Rattle.std.specs.Prelude.{◌≡◌, ◌+◌, [], ◌∷◌, ◌++◌, IfSome, IsNone};
 ghost use Rattle.coll_report.specs.Views.{seen};
+ghost use Rattle.coll_shared.specs.Orders.{IsMade, IsRefused};
 
 use crate::post_order::PostOrder;
 use crate::shared::Shared;
@@ -47,6 +48,8 @@ impl Order {
         rank: u8,
     ) -> Option<(Ticket, Entry)>
         ensures entry { IfSome result (λ r. shared.new.entries ≡ shared.old.entries ++ seen r.1 ∷ []) }
+        ensures made { IfSome result (λ r. IsMade self rank r.0 (seen r.1)) }
+        ensures refused { IsNone result → IsRefused self rank }
         ensures counted { IfSome result (λ r. mine.new ≡ mine.old + 1) }
         ensures none { IsNone result → (shared.new.entries ≡ shared.old.entries) × (mine.new ≡ mine.old) }
     {

@@ -1,6 +1,9 @@
 ghost use Rattle.std.specs.Prelude.{◌≡◌, ◌+◌, [], ◌∷◌, ◌++◌, IfSome, IsNone, Some};
 ghost use Rattle.coll_kinds.specs.declared.ticket.Ticket.{Ticket as Named};
+ghost use Rattle.coll_kinds.specs.declared.refusal.Refusal.{Refusal};
+ghost use Rattle.coll_core.specs.Posts.{post_of};
 ghost use Rattle.coll_report.specs.Views.{seen};
+ghost use Rattle.coll_shared.specs.Denials.{IsDenied};
 ghost use Rattle.coll_shared.specs.Ports.{IsPosted};
 ghost use Rattle.coll_shared.specs.Spaced.{KeepsFor};
 
@@ -48,6 +51,8 @@ impl PostOrder {
         rank: u8,
     ) -> Option<(Ticket, Entry)>
         ensures entry { IfSome result (λ r. shared.new.entries ≡ shared.old.entries ++ seen r.1 ∷ []) }
+        ensures posted { IfSome result (λ r. IsPosted rank (Some r.0) self.comm self.offer.plan.sig self.offer.bytes.items (seen r.1)) }
+        ensures refused { IsNone result → (why : Refusal) × IsDenied (post_of rank self.comm self.offer) why }
         ensures counted { IfSome result (λ r. mine.new ≡ mine.old + 1) }
         ensures none { IsNone result → (shared.new.entries ≡ shared.old.entries) × (mine.new ≡ mine.old) }
     {

@@ -3,6 +3,7 @@ ghost use Rattle.std.specs.Option.{ForSome};
 ghost use Rattle.std.specs.Prelude.{◌≡◌, ◌+◌, ◌^◌, ◌⊎◌, [], ◌∷◌, ◌++◌, IfSome, IsNone, IsSome, None, Some};
 ghost use Rattle.coll_kinds.specs.declared.ticket.Ticket.{Ticket as Named};
 ghost use Rattle.coll_report.specs.Views.{seen};
+ghost use Rattle.coll_shared.specs.Orders.{IsMade, IsRefused};
 ghost use Rattle.coll_shared.specs.Parcels.{entries_on};
 ghost use Rattle.coll_shared.specs.Ports.{IsPosted, IsStarted};
 
@@ -56,6 +57,8 @@ impl<L: Entries> Shelf<L> {
     pub(crate) fn do_asked(&mut self, shared: &mut Shared<L>, rank: u8) -> bool
         ensures made { OnTrue result (IsSome self.new.made) }
         ensures entry { OnTrue result (IfSome self.new.made (λ entry. shared.new.entries ≡ shared.old.entries ++ seen entry ∷ [])) }
+        ensures asked { OnTrue result (IfSome self.old.order (λ order. IfSome self.new.made (λ entry. (t : Named) × IsMade order rank t (seen entry)))) }
+        ensures left { OnFalse result (ForSome self.old.order (λ order. IsSome self.old.made ⊎ (self.old.tally ≡ None) ⊎ IsRefused order rank)) }
         ensures none { OnFalse result (shared.new.entries ≡ shared.old.entries) }
     {
         if let Some(ticket) = self.make(shared, rank) {
@@ -72,6 +75,8 @@ impl<L: Entries> Shelf<L> {
     fn make(&mut self, shared: &mut Shared<L>, rank: u8) -> Option<Ticket>
         ensures made { IfSome result (λ ticket. IsSome self.new.made) }
         ensures entry { IfSome result (λ ticket. IfSome self.new.made (λ entry. shared.new.entries ≡ shared.old.entries ++ seen entry ∷ [])) }
+        ensures asked { IfSome result (λ ticket. IfSome self.old.order (λ order. IfSome self.new.made (λ entry. IsMade order rank ticket (seen entry)))) }
+        ensures left { IsNone result → ForSome self.old.order (λ order. IsSome self.old.made ⊎ (self.old.tally ≡ None) ⊎ IsRefused order rank) }
         ensures none { IsNone result → shared.new.entries ≡ shared.old.entries }
     {
         if self.made.is_some() {

@@ -50,8 +50,8 @@ impl<L: Entries> Shelves<L> {
         }
     }
 
-    /// Does what these ranks asked for. Answers whose orders were made. A shelf that its port has is
-    /// passed over: the port will look under the engine's lock.
+    /// Does what these ranks asked for. Answers whose orders were made. A shelf that its port has is passed over: the port will
+    /// look under the engine's lock.
     pub(crate) fn do_asked(&self, ranks: Ranks, shared: &mut Shared<L>) -> Ranks {
         let mut made = Ranks::NONE;
         for rank in 0..64u8 {

@@ -1,5 +1,8 @@
 ghost use Rattle.std.specs.Prelude.{◌≡◌, ◌↔◌, ◌+◌, [], ◌∷◌, ◌++◌, IfSome, IsNone, IsTrue, Some};
+ghost use Rattle.coll_kinds.specs.declared.refusal.Refusal.{Refusal};
+ghost use Rattle.coll_machine.specs.Calls.{Start};
 ghost use Rattle.coll_report.specs.Views.{seen};
+ghost use Rattle.coll_shared.specs.Denials.{IsDenied};
 ghost use Rattle.coll_shared.specs.Ports.{IsStarted};
 
 use crate::shared::Shared;
@@ -38,6 +41,9 @@ impl StartOrder {
         rank: u8,
     ) -> Option<(Ticket, Entry)>
         ensures entry { IfSome result (λ r. shared.new.entries ≡ shared.old.entries ++ seen r.1 ∷ []) }
+        ensures started { IfSome result (λ r. IsStarted rank (Some self.ticket) self.given.items (seen r.1)) }
+        ensures ticket { IfSome result (λ r. r.0 ≡ self.ticket) }
+        ensures refused { IsNone result → (why : Refusal) × IsDenied (Start rank self.ticket self.given.items) why }
         ensures counted { IfSome result (λ r. mine.new ≡ mine.old + 1) }
         ensures none { IsNone result → (shared.new.entries ≡ shared.old.entries) × (mine.new ≡ mine.old) }
     {
