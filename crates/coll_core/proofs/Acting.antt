@@ -57,9 +57,9 @@ pub record Gone (a b : Slots Request) (n : Instances) (t : Ticket) (x : Request)
   pub finished_is : finished ≡ is_end list
 
 pub gone_from : (a b : Slots Request) (n : Instances) (t : Ticket) (x : Request) (finished : Bool)
-    → record_in a t.slot ≡ Some x → GoneOn a b n t finished → Gone a b n t x x.buffer.items finished
+    → record_in a t.slot ≡ Some x → GoneOn a b n t finished → Gone a b n t x x.buffer finished
 gone_from a b n t x finished here g =
-    subst (λ (r : Request). Gone a b n t r r.buffer.items finished) (same_Some g.from x (sym g.here ∙ here))
+    subst (λ (r : Request). Gone a b n t r r.buffer finished) (same_Some g.from x (sym g.here ∙ here))
     (record {
       to = g.to;
       point = g.point;
@@ -76,10 +76,10 @@ gone_from a b n t x finished here g =
 
 -- y is x with another buffer
 pub record Rewrites (x y : Request) (bytes : List ℕ) : Type 0 where
-  pub is : shown y ≡ went (shown x) (record { round = x.round; index = x.index; buf = y.buffer.items })
+  pub is : shown y ≡ went (shown x) (record { round = x.round; index = x.index; buf = y.buffer })
   pub round_is : y.round ≡ x.round
   pub index_is : y.index ≡ x.index
-  pub buf : y.buffer.items ≡ bytes
+  pub buf : y.buffer ≡ bytes
 
 pub gone_written : (a b : Slots Request) (n : Instances) (t : Ticket) (x y : Request) (bytes : List ℕ) (finished : Bool)
     → IsSound a → t.slot < count a → Rewrites x y bytes
@@ -98,7 +98,7 @@ gone_written a b n t x y bytes finished sound low w g = record {
   finished_is = on.finished_is;
 }
   where
-    on : Gone (rewritten a t.slot y) b n t y y.buffer.items finished
+    on : Gone (rewritten a t.slot y) b n t y y.buffer finished
     on = gone_from (rewritten a t.slot y) b n t y finished (record_written a t.slot y sound low) g
 
 -- in the words of the laws

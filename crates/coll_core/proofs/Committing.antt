@@ -35,7 +35,7 @@ use Rattle.coll_core.proofs.Reading.{have_lists, running_acting}
 -- ---- whether it is out
 
 pub out_filled : (p : Parts) (x : Request) (t u w : Ticket) → t ≡ w → u ≡ w → IsCore p → record_in p.arena t.slot ≡ Some x
-    → true ≡ (names p.arena u && (home p.arena u.slot == 3)) → length x.buffer.items ≡ (schedule (shown x)).size
+    → true ≡ (names p.arena u && (home p.arena u.slot == 3)) → length x.buffer ≡ (schedule (shown x)).size
 out_filled p x t u w t_is u_is core here on =
     (running_acting p core t.slot x here (ap (λ (z : Ticket). home p.arena z.slot) (t_is ∙ sym u_is) ∙ eqb-true (home p.arena u.slot) 3 (and_parts (names p.arena u) (home p.arena u.slot == 3) (sym on)).1)).filled
 
@@ -94,10 +94,10 @@ module _ (ranks starts trace : ℕ) (a b : Slots Request) (q : Postings) (m : In
   same_into : wrote.into ≡ s.into
   same_into = ap (λ (c : Action). region_into c wrote.into) (same_Some _ _ (sym wrote.next_is ∙ s.next_is))
 
-  buf_is : y.buffer.items ≡ written x.buffer.items s.into d.bytes
-  buf_is = ap (λ (l : Live). l.buf) wrote.is ∙ ap (λ (g : Region). written x.buffer.items g d.bytes) same_into
+  buf_is : y.buffer ≡ written x.buffer s.into d.bytes
+  buf_is = ap (λ (l : Live). l.buf) wrote.is ∙ ap (λ (g : Region). written x.buffer g d.bytes) same_into
 
-  pub rewrites : Rewrites x y (written x.buffer.items s.into d.bytes)
+  pub rewrites : Rewrites x y (written x.buffer s.into d.bytes)
   rewrites = record {
     is = wrote.is ∙ (λ z. went (shown x) (record { round = x.round; index = x.index; buf = sym (ap (λ (l : Live). l.buf) wrote.is) z }));
     round_is = ap (λ (l : Live). l.round) wrote.is;
@@ -106,24 +106,24 @@ module _ (ranks starts trace : ℕ) (a b : Slots Request) (q : Postings) (m : In
   }
 
   pub commit_can_go : CanGoOn (rewritten a t.slot y) t
-  commit_can_go = can_go_on a t x y (written x.buffer.items s.into d.bytes) (Combine d.piece.op d.piece.ty s.left s.right s.into) sound out.live rewrites
+  commit_can_go = can_go_on a t x y (written x.buffer s.into d.bytes) (Combine d.piece.op d.piece.ty s.left s.right s.into) sound out.live rewrites
       (have_lists (parts ranks starts trace a q m) core t.slot x out.here)
       (running_acting (parts ranks starts trace a q m) core t.slot x out.here out.runs).round_in s.next_is
 
   module _ (finished : Bool) (is : d.bytes ≡ result_of d.piece) (t_is : t ≡ d.piece.ticket) (gone : GoneOn (rewritten a t.slot y) b m t finished) where
     abbrev bytes : List ℕ
-    bytes = written x.buffer.items s.into d.bytes
+    bytes = written x.buffer s.into d.bytes
 
     on : Gone a b m t x bytes finished
     on = gone_written a b m t x y bytes finished sound (Named-names a t out.live).low rewrites gone
 
-    result_is : d.bytes ≡ combined d.piece.op d.piece.ty (read_of x.buffer.items s.left) (read_of x.buffer.items s.right)
+    result_is : d.bytes ≡ combined d.piece.op d.piece.ty (read_of x.buffer s.left) (read_of x.buffer s.right)
     result_is = is ∙ (λ z. combined d.piece.op d.piece.ty (sym s.left_is z) (sym s.right_is z))
 
     once : ActsOnce shown (setting (parts ranks starts trace a q m)) a b q m m
     once = compute_core shown (setting (parts ranks starts trace a q m)) a b q m t x on.to (Combine d.piece.op d.piece.ty s.left s.right s.into) on.point (number_of on.list) core
         (goes_on a b m t x bytes finished (Combine d.piece.op d.piece.ty s.left s.right s.into) out.live out.here (inr out.runs) s.next_is on) tt
-        (on.buf ∙ ap (λ (l : List ℕ). written x.buffer.items s.into l) result_is)
+        (on.buf ∙ ap (λ (l : List ℕ). written x.buffer s.into l) result_is)
 
     there : record_in b t.slot ≡ Some on.to
     there = ap (λ (f : ℕ → Option Request). f t.slot) on.puts.records ∙ put_same (record_in a) t.slot (Some on.to)

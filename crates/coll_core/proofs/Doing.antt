@@ -1,10 +1,7 @@
 -- Actions of requests of Ready, each with what it writes.
 use Rattle.std.proofs.Common.{◌≡◌, ◌≢◌, ◌∙◌, inl, ℕ, Bool, List, [], length, Option, Some, None, Result, Ok, Err, ap, sym, subst, arith}
-use Rattle.std.specs.Prelude.{OnErr, Vec, slice_set}
-use Rattle.std.specs.Global.{Global}
-use Rattle.std.specs.Vec.{with_items}
-use Rattle.std.proofs.Math.Nat.{ℕ_set}
-use Rattle.std.proofs.lemmas.List.{set-get_or, with_items_is}
+use Rattle.std.specs.Prelude.{OnErr, slice_set}
+use Rattle.std.proofs.lemmas.List.{set-get_or}
 use Rattle.coll_kinds.specs.declared.ticket.Ticket.{Ticket}
 use Rattle.coll_lists.specs.Layouts.{sequence}
 use Rattle.coll_lists.specs.Neighbours.{first_in}
@@ -41,13 +38,6 @@ pub on_err : {A E : Type 0} (r : Result A E) (P : Type 0) → P → OnErr r P
 on_err (Ok x) P p = tt
 on_err (Err e) P p = p
 
-pub same_vec : (v : Vec ℕ Global) (ws : List ℕ) → ws ≡ v.items → with_items v ws ≡ v
-same_vec v ws e =
-    subst (λ (xs : List ℕ). (o : v.len ≡ length xs) → record { ptr = v.ptr; len = v.len; cap = v.cap; alloc = v.alloc; items = xs; ok = (o, v.ok.1); small = v.small } ≡ v)
-    (sym (with_items_is v ws (ap length e ∙ sym v.ok.0) ∙ e))
-    (λ o. ap (λ (p : v.len ≡ length v.items). record { ptr = v.ptr; len = v.len; cap = v.cap; alloc = v.alloc; items = v.items; ok = (p, v.ok.1); small = v.small }) (ℕ_set v.len (length v.items) o v.ok.0))
-    (with_items v ws).ok.0
-
 pub same_arena : (a : Slots Request) (i : ℕ) (x : Request) → record_in a i ≡ Some x → rewritten a i x ≡ a
 same_arena a i x here =
     ap (λ (rs : List (Option Request)). record { generations = a.generations; weights = a.weights; records = rs; lists = a.lists; comms = a.comms; wear = a.wear })
@@ -76,7 +66,7 @@ module _ (ranks starts trace : ℕ) (a b : Slots Request) (q : Postings) (m n : 
 
 pub computed : (ranks starts trace : ℕ) (a b : Slots Request) (q : Postings) (m : Instances) (t : Ticket) (x y : Request) (act : Action) (bytes : List ℕ) (finished : Bool)
     → IsSound a → IsCore (parts ranks starts trace a q m) → IsActingAt (parts ranks starts trace a q m) t act x
-    → IsLocal act → bytes ≡ wrote (λ from. []) x.buffer.items act x.buffer.items → Rewrites x y bytes
+    → IsLocal act → bytes ≡ wrote (λ from. []) x.buffer act x.buffer → Rewrites x y bytes
     → GoneOn (rewritten a t.slot y) b m t finished
     → IsCore (parts ranks starts trace b q m) × Acts (parts ranks starts trace a q m) (parts ranks starts trace b q m) finished
 computed ranks starts trace a b q m t x y act bytes finished sound core at local wrote_is w g =
@@ -86,10 +76,10 @@ computed ranks starts trace a b q m t x y act bytes finished sound core at local
     (goes_on a b m t x bytes finished act at.live at.here (inl at.on_ready) at.next_is on) local (on.buf ∙ wrote_is))
 
 -- the bytes that stood there, written again
-pub same_written : (a : Slots Request) (i : ℕ) (x : Request) (ws : List ℕ) → record_in a i ≡ Some x → ws ≡ x.buffer.items
-    → rewritten a i (record { rank = x.rank; comm = x.comm; place = x.place; plan = x.plan; starts = x.starts; round = x.round; index = x.index; buffer = with_items x.buffer ws }) ≡ a
+pub same_written : (a : Slots Request) (i : ℕ) (x : Request) (ws : List ℕ) → record_in a i ≡ Some x → ws ≡ x.buffer
+    → rewritten a i (record { rank = x.rank; comm = x.comm; place = x.place; plan = x.plan; starts = x.starts; round = x.round; index = x.index; buffer = ws }) ≡ a
 same_written a i x ws here e =
-    ap (λ (v : Vec ℕ Global). rewritten a i (record { rank = x.rank; comm = x.comm; place = x.place; plan = x.plan; starts = x.starts; round = x.round; index = x.index; buffer = v })) (same_vec x.buffer ws e)
+    ap (λ (v : List ℕ). rewritten a i (record { rank = x.rank; comm = x.comm; place = x.place; plan = x.plan; starts = x.starts; round = x.round; index = x.index; buffer = v })) e
     ∙ same_arena a i x here
 
 pub received : (ranks starts trace : ℕ) (a b : Slots Request) (q : Postings) (m n : Instances) (t : Ticket) (x y : Request) (of : ℕ) (into : Region) (message bytes : List ℕ) (finished : Bool)
@@ -97,7 +87,7 @@ pub received : (ranks starts trace : ℕ) (a b : Slots Request) (q : Postings) (
     → KeepsGifts m n
     → mail m (instance (shown x)) of x.plan.member x.round ≡ Some message
     → mail n ≡ put_key (mail m) (instance (shown x)) (put_mail (mail m (instance (shown x))) of x.plan.member x.round None)
-    → bytes ≡ written x.buffer.items into message → Rewrites x y bytes
+    → bytes ≡ written x.buffer into message → Rewrites x y bytes
     → GoneOn (rewritten a t.slot y) b n t finished
     → IsCore (parts ranks starts trace b q n) × Acts (parts ranks starts trace a q m) (parts ranks starts trace b q n) finished
 received ranks starts trace a b q m n t x y of into message bytes finished sound core at keeps came mails wrote_is w g =

@@ -75,7 +75,7 @@ pub gone_on : (a b : Slots Request) (n : Instances) (t : Ticket) (x y : Request)
 gone_on a b n t x y list finished sound live here goes stands onto puts stays end = record {
   from = x;
   to = y;
-  point = record { round = y.round; index = y.index; buf = x.buffer.items };
+  point = record { round = y.round; index = y.index; buf = x.buffer };
   list = list;
   here = here;
   puts = puts_written a b t.slot t.generation (weight_of a t.slot) (number_of list) y (Some y) sound low

@@ -92,5 +92,5 @@ hands_out ranks starts trace a b q m t x w e core first here stands puts =
       },
     )
 
-pub first_filled : (p v : Parts) (t : Ticket) (x : Request) → p ≡ v → IsCore p → IsFirst v.arena 2 t → record_in p.arena t.slot ≡ Some x → length x.buffer.items ≡ (schedule (shown x)).size
+pub first_filled : (p v : Parts) (t : Ticket) (x : Request) → p ≡ v → IsCore p → IsFirst v.arena 2 t → record_in p.arena t.slot ≡ Some x → length x.buffer ≡ (schedule (shown x)).size
 first_filled p v t x e core first here = (acting p core t.slot x here (ap (λ (z : Parts). home z.arena t.slot) e ∙ first.home_is)).filled

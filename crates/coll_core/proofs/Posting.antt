@@ -89,9 +89,9 @@ pub record Calls (p : Parts) (b : Slots Request) (r : Postings) (j n : Instances
   pub joins : Joins p.matches j n k member t.slot bytes
   pub puts : PutsSlot p.arena b t.slot t.generation weight (Some y) list
   pub weight_is : weight ≡ lent plan.sig plan.n plan.member
-  pub made_is : shown x ≡ made rank comm plan place 1 (record { round = 0; index = 0; buf = x.buffer.items })
+  pub made_is : shown x ≡ made rank comm plan place 1 (record { round = 0; index = 0; buf = x.buffer })
   pub over : GoesOver (shown x) (shown y) 0
-  pub buf : x.buffer.items ≡ laid_in (family plan.sig plan.n plan.member) bytes
+  pub buf : x.buffer ≡ laid_in (family plan.sig plan.n plan.member) bytes
   pub stands : Stands y.plan.n (mail j (instance (shown y))) list (shown y)
 
 abbrev pub parts_of : Parts → Slots Request → Postings → Instances → Parts
@@ -109,7 +109,7 @@ module _ (p : Parts) (b : Slots Request) (r : Postings) (j n : Instances) (t : T
     (law : PostCore Request) (core : IsCore p) (sound : IsArena p.arena)
     (c : Calls p b r j n t rank comm plan bytes sig k place member weight list x y) where
   abbrev o : Progress
-  o = record { round = y.round; index = y.index; buf = x.buffer.items }
+  o = record { round = y.round; index = y.index; buf = x.buffer }
 
   is : shown y ≡ made rank comm plan (place_of p.queues comm rank) 1 o
   is =

@@ -151,7 +151,7 @@ the_one P o x e h = subst (λ o. IfSome o P) e h
 module _ (p : Parts) (b : Slots Request) (n : Instances) (t : Ticket) (rank : ℕ) (x : Request) (bytes : List ℕ) (last : Bool)
     (k : Key) (member : ℕ) (law : RetireCore Request) (core : IsCore p) (owns : Owns p rank t x)
     (on : home p.arena t.slot ≡ 6 + 3 * x.comm)
-    (bytes_is : IfSome (record_in p.arena t.slot) (λ x. bytes ≡ read_of x.buffer.items (schedule (shown x)).output))
+    (bytes_is : IfSome (record_in p.arena t.slot) (λ x. bytes ≡ read_of x.buffer (schedule (shown x)).output))
     (left_there : IfSome (record_in p.arena t.slot) (λ x. Rested x.plan.sig.mode p.arena b t x))
     (key_is : k ≡ instance (shown x)) (member_is : member ≡ x.plan.member) (leaves : IsLeft p.matches n k member last) where
   left : Rested x.plan.sig.mode p.arena b t x
@@ -163,7 +163,7 @@ module _ (p : Parts) (b : Slots Request) (n : Instances) (t : Ticket) (rank : �
     accepted = owns.accepted;
     found = record { here = owns.found; generation_is = generation_named p.arena t owns.named };
     on_done = on;
-    bytes_is = the_one (λ x. bytes ≡ read_of x.buffer.items (schedule (shown x)).output) (record_in p.arena t.slot) x owns.found bytes_is;
+    bytes_is = the_one (λ x. bytes ≡ read_of x.buffer (schedule (shown x)).output) (record_in p.arena t.slot) x owns.found bytes_is;
     rests = rests (setting p) x.plan.sig.mode p.arena b t x left;
     left = subst (λ k. IsLeft p.matches n k x.plan.member last) key_is (subst (λ m. IsLeft p.matches n k m last) member_is leaves);
   })

@@ -138,7 +138,7 @@ stands_sent m n k from to round message mails none = none-some message (sym none
 
 pub sent : (ranks starts trace : ℕ) (a b d : Slots Request) (q : Postings) (m n : Instances) (t : Ticket) (x : Request) (to : ℕ) (from : Region) (k : Key) (member : ℕ) (message : List ℕ) (finished : Bool)
     → IsCore (parts ranks starts trace a q m) → IsActingAt (parts ranks starts trace a q m) t (Send to from) x
-    → k ≡ instance (shown x) → member ≡ x.plan.member → message ≡ read_of x.buffer.items from
+    → k ≡ instance (shown x) → member ≡ x.plan.member → message ≡ read_of x.buffer from
     → KeepsGifts m n
     → mail n ≡ put_key (mail m) k (put_mail (mail m k) member to x.round (Some message))
     → Delivers shown a b n k to
@@ -151,9 +151,9 @@ sent ranks starts trace a b d q m n t x to from k member message finished core a
   record {
     goes = goes ranks starts trace a d q m n count_is wear_is once t.slot finished
         (going_not_done a t.slot x at.here (inl at.on_ready))
-        (done_here b d n t x x.buffer.items finished on)
+        (done_here b d n t x x.buffer finished on)
         (λ e i done. sym (done_same a b n k to delivered i)
-        ∙ none_ends b d n t x x.buffer.items (subst (λ f. Gone b d n t x x.buffer.items f) e on) i done);
+        ∙ none_ends b d n t x x.buffer (subst (λ f. Gone b d n t x x.buffer f) e on) i done);
     running_is = on.puts.others 3 (λ e. off (home b t.slot) (at_b.home_is ∙ at.on_ready) e) (λ e. list_low x.comm on.list on.onto (sym e)) ∙ runs;
     stays_first = IfSome_then (first_in (sequence a.lists 2)) first
         (first_stays b d t.slot t.generation (weight_of b t.slot) (number_of on.list) (Some on.to) (at_b.home_is ∙ at.on_ready) on.puts on.stays);
@@ -166,7 +166,7 @@ sent ranks starts trace a b d q m n t x to from k member message finished core a
     at_b : Stood a b t x
     at_b = stood a b n k to t x at.live at.here at.on_ready delivered
 
-    on : Gone b d n t x x.buffer.items finished
+    on : Gone b d n t x x.buffer finished
     on = gone_from b d n t x finished at_b.here gone
 
     count_is : count d ≡ count a
@@ -178,6 +178,6 @@ sent ranks starts trace a b d q m n t x to from k member message finished core a
     once : ActsOnce shown (setting (parts ranks starts trace a q m)) a d q m n
     once = send_core shown (setting (parts ranks starts trace a q m)) a b d q m n t x on.to to from on.point (number_of on.list) core
         (subst (λ (l : Key). Delivers shown a b n l to) k_is delivered)
-        (goes_on b d n t x x.buffer.items finished (Send to from) at_b.live at_b.here (inl (at_b.home_is ∙ at.on_ready)) at.next_is on) keeps
+        (goes_on b d n t x x.buffer finished (Send to from) at_b.live at_b.here (inl (at_b.home_is ∙ at.on_ready)) at.next_is on) keeps
         (mails ∙ (λ z. put_key (mail m) (k_is z) (put_mail (mail m (k_is z)) (member_is z) to x.round (Some (message_is z)))))
         on.buf

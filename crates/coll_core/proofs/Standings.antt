@@ -64,7 +64,7 @@ member_in p i r c e =
 
 -- so its outcome lies in its buffer while that is there
 pub outcome_in : (p : Parts) (i : ℕ) (r : Request) → IsCore p → record_in p.arena i ≡ Some r
-    → length r.buffer.items ≡ (schedule (shown r)).size → Inside (length r.buffer.items) (schedule (shown r)).output
+    → length r.buffer ≡ (schedule (shown r)).size → Inside (length r.buffer) (schedule (shown r)).output
 outcome_in p i r c e filled =
     subst (λ n. Inside n (schedule (shown r)).output) (sym filled)
     ((planned p i r c e).serves.lawful.schedules r.plan.member (member_in p i r c e)).output_inside

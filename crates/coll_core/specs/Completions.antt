@@ -25,7 +25,7 @@ pub record Owns (p : Parts) (rank : ℕ) (t : Ticket) (x : Request) : Type 0 whe
 -- its communicator is one of the arena's, and its buffer has its outcome
 pub record GivesUp (a : Slots Request) (x : Request) : Type 0 where
   pub comm_in : x.comm < a.comms
-  pub outcome_in : Inside (length x.buffer.items) (schedule (shown x)).output
+  pub outcome_in : Inside (length x.buffer) (schedule (shown x)).output
 
 -- the slot, where request x was completed: nothing, or the request as it was made but for its starts
 abbrev pub Rested : Mode → Slots Request → Slots Request → Ticket → Request → Type 0

@@ -48,7 +48,7 @@ pub record GoneOn (a b : Slots Request) (n : Instances) (t : Ticket) (finished :
   -- a request that is on its list already keeps its place there
   pub stays : home a t.slot ≡ number_of list → b.lists ≡ a.lists
   pub is : shown to ≡ went (shown from) point
-  pub buf : point.buf ≡ from.buffer.items
+  pub buf : point.buf ≡ from.buffer
   pub over : Over (schedule (shown from)) from.round (suc from.index) point.round point.index
   pub stands : Stands from.plan.n (mail n (instance (shown from))) (number_of list) (shown to)
   pub onto : IsListOf from.comm list

@@ -8,6 +8,8 @@ pub mod Starts
 pub mod Steps
 pub mod Works
 -- what functions promise one another on the way to a call's effect
+pub mod Buffers
+pub mod Operands
 pub mod Requests
 pub mod Goings
 pub mod Completions

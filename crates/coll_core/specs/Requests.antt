@@ -28,7 +28,7 @@ shown r = record {
   active = true;
   round = r.round;
   index = r.index;
-  buf = r.buffer.items;
+  buf = r.buffer;
 }
 
 -- the instance of its last start

@@ -44,7 +44,7 @@ pub record IsActingAt (p : Parts) (t : Ticket) (a : Action) (request : Request) 
   pub next_is : next_of (shown request) ≡ Some a
   pub doable : Doable (mail p.matches (instance (shown request))) (shown request) a
   pub fits : Fits (schedule (shown request)).size a
-  pub filled : length request.buffer.items ≡ (schedule (shown request)).size
+  pub filled : length request.buffer ≡ (schedule (shown request)).size
   pub round_in : request.round ≤ length (schedule (shown request)).rounds
   pub comm_in : request.comm < p.arena.comms
 
@@ -129,7 +129,7 @@ pub record HasResult (p r : Parts) (d : Made) : Type 0 where
   pub here : record_in p.arena d.piece.ticket.slot ≡ Some from
   pub there : record_in r.arena d.piece.ticket.slot ≡ Some to
   pub next_is : (l : Region) × (m : Region) × (next_of (shown from) ≡ Some (Combine d.piece.op d.piece.ty l m into))
-  pub buf : to.buffer.items ≡ written from.buffer.items into d.bytes
+  pub buf : to.buffer ≡ written from.buffer into d.bytes
 
 -- a combination that was out is done
 pub record Commits (p r : Parts) (d : Made) (finished : Bool) : Type 0 where

@@ -7,8 +7,10 @@
 //! | `phase` | `Phase`, how far a request is |
 //! | `about` | `About`, what a ticket names |
 //! | `outcome` | `Outcome`, what a completion hands out |
+//! | `buffer` | `Buffer`, the bytes that a schedule's actions read and write |
 //! | `request` | `Request`, what the engine keeps of a live request |
 //! | `sent` | `Sent`, the way of a message |
+//! | `operands` | `Operands`, the rows that a combination reads |
 //! | `work` | `Work` and `DoneWork`, a combination that is computed outside the engine |
 //! | `stepped` | `Stepped`, what a step did |
 //! | `engine` | `Core`, with its calls by what they do |
@@ -16,10 +18,12 @@
 #![tactic(auto)]
 
 mod about;
+mod buffer;
 mod config;
 mod engine;
 pub mod laws;
 mod offer;
+mod operands;
 mod outcome;
 mod phase;
 mod request;

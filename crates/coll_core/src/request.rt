@@ -10,8 +10,10 @@ ghost use Rattle.coll_core.specs.Requests.{GoesOver, Hears, IsListOf, instance, 
 ghost use Rattle.coll_core.specs.Goings.{IsSent};
 ghost use Rattle.coll_core.specs.Works.{Combined, StandsAt};
 
+use crate::buffer::Buffer;
+use crate::operands::Operands;
 use crate::sent::Sent;
-use crate::work::{DoneWork, Row, Work};
+use crate::work::{DoneWork, Work};
 use coll_arena::{ListName, Ticket};
 use coll_kinds::Refusal;
 use coll_match::{Key, Matches};
@@ -34,7 +36,7 @@ pub(crate) struct Request {
     pub(crate) round: usize,
     pub(crate) index: usize,
     /// The schedule's buffer; empty where the request isn't active.
-    pub(crate) buffer: Vec<u8>,
+    pub(crate) buffer: Buffer,
 }
 
 /// The bytes of a region, in the memory of the buffer. They are moved at most once, all at one time where they don't overlap the
@@ -133,12 +135,13 @@ impl Request {
         self.go_over();
     }
 
-    /// The combination that comes next, with copies of its operands.
-    pub(crate) fn work(&self, alloc: Global, ticket: Ticket) -> Result<Work, Refusal>
-        requires combine { IfSome (next_of (shown self.now)) IsCombine }
-        requires some { next_of (shown self.now) ≢ None }
-        requires sized { length self.now.buffer.items ≡ (schedule (shown self.now)).size }
-        ensures work { IfOk result (λ work. StandsAt (shown self.now) work) }
+    /// The combination that comes next, with its operands. Only NoMemory is refused.
+    pub(crate) fn work(&mut self, alloc: Global, ticket: Ticket) -> Result<Work, Refusal>
+        requires combine { IfSome (next_of (shown self.old)) IsCombine }
+        requires some { next_of (shown self.old) ≢ None }
+        requires sized { length self.old.buffer ≡ (schedule (shown self.old)).size }
+        ensures same { self.new ≡ self.old }
+        ensures work { IfOk result (λ work. StandsAt (shown self.old) work) }
         ensures ticket { IfOk result (λ work. work.ticket ≡ ticket) }
         ensures refusal { IsOkUnless result Refusal.NoMemory }
     {
@@ -154,14 +157,13 @@ impl Request {
         else {
             unreachable!()
         };
-        let left = Row::from_slice(alloc, left.read(&self.buffer))?;
-        let right = Row::from_slice(alloc, right.read(&self.buffer))?;
-        Ok(Work::new(alloc, ticket, self.round, self.index, op, ty, left, right))
+        let operands = Operands::of(&mut self.buffer, alloc, left, right)?;
+        Ok(Work::new(alloc, ticket, self.round, self.index, op, ty, operands))
     }
 
     /// The next action is the work's combination, with the same operands.
     pub(crate) fn stands_at(&self, work: &Work) -> bool
-        requires { length self.now.buffer.items ≡ (schedule (shown self.now)).size }
+        requires { length self.now.buffer ≡ (schedule (shown self.now)).size }
         ensures { IsTrue result ↔ StandsAt (shown self.now) work.now }
     {
         let Some(
@@ -182,29 +184,30 @@ impl Request {
         if op != work.op() || ty != work.ty() {
             return false;
         }
-        left.read(&self.buffer) == work.left() && right.read(&self.buffer) == work.right()
+        left.read(self.buffer.bytes()) == work.left()
+            && right.read(self.buffer.bytes()) == work.right()
     }
 
     /// Writes the result of the combination that comes next.
-    pub(crate) fn write(&mut self, done: &DoneWork)
-        requires stands { StandsAt (shown self.old) done.now.piece }
-        requires sized { length self.old.buffer.items ≡ (schedule (shown self.old)).size }
-        ensures { Combined (shown self.old) (shown self.new) done.now.bytes }
+    pub(crate) fn write(&mut self, alloc: Global, done: DoneWork)
+        requires stands { StandsAt (shown self.old) done.piece }
+        requires sized { length self.old.buffer ≡ (schedule (shown self.old)).size }
+        ensures { Combined (shown self.old) (shown self.new) done.bytes }
     {
         let Some(Action::Combine { into, .. }) = self.next() else {
             unreachable!()
         };
-        into.write(done.result(), &mut self.buffer);
+        self.buffer.write(alloc, into, &done.into_result());
     }
 
     /// Takes the buffer out, cut to the outcome, and goes back to the first round.
     pub(crate) fn take_outcome(&mut self, alloc: Global) -> Vec<u8>
-        requires { Inside (length self.old.buffer.items) (schedule (shown self.old)).output }
-        ensures bytes { result.items ≡ read_of self.old.buffer.items (schedule (shown self.old)).output }
+        requires { Inside (length self.old.buffer) (schedule (shown self.old)).output }
+        ensures bytes { result.items ≡ read_of self.old.buffer (schedule (shown self.old)).output }
         ensures left { shown self.new ≡ went (shown self.old) (record { round = 0; index = 0; buf = [] }) }
     {
         let output = self.plan.schedule().output();
-        let buffer = std::mem::replace(&mut self.buffer, Vec::new(alloc));
+        let buffer = self.buffer.take(alloc);
         self.round = 0;
         self.index = 0;
         cut(buffer, output)

@@ -1,16 +1,13 @@
 ghost use Rattle.std.specs.Prelude.{◌≡◌, IfOk, IfErr};
 ghost use Rattle.coll_core.specs.Works.{IsPiece, result_of};
 
+use crate::operands::{Operands, Row};
 use coll_kinds::{Datatype, Op, Refusal, Refused, Ticket};
 use coll_ops::combine_into;
-use smallvec::SmallVec;
 use std::alloc::Global;
 use std::marker::Model;
 
-/// The bytes of an operand or of a result: a few elements need no memory of their own.
-pub(crate) type Row = SmallVec<u8, 16>;
-
-/// A combination that was handed out, with copies of its operands, to be computed outside the engine. It is spent by
+/// A combination that was handed out, with its operands, to be computed outside the engine. It is spent by
 /// `commit` or `abandon`.
 #[derive(Debug, Drop)]
 pub struct Work {
@@ -20,8 +17,7 @@ pub struct Work {
     index: usize,
     op: Op,
     ty: Datatype,
-    left: Row,
-    right: Row,
+    operands: Operands,
 }
 
 impl Model for Work {
@@ -29,9 +25,9 @@ impl Model for Work {
 
     ghost Value = { Piece };
 
-    ghost view = { λ w. record { ticket = w.ticket; round = w.round; index = w.index; op = w.op; ty = w.ty; left = w.left.items; right = w.right.items } };
+    ghost view = { λ w. record { ticket = w.ticket; round = w.round; index = w.index; op = w.op; ty = w.ty; left = w.operands.left; right = w.operands.right } };
 
-    ghost invariant = { λ w. IsPiece (record { ticket = w.ticket; round = w.round; index = w.index; op = w.op; ty = w.ty; left = w.left.items; right = w.right.items }) };
+    ghost invariant = { λ w. IsPiece (record { ticket = w.ticket; round = w.round; index = w.index; op = w.op; ty = w.ty; left = w.operands.left; right = w.operands.right }) };
 }
 
 /// A combination with its result.
@@ -61,11 +57,10 @@ impl Work {
         index: usize,
         op: Op,
         ty: Datatype,
-        left: Row,
-        right: Row,
+        operands: Operands,
     ) -> Work
-        requires { IsPiece (record { ticket = ticket; round = round; index = index; op = op; ty = ty; left = left.items; right = right.items }) }
-        ensures { result ≡ record { ticket = ticket; round = round; index = index; op = op; ty = ty; left = left.items; right = right.items } }
+        requires { IsPiece (record { ticket = ticket; round = round; index = index; op = op; ty = ty; left = operands.left; right = operands.right }) }
+        ensures { result ≡ record { ticket = ticket; round = round; index = index; op = op; ty = ty; left = operands.left; right = operands.right } }
     {
         Work {
             alloc,
@@ -74,8 +69,7 @@ impl Work {
             index,
             op,
             ty,
-            left,
-            right,
+            operands,
         }
     }
 
@@ -116,14 +110,14 @@ impl Work {
     pub fn left(&self) -> &[u8]
         ensures { result.now ≡ self.now.left }
     {
-        &self.left
+        self.operands.left()
     }
 
     /// The second operand.
     pub fn right(&self) -> &[u8]
         ensures { result.now ≡ self.now.right }
     {
-        &self.right
+        self.operands.right()
     }
 
     /// Computes the combination. Only NoMemory is refused, and hands the work back; rows of up to 16 bytes take none.
@@ -131,9 +125,9 @@ impl Work {
         ensures made { IfOk result (λ done. done.piece ≡ self) }
         ensures refused { IfErr result (λ refused. refused ≡ record { why = Refusal.NoMemory; back = self }) }
     {
-        match Row::from_slice(self.alloc, &self.left) {
+        match Row::from_slice(self.alloc, self.operands.left()) {
             Ok(mut result) => {
-                combine_into(self.op, self.ty, &mut result, &self.right);
+                combine_into(self.op, self.ty, &mut result, self.operands.right());
                 Ok(DoneWork { work: self, result })
             }
             Err(_) => Err(Refused {
@@ -158,5 +152,12 @@ impl DoneWork {
         ensures combined { self.now.bytes ≡ result_of self.now.piece }
     {
         &self.result
+    }
+    /// The result, while the operands go.
+    pub(crate) fn into_result(self) -> Row
+        ensures is { result.items ≡ self.bytes }
+        ensures combined { self.bytes ≡ result_of self.piece }
+    {
+        self.result
     }
 }

@@ -50,8 +50,16 @@ fn signature(random: &mut Random, size: u8) -> Signature {
         count: if matches!(kind, Kind::Barrier) {
             0
         } else {
-            random.below(5) as u32
+            element_count(random)
         },
+    }
+}
+
+/// Mostly a few elements, sometimes so many that a combination reads them where they stand.
+fn element_count(random: &mut Random) -> u32 {
+    match random.below(10) {
+        0 => 300,
+        few => (few % 5) as u32,
     }
 }
 

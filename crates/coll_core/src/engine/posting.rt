@@ -19,6 +19,7 @@ ghost use Rattle.coll_core.specs.Calls.{Refuses};
 ghost use Rattle.coll_core.specs.Cores.{seen, setting};
 ghost use Rattle.coll_core.specs.Posts.{init_of, next_instance, plan_refusals, planned, post_of, refused_in, IsLaid, IsRoomy, Unchanged};
 
+use crate::buffer::Buffer;
 use crate::engine::Core;
 use crate::offer::Offer;
 use crate::request::Request;
@@ -296,7 +297,7 @@ impl Core {
             starts: 1,
             round: 0,
             index: 0,
-            buffer,
+            buffer: Buffer::new(buffer),
         };
         let key = request.key();
         self.matches.join(key, member, bytes);
@@ -330,7 +331,7 @@ impl Core {
             starts: 0,
             round: 0,
             index: 0,
-            buffer: Vec::new(self.alloc),
+            buffer: Buffer::new(Vec::new(self.alloc)),
         };
         match self.arena.take(request, 0, ListName::Idle(comm)) {
             Ok(ticket) => ticket,

@@ -63,7 +63,7 @@ impl Core {
 fn give_up(arena: &mut Arena<Request>, alloc: Global, ticket: Ticket) -> Vec<u8>
     requires named { names arena.old ticket ≡ true }
     requires can { IfSome (record_in arena.old ticket.slot) (GivesUp arena.old) }
-    ensures bytes { IfSome (record_in arena.old ticket.slot) (λ x. result.items ≡ read_of x.buffer.items (schedule (shown x)).output) }
+    ensures bytes { IfSome (record_in arena.old ticket.slot) (λ x. result.items ≡ read_of x.buffer (schedule (shown x)).output) }
     ensures rests { IfSome (record_in arena.old ticket.slot) (λ x. Rested x.plan.sig.mode arena.old arena.new ticket x) }
 {
     let Ok(request) = arena.get(ticket) else {
@@ -79,7 +79,7 @@ fn give_up(arena: &mut Arena<Request>, alloc: Global, ticket: Ticket) -> Vec<u8>
 fn end(arena: &mut Arena<Request>, alloc: Global, ticket: Ticket) -> Vec<u8>
     requires named { names arena.old ticket ≡ true }
     requires can { IfSome (record_in arena.old ticket.slot) (GivesUp arena.old) }
-    ensures bytes { IfSome (record_in arena.old ticket.slot) (λ x. result.items ≡ read_of x.buffer.items (schedule (shown x)).output) }
+    ensures bytes { IfSome (record_in arena.old ticket.slot) (λ x. result.items ≡ read_of x.buffer (schedule (shown x)).output) }
     ensures rests { IfSome (record_in arena.old ticket.slot) (λ x. Rested Mode.Once arena.old arena.new ticket x) }
 {
     match arena.retire(ticket) {
@@ -92,7 +92,7 @@ fn end(arena: &mut Arena<Request>, alloc: Global, ticket: Ticket) -> Vec<u8>
 fn rest(arena: &mut Arena<Request>, alloc: Global, ticket: Ticket) -> Vec<u8>
     requires named { names arena.old ticket ≡ true }
     requires can { IfSome (record_in arena.old ticket.slot) (GivesUp arena.old) }
-    ensures bytes { IfSome (record_in arena.old ticket.slot) (λ x. result.items ≡ read_of x.buffer.items (schedule (shown x)).output) }
+    ensures bytes { IfSome (record_in arena.old ticket.slot) (λ x. result.items ≡ read_of x.buffer (schedule (shown x)).output) }
     ensures rests { IfSome (record_in arena.old ticket.slot) (λ x. Rested Mode.Persistent arena.old arena.new ticket x) }
 {
     is_sound(arena);

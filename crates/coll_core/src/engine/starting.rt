@@ -16,6 +16,7 @@ ghost use Rattle.coll_core.specs.Cores.{seen, setting};
 ghost use Rattle.coll_core.specs.Requests.{schedule, shown};
 ghost use Rattle.coll_core.specs.Starts.{Begins, Begun, CanBegin, IsSame, next_instance};
 
+use crate::buffer::Buffer;
 use crate::engine::Core;
 use crate::request::Request;
 use coll_arena::laws::is_sound;
@@ -195,7 +196,7 @@ fn once_more(request: &mut Request, buffer: Vec<u8>)
     ensures { Begins (shown request.old) (shown request.new) buffer.items }
 {
     request.starts += 1;
-    request.buffer = buffer;
+    request.buffer = Buffer::new(buffer);
     request.round = 0;
     request.index = 0;
     request.go_over();

@@ -132,7 +132,7 @@ impl Core {
         let Ok(request) = self.arena.get(ticket) else {
             unreachable!()
         };
-        let message = Message::from_slice(self.alloc, from.read(&request.buffer))?;
+        let message = Message::from_slice(self.alloc, from.read(request.buffer.bytes()))?;
         let key = request.key();
         let member = request.plan.member();
         let round = request.round;
@@ -163,7 +163,7 @@ impl Core {
         let Some(message) = self.matches.take(key, of, member, round) else {
             unreachable!()
         };
-        Action::Recv { of, into }.accept(&message, &mut request.buffer);
+        request.buffer.write(self.alloc, into, &message);
         go_on(&mut self.arena, &self.matches, ticket)
     }
 
@@ -179,7 +179,7 @@ impl Core {
         let Ok(request) = self.arena.get_mut(ticket) else {
             unreachable!()
         };
-        action.local(self.alloc, &mut request.buffer)?;
+        request.buffer.act(self.alloc, action)?;
         Ok(go_on(&mut self.arena, &self.matches, ticket))
     }
 
@@ -191,7 +191,7 @@ impl Core {
         ensures err { OnErr result (self.new ≡ self.old) }
         ensures refusal { IsOkUnless result Refusal.NoMemory }
     {
-        let Ok(request) = self.arena.get(ticket) else {
+        let Ok(request) = self.arena.get_mut(ticket) else {
             unreachable!()
         };
         let work = request.work(self.alloc, ticket)?;

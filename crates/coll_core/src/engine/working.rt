@@ -35,7 +35,7 @@ impl Core {
         let Ok(request) = self.arena.get_mut(ticket) else {
             unreachable!()
         };
-        request.write(&done);
+        request.write(self.alloc, done);
         Ok(Stepped::by(go_on(&mut self.arena, &self.matches, ticket)))
     }
 

@@ -45,7 +45,7 @@ invariant_of-self c =
     let bytes = c.args.offer.bytes.items in
     let accepted : refused_in p (Post c.args.rank c.args.comm plan bytes) ≡ None = accepted_from p c.args.self.now (Post c.args.rank c.args.comm plan bytes) c.self.view_is c.requires.accepted in
     let key_is : c.key-key.result ≡ record { comm = c.args.comm; place = c.offer-place.result; start = 0 } = c.key-key.ensures in
-    let x : Request = record { rank = c.args.rank; comm = c.args.comm; place = c.offer-place.result; plan = c.args.offer.plan; starts = 1; round = 0; index = 0; buffer = c.args.buffer } in
+    let x : Request = record { rank = c.args.rank; comm = c.args.comm; place = c.offer-place.result; plan = c.args.offer.plan; starts = 1; round = 0; index = 0; buffer = c.new.result } in
     let calls : Calls p c.take.new.self c.offer-place.new.self c.join.new.self c.seat.new.self c.in-Ok.ticket c.args.rank c.args.comm plan bytes c.sig.result c.key-key.result c.offer-place.result c.member-member.result c.lent-weight.result (number_of c.list-list.result) x c.go_over.new.self = record {
       accepted = accepted;
       are = subst AreBytes c.deref.ensures.value c.are_bytes.ensures;
@@ -60,7 +60,7 @@ invariant_of-self c =
       weight_is = c.lent-weight.ensures ∙ lent_moved c.sig-2.result plan.sig c.n.result plan.n c.member-member.result plan.member c.sig-2.ensures.sig c.n.ensures.n c.member-member.ensures.member;
       made_is = refl;
       over = c.go_over.ensures;
-      buf = c.requires.buffer;
+      buf = c.new.ensures ∙ c.requires.buffer;
       stands = c.list-list.ensures.stands;
     } in
     post_kept p c.take.new.self c.offer-place.new.self c.join.new.self c.seat.new.self c.in-Ok.ticket c.args.rank c.args.comm plan bytes c.sig.result c.key-key.result c.offer-place.result c.member-member.result c.lent-weight.result (number_of c.list-list.result) x c.go_over.new.self c.post_core.ensures c.self.invariant c.is_sound.ensures calls
@@ -81,7 +81,7 @@ returns-clause-posted c =
     let bytes = c.args.offer.bytes.items in
     let accepted : refused_in p (Post c.args.rank c.args.comm plan bytes) ≡ None = accepted_from p c.args.self.now (Post c.args.rank c.args.comm plan bytes) c.self.view_is c.requires.accepted in
     let key_is : c.key-key.result ≡ record { comm = c.args.comm; place = c.offer-place.result; start = 0 } = c.key-key.ensures in
-    let x : Request = record { rank = c.args.rank; comm = c.args.comm; place = c.offer-place.result; plan = c.args.offer.plan; starts = 1; round = 0; index = 0; buffer = c.args.buffer } in
+    let x : Request = record { rank = c.args.rank; comm = c.args.comm; place = c.offer-place.result; plan = c.args.offer.plan; starts = 1; round = 0; index = 0; buffer = c.new.result } in
     let calls : Calls p c.take.new.self c.offer-place.new.self c.join.new.self c.seat.new.self c.in-Ok.ticket c.args.rank c.args.comm plan bytes c.sig.result c.key-key.result c.offer-place.result c.member-member.result c.lent-weight.result (number_of c.list-list.result) x c.go_over.new.self = record {
       accepted = accepted;
       are = subst AreBytes c.deref.ensures.value c.are_bytes.ensures;
@@ -96,7 +96,7 @@ returns-clause-posted c =
       weight_is = c.lent-weight.ensures ∙ lent_moved c.sig-2.result plan.sig c.n.result plan.n c.member-member.result plan.member c.sig-2.ensures.sig c.n.ensures.n c.member-member.ensures.member;
       made_is = refl;
       over = c.go_over.ensures;
-      buf = c.requires.buffer;
+      buf = c.new.ensures ∙ c.requires.buffer;
       stands = c.list-list.ensures.stands;
     } in
     subst (λ (v : Parts). StepsTo (setting v) (seen v) (Post c.args.rank c.args.comm plan bytes) (Ticketed c.in-Ok.ticket) (seen (parts_of p c.take.new.self c.offer-place.new.self c.seat.new.self))) c.self.view_is

@@ -1,5 +1,4 @@
-use Rattle.std.proofs.Common.{◌≡◌, ◌∙◌, length, ap, refl, sym, subst}
-use Rattle.std.proofs.lemmas.List.{with_items_is}
+use Rattle.std.proofs.Common.{◌∙◌, length, ap, refl, subst}
 use Rattle.coll_sched.specs.declared.action.Action.TheVariants.{Recv}
 use Rattle.coll_sched.specs.Regions.{written}
 use Rattle.coll_core.specs.Cores.{Parts}
@@ -9,8 +8,8 @@ use Rattle.coll_core.proofs.Doing.{message_came, message_long, message_taken, re
 use Rattle.coll_core.proofs.Reading.{acts_at}
 use Rattle.coll_core.proofs.engine.Core.receive.Goals as goal
 
-pub accept-requires-clause-takes : goal.accept-requires-clause-takes
-accept-requires-clause-takes c =
+pub write-requires-clause-same : goal.write-requires-clause-same
+write-requires-clause-same c =
     let x = c.in-Ok.request.now in
     let at = acts_at _ c.args.self.now c.args.ticket x (Recv c.args.of c.args.into) c.self.view_is c.requires c.in-Ok.ensures.found in
     ap length c.deref.ensures
@@ -28,25 +27,23 @@ pub invariant_of-self : goal.invariant_of-self
 invariant_of-self c =
     let x = c.in-Ok.request.now in
     let at = acts_at _ c.args.self.now c.args.ticket x (Recv c.args.of c.args.into) c.self.view_is c.requires c.in-Ok.ensures.found in
-    let k : length c.accept.new.buf ≡ x.buffer.len = c.accept.auto.buf ∙ (ap length c.deref_mut.ensures.value ∙ sym x.buffer.ok.0) in
     (received c.self.inside.ranks c.self.inside.starts c.self.inside.trace c.self.inside.arena c.go_on.new.arena c.self.inside.queues c.self.inside.matches c.take.new.self
-    c.args.ticket x _ c.args.of c.args.into c.in-Some.message.items c.accept.new.buf c.go_on.result c.is_sound.ensures c.self.invariant at
+    c.args.ticket x _ c.args.of c.args.into c.in-Some.message.items c.write.new.self c.go_on.result c.is_sound.ensures c.self.invariant at
     (record { members = c.take.ensures.members; given = c.take.ensures.given; seats = c.take.ensures.seats })
     (message_came c.self.inside.matches x c.args.of c.key-key.result c.member-member.result c.key-key.ensures c.member-member.ensures.member c.in-Some.message.items c.in-Some.ensures.taken)
     (message_taken c.self.inside.matches x c.args.of c.key-key.result c.member-member.result c.key-key.ensures c.member-member.ensures.member c.take.new.self c.take.ensures.mail)
-    (c.accept.ensures ∙ (λ z. written (c.deref_mut.ensures.value z) c.args.into (c.deref.ensures z)))
-    (record { is = refl; round_is = refl; index_is = refl; buf = with_items_is x.buffer c.accept.new.buf k }) c.go_on.ensures).0
+    (c.write.ensures ∙ (λ z. written x.buffer c.args.into (c.deref.ensures z)))
+    (record { is = refl; round_is = refl; index_is = refl; buf = refl }) c.go_on.ensures).0
 
 pub returns : goal.returns
 returns c =
     let x = c.in-Ok.request.now in
     let at = acts_at _ c.args.self.now c.args.ticket x (Recv c.args.of c.args.into) c.self.view_is c.requires c.in-Ok.ensures.found in
-    let k : length c.accept.new.buf ≡ x.buffer.len = c.accept.auto.buf ∙ (ap length c.deref_mut.ensures.value ∙ sym x.buffer.ok.0) in
     subst (λ (p : Parts). Acts p (parts c.self.inside.ranks c.self.inside.starts c.self.inside.trace c.go_on.new.arena c.self.inside.queues c.take.new.self) c.go_on.result) c.self.view_is
     (received c.self.inside.ranks c.self.inside.starts c.self.inside.trace c.self.inside.arena c.go_on.new.arena c.self.inside.queues c.self.inside.matches c.take.new.self
-    c.args.ticket x _ c.args.of c.args.into c.in-Some.message.items c.accept.new.buf c.go_on.result c.is_sound.ensures c.self.invariant at
+    c.args.ticket x _ c.args.of c.args.into c.in-Some.message.items c.write.new.self c.go_on.result c.is_sound.ensures c.self.invariant at
     (record { members = c.take.ensures.members; given = c.take.ensures.given; seats = c.take.ensures.seats })
     (message_came c.self.inside.matches x c.args.of c.key-key.result c.member-member.result c.key-key.ensures c.member-member.ensures.member c.in-Some.message.items c.in-Some.ensures.taken)
     (message_taken c.self.inside.matches x c.args.of c.key-key.result c.member-member.result c.key-key.ensures c.member-member.ensures.member c.take.new.self c.take.ensures.mail)
-    (c.accept.ensures ∙ (λ z. written (c.deref_mut.ensures.value z) c.args.into (c.deref.ensures z)))
-    (record { is = refl; round_is = refl; index_is = refl; buf = with_items_is x.buffer c.accept.new.buf k }) c.go_on.ensures).1
+    (c.write.ensures ∙ (λ z. written x.buffer c.args.into (c.deref.ensures z)))
+    (record { is = refl; round_is = refl; index_is = refl; buf = refl }) c.go_on.ensures).1

@@ -40,7 +40,7 @@ invariant_of-self-2 c =
     let at = acts_at _ c.args.self.now c.args.ticket x (Send c.args.to c.args.from) c.self.view_is c.requires c.in-Ok.ensures.found in
     (sent c.self.inside.ranks c.self.inside.starts c.self.inside.trace c.self.inside.arena c.deliver.new.arena c.go_on.new.arena c.self.inside.queues c.self.inside.matches c.put.new.self
     c.args.ticket x c.args.to c.args.from c.key-key.result c.member-member.result c.in_ok-message.message.items c.go_on.result c.self.invariant at c.key-key.ensures c.member-member.ensures.member
-    (c.in_ok-message.ensures.ok ∙ c.read.ensures ∙ ap (λ b. read_of b c.args.from) c.deref.ensures.value)
+    (c.in_ok-message.ensures.ok ∙ c.read.ensures ∙ ap (λ b. read_of b c.args.from) c.bytes.ensures)
     (record { members = c.in-Ok-put.ensures.members; given = c.in-Ok-put.ensures.given; seats = c.in-Ok-put.ensures.seats })
     c.in-Ok-put.ensures.mail c.deliver.ensures.delivers c.deliver.ensures.running c.deliver.ensures.first c.go_on.ensures).0
 
@@ -51,6 +51,6 @@ returns-clause-acts c =
     subst (λ (p : Parts). Acts p (parts c.self.inside.ranks c.self.inside.starts c.self.inside.trace c.go_on.new.arena c.self.inside.queues c.put.new.self) c.go_on.result) c.self.view_is
     (sent c.self.inside.ranks c.self.inside.starts c.self.inside.trace c.self.inside.arena c.deliver.new.arena c.go_on.new.arena c.self.inside.queues c.self.inside.matches c.put.new.self
     c.args.ticket x c.args.to c.args.from c.key-key.result c.member-member.result c.in_ok-message.message.items c.go_on.result c.self.invariant at c.key-key.ensures c.member-member.ensures.member
-    (c.in_ok-message.ensures.ok ∙ c.read.ensures ∙ ap (λ b. read_of b c.args.from) c.deref.ensures.value)
+    (c.in_ok-message.ensures.ok ∙ c.read.ensures ∙ ap (λ b. read_of b c.args.from) c.bytes.ensures)
     (record { members = c.in-Ok-put.ensures.members; given = c.in-Ok-put.ensures.given; seats = c.in-Ok-put.ensures.seats })
     c.in-Ok-put.ensures.mail c.deliver.ensures.delivers c.deliver.ensures.running c.deliver.ensures.first c.go_on.ensures).1

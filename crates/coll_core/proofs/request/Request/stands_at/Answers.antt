@@ -14,7 +14,7 @@ returns-then-eq c =
     let index_is : c.args.self.now.index ≡ c.args.work.now.index = search in
     let op_is : w.op ≡ c.args.work.now.op = search rules in
     let ty_is : w.ty ≡ c.args.work.now.ty = search rules in
-    let left_is = sym (c.read.ensures ∙ ap (λ b. read_of b w.left) c.deref.ensures.value) ∙ ((slice_eq-Decides Decides-eqb _ _ _ refl).0 (sym c.if-eq.ensures) ∙ c.left.ensures) in
-    let right_is = c.read-then-eq.ensures ∙ ap (λ b. read_of b w.right) c.deref-then-eq.ensures.value in
+    let left_is = sym (c.read.ensures ∙ ap (λ b. read_of b w.left) c.bytes.ensures) ∙ ((slice_eq-Decides Decides-eqb _ _ _ refl).0 (sym c.if-eq.ensures) ∙ c.left.ensures) in
+    let right_is = c.read-then-eq.ensures ∙ ap (λ b. read_of b w.right) c.bytes-then-eq.ensures in
     stands_by (shown c.args.self.now) c.args.work.now w.op w.ty w.left w.right w.field-0-4 c.eq-then-eq.result next_is round_is index_is op_is ty_is left_is
     _ _ right_is c.right.ensures (slice_eq-Decides Decides-eqb _ _ _ c.eq-then-eq.ensures)
