@@ -77,9 +77,9 @@ computed ranks starts trace a b q m t x y act bytes finished sound core at local
 
 -- the bytes that stood there, written again
 pub same_written : (a : Slots Request) (i : ℕ) (x : Request) (ws : List ℕ) → record_in a i ≡ Some x → ws ≡ x.buffer
-    → rewritten a i (record { rank = x.rank; comm = x.comm; place = x.place; plan = x.plan; starts = x.starts; round = x.round; index = x.index; buffer = ws }) ≡ a
+    → rewritten a i (record x { buffer = ws }) ≡ a
 same_written a i x ws here e =
-    ap (λ (v : List ℕ). rewritten a i (record { rank = x.rank; comm = x.comm; place = x.place; plan = x.plan; starts = x.starts; round = x.round; index = x.index; buffer = v })) e
+    ap (λ (v : List ℕ). rewritten a i (record x { buffer = v })) e
     ∙ same_arena a i x here
 
 pub received : (ranks starts trace : ℕ) (a b : Slots Request) (q : Postings) (m n : Instances) (t : Ticket) (x y : Request) (of : ℕ) (into : Region) (message bytes : List ℕ) (finished : Bool)

@@ -29,6 +29,8 @@ pub(crate) struct Request {
     pub(crate) comm: u32,
     /// The index in the member's posting list on the communicator.
     pub(crate) place: u32,
+    /// Where what its members gave lies, for quick look-ups: a hint of `Matches`.
+    pub(crate) hint: usize,
     pub(crate) plan: Plan,
     /// How often it was started.
     pub(crate) starts: u32,
@@ -84,7 +86,7 @@ impl Request {
         match self.next() {
             None => ListName::Done(self.comm),
             Some(Action::Recv { of, .. }) => {
-                if matches.ready(self.key(), of, self.plan.member(), self.round) {
+                if matches.ready(self.key(), self.hint, of, self.plan.member(), self.round) {
                     ListName::Ready
                 } else {
                     ListName::Queue(self.comm)
@@ -110,7 +112,7 @@ impl Request {
             to: self.plan.member(),
             round: self.round,
         };
-        awaited == sent || matches.ready(awaited.key, of, awaited.to, self.round)
+        awaited == sent || matches.ready(awaited.key, self.hint, of, awaited.to, self.round)
     }
 
     /// Goes past ends of rounds to the next action, or to the end.

@@ -1,5 +1,5 @@
 -- The messages of one member, as a map's entries.
-use Rattle.std.proofs.Common.{◌≡◌, ℕ, ◌<◌, ◌+◌, not, subst, one-add, lt-ltb, le-ltb, inl, inr, true≢false, zero, suc, Bool, true, false, cond, ◌&&◌, ◌||◌, ◌==◌, List, [], ◌∷◌, ◌++◌, length, get_or, map, remove, nat_lt, position, refl, sym, ap, ◌∙◌, Option, Some, None, is_some, arith, eq-eqb, eqb-true}
+use Rattle.std.proofs.Common.{◌≡◌, ℕ, ◌<◌, ◌+◌, not, subst, one-add, lt-ltb, le-ltb, inl, inr, true≢false, zero, suc, Bool, true, false, cond, ◌&&◌, ◌||◌, ◌==◌, List, [], ◌∷◌, ◌++◌, length, get_or, remove, nat_lt, position, refl, sym, ap, ◌∙◌, Option, Some, None, is_some, arith, eq-eqb, eqb-true}
 use Rattle.std.specs.Map.{keys_of, lookup, remove_entry}
 use Rattle.std.specs.List.{list_any, position_or_len, AllByRecursion, IsDistinct}
 use Rattle.std.specs.Cmp.{IsEquivalence}

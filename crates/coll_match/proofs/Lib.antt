@@ -3,3 +3,4 @@ pub mod Shares
 pub mod Letters
 pub mod Standing
 pub mod Sizes
+pub mod Hints

@@ -9,19 +9,16 @@ use Rattle.coll_kinds.proofs.Puts.{put_cases}
 use Rattle.coll_match.specs.declared.key.Key.{Key}
 use Rattle.coll_match.specs.Held.{Held, IsOver, gift_of, slot_of, given_in, mail_in, seat_in, put_mail}
 use Rattle.coll_match.specs.Instances.{IsLast, given, given_of, mail, mail_of, members, members_of, put_key, same_key, seats, seats_of, size, standing}
+use Rattle.coll_match.specs.Lends.{Alters}
 use Rattle.coll_match.proofs.Puts.{cond_map, eqb_sym, updated}
 
-turned : (a b : Key) → same_key a b ≡ same_key b a
+pub turned : (a b : Key) → same_key a b ≡ same_key b a
 turned a b = λ z. eqb_sym a.comm b.comm z && (eqb_sym a.place b.place z && eqb_sym a.start b.start z)
-
--- the map has another value, or none, at one key
-abbrev pub Alters : List (Key × Held) → List (Key × Held) → Key → Option Held → Type 0
-Alters t u k x = (q : Key) → standing u q ≡ cond (same_key k q) x (standing t q)
 
 changed : (t u : List (Key × Held)) (k : Key) (x : Option Held) → Alters t u k x → standing u ≡ put_key (standing t) k x
 changed t u k x change = λ z q. updated same_key turned t u k x change q z
 
-same_at : (a k : Key) → same_key a k ≡ true → a ≡ k
+pub same_at : (a k : Key) → same_key a k ≡ true → a ≡ k
 same_at a k e =
     let one = and_parts (eqb a.comm k.comm) _ e in
     let two = and_parts (eqb a.place k.place) (eqb a.start k.start) one.1 in

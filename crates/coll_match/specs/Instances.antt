@@ -1,5 +1,5 @@
 -- All instances that stand, as look-ups by key.
-use Rattle.std.specs.Prelude.{◌≡◌, ◌≢◌, ◌<◌, ◌==◌, ◌&&◌, ℕ, Bool, cond, List, length, unwrap_or, Option, Some, None}
+use Rattle.std.specs.Prelude.{◌≡◌, ◌≢◌, ◌<◌, ◌==◌, ◌&&◌, ℕ, Bool, cond, false, List, length, unwrap_or, Option, Some, None}
 use Rattle.std.specs.Map.{lookup}
 use Rattle.coll_kinds.specs.Puts.{put}
 use Rattle.coll_match.specs.declared.key.Key.{Key}
@@ -11,6 +11,11 @@ same_key a b = (a.comm == b.comm) && ((a.place == b.place) && (a.start == b.star
 -- a function of keys with another value at one key
 abbrev pub put_key : {X : Type 0} → (Key → X) → Key → X → Key → X
 put_key f k x a = cond (same_key a k) x (f a)
+
+-- an entry is that instance's
+abbrev pub is_of : Key → Option (Key × Held) → Bool
+is_of k None = false
+is_of k (Some entry) = same_key k entry.0
 
 -- what stands of an instance
 abbrev pub standing : List (Key × Held) → Key → Option Held

@@ -3,6 +3,7 @@ pub mod Held
 pub mod Instances
 -- worked rows
 pub mod Rows
--- what functions promise one another: what the fields show
+-- what functions promise one another: what the fields show, and what a loan leaves
+pub mod Lends
 pub mod Letters
 pub mod Views

@@ -1,27 +1,28 @@
-ghost use Rattle.std.specs.Prelude.{◌≡◌, ◌<◌, ◌≢◌, Some, None, option_map, unwrap_or, is_some, if◌then◌else◌, IsTrue, ◌↔◌, OnOk, IfOk, IfErr, OnErr};
-ghost use Rattle.std.specs.Option.{option_copied};
+ghost use Rattle.std.specs.Prelude.{◌≡◌, ◌<◌, ◌≢◌, Some, None, option_map, slice_get, unwrap_or, is_some, if◌then◌else◌, IsTrue, ◌↔◌, OnOk, IfOk, IfErr, OnErr};
+ghost use Rattle.std.specs.Option.{option_copied, option_copied_mut};
 ghost use Rattle.coll_kinds.specs.declared.refusal.Refused.{Refused};
 ghost use Rattle.coll_kinds.specs.Puts.{put};
 ghost use Rattle.coll_match.specs.Held.{put_mail};
-ghost use Rattle.coll_match.specs.Instances.{IsLast, given, mail, members, put_key, seats, size};
+ghost use Rattle.coll_match.specs.Instances.{IsLast, given, is_of, mail, members, put_key, seats, size, standing};
 
 use crate::instance::Instance;
 use crate::key::{Key, Way};
 use crate::outbox::Message;
 use coll_kinds::{Refusal, Refused};
+use indexmap::IndexMap;
 use std::alloc::Global;
-use std::collections::HashMap;
 use std::marker::Model;
 
 /// The instances that stand: what their members gave, the slots of the members' active requests, and the messages.
 ///
 /// A member has left an instance where it has given to it and has no slot noted. Every call finds its instance in constant
-/// time on average, however many stand. `room` and `leave` are linear in an instance's members besides; `put`, `ready` and
-/// `take` in the messages of the sender that weren't taken yet.
+/// time on average, however many stand; with the hint that `join` answered it mostly needs no look-up, and no hint changes
+/// an answer. `room` and `leave` are linear in an instance's members besides; `put`, `ready` and `take` in the messages of the
+/// sender that weren't taken yet.
 #[derive(Debug, Drop)]
 pub struct Matches {
     alloc: Global,
-    instances: HashMap<Key, Instance>,
+    instances: IndexMap<Key, Instance>,
 }
 
 impl Model for Matches {
@@ -35,6 +36,9 @@ impl Model for Matches {
 }
 
 impl Matches {
+    ghost use Rattle.std.specs.Borrow.{sem};
+    ghost use Rattle.coll_match.specs.Lends.{LendsInstance};
+
     /// No instance. It takes no memory.
     pub fn new(alloc: Global) -> Matches
         ensures members { members result ≡ (λ _. None) }
@@ -44,7 +48,7 @@ impl Matches {
     {
         Matches {
             alloc,
-            instances: HashMap::new(alloc),
+            instances: IndexMap::new(alloc),
         }
     }
 
@@ -65,8 +69,8 @@ impl Matches {
     }
 
     /// Keeps the bytes that a member gives to an instance, for which room was made. It takes no memory. A member joins
-    /// an instance once.
-    pub fn join(&mut self, key: Key, member: u8, bytes: Vec<u8>)
+    /// an instance once. The answer is a hint for the calls that follow.
+    pub fn join(&mut self, key: Key, member: u8, bytes: Vec<u8>) -> usize
         requires room { member < size self.old key }
         requires new { given self.old key member ≡ None }
         ensures members { members self.new ≡ members self.old }
@@ -74,10 +78,12 @@ impl Matches {
         ensures seats { seats self.new ≡ seats self.old }
         ensures mail { mail self.new ≡ mail self.old }
     {
-        match self.instances.get_mut(&key) {
+        let hint = self.instances.get_index_of(&key).unwrap_or(0);
+        match self.at_mut(key, hint) {
             Some(instance) => instance.join(member, bytes),
             None => unreachable!(),
         }
+        hint
     }
 
     /// What a member gave to an instance, until the instance is dissolved; also after the member has left.
@@ -88,14 +94,14 @@ impl Matches {
     }
 
     /// Notes the slot of the active request of a member that has joined. It takes no memory.
-    pub fn seat(&mut self, key: Key, member: u8, slot: u32)
+    pub fn seat(&mut self, key: Key, hint: usize, member: u8, slot: u32)
         requires { given self.old key member ≢ None }
         ensures members { members self.new ≡ members self.old }
         ensures given { given self.new ≡ given self.old }
         ensures seats { seats self.new ≡ put_key (seats self.old) key (put (seats self.old key) member (Some slot)) }
         ensures mail { mail self.new ≡ mail self.old }
     {
-        match self.instances.get_mut(&key) {
+        match self.at_mut(key, hint) {
             Some(instance) => instance.seat(member, slot),
             None => unreachable!(),
         }
@@ -110,7 +116,7 @@ impl Matches {
 
     /// A member whose slot is noted leaves: the note goes, what it gave stays. Where every member has now given and
     /// left, the answer is true, and the instance goes with all that was given and every message. It takes no memory.
-    pub fn leave(&mut self, key: Key, member: u8) -> bool
+    pub fn leave(&mut self, key: Key, hint: usize, member: u8) -> bool
         requires { seats self.old key member ≢ None }
         ensures last { IsTrue result ↔ IsLast self.old key member }
         ensures members { members self.new ≡ put_key (members self.old) key (if result then None else members self.old key) }
@@ -118,7 +124,7 @@ impl Matches {
         ensures seats { seats self.new ≡ put_key (seats self.old) key (put (seats self.old key) member None) }
         ensures mail { mail self.new ≡ put_key (mail self.old) key (if result then (λ _ _ _. None) else mail self.old key) }
     {
-        let is_last = self.unseat(key, member);
+        let is_last = self.unseat(key, hint, member);
         if is_last {
             self.dissolve(key);
         }
@@ -126,7 +132,7 @@ impl Matches {
     }
 
     /// Takes a member's note away. Answers whether every member has now given and left.
-    fn unseat(&mut self, key: Key, member: u8) -> bool
+    fn unseat(&mut self, key: Key, hint: usize, member: u8) -> bool
         requires { seats self.old key member ≢ None }
         ensures last { IsTrue result ↔ IsLast self.old key member }
         ensures members { members self.new ≡ members self.old }
@@ -134,7 +140,7 @@ impl Matches {
         ensures seats { seats self.new ≡ put_key (seats self.old) key (put (seats self.old key) member None) }
         ensures mail { mail self.new ≡ mail self.old }
     {
-        match self.instances.get_mut(&key) {
+        match self.at_mut(key, hint) {
             Some(instance) => instance.leave(member),
             None => unreachable!(),
         }
@@ -147,7 +153,7 @@ impl Matches {
         ensures seats { seats self.new ≡ put_key (seats self.old) key (λ _. None) }
         ensures mail { mail self.new ≡ put_key (mail self.old) key (λ _ _ _. None) }
     {
-        self.instances.remove(&key);
+        self.instances.swap_remove(&key);
     }
 
     /// Keeps a message of a member that has joined until it is taken, and answers the slot of the receiver's active
@@ -155,6 +161,7 @@ impl Matches {
     pub fn put(
         &mut self,
         key: Key,
+        hint: usize,
         from: u8,
         to: u8,
         round: usize,
@@ -170,30 +177,62 @@ impl Matches {
         ensures refused { IfErr result (λ refused. refused ≡ record { why = Refusal.NoMemory; back = message }) }
         ensures err { OnErr result (self.new ≡ self.old) }
     {
-        match self.instances.get_mut(&key) {
+        match self.at_mut(key, hint) {
             Some(instance) => instance.put(from, Way { to, round }, message),
             None => unreachable!(),
         }
     }
 
     /// A message of that sender to that receiver stands for the round.
-    pub fn ready(&self, key: Key, from: u8, to: u8, round: usize) -> bool
+    pub fn ready(&self, key: Key, hint: usize, from: u8, to: u8, round: usize) -> bool
         ensures { result ≡ is_some (mail self.now key from to round) }
     {
-        match self.instances.get(&key) {
+        match self.at(key, hint) {
             Some(instance) => instance.is_ready(from, Way { to, round }),
             None => false,
         }
     }
 
     /// Takes a message out; none where none stands for that sender, receiver and round.
-    pub fn take(&mut self, key: Key, from: u8, to: u8, round: usize) -> Option<Message>
+    pub fn take(&mut self, key: Key, hint: usize, from: u8, to: u8, round: usize) -> Option<Message>
         ensures taken { option_map (λ message. message.items) result ≡ mail self.old key from to round }
         ensures members { members self.new ≡ members self.old }
         ensures given { given self.new ≡ given self.old }
         ensures seats { seats self.new ≡ seats self.old }
         ensures mail { mail self.new ≡ put_key (mail self.old) key (put_mail (mail self.old key) from to round None) }
     {
-        self.instances.get_mut(&key)?.take(from, Way { to, round })
+        self.at_mut(key, hint)?.take(from, Way { to, round })
+    }
+
+    /// The instance lies where the hint says.
+    fn is_hinted(&self, key: Key, hint: usize) -> bool
+        ensures { result ≡ is_of key (slice_get self.now hint) }
+    {
+        match self.instances.get_index(hint) {
+            Some((there, _)) => *there == key,
+            None => false,
+        }
+    }
+
+    /// What stands of an instance.
+    fn at(&self, key: Key, hint: usize) -> Option<&Instance>
+        ensures { option_copied result ≡ standing self.now key }
+    {
+        match self.instances.get_index(hint) {
+            Some((there, instance)) if *there == key => Some(instance),
+            _ => self.instances.get(&key),
+        }
+    }
+
+    /// What stands of an instance, for writing.
+    fn at_mut(&mut self, key: Key, hint: usize) -> Option<&mut Instance>
+        ensures* writes_back { sem 𝓛 (LendsInstance self.entry key result) }
+        ensures value { option_copied_mut result ≡ standing self.old key }
+    {
+        if self.is_hinted(key, hint) {
+            self.instances.get_index_mut(hint)
+        } else {
+            self.instances.get_mut(&key)
+        }
     }
 }

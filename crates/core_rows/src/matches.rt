@@ -7,6 +7,9 @@ use coll_match::{Key, Matches, Message};
 use std::alloc::Global;
 use std::test::Fail;
 
+/// Where the instance lies that was joined first: right for one, wrong for the other.
+const HINT: usize = 0;
+
 /// A member of three joins, and its request has that slot.
 fn enter(
     matches: &mut Matches,
@@ -21,8 +24,8 @@ fn enter(
     let bytes = Vec::from_slice(alloc, &[byte])?;
     matches.room(key, 3)?;
     if member < 3 && matches.given(key, member).is_none() {
-        matches.join(key, member, bytes);
-        matches.seat(key, member, u32::from(byte));
+        let hint = matches.join(key, member, bytes);
+        matches.seat(key, hint, member, u32::from(byte));
     }
     Ok(())
 }
@@ -41,9 +44,9 @@ fn send(
     ensures { HaveSize matches.new 3 }
 {
     let message = Message::from_slice(alloc, &[byte])?;
-    if matches.given(key, from).is_some() && !matches.ready(key, from, to, round) {
+    if matches.given(key, from).is_some() && !matches.ready(key, HINT, from, to, round) {
         let seated = matches.seated(key, to);
-        match matches.put(key, from, to, round, message) {
+        match matches.put(key, HINT, from, to, round, message) {
             Ok(receiver) if receiver == seated => {}
             Ok(_) => return Err(Refusal::Torn),
             Err(refused) => return Err(refused.why),
@@ -57,7 +60,7 @@ fn leave(matches: &mut Matches, key: Key, member: u8) -> bool
     requires { HaveSize matches.old 3 }
     ensures { HaveSize matches.new 3 }
 {
-    matches.seated(key, member).is_some() && matches.leave(key, member)
+    matches.seated(key, member).is_some() && matches.leave(key, HINT, member)
 }
 
 /// The byte that was taken.
@@ -65,7 +68,7 @@ fn taken(matches: &mut Matches, key: Key, from: u8, to: u8, round: usize) -> Opt
     requires { HaveSize matches.old 3 }
     ensures { HaveSize matches.new 3 }
 {
-    matches.take(key, from, to, round)?.first().copied()
+    matches.take(key, HINT, from, to, round)?.first().copied()
 }
 
 /// The byte that a member gave.
@@ -120,12 +123,12 @@ fn a_message_is_what_was_put(rt: HostRuntime) -> Result<(), Fail> {
     send(&mut matches, alloc, FIRST, 0, 1, 7, 31)?;
     send(&mut matches, alloc, FIRST, 0, 2, 0, 32)?;
     send(&mut matches, alloc, SECOND, 0, 1, 0, 33)?;
-    assert!(rt; matches.ready(FIRST, 0, 1, 7));
-    assert!(rt; !matches.ready(FIRST, 1, 0, 0));
+    assert!(rt; matches.ready(FIRST, HINT, 0, 1, 7));
+    assert!(rt; !matches.ready(FIRST, HINT, 1, 0, 0));
 
     assert_eq!(rt; taken(&mut matches, FIRST, 0, 1, 7), Some(31));
     assert_eq!(rt; taken(&mut matches, FIRST, 0, 1, 7), None);
-    assert!(rt; !matches.ready(FIRST, 0, 1, 7));
+    assert!(rt; !matches.ready(FIRST, HINT, 0, 1, 7));
     assert_eq!(rt; taken(&mut matches, SECOND, 0, 1, 0), Some(33));
     assert_eq!(rt; taken(&mut matches, FIRST, 0, 1, 0), Some(30));
     assert_eq!(rt; taken(&mut matches, FIRST, 0, 2, 0), Some(32));

@@ -293,6 +293,7 @@ impl Core {
             rank,
             comm,
             place,
+            hint: 0,
             plan,
             starts: 1,
             round: 0,
@@ -300,12 +301,13 @@ impl Core {
             buffer: Buffer::new(buffer),
         };
         let key = request.key();
-        self.matches.join(key, member, bytes);
+        let hint = self.matches.join(key, member, bytes);
+        request.hint = hint;
         request.go_over();
         let list = request.list(&self.matches);
         match self.arena.take(request, weight, list) {
             Ok(ticket) => {
-                self.matches.seat(key, member, ticket.slot);
+                self.matches.seat(key, hint, member, ticket.slot);
                 ticket
             }
             Err(_) => unreachable!(),
@@ -327,6 +329,7 @@ impl Core {
             rank,
             comm,
             place,
+            hint: 0,
             plan,
             starts: 0,
             round: 0,

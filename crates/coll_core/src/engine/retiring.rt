@@ -46,9 +46,10 @@ impl Core {
             return Ok(None);
         }
         let key = request.key();
+        let hint = request.hint;
         let member = request.plan.member();
         let bytes = give_up(&mut self.arena, self.alloc, ticket);
-        self.matches.leave(key, member);
+        self.matches.leave(key, hint, member);
         Ok(Some(Outcome {
             rank,
             comm: key.comm,

@@ -179,8 +179,8 @@ fn begin(
     let key = request.key();
     let member = request.plan.member();
     let weight = request.plan.sig().lent(request.plan.n(), member) as u32;
-    matches.join(key, member, bytes);
-    matches.seat(key, member, ticket.slot);
+    request.hint = matches.join(key, member, bytes);
+    matches.seat(key, request.hint, member, ticket.slot);
     let list = request.list(matches);
     let Ok(()) = arena.reweigh(ticket, weight) else {
         unreachable!()

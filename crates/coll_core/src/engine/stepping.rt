@@ -134,9 +134,10 @@ impl Core {
         };
         let message = Message::from_slice(self.alloc, from.read(request.buffer.bytes()))?;
         let key = request.key();
+        let hint = request.hint;
         let member = request.plan.member();
         let round = request.round;
-        let seat = match self.matches.put(key, member, to, round, message) {
+        let seat = match self.matches.put(key, hint, member, to, round, message) {
             Ok(seat) => seat,
             Err(refused) => return Err(refused.why),
         };
@@ -159,8 +160,9 @@ impl Core {
         let Ok(request) = self.arena.get_mut(ticket) else {
             unreachable!()
         };
-        let (key, member, round) = (request.key(), request.plan.member(), request.round);
-        let Some(message) = self.matches.take(key, of, member, round) else {
+        let (key, hint, round) = (request.key(), request.hint, request.round);
+        let member = request.plan.member();
+        let Some(message) = self.matches.take(key, hint, of, member, round) else {
             unreachable!()
         };
         request.buffer.write(self.alloc, into, &message);

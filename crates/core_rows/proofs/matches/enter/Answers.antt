@@ -6,13 +6,13 @@ use Rattle.core_rows.proofs.matches.enter.Goals as goal
 pub returns-else-member-lt3 : goal.returns-else-member-lt3
 returns-else-member-lt3 c = size_put _ _ 3 c.args.key _ c.in_ok-room.ensures.members (c.requires c.args.key) c.requires
 
-pub join-requires-clause-room : goal.join-requires-clause-room
-join-requires-clause-room c = omega (arith, c.if-member-lt3.true, size_roomed _ _ 3 c.args.key c.in_ok-room.ensures.members c.requires)
+pub join-hint-requires-clause-room : goal.join-hint-requires-clause-room
+join-hint-requires-clause-room c = omega (arith, c.if-member-lt3.true, size_roomed _ _ 3 c.args.key c.in_ok-room.ensures.members c.requires)
 
 pub seat-requires : goal.seat-requires
-seat-requires c = joined_gave _ _ c.args.key c.args.member _ c.join.ensures.given
+seat-requires c = joined_gave _ _ c.args.key c.args.member _ c.join-hint.ensures.given
 
 pub returns-then-is_none : goal.returns-then-is_none
 returns-then-is_none c =
     let roomed : HaveSize c.room.new.self 3 = size_put _ _ 3 c.args.key _ c.in_ok-room.ensures.members (c.requires c.args.key) c.requires in
-    size_kept _ _ 3 c.seat.ensures.members (size_kept _ _ 3 c.join.ensures.members roomed)
+    size_kept _ _ 3 c.seat.ensures.members (size_kept _ _ 3 c.join-hint.ensures.members roomed)

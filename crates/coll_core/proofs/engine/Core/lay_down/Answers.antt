@@ -37,7 +37,7 @@ invariant_of-self c =
     let p : Parts = record { ranks = c.self.inside.ranks; starts = c.self.inside.starts; trace = c.self.inside.trace; arena = c.self.inside.arena; queues = c.self.inside.queues; matches = c.self.inside.matches } in
     let plan = planned c.args.plan in
     let accepted : refused_in p (Init c.args.rank c.args.comm plan) ≡ None = accepted_from p c.args.self.now (Init c.args.rank c.args.comm plan) c.self.view_is c.requires.accepted in
-    let y : Request = record { rank = c.args.rank; comm = c.args.comm; place = c.offer-place.result; plan = c.args.plan; starts = 0; round = 0; index = 0; buffer = c.new-2.result } in
+    let y : Request = record { rank = c.args.rank; comm = c.args.comm; place = c.offer-place.result; hint = 0; plan = c.args.plan; starts = 0; round = 0; index = 0; buffer = c.new-2.result } in
     let h : Initialises shown (setting p) (seen p).state p.arena c.take.new.self p.queues c.offer-place.new.self c.in-Ok.ticket c.args.rank c.args.comm plan y = record {
       accepted = accepted;
       free = record { first = c.in-Ok.ensures.slot; next = c.in-Ok.ensures.generation };
@@ -52,7 +52,7 @@ returns-clause-made c =
     let p : Parts = record { ranks = c.self.inside.ranks; starts = c.self.inside.starts; trace = c.self.inside.trace; arena = c.self.inside.arena; queues = c.self.inside.queues; matches = c.self.inside.matches } in
     let plan = planned c.args.plan in
     let accepted : refused_in p (Init c.args.rank c.args.comm plan) ≡ None = accepted_from p c.args.self.now (Init c.args.rank c.args.comm plan) c.self.view_is c.requires.accepted in
-    let y : Request = record { rank = c.args.rank; comm = c.args.comm; place = c.offer-place.result; plan = c.args.plan; starts = 0; round = 0; index = 0; buffer = c.new-2.result } in
+    let y : Request = record { rank = c.args.rank; comm = c.args.comm; place = c.offer-place.result; hint = 0; plan = c.args.plan; starts = 0; round = 0; index = 0; buffer = c.new-2.result } in
     let h : Initialises shown (setting p) (seen p).state p.arena c.take.new.self p.queues c.offer-place.new.self c.in-Ok.ticket c.args.rank c.args.comm plan y = record {
       accepted = accepted;
       free = record { first = c.in-Ok.ensures.slot; next = c.in-Ok.ensures.generation };

@@ -1,4 +1,4 @@
-use Rattle.std.proofs.Common.{◌≡◌, ◌∙◌, ◌<◌, length, ap, refl, sym, Some, None}
+use Rattle.std.proofs.Common.{◌∙◌, ◌<◌, length, ap, refl, Some}
 use Rattle.coll_match.specs.declared.instance.Share.{Share}
 use Rattle.coll_match.specs.Held.{gift_of, given_in, mail_in, put_mail, seat_in, slot_of}
 use Rattle.coll_match.proofs.Shares.{low_share, mail_sent, parts_kept}

@@ -4,13 +4,13 @@ use Rattle.coll_match.proofs.Standing.{lifted}
 use Rattle.coll_match.proofs.matches.Matches.dissolve.Goals as goal
 
 pub returns-clause-members : goal.returns-clause-members
-returns-clause-members c = lifted _ _ _ c.self.view_is c.args.key None c.remove.ensures.updates.0 members_of
+returns-clause-members c = lifted _ _ _ c.self.view_is c.args.key None c.swap_remove.ensures.updates.0 members_of
 
 pub returns-clause-given : goal.returns-clause-given
-returns-clause-given c = lifted _ _ _ c.self.view_is c.args.key None c.remove.ensures.updates.0 given_of
+returns-clause-given c = lifted _ _ _ c.self.view_is c.args.key None c.swap_remove.ensures.updates.0 given_of
 
 pub returns-clause-seats : goal.returns-clause-seats
-returns-clause-seats c = lifted _ _ _ c.self.view_is c.args.key None c.remove.ensures.updates.0 seats_of
+returns-clause-seats c = lifted _ _ _ c.self.view_is c.args.key None c.swap_remove.ensures.updates.0 seats_of
 
 pub returns-clause-mail : goal.returns-clause-mail
-returns-clause-mail c = lifted _ _ _ c.self.view_is c.args.key None c.remove.ensures.updates.0 mail_of
+returns-clause-mail c = lifted _ _ _ c.self.view_is c.args.key None c.swap_remove.ensures.updates.0 mail_of

@@ -1,23 +1,23 @@
-use Rattle.std.proofs.Common.{ap, sym}
+use Rattle.std.proofs.Common.{ap, refl, sym}
 use Rattle.std.specs.Prelude.{is_some}
 use Rattle.coll_match.proofs.Standing.{gave, given_kept, mail_kept, members_kept, seats_put}
 use Rattle.coll_match.proofs.matches.Matches.seat.Goals as goal
 
 pub seat-requires : goal.seat-requires
-seat-requires c = gave _ _ c.self.view_is c.args.key c.in-Some.instance.now c.in-Some.ensures.value c.args.member c.requires
+seat-requires c = gave c.args.self.now c.args.self.now refl c.args.key c.in-Some.instance.now c.in-Some.ensures.value c.args.member c.requires
 
 pub returns-clause-members : goal.returns-clause-members
 returns-clause-members c =
-    members_kept _ _ _ c.self.view_is c.args.key c.in-Some.instance.now c.seat.new.self c.in-Some.ensures.value ((c.get_mut.follows.holds c.seat.new.self).3 (ap is_some (sym c.in-Some.ensures.value))).0 c.seat.ensures.members
+    members_kept c.args.self.now _ c.args.self.now refl c.args.key c.in-Some.instance.now c.seat.new.self c.in-Some.ensures.value ((c.at_mut.follows.holds c.seat.new.self).1 (ap is_some (sym c.in-Some.ensures.value))) c.seat.ensures.members
 
 pub returns-clause-given : goal.returns-clause-given
 returns-clause-given c =
-    given_kept _ _ _ c.self.view_is c.args.key c.in-Some.instance.now c.seat.new.self c.in-Some.ensures.value ((c.get_mut.follows.holds c.seat.new.self).3 (ap is_some (sym c.in-Some.ensures.value))).0 c.seat.ensures.given
+    given_kept c.args.self.now _ c.args.self.now refl c.args.key c.in-Some.instance.now c.seat.new.self c.in-Some.ensures.value ((c.at_mut.follows.holds c.seat.new.self).1 (ap is_some (sym c.in-Some.ensures.value))) c.seat.ensures.given
 
 pub returns-clause-seats : goal.returns-clause-seats
 returns-clause-seats c =
-    seats_put _ _ _ c.self.view_is c.args.key c.in-Some.instance.now c.seat.new.self c.in-Some.ensures.value ((c.get_mut.follows.holds c.seat.new.self).3 (ap is_some (sym c.in-Some.ensures.value))).0 c.args.member _ c.seat.ensures.seats
+    seats_put c.args.self.now _ c.args.self.now refl c.args.key c.in-Some.instance.now c.seat.new.self c.in-Some.ensures.value ((c.at_mut.follows.holds c.seat.new.self).1 (ap is_some (sym c.in-Some.ensures.value))) c.args.member _ c.seat.ensures.seats
 
 pub returns-clause-mail : goal.returns-clause-mail
 returns-clause-mail c =
-    mail_kept _ _ _ c.self.view_is c.args.key c.in-Some.instance.now c.seat.new.self c.in-Some.ensures.value ((c.get_mut.follows.holds c.seat.new.self).3 (ap is_some (sym c.in-Some.ensures.value))).0 c.seat.ensures.mail
+    mail_kept c.args.self.now _ c.args.self.now refl c.args.key c.in-Some.instance.now c.seat.new.self c.in-Some.ensures.value ((c.at_mut.follows.holds c.seat.new.self).1 (ap is_some (sym c.in-Some.ensures.value))) c.seat.ensures.mail

@@ -1,4 +1,4 @@
-use Rattle.std.proofs.Common.{◌≡◌, ◌∙◌, ap, subst, sym, position, ℕ, List, Option, Some, None, option_map}
+use Rattle.std.proofs.Common.{◌≡◌, ◌∙◌, ap, subst, sym, position, List, Option, Some, None, option_map}
 use Rattle.std.specs.Map.{lookup}
 use Rattle.coll_match.specs.declared.outbox.Letter.{Letter}
 use Rattle.coll_match.specs.Held.{put_sent, same_way, sent_in}
