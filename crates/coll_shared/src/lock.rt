@@ -10,8 +10,8 @@ const TURNS: u32 = 1_000;
 
 const PAUSES: u32 = 4;
 
-/// A lock that is taken in one way alone, by who may wait: so a function without `Wait`, as the one that plans, holds none
-/// while it works.
+/// A lock that only who may wait can take, even if it doesn't wait: so a function without `Wait`, as the one that plans,
+/// holds none while it works.
 #[derive(Drop)]
 pub(crate) struct Lock<T> {
     mutex: Mutex<T>,
@@ -32,7 +32,7 @@ impl<T> Lock<T> {
     }
 
     /// Takes the lock, unless a thread has it.
-    pub(crate) fn try_enter(&self) -> Option<MutexGuard<'_, T>> {
+    pub(crate) fn try_enter<R: Wait>(&self, _rt: &R) -> Option<MutexGuard<'_, T>> {
         self.mutex.try_lock()
     }
 

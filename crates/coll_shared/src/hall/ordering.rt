@@ -34,11 +34,11 @@ const SELDOM: u32 = 16;
 
 impl<L: Entries> Hall<L> {
     /// Takes the lock, unless a thread has it, or will have it again soon.
-    pub(crate) fn try_enter(&self) -> Option<MutexGuard<'_, Shared<L>>> {
+    pub(crate) fn try_enter<R: Wait>(&self, rt: &R) -> Option<MutexGuard<'_, Shared<L>>> {
         if self.doors.is_awaited() {
             return None;
         }
-        self.shared.try_enter()
+        self.shared.try_enter(rt)
     }
 
     /// Does what ports asked for on their shelves while the lock was taken.
@@ -78,7 +78,7 @@ impl<L: Entries> Hall<L> {
                 return None;
             }
             if look % SELDOM == SELDOM - 1 {
-                if let Some(shared) = self.try_enter() {
+                if let Some(shared) = self.try_enter(rt) {
                     return Some(shared);
                 }
             }
@@ -167,7 +167,7 @@ impl<L: Entries> Hall<L> {
         if let Some(answer) = self.shelves.collect(rt, mine, rank, request) {
             return Err(answer);
         }
-        if let Some(shared) = self.try_enter() {
+        if let Some(shared) = self.try_enter(rt) {
             return Ok(shared);
         }
         let Some(ticket) = request.ticket() else {

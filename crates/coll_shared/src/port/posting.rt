@@ -42,7 +42,7 @@ impl<L: Entries> Port<L> {
     {
         let kept = Kept::of(self.alloc, &offer);
         let hall: &Hall<L> = &*self.hall;
-        let mut shared = match hall.try_enter() {
+        let mut shared = match hall.try_enter(rt) {
             Some(shared) => shared,
             None => {
                 let ordered = hall.post_by_order(
@@ -122,7 +122,7 @@ impl<L: Entries> Port<L> {
             });
         };
         let hall: &Hall<L> = &*self.hall;
-        let mut shared = match hall.try_enter() {
+        let mut shared = match hall.try_enter(rt) {
             Some(shared) => shared,
             None => {
                 let ordered = hall.start_by_order(
