@@ -23,6 +23,7 @@ use crate::about::About;
 use crate::config::Config;
 use crate::phase::Phase;
 use crate::request::Request;
+use crate::spares::Spares;
 use coll_arena::laws::is_sound;
 use coll_arena::{Arena, ListName, Ticket};
 use coll_kinds::Refusal;
@@ -32,7 +33,7 @@ use coll_tables::laws;
 use std::alloc::Global;
 use std::marker::Model;
 
-/// The engine's core: live requests on their lists, the posting lists, and what members gave and sent.
+/// The engine's core: live requests on their lists, the posting lists, what members gave and sent, and memory that serves again.
 #[derive(Drop)]
 pub struct Core {
     alloc: Global,
@@ -42,6 +43,7 @@ pub struct Core {
     arena: Arena<Request>,
     queues: Queues,
     matches: Matches,
+    spares: Spares,
 }
 
 impl Model for Core {
@@ -69,6 +71,7 @@ impl Core {
         let comms = config.groups.len() as u32;
         let arena = Arena::open(alloc, config.slots, comms, config.wear)?;
         let queues = Queues::open(alloc, config.groups, config.places)?;
+        let spares = Spares::open(alloc)?;
         laws::open_core(&arena);
         Ok(Core {
             alloc,
@@ -78,6 +81,7 @@ impl Core {
             arena,
             queues,
             matches: Matches::new(alloc),
+            spares,
         })
     }
 

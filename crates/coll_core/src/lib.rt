@@ -11,6 +11,7 @@
 //! | `request` | `Request`, what the engine keeps of a live request |
 //! | `sent` | `Sent`, the way of a message |
 //! | `operands` | `Operands`, the rows that a combination reads |
+//! | `spares` | `Spares`, long rows whose memory serves again |
 //! | `work` | `Work` and `DoneWork`, a combination that is computed outside the engine |
 //! | `stepped` | `Stepped`, what a step did |
 //! | `engine` | `Core`, with its calls by what they do |
@@ -28,6 +29,7 @@ mod outcome;
 mod phase;
 mod request;
 mod sent;
+mod spares;
 mod stepped;
 mod work;
 

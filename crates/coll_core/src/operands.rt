@@ -3,6 +3,7 @@ ghost use Rattle.std.specs.Arc.{arc_value};
 ghost use Rattle.coll_sched.specs.Regions.{Inside, read_of};
 
 use crate::buffer::Buffer;
+use crate::spares::Spares;
 use coll_kinds::Refusal;
 use coll_sched::Region;
 use smallvec::SmallVec;
@@ -14,7 +15,7 @@ use std::sync::Arc;
 pub(crate) type Row = SmallVec<u8, 16>;
 
 /// Rows of up to so many bytes are copied: to borrow them costs more.
-const SHORT: u32 = 1_024;
+pub(crate) const SHORT: u32 = 1_024;
 
 /// Copies of two rows.
 #[derive(Debug, Drop)]
@@ -29,6 +30,8 @@ struct Borrowing {
     bytes: Arc<Vec<u8>>,
     left: Region,
     right: Region,
+    /// Memory for a row.
+    spare: Option<Row>,
     ghost left_inside: { Inside (length (arc_value bytes).items) left },
     ghost right_inside: { Inside (length (arc_value bytes).items) right },
 }
@@ -58,6 +61,7 @@ impl Operands {
     pub(crate) fn of(
         buffer: &mut Buffer,
         alloc: Global,
+        spares: &mut Spares,
         left: Region,
         right: Region,
     ) -> Result<Operands, Refusal>
@@ -69,7 +73,12 @@ impl Operands {
     {
         let source = if left.len > SHORT {
             let bytes = buffer.borrow(alloc)?;
-            Source::Borrowed(Borrowing { bytes, left, right })
+            Source::Borrowed(Borrowing {
+                bytes,
+                left,
+                right,
+                spare: spares.find(),
+            })
         } else {
             let bytes = buffer.bytes();
             let left = Row::from_slice(alloc, left.read(bytes))?;
@@ -77,6 +86,16 @@ impl Operands {
             Source::Copied(Copies { left, right })
         };
         Ok(Operands { source })
+    }
+
+    /// Memory for a row, where these are long.
+    pub(crate) fn take_spare(&mut self) -> Option<Row>
+        ensures { self.new ≡ self.old }
+    {
+        match &mut self.source {
+            Source::Copied(_) => None,
+            Source::Borrowed(rows) => rows.spare.take(),
+        }
     }
 
     /// The first row.

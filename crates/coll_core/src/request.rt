@@ -11,12 +11,14 @@ ghost use Rattle.coll_core.specs.Goings.{IsSent};
 ghost use Rattle.coll_core.specs.Works.{Combined, StandsAt};
 
 use crate::buffer::Buffer;
-use crate::operands::Operands;
+use crate::operands::{Operands, Row};
 use crate::sent::Sent;
+use crate::spares::Spares;
 use crate::work::{DoneWork, Work};
 use coll_arena::{ListName, Ticket};
 use coll_kinds::Refusal;
 use coll_match::{Key, Matches};
+use coll_ops::are_same;
 use coll_plans::Plan;
 use coll_sched::{Action, Region};
 use std::alloc::Global;
@@ -138,7 +140,12 @@ impl Request {
     }
 
     /// The combination that comes next, with its operands. Only NoMemory is refused.
-    pub(crate) fn work(&mut self, alloc: Global, ticket: Ticket) -> Result<Work, Refusal>
+    pub(crate) fn work(
+        &mut self,
+        alloc: Global,
+        spares: &mut Spares,
+        ticket: Ticket,
+    ) -> Result<Work, Refusal>
         requires combine { IfSome (next_of (shown self.old)) IsCombine }
         requires some { next_of (shown self.old) ≢ None }
         requires sized { length self.old.buffer ≡ (schedule (shown self.old)).size }
@@ -159,7 +166,7 @@ impl Request {
         else {
             unreachable!()
         };
-        let operands = Operands::of(&mut self.buffer, alloc, left, right)?;
+        let operands = Operands::of(&mut self.buffer, alloc, spares, left, right)?;
         Ok(Work::new(alloc, ticket, self.round, self.index, op, ty, operands))
     }
 
@@ -186,12 +193,12 @@ impl Request {
         if op != work.op() || ty != work.ty() {
             return false;
         }
-        left.read(self.buffer.bytes()) == work.left()
-            && right.read(self.buffer.bytes()) == work.right()
+        are_same(left.read(self.buffer.bytes()), work.left())
+            && are_same(right.read(self.buffer.bytes()), work.right())
     }
 
-    /// Writes the result of the combination that comes next.
-    pub(crate) fn write(&mut self, alloc: Global, done: DoneWork)
+    /// Writes the result of the combination that comes next, and hands it back.
+    pub(crate) fn write(&mut self, alloc: Global, done: DoneWork) -> Row
         requires stands { StandsAt (shown self.old) done.piece }
         requires sized { length self.old.buffer ≡ (schedule (shown self.old)).size }
         ensures { Combined (shown self.old) (shown self.new) done.bytes }
@@ -199,7 +206,9 @@ impl Request {
         let Some(Action::Combine { into, .. }) = self.next() else {
             unreachable!()
         };
-        self.buffer.write(alloc, into, &done.into_result());
+        let row = done.into_result();
+        self.buffer.write(alloc, into, &row);
+        row
     }
 
     /// Takes the buffer out, cut to the outcome, and goes back to the first round.

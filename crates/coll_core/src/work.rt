@@ -1,9 +1,9 @@
-ghost use Rattle.std.specs.Prelude.{◌≡◌, IfOk, IfErr};
+ghost use Rattle.std.specs.Prelude.{◌≡◌, length, IfOk, IfErr};
 ghost use Rattle.coll_core.specs.Works.{IsPiece, result_of};
 
 use crate::operands::{Operands, Row};
 use coll_kinds::{Datatype, Op, Refusal, Refused, Ticket};
-use coll_ops::combine_into;
+use coll_ops::{combine, combine_into};
 use std::alloc::Global;
 use std::marker::Model;
 
@@ -125,6 +125,34 @@ impl Work {
         ensures made { IfOk result (λ done. done.piece ≡ self) }
         ensures refused { IfErr result (λ refused. refused ≡ record { why = Refusal.NoMemory; back = self }) }
     {
+        let mut work = self;
+        match work.operands.take_spare() {
+            Some(row) => {
+                if row.len() == work.left().len() {
+                    Ok(work.run_in(row))
+                } else {
+                    work.run_anew()
+                }
+            }
+            None => work.run_anew(),
+        }
+    }
+
+    /// Computes the combination in a row of as many bytes.
+    fn run_in(self, row: Row) -> DoneWork
+        requires { length row.items ≡ length self.left }
+        ensures { result.piece ≡ self }
+    {
+        let mut result = row;
+        combine(self.op, self.ty, self.left(), self.right(), &mut result);
+        DoneWork { work: self, result }
+    }
+
+    /// Computes the combination in a row of its own.
+    fn run_anew(self) -> Result<DoneWork, Refused<Work>>
+        ensures made { IfOk result (λ done. done.piece ≡ self) }
+        ensures refused { IfErr result (λ refused. refused ≡ record { why = Refusal.NoMemory; back = self }) }
+    {
         match Row::from_slice(self.alloc, self.operands.left()) {
             Ok(mut result) => {
                 combine_into(self.op, self.ty, &mut result, self.operands.right());
@@ -153,6 +181,7 @@ impl DoneWork {
     {
         &self.result
     }
+
     /// The result, while the operands go.
     pub(crate) fn into_result(self) -> Row
         ensures is { result.items ≡ self.bytes }

@@ -1,28 +1,30 @@
 -- The instances that stand, as a map's entries, and a change of one of them.
 use Rattle.std.proofs.Common.{◌≡◌, ◌≢◌, ℕ, ◌<◌, ◌≤◌, Bool, true, false, cond, ◌&&◌, eqb, List, [], ◌∷◌, length, Result, Ok, Err, refl, sym, ap, subst, ◌∙◌, Option, Some, None, inl, inr, arith}
 use Rattle.std.specs.Prelude.{◌==◌, is_some, unwrap_or, IfOk, OnOk, OnErr}
+use Rattle.std.specs.Cmp.{IsEquivalence}
 use Rattle.std.specs.Map.{lookup, set_value}
 use Rattle.std.proofs.lemmas.Bool.{cases_Bool, cases_lt, and_parts, and_from, eqb-true, eq-eqb}
+use Rattle.std.proofs.lemmas.Map.{lookup-set_value}
 use Rattle.std.proofs.lemmas.Option.{same_Some, slice_get_past}
 use Rattle.coll_kinds.specs.Puts.{put}
 use Rattle.coll_kinds.proofs.Puts.{put_cases}
 use Rattle.coll_match.specs.declared.key.Key.{Key}
 use Rattle.coll_match.specs.Held.{Held, IsOver, gift_of, slot_of, given_in, mail_in, seat_in, put_mail}
 use Rattle.coll_match.specs.Instances.{IsLast, given, given_of, mail, mail_of, members, members_of, put_key, same_key, seats, seats_of, size, standing}
-use Rattle.coll_match.specs.Lends.{Alters}
 use Rattle.coll_match.proofs.Puts.{cond_map, eqb_sym, updated}
-
-pub turned : (a b : Key) → same_key a b ≡ same_key b a
-turned a b = λ z. eqb_sym a.comm b.comm z && (eqb_sym a.place b.place z && eqb_sym a.start b.start z)
-
-changed : (t u : List (Key × Held)) (k : Key) (x : Option Held) → Alters t u k x → standing u ≡ put_key (standing t) k x
-changed t u k x change = λ z q. updated same_key turned t u k x change q z
 
 pub same_at : (a k : Key) → same_key a k ≡ true → a ≡ k
 same_at a k e =
     let one = and_parts (eqb a.comm k.comm) _ e in
     let two = and_parts (eqb a.place k.place) (eqb a.start k.start) one.1 in
     λ z. record { comm = eqb-true a.comm k.comm one.0 z; place = eqb-true a.place k.place two.0 z; start = eqb-true a.start k.start two.1 z }
+
+pub same_keys : IsEquivalence same_key
+same_keys = record {
+  refl = λ a. and_from _ _ (eq-eqb a.comm a.comm refl) (and_from _ _ (eq-eqb a.place a.place refl) (eq-eqb a.start a.start refl));
+  symm = λ a b z. eqb_sym a.comm b.comm z && (eqb_sym a.place b.place z && eqb_sym a.start b.start z);
+  congr = λ a b c e z. same_key (same_at a b e z) c;
+}
 
 pub put_key_own : {X : Type 0} (f : Key → X) (k : Key) (x : X) → x ≡ f k → put_key f k x ≡ f
 put_key_own {X} f k x e = λ z a. at a z
@@ -34,7 +36,7 @@ put_key_own {X} f k x e = λ z a. at a z
     ]
 
 pub put_key_at : {X : Type 0} (f : Key → X) (k : Key) (x : X) → put_key f k x k ≡ x
-put_key_at f k x = ap (λ b. cond b x (f k)) (and_from _ _ (eq-eqb k.comm k.comm refl) (and_from _ _ (eq-eqb k.place k.place refl) (eq-eqb k.start k.start refl)))
+put_key_at f k x = ap (λ b. cond b x (f k)) (same_keys.refl k)
 
 pub put_key_twice : {X : Type 0} (f : Key → X) (k : Key) (x y : X) → put_key (put_key f k x) k y ≡ put_key f k y
 put_key_twice {X} f k x y = λ z a. go (same_key a k) (f a) z
@@ -44,6 +46,13 @@ put_key_twice {X} f k x y = λ z a. go (same_key a k) (f a) z
     go false w = refl
 
 -- ---- a change of what stands of one instance, by what each look-up shows
+
+-- u stands as t, with x, or nothing, at one key
+abbrev pub Alters : List (Key × Held) → List (Key × Held) → Key → Option Held → Type 0
+Alters t u k x = (q : Key) → standing u q ≡ cond (same_key k q) x (standing t q)
+
+changed : (t u : List (Key × Held)) (k : Key) (x : Option Held) → Alters t u k x → standing u ≡ put_key (standing t) k x
+changed t u k x change = λ z q. updated same_key same_keys.symm t u k x change q z
 
 module _ (t u v : List (Key × Held)) (e : t ≡ v) (k : Key) (x : Option Held) (alters : Alters t u k x) where
   to : standing u ≡ put_key (standing v) k x
@@ -56,49 +65,53 @@ module _ (t u v : List (Key × Held)) (e : t ≡ v) (k : Key) (x : Option Held) 
   kept g same = lifted g ∙ put_key_own (λ a. g (standing v a)) k (g x) same
 
 -- of one that stands, h, to w
-module _ (t u v : List (Key × Held)) (e : t ≡ v) (k : Key) (h w : Held) (was : Some h ≡ standing t k) (alters : Alters t u k (Some w)) where
-  stood : standing v k ≡ Some h
-  stood = ap (λ t. standing t k) (sym e) ∙ sym was
+module _ (t : List (Key × Held)) (k : Key) (h w : Held) (was : Some h ≡ standing t k) where
+  -- what stands then
+  abbrev written : List (Key × Held)
+  written = set_value (same_key k) t w
 
-  pub members_kept : length w.shares ≡ length h.shares → members u ≡ members v
-  members_kept same = kept t u v e k (Some w) alters members_of (ap Some same ∙ ap members_of (sym stood))
+  Alters-written : Alters t written k (Some w)
+  Alters-written q = lookup-set_value same_keys (same_key k) (same_keys.congr k) q w t (ap is_some (sym was))
 
-  pub given_kept : given_in w ≡ given_in h → given u ≡ given v
-  given_kept same = kept t u v e k (Some w) alters given_of (same ∙ ap given_of (sym stood))
+  pub members_kept : length w.shares ≡ length h.shares → members written ≡ members t
+  members_kept same = kept t written t refl k (Some w) Alters-written members_of (ap Some same ∙ ap members_of was)
 
-  pub given_put : (member : ℕ) (x : Option (List ℕ)) → given_in w ≡ put (given_in h) member x → given u ≡ put_key (given v) k (put (given v k) member x)
-  given_put member x is = lifted t u v e k (Some w) alters given_of ∙ ap (put_key (given v) k) (is ∙ (λ z. put (given_of (sym stood z)) member x))
+  pub given_kept : given_in w ≡ given_in h → given written ≡ given t
+  given_kept same = kept t written t refl k (Some w) Alters-written given_of (same ∙ ap given_of was)
 
-  pub seats_kept : seat_in w ≡ seat_in h → seats u ≡ seats v
-  seats_kept same = kept t u v e k (Some w) alters seats_of (same ∙ ap seats_of (sym stood))
+  pub given_put : (member : ℕ) (x : Option (List ℕ)) → given_in w ≡ put (given_in h) member x → given written ≡ put_key (given t) k (put (given t k) member x)
+  given_put member x is = lifted t written t refl k (Some w) Alters-written given_of ∙ ap (put_key (given t) k) (is ∙ (λ z. put (given_of (was z)) member x))
 
-  pub seats_put : (member : ℕ) (x : Option ℕ) → seat_in w ≡ put (seat_in h) member x → seats u ≡ put_key (seats v) k (put (seats v k) member x)
-  seats_put member x is = lifted t u v e k (Some w) alters seats_of ∙ ap (put_key (seats v) k) (is ∙ (λ z. put (seats_of (sym stood z)) member x))
+  pub seats_kept : seat_in w ≡ seat_in h → seats written ≡ seats t
+  seats_kept same = kept t written t refl k (Some w) Alters-written seats_of (same ∙ ap seats_of was)
 
-  pub mail_kept : mail_in w ≡ mail_in h → mail u ≡ mail v
-  mail_kept same = kept t u v e k (Some w) alters mail_of (same ∙ ap mail_of (sym stood))
+  pub seats_put : (member : ℕ) (x : Option ℕ) → seat_in w ≡ put (seat_in h) member x → seats written ≡ put_key (seats t) k (put (seats t k) member x)
+  seats_put member x is = lifted t written t refl k (Some w) Alters-written seats_of ∙ ap (put_key (seats t) k) (is ∙ (λ z. put (seats_of (was z)) member x))
 
-  pub mail_put : (from to round : ℕ) (x : Option (List ℕ)) → mail_in w ≡ put_mail (mail_in h) from to round x → mail u ≡ put_key (mail v) k (put_mail (mail v k) from to round x)
-  mail_put from to round x is = lifted t u v e k (Some w) alters mail_of ∙ ap (put_key (mail v) k) (is ∙ (λ z. put_mail (mail_of (sym stood z)) from to round x))
+  pub mail_kept : mail_in w ≡ mail_in h → mail written ≡ mail t
+  mail_kept same = kept t written t refl k (Some w) Alters-written mail_of (same ∙ ap mail_of was)
+
+  pub mail_put : (from to round : ℕ) (x : Option (List ℕ)) → mail_in w ≡ put_mail (mail_in h) from to round x → mail written ≡ put_key (mail t) k (put_mail (mail t k) from to round x)
+  mail_put from to round x is = lifted t written t refl k (Some w) Alters-written mail_of ∙ ap (put_key (mail t) k) (is ∙ (λ z. put_mail (mail_of (was z)) from to round x))
 
   -- it was over with this member's leaving
   pub last : (member : ℕ) (b : Bool) → length w.shares ≡ length h.shares → given_in w ≡ given_in h → seat_in w ≡ put (seat_in h) member None → (b ≡ true → IsOver w) × (IsOver w → b ≡ true)
-      → (b ≡ true → IsLast v k member) × (IsLast v k member → b ≡ true)
+      → (b ≡ true → IsLast t k member) × (IsLast t k member → b ≡ true)
   last member b len gave sat over = ((λ is m low. there m (over.0 is m (omega (arith, low, len, size_is)))), (λ is. over.1 (λ m low. back m (is m (omega (arith, low, len, size_is))))))
     where
-      size_is : size v k ≡ length h.shares
-      size_is = ap (λ o. unwrap_or (members_of o) 0) stood
+      size_is : size t k ≡ length h.shares
+      size_is = ap (λ o. unwrap_or (members_of o) 0) (sym was)
 
-      gave_is : (m : ℕ) → given v k m ≡ given_in w m
-      gave_is m = ap (λ o. given_of o m) stood ∙ ap (λ f. f m) (sym gave)
+      gave_is : (m : ℕ) → given t k m ≡ given_in w m
+      gave_is m = ap (λ o. given_of o m) (sym was) ∙ ap (λ f. f m) (sym gave)
 
-      sat_is : (m : ℕ) → put (seats v k) member None m ≡ seat_in w m
-      sat_is m = ap (λ o. put (seats_of o) member None m) stood ∙ ap (λ f. f m) (sym sat)
+      sat_is : (m : ℕ) → put (seats t k) member None m ≡ seat_in w m
+      sat_is m = ap (λ o. put (seats_of o) member None m) (sym was) ∙ ap (λ f. f m) (sym sat)
 
-      there : (m : ℕ) → (given_in w m ≢ None) × (seat_in w m ≡ None) → (given v k m ≢ None) × (put (seats v k) member None m ≡ None)
+      there : (m : ℕ) → (given_in w m ≢ None) × (seat_in w m ≡ None) → (given t k m ≢ None) × (put (seats t k) member None m ≡ None)
       there m h = (λ none. h.0 (sym (gave_is m) ∙ none), sat_is m ∙ h.1)
 
-      back : (m : ℕ) → (given v k m ≢ None) × (put (seats v k) member None m ≡ None) → (given_in w m ≢ None) × (seat_in w m ≡ None)
+      back : (m : ℕ) → (given t k m ≢ None) × (put (seats t k) member None m ≡ None) → (given_in w m ≢ None) × (seat_in w m ≡ None)
       back m h = (λ none. h.0 (gave_is m ∙ none), sym (sat_is m) ∙ h.1)
 
 -- ---- a member that has something is one

@@ -1,9 +1,9 @@
-//! Two rows of elements, combined place by place (MPI 4.1, 6.9.1).
+//! Two rows of elements, combined place by place (MPI 4.1, 6.9.1), or compared.
 //!
 //! The operation and the type are matched once, outside the loop: each arm names them anew, so that the loop, which is
 //! inlined there, is compiled for that operation and that width alone, as vector code.
 
-ghost use Rattle.std.specs.Prelude.{◌≡◌, ◌%◌, length, IsTrue};
+ghost use Rattle.std.specs.Prelude.{◌≡◌, ◌↔◌, ◌%◌, length, IsTrue};
 ghost use Rattle.coll_kinds.specs.Elements.{width};
 ghost use Rattle.coll_kinds.specs.Checks.{allowed};
 ghost use Rattle.coll_ops.specs.Combinations.{combined};
@@ -45,6 +45,20 @@ macro_rules! by_type {
             Datatype::Byte => $call($op, Datatype::Byte, $($argument),*),
         }
     };
+}
+
+/// Whether two rows have the same bytes. All are looked at, since a loop that ends early takes one byte at a time.
+pub fn are_same(left: &[u8], right: &[u8]) -> bool
+    ensures { IsTrue result ↔ (left.now ≡ right.now) }
+{
+    if left.len() != right.len() {
+        return false;
+    }
+    let mut same = true;
+    for (a, b) in left.iter().zip(right.iter()) {
+        same = same & (*a == *b);
+    }
+    same
 }
 
 /// Writes the combination of two rows into `out`, element by element, `left` being the first operand (MPI 4.1, 6.9.1).

@@ -1,12 +1,13 @@
 -- A communicator's group, by its place, and a rank's number in it.
-use Rattle.std.proofs.Common.{◌≡◌, ℕ, zero, suc, ◌<◌, ◌≤◌, List, [], ◌∷◌, length, get_or, Vec, Global, Some, None, true, false, is_some, nat_lt, sym, ap, subst, ◌∙◌, arith}
+use Rattle.std.proofs.Common.{◌≡◌, ℕ, zero, suc, ◌<◌, ◌≤◌, List, [], ◌∷◌, length, get_or, Vec, Global, Some, None, true, false, inr, is_some, nat_lt, sym, ap, subst, ◌∙◌, arith}
 use Rattle.std.proofs.lemmas.Bool.{lt-ltb}
 use Rattle.std.proofs.lemmas.List.{length-map}
-use Rattle.coll_kinds.specs.declared.refusal.Refusal.TheVariants.{BadComm, NotMember}
+use Rattle.coll_kinds.specs.declared.refusal.Refusal.{Refusal}
+use Rattle.coll_kinds.specs.declared.refusal.Refusal.TheVariants.{BadComm, NoMemory, NotMember}
 use Rattle.coll_kinds.specs.Groups.{member_of}
 use Rattle.coll_machine.specs.Refusals.{first_of, unless}
 use Rattle.coll_core.specs.declared.config.Config.{Config}
-use Rattle.coll_core.specs.Configs.{IsConfig}
+use Rattle.coll_core.specs.Configs.{IsConfig, IsUnopened}
 use Rattle.coll_report.specs.Views.{groups_seen}
 use Rattle.coll_shared.proofs.Halls.{are_groups}
 use Rattle.coll_shared.specs.Ports.{group_at, unseated}
@@ -32,3 +33,7 @@ unknown groups comm rank group lt is e =
 -- communicators of a configuration that was tested are small
 pub few_members : (config : Config) → IsConfig config → (groups : List (List ℕ)) → groups ≡ groups_seen config.groups.items → (comm : ℕ) → length (group_at groups comm) ≤ 64
 few_members config fits groups is comm = subst (λ (gs : List (List ℕ)). length (group_at gs comm) ≤ 64) (sym is) (are_groups config.ranks config.groups.items fits.groups.2 comm).few
+
+-- where the configuration is one, only memory is refused
+pub short_of_memory : (c : Config) (why : Refusal) → IsConfig c → why ≡ NoMemory → IsUnopened c why
+short_of_memory c why fits short = inr (fits, short)

@@ -24,7 +24,7 @@ use crate::work::Work;
 use coll_arena::laws::is_sound;
 use coll_arena::{Arena, ListName, Ticket};
 use coll_kinds::Refusal;
-use coll_match::{Matches, Message};
+use coll_match::Matches;
 use coll_sched::{Action, Region};
 
 impl Core {
@@ -132,7 +132,9 @@ impl Core {
         let Ok(request) = self.arena.get(ticket) else {
             unreachable!()
         };
-        let message = Message::from_slice(self.alloc, from.read(request.buffer.bytes()))?;
+        let message = self
+            .spares
+            .copy(self.alloc, from.read(request.buffer.bytes()))?;
         let key = request.key();
         let hint = request.hint;
         let member = request.plan.member();
@@ -166,6 +168,7 @@ impl Core {
             unreachable!()
         };
         request.buffer.write(self.alloc, into, &message);
+        self.spares.keep(message);
         go_on(&mut self.arena, &self.matches, ticket)
     }
 
@@ -196,7 +199,7 @@ impl Core {
         let Ok(request) = self.arena.get_mut(ticket) else {
             unreachable!()
         };
-        let work = request.work(self.alloc, ticket)?;
+        let work = request.work(self.alloc, &mut self.spares, ticket)?;
         let Ok(()) = self.arena.shift(ticket, ListName::Running) else {
             unreachable!()
         };

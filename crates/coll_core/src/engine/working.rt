@@ -35,7 +35,8 @@ impl Core {
         let Ok(request) = self.arena.get_mut(ticket) else {
             unreachable!()
         };
-        request.write(self.alloc, done);
+        let row = request.write(self.alloc, done);
+        self.spares.keep(row);
         Ok(Stepped::by(go_on(&mut self.arena, &self.matches, ticket)))
     }
 

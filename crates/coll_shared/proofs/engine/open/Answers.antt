@@ -1,8 +1,9 @@
 use Rattle.std.proofs.Common.{◌∙◌, ap, map}
+use Rattle.std.proofs.lemmas.Result.{err_from_is_err_and}
 use Rattle.std.specs.List.{range_with_len}
 use Rattle.coll_report.specs.Views.{groups_seen}
 use Rattle.coll_shared.specs.Ports.{opened}
-use Rattle.coll_shared.proofs.Seats.{few_members}
+use Rattle.coll_shared.proofs.Seats.{few_members, short_of_memory}
 use Rattle.coll_shared.proofs.engine.open.Goals as goal
 
 pub ports_of-requires-clause-groups : goal.ports_of-requires-clause-groups
@@ -12,3 +13,8 @@ pub returns-clause-ports : goal.returns-clause-ports
 returns-clause-ports g c =
     let groups = ap groups_seen c.deref-2.ensures.value ∙ (c.in_ok-groups.ensures.groups ∙ ap groups_seen c.deref.ensures.value) in
     c.in-Ok.ensures.ports ∙ ap (λ gs. map (opened gs) (range_with_len 0 c.args.config.ranks)) groups
+
+pub returns-in_err-shelves-clause-refused : goal.returns-in_err-shelves-clause-refused
+returns-in_err-shelves-clause-refused g c =
+    let p = err_from_is_err_and c.from_residual-in_err-shelves.result c.from_residual-in_err-shelves.ensures.1 in
+    rw p.1 (short_of_memory c.args.config p.0 c.in_ok-check.ensures.ok (p.2 ∙ c.in_err-shelves.ensures.refused))

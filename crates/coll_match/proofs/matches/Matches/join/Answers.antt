@@ -1,5 +1,4 @@
-use Rattle.std.proofs.Common.{ap, refl, sym}
-use Rattle.std.specs.Prelude.{is_some}
+use Rattle.std.proofs.Common.{refl}
 use Rattle.coll_match.proofs.Standing.{given_put, mail_kept, members_kept, seats_kept, sized}
 use Rattle.coll_match.proofs.matches.Matches.join.Goals as goal
 
@@ -8,16 +7,16 @@ join-requires c = sized c.args.self.now c.args.self.now refl c.args.key c.in-Som
 
 pub returns-clause-members : goal.returns-clause-members
 returns-clause-members c =
-    members_kept c.args.self.now _ c.args.self.now refl c.args.key c.in-Some.instance.now c.join.new.self c.in-Some.ensures.value ((c.at_mut.follows.holds c.join.new.self).1 (ap is_some (sym c.in-Some.ensures.value))) c.join.ensures.members
+    members_kept c.args.self.now c.args.key c.in-Some.instance.now c.join.new.self c.in-Some.ensures.value c.join.ensures.members
 
 pub returns-clause-given : goal.returns-clause-given
 returns-clause-given c =
-    given_put c.args.self.now _ c.args.self.now refl c.args.key c.in-Some.instance.now c.join.new.self c.in-Some.ensures.value ((c.at_mut.follows.holds c.join.new.self).1 (ap is_some (sym c.in-Some.ensures.value))) c.args.member _ c.join.ensures.given
+    given_put c.args.self.now c.args.key c.in-Some.instance.now c.join.new.self c.in-Some.ensures.value c.args.member _ c.join.ensures.given
 
 pub returns-clause-seats : goal.returns-clause-seats
 returns-clause-seats c =
-    seats_kept c.args.self.now _ c.args.self.now refl c.args.key c.in-Some.instance.now c.join.new.self c.in-Some.ensures.value ((c.at_mut.follows.holds c.join.new.self).1 (ap is_some (sym c.in-Some.ensures.value))) c.join.ensures.seats
+    seats_kept c.args.self.now c.args.key c.in-Some.instance.now c.join.new.self c.in-Some.ensures.value c.join.ensures.seats
 
 pub returns-clause-mail : goal.returns-clause-mail
 returns-clause-mail c =
-    mail_kept c.args.self.now _ c.args.self.now refl c.args.key c.in-Some.instance.now c.join.new.self c.in-Some.ensures.value ((c.at_mut.follows.holds c.join.new.self).1 (ap is_some (sym c.in-Some.ensures.value))) c.join.ensures.mail
+    mail_kept c.args.self.now c.args.key c.in-Some.instance.now c.join.new.self c.in-Some.ensures.value c.join.ensures.mail

@@ -1,28 +1,27 @@
 use Rattle.std.proofs.Common.{◌∙◌, ap, refl, sym, Some}
-use Rattle.std.specs.Prelude.{is_some}
 use Rattle.coll_match.proofs.Standing.{gave, given_kept, mail_put, if_ok, members_kept, on_err, on_ok, seats_kept, set_value_own, stands}
 use Rattle.coll_match.specs.Instances.{mail_of, seats_of}
 use Rattle.coll_match.proofs.matches.Matches.put.Goals as goal
 
 pub returns-clause-members : goal.returns-clause-members
 returns-clause-members c =
-    on_ok c.put.result (members_kept c.args.self.now _ c.args.self.now refl c.args.key c.in-Some.instance.now c.put.new.self c.in-Some.ensures.value ((c.at_mut.follows.holds c.put.new.self).1 (ap is_some (sym c.in-Some.ensures.value)))) c.put.ensures.members
+    on_ok c.put.result (members_kept c.args.self.now c.args.key c.in-Some.instance.now c.put.new.self c.in-Some.ensures.value) c.put.ensures.members
 
 pub returns-clause-given : goal.returns-clause-given
 returns-clause-given c =
-    on_ok c.put.result (given_kept c.args.self.now _ c.args.self.now refl c.args.key c.in-Some.instance.now c.put.new.self c.in-Some.ensures.value ((c.at_mut.follows.holds c.put.new.self).1 (ap is_some (sym c.in-Some.ensures.value)))) c.put.ensures.given
+    on_ok c.put.result (given_kept c.args.self.now c.args.key c.in-Some.instance.now c.put.new.self c.in-Some.ensures.value) c.put.ensures.given
 
 pub returns-clause-seats : goal.returns-clause-seats
 returns-clause-seats c =
-    on_ok c.put.result (seats_kept c.args.self.now _ c.args.self.now refl c.args.key c.in-Some.instance.now c.put.new.self c.in-Some.ensures.value ((c.at_mut.follows.holds c.put.new.self).1 (ap is_some (sym c.in-Some.ensures.value)))) c.put.ensures.seats
+    on_ok c.put.result (seats_kept c.args.self.now c.args.key c.in-Some.instance.now c.put.new.self c.in-Some.ensures.value) c.put.ensures.seats
 
 pub returns-clause-mail : goal.returns-clause-mail
 returns-clause-mail c =
-    on_ok c.put.result (mail_put c.args.self.now _ c.args.self.now refl c.args.key c.in-Some.instance.now c.put.new.self c.in-Some.ensures.value ((c.at_mut.follows.holds c.put.new.self).1 (ap is_some (sym c.in-Some.ensures.value))) c.args.from c.args.to c.args.round _) c.put.ensures.mail
+    on_ok c.put.result (mail_put c.args.self.now c.args.key c.in-Some.instance.now c.put.new.self c.in-Some.ensures.value c.args.from c.args.to c.args.round _) c.put.ensures.mail
 
 pub returns-clause-err : goal.returns-clause-err
 returns-clause-err c =
-    on_err c.put.result (λ same. (c.at_mut.follows.holds c.put.new.self).0 ∙ set_value_own _ _ c.put.new.self (ap Some same ∙ c.in-Some.ensures.value)) c.put.ensures.err
+    on_err c.put.result (λ same. set_value_own _ _ c.put.new.self (ap Some same ∙ c.in-Some.ensures.value)) c.put.ensures.err
 
 pub returns-clause-receiver : goal.returns-clause-receiver
 returns-clause-receiver c =
