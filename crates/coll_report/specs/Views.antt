@@ -6,10 +6,10 @@ use Rattle.coll_report.specs.declared.entry.Entry as rust_entry
 use Rattle.coll_report.specs.declared.entry.Entry.TheVariants as rust
 
 abbrev pub seen : rust_entry.Entry → Entry
-seen (rust.Posted rank t comm place sig bytes) = Posted rank t comm place sig bytes.items
+seen (rust.Posted rank t comm place sig bytes) = Posted rank t comm place sig bytes
 seen (rust.Inited rank t comm place sig) = Inited rank t comm place sig
-seen (rust.Started rank t start bytes) = Started rank t start bytes.items
-seen (rust.Retired rank t comm place start bytes) = Retired rank t comm place start bytes.items
+seen (rust.Started rank t start bytes) = Started rank t start bytes
+seen (rust.Retired rank t comm place start bytes) = Retired rank t comm place start bytes
 seen (rust.Freed rank t) = Freed rank t
 
 abbrev pub trace_seen : List rust_entry.Entry → List Entry

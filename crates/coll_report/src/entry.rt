@@ -1,5 +1,6 @@
 ghost use Rattle.std.specs.Prelude.{◌≡◌, ◌↔◌, IsTrue};
 
+use crate::bytes::Bytes;
 use coll_core::Outcome;
 use coll_kinds::{Signature, Ticket};
 
@@ -17,7 +18,7 @@ pub enum Entry {
         place: u32,
         sig: Signature,
         /// What the member gave.
-        bytes: Vec<u8>,
+        bytes: Bytes,
     },
     /// A persistent collective was initialised (MPI 4.1, 6.13).
     Inited {
@@ -33,7 +34,7 @@ pub enum Entry {
         ticket: Ticket,
         /// How many of the request's starts came before.
         start: u32,
-        bytes: Vec<u8>,
+        bytes: Bytes,
     },
     /// A request was completed (MPI 4.1, 3.7.3).
     Retired {
@@ -44,7 +45,7 @@ pub enum Entry {
         /// The start that was completed, counted as in `Started`; 0 for a post.
         start: u32,
         /// The collective's value at the member.
-        bytes: Vec<u8>,
+        bytes: Bytes,
     },
     /// A persistent request was freed (MPI 4.1, 3.7.3).
     Freed {

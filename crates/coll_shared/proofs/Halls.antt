@@ -270,13 +270,13 @@ retires p r rank t o step = (means (setting p) (seen p) (seen r) (calls.Retire r
 pub retired_low : (p r : Parts) (es : List Entry) (n limit : ℕ) (xs : List Space) (rank : ℕ) (t : Ticket) (o : Outcome) → IsHall p es n limit xs → Retiring p r rank t o → t.slot < length xs
 retired_low p r es n limit xs rank t o h step = let s = retires p r rank t o step in there_low (setting p) (seen p).state xs t s.request h.spaced s.is
 
-pub retired_fits : (p r : Parts) (es : List Entry) (n limit : ℕ) (xs : List Space) (rank : ℕ) (t : Ticket) (o : Outcome) (v : Vec ℕ Global) → FreeLock (tables p) → IsHall p es n limit xs → Retiring p r rank t o
-    → IfSome (slice_get xs t.slot) (λ x. v ≡ x.bytes) → length o.bytes.items ≤ length v.items
+pub retired_fits : (p r : Parts) (es : List Entry) (n limit : ℕ) (xs : List Space) (rank : ℕ) (t : Ticket) (o : Outcome) (v : Space) → FreeLock (tables p) → IsHall p es n limit xs → Retiring p r rank t o
+    → IfSome (slice_get xs t.slot) (λ x. v ≡ x) → length o.bytes.items ≤ length v.bytes.items
 retired_fits p r es n limit xs rank t o v lock h step taken =
     let c = means (setting p) (seen p) (seen r) (calls.Retire rank t) (calls.Outcome o.rank o.comm o.place o.start o.bytes.items) step in
     let space = space_of (setting p) (seen p).state xs t c.retires.request h.spaced c.retires.is in
-    let v_is : v ≡ space.space.bytes = subst (λ o. IfSome o (λ (x : Space). v ≡ x.bytes)) space.is taken in
-    subst (λ (w : Vec ℕ Global). length o.bytes.items ≤ length w.items) (sym v_is)
+    let v_is : v ≡ space.space = subst (λ o. IfSome o (λ (x : Space). v ≡ x)) space.is taken in
+    subst (λ (w : Space). length o.bytes.items ≤ length w.bytes.items) (sym v_is)
     (outcome_fits (tables p) rank t o.comm o.place o.start o.bytes.items (seen r).state xs space.space lock c.retires c.done h.spaced space.is)
 
 pub retired_reserved : (p r : Parts) (es : List Entry) (n limit : ℕ) (xs : List Space) (rank : ℕ) (t : Ticket) (o : Outcome) → IsHall p es n limit xs → Retiring p r rank t o → 0 < n

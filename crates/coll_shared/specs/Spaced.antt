@@ -37,5 +37,5 @@ pub record Respaces (old new : List Space) (slot len bytes : ℕ) : Type 0 where
 pub record KeepsFor (offer : Offer) (kept : Kept) : Type 0 where
   pub len_is : kept.space.len ≡ (family offer.plan.sig offer.plan.n offer.plan.member).output.len
   pub filled : length kept.space.bytes.items ≡ kept.space.len
-  pub copied : kept.bytes.items ≡ offer.bytes.items
+  pub copied : kept.bytes ≡ offer.bytes.items
   pub laid_in : IsLaid offer kept.laid.items

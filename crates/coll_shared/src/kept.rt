@@ -4,6 +4,7 @@ ghost use Rattle.coll_shared.specs.Spaced.{KeepsFor};
 use crate::spaces::{Space, outcome_len};
 use coll_core::Offer;
 use coll_kinds::Refusal;
+use coll_report::Bytes;
 use std::alloc::Global;
 
 /// What a post or a start keeps: a space for its outcome, a copy of what it gives for the trace, and of a post the schedule's
@@ -11,7 +12,7 @@ use std::alloc::Global;
 #[derive(Drop)]
 pub struct Kept {
     pub(crate) space: Space,
-    pub(crate) bytes: Vec<u8>,
+    pub(crate) bytes: Bytes,
     pub(crate) laid: Vec<u8>,
 }
 
@@ -20,11 +21,11 @@ impl Kept {
     pub(crate) fn new(alloc: Global, len: usize, bytes: &[u8]) -> Result<Kept, Refusal>
         ensures len { IfOk result (λ kept. kept.space.len ≡ len) }
         ensures space { IfOk result (λ kept. length kept.space.bytes.items ≡ len) }
-        ensures bytes { IfOk result (λ kept. kept.bytes.items ≡ bytes.now) }
+        ensures bytes { IfOk result (λ kept. kept.bytes ≡ bytes.now) }
         ensures refused { IfErr result (λ why. why ≡ Refusal.NoMemory) }
     {
         let space = Space::filled(alloc, len)?;
-        let bytes = Vec::from_slice(alloc, bytes)?;
+        let bytes = Bytes::new(alloc, Vec::from_slice(alloc, bytes)?);
         Ok(Kept {
             space,
             bytes,

@@ -8,6 +8,7 @@
 //! | `trace` | `Trace`, the entries so far, with room for those that they speak for |
 //! | `groups` | copies of what an engine is opened with |
 //! | `spaces` | `Spaces`, memory for the outcomes of live requests |
+//! | `recent` | `Recent`, long bytes that further entries can share |
 //! | `gate` | `Gate`, which may hold a thread up before and after a combination |
 //! | `doors` | `Doors`, where threads wait to be called |
 //! | `hopes` | `Hopes`, which requests ports hope to find Done before they look |
@@ -53,6 +54,7 @@ mod port;
 mod post_order;
 mod receipt;
 mod receipts;
+mod recent;
 mod rest;
 mod shared;
 mod shelf;

@@ -12,7 +12,7 @@ use crate::shared::Shared;
 use crate::tally::{Entries, Tally};
 use coll_core::Offer;
 use coll_kinds::{Signature, Ticket};
-use coll_report::Entry;
+use coll_report::{Bytes, Entry};
 use std::alloc::Global;
 
 /// A post that a port orders, with what it keeps.
@@ -22,16 +22,16 @@ pub(crate) struct PostOrder {
     offer: Offer,
     kept: Kept,
     /// What is given once more, for the entry that the port gets.
-    bytes: Vec<u8>,
+    bytes: Bytes,
     ghost keeps: { KeepsFor offer kept },
-    ghost copied: { bytes.items ≡ offer.bytes.items },
+    ghost copied: { bytes ≡ offer.bytes.items },
 }
 
 impl PostOrder {
     /// Of an offer, in copies; none where memory is short.
     pub(crate) fn of(alloc: Global, comm: u32, offer: &Offer) -> Option<PostOrder> {
         let given = Vec::from_slice(alloc, &offer.bytes).ok()?;
-        let bytes = Vec::from_slice(alloc, &given).ok()?;
+        let bytes = Bytes::new(alloc, Vec::from_slice(alloc, &given).ok()?);
         let plan = offer.plan.share().ok()?;
         let offer = Offer { plan, bytes: given };
         let kept = Kept::of(alloc, &offer).ok()?;

@@ -21,6 +21,7 @@ ghost use Rattle.coll_shared.specs.Notes.{Awake};
 use crate::groups::copied_config;
 use crate::hopes::Hopes;
 use crate::notes::Notes;
+use crate::recent::Recent;
 use crate::spaces::Spaces;
 use crate::tally::Entries;
 use crate::trace::Trace;
@@ -39,6 +40,7 @@ pub struct Shared<L: Entries> {
     core: Core,
     trace: Trace<L>,
     spaces: Spaces,
+    recent: Recent,
     notes: Notes,
     hopes: Hopes,
     stalled: bool,
@@ -97,6 +99,7 @@ impl<L: Entries> Shared<L> {
             core,
             trace: Trace::new(alloc, book),
             spaces,
+            recent: Recent::new(),
             notes,
             hopes,
             stalled: false,

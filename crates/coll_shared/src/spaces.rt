@@ -1,9 +1,10 @@
-ghost use Rattle.std.specs.Prelude.{◌≡◌, ◌<◌, ◌≤◌, length, slice_get, vec_len, IfErr, IfOk, IfSome};
+ghost use Rattle.std.specs.Prelude.{◌≡◌, ◌<◌, ◌≤◌, length, slice_get, IfErr, IfOk, IfSome};
 ghost use Rattle.coll_plans.specs.Plans.{family};
 ghost use Rattle.coll_shared.specs.Spaced.{Respaces};
 
 use coll_kinds::{Refusal, Ticket};
 use coll_plans::Plan;
+use coll_report::{Bytes, Shell};
 use std::alloc::Global;
 use std::mem;
 
@@ -14,6 +15,8 @@ pub(crate) struct Space {
     len: usize,
     /// So many bytes while a start is under way.
     bytes: Vec<u8>,
+    /// In which the trace's entries can share them.
+    shell: Shell,
 }
 
 /// The bytes that the plan's member gets.
@@ -32,6 +35,7 @@ impl Space {
         Space {
             len,
             bytes: Vec::new(alloc),
+            shell: Shell::new(alloc, 0),
         }
     }
 
@@ -42,7 +46,20 @@ impl Space {
         ensures refused { IfErr result (λ why. why ≡ Refusal.NoMemory) }
     {
         let bytes = vec![in alloc; 0; len]?;
-        Ok(Space { len, bytes })
+        let shell = Shell::new(alloc, len);
+        Ok(Space { len, bytes, shell })
+    }
+
+    /// The outcome's bytes once more, in those that were kept for them.
+    pub(crate) fn fill(self, outcome: &[u8]) -> Bytes
+        requires { length outcome.now ≤ length self.bytes.items }
+        ensures { result ≡ outcome.now }
+    {
+        let Space { bytes, shell, .. } = self;
+        let mut copy = bytes;
+        copy.truncate(outcome.len());
+        copy.copy_from_slice(outcome);
+        shell.fill(copy)
     }
 }
 
@@ -83,26 +100,14 @@ impl Spaces {
         self.slots[ticket.slot as usize] = space;
     }
 
-    /// Takes the bytes that the ticket's slot kept.
-    pub(crate) fn take(&mut self, alloc: Global, ticket: Ticket) -> Vec<u8>
+    /// Takes the ticket's slot's space, and leaves one without bytes.
+    pub(crate) fn take(&mut self, alloc: Global, ticket: Ticket) -> Space
         requires { ticket.slot < length self.old.slots.items }
-        ensures taken { IfSome (slice_get self.old.slots.items ticket.slot) (λ space. result ≡ space.bytes) }
+        ensures taken { IfSome (slice_get self.old.slots.items ticket.slot) (λ space. result ≡ space) }
         ensures spaces { IfSome (slice_get self.old.slots.items ticket.slot) (λ space. Respaces self.old.slots.items self.new.slots.items ticket.slot space.len 0) }
     {
         let slot = ticket.slot as usize;
         let left = Space::empty(alloc, self.slots[slot].len);
-        let Space { bytes, .. } = mem::replace(&mut self.slots[slot], left);
-        bytes
+        mem::replace(&mut self.slots[slot], left)
     }
-}
-
-/// The outcome's bytes once more, in bytes that were kept for them.
-pub(crate) fn copied(kept: Vec<u8>, outcome: &[u8]) -> Vec<u8>
-    requires { length outcome.now ≤ length kept.items }
-    ensures { result.items ≡ outcome.now }
-{
-    let mut copy = kept;
-    copy.truncate(outcome.len());
-    copy.copy_from_slice(outcome);
-    copy
 }

@@ -8,7 +8,7 @@ ghost use Rattle.coll_shared.specs.Ports.{IsStarted};
 use crate::shared::Shared;
 use crate::tally::{Entries, Tally};
 use coll_kinds::Ticket;
-use coll_report::Entry;
+use coll_report::{Bytes, Entry};
 use std::alloc::Global;
 
 /// A start that a port orders.
@@ -17,15 +17,15 @@ pub(crate) struct StartOrder {
     ticket: Ticket,
     given: Vec<u8>,
     /// What is given once more, for the entry that the port gets.
-    bytes: Vec<u8>,
-    ghost copied: { bytes.items ≡ given.items },
+    bytes: Bytes,
+    ghost copied: { bytes ≡ given.items },
 }
 
 impl StartOrder {
     /// With these bytes, in copies; none where memory is short.
     pub(crate) fn of(alloc: Global, ticket: Ticket, bytes: &[u8]) -> Option<StartOrder> {
         let given = Vec::from_slice(alloc, bytes).ok()?;
-        let bytes = Vec::from_slice(alloc, &given).ok()?;
+        let bytes = Bytes::new(alloc, Vec::from_slice(alloc, &given).ok()?);
         Some(StartOrder {
             ticket,
             given,

@@ -8,6 +8,9 @@ use coll_core::Config;
 use coll_kinds::{Datatype, Kind, Mode, Op, Refusal, Signature};
 use std::alloc::Global;
 
+/// How many elements the few long blocks have.
+const LONG: u32 = 700;
+
 const OPERATIONS: [(Op, Datatype); 8] = [
     (Op::Sum, Datatype::I32),
     (Op::LastNz, Datatype::I16),
@@ -49,6 +52,8 @@ fn signature(random: &mut Random, number: usize, size: u8) -> Signature {
         ty,
         count: if matches!(kind, Kind::Barrier) {
             0
+        } else if random.below(50) == 0 {
+            LONG
         } else {
             random.below(6) as u32
         },

@@ -7,7 +7,9 @@
 //! | `walk_tests` | a rank's posts, and how many entries are its |
 //! | `following_tests` | whether a rank did what its commands say |
 //! | `late_bcast_tests` | a report of a bcast |
+//! | `bytes_tests` | which bytes entries can share |
 
+mod bytes_tests;
 mod following_tests;
 mod gathers;
 mod late_bcast_tests;

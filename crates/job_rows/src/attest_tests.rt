@@ -11,7 +11,7 @@ use coll_attest::{AttestFault, attested_lines};
 use coll_core::Config;
 use coll_kinds::{Datatype, Kind, Mode, Signature, Ticket};
 use coll_report::laws::rows_are_closed;
-use coll_report::{Entry, Report};
+use coll_report::{Bytes, Entry, Report};
 use coll_script::Script;
 use std::alloc::{AllocError, Global};
 use std::test::Fail;
@@ -35,8 +35,8 @@ const SECOND: Ticket = Ticket {
     generation: 2,
 };
 
-fn posted(rank: u8, ticket: Ticket, bytes: Vec<u8>) -> Entry
-    ensures { seen result ≡ Posted rank ticket 0 0 bcast bytes.items }
+fn posted(rank: u8, ticket: Ticket, bytes: Bytes) -> Entry
+    ensures { seen result ≡ Posted rank ticket 0 0 bcast bytes }
 {
     Entry::Posted {
         rank,
@@ -48,8 +48,8 @@ fn posted(rank: u8, ticket: Ticket, bytes: Vec<u8>) -> Entry
     }
 }
 
-fn retired(rank: u8, ticket: Ticket, bytes: Vec<u8>) -> Entry
-    ensures { seen result ≡ Retired rank ticket 0 0 0 bytes.items }
+fn retired(rank: u8, ticket: Ticket, bytes: Bytes) -> Entry
+    ensures { seen result ≡ Retired rank ticket 0 0 0 bytes }
 {
     Entry::Retired {
         rank,
@@ -61,10 +61,11 @@ fn retired(rank: u8, ticket: Ticket, bytes: Vec<u8>) -> Entry
     }
 }
 
-fn seven(alloc: Global) -> Result<Vec<u8>, AllocError>
-    ensures { IfOk result (λ bytes. bytes.items ≡ i32 7) }
+fn seven(alloc: Global) -> Result<Bytes, AllocError>
+    ensures { IfOk result (λ bytes. bytes ≡ i32 7) }
 {
-    Vec::from_slice(alloc, &[7, 0, 0, 0])
+    let bytes = Vec::from_slice(alloc, &[7, 0, 0, 0])?;
+    Ok(Bytes::new(alloc, bytes))
 }
 
 /// Rank 0 gives 7 to a bcast and completes it before rank 1 posts it.
@@ -74,7 +75,7 @@ fn late_bcast(alloc: Global) -> Result<Vec<Entry>, AllocError>
     let mut trace = Vec::new(alloc);
     trace.push(posted(0, FIRST, seven(alloc)?))?;
     trace.push(retired(0, FIRST, seven(alloc)?))?;
-    trace.push(posted(1, SECOND, Vec::new(alloc)))?;
+    trace.push(posted(1, SECOND, Bytes::new(alloc, Vec::new(alloc))))?;
     trace.push(retired(1, SECOND, seven(alloc)?))?;
     Ok(trace)
 }

@@ -10,7 +10,6 @@ ghost use Rattle.coll_shared.specs.Outcomes.{outcome_of, retired};
 
 use crate::receipt::Receipt;
 use crate::shared::Shared;
-use crate::spaces::copied;
 use crate::tally::{Entries, Tally};
 use coll_core::Outcome;
 use coll_core::laws::lock_is_free;
@@ -48,7 +47,7 @@ impl<L: Entries> Shared<L> {
             Err(why) => return Err(why),
         };
         let space = self.spaces.take(self.alloc, ticket);
-        let bytes = copied(space, &outcome.bytes);
+        let bytes = self.recent.outcome(space, &outcome.bytes);
         let receipt = self.trace.end(
             mine,
             Entry::Retired {

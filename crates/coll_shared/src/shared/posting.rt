@@ -77,6 +77,7 @@ impl<L: Entries> Shared<L> {
         };
         let place = live(&self.core, ticket).place;
         self.spaces.put(ticket, space);
+        self.recent.note(&bytes);
         let receipt = self.trace.begin(
             mine,
             Entry::Posted {

@@ -61,6 +61,7 @@ impl<L: Entries> Shared<L> {
         }
         let start = live(&self.core, ticket).starts - 1;
         self.spaces.put(ticket, kept.space);
+        self.recent.note(&kept.bytes);
         Ok(
             self.trace.begin(
                 mine,

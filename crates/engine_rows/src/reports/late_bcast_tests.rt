@@ -9,14 +9,14 @@ ghost use Rattle.coll_report.specs.Views.{seen, trace_seen};
 
 use coll_core::{Config, Outcome};
 use coll_kinds::{Datatype, Kind, Mode, Signature, Ticket};
-use coll_report::{Entry, Report, laws};
+use coll_report::{Bytes, Entry, Report, laws};
 use std::alloc::{AllocError, Global};
 use std::test::Fail;
 
 fn posted(alloc: Global, rank: u8, ticket: Ticket, bytes: &[u8]) -> Result<Entry, AllocError>
     ensures { IfOk result (λ entry. seen entry ≡ Posted rank ticket 0 0 bcast bytes.now) }
 {
-    let bytes = Vec::from_slice(alloc, bytes)?;
+    let bytes = Bytes::new(alloc, Vec::from_slice(alloc, bytes)?);
     let sig = Signature {
         kind: Kind::Bcast,
         mode: Mode::Once,
@@ -38,7 +38,7 @@ fn posted(alloc: Global, rank: u8, ticket: Ticket, bytes: &[u8]) -> Result<Entry
 fn retired(alloc: Global, rank: u8, ticket: Ticket, bytes: &[u8]) -> Result<Entry, AllocError>
     ensures { IfOk result (λ entry. seen entry ≡ Retired rank ticket 0 0 0 bytes.now) }
 {
-    let bytes = Vec::from_slice(alloc, bytes)?;
+    let bytes = Bytes::new(alloc, Vec::from_slice(alloc, bytes)?);
     Ok(Entry::Retired {
         rank,
         ticket,

@@ -1,7 +1,7 @@
 //! Traces as lines of data.
 
 use coll_kinds::{Signature, Ticket};
-use coll_report::Entry;
+use coll_report::{Bytes, Entry};
 use std::alloc::{AllocError, Global};
 
 /// An entry of a rank, with its request's ticket, at place 0 of a communicator. Persistent requests are of communicator 0.
@@ -25,7 +25,7 @@ impl Line {
                 comm,
                 place: 0,
                 sig,
-                bytes: Vec::from_slice(alloc, bytes)?,
+                bytes: Bytes::new(alloc, Vec::from_slice(alloc, bytes)?),
             },
             Line::Inited(rank, ticket, sig) => Entry::Inited {
                 rank,
@@ -38,7 +38,7 @@ impl Line {
                 rank,
                 ticket,
                 start,
-                bytes: Vec::from_slice(alloc, bytes)?,
+                bytes: Bytes::new(alloc, Vec::from_slice(alloc, bytes)?),
             },
             Line::Retired(rank, ticket, start, bytes) => Entry::Retired {
                 rank,
@@ -46,7 +46,7 @@ impl Line {
                 comm: 0,
                 place: 0,
                 start,
-                bytes: Vec::from_slice(alloc, bytes)?,
+                bytes: Bytes::new(alloc, Vec::from_slice(alloc, bytes)?),
             },
             Line::Freed(rank, ticket) => Entry::Freed { rank, ticket },
         })

@@ -13,7 +13,7 @@ fn add_sign(signs: &mut Vec<u8>, entry: &Entry) -> Result<(), AllocError> {
         Entry::Inited { .. } => signs.push(1)?,
         Entry::Started { bytes, .. } => {
             signs.push(2)?;
-            signs.extend_from_slice(bytes)?;
+            signs.extend_from_slice(bytes.as_slice())?;
         }
         Entry::Retired { .. } => signs.push(3)?,
         Entry::Freed { .. } => signs.push(4)?,

@@ -18,3 +18,8 @@ pub returns-in_err-shelves-clause-refused : goal.returns-in_err-shelves-clause-r
 returns-in_err-shelves-clause-refused g c =
     let p = err_from_is_err_and c.from_residual-in_err-shelves.result c.from_residual-in_err-shelves.ensures.1 in
     rw p.1 (short_of_memory c.args.config p.0 c.in_ok-check.ensures.ok (p.2 ∙ c.in_err-shelves.ensures.refused))
+
+pub returns-in_err-doors-clause-refused : goal.returns-in_err-doors-clause-refused
+returns-in_err-doors-clause-refused g c =
+    let p = err_from_is_err_and c.from_residual-in_err-doors.result c.from_residual-in_err-doors.ensures.1 in
+    rw p.1 (short_of_memory c.args.config p.0 c.in_ok-check.ensures.ok (p.2 ∙ c.in_err-doors.ensures.refused))

@@ -8,8 +8,8 @@ take-space-requires g c =
     let step = rw c.in-Ok-Some.field-0-is at c.in-Ok-Some.ensures.completes in
     retired_low s.core c.retire.new.self s.trace.entries s.trace.reserved s.config.trace s.spaces.slots.items c.args.rank c.args.ticket c.in-Ok-Some.outcome (hall_in c.self.invariant) step
 
-pub copied-bytes-requires : goal.copied-bytes-requires
-copied-bytes-requires g c =
+pub outcome-bytes-requires : goal.outcome-bytes-requires
+outcome-bytes-requires g c =
     let s = c.self.inside in
     let step = rw c.in-Ok-Some.field-0-is at c.in-Ok-Some.ensures.completes in
     rw c.deref.ensures.value (retired_fits s.core c.retire.new.self s.trace.entries s.trace.reserved s.config.trace s.spaces.slots.items c.args.rank c.args.ticket c.in-Ok-Some.outcome c.take-space.result c.lock_is_free.ensures (hall_in c.self.invariant) step c.take-space.ensures.taken)
@@ -26,5 +26,5 @@ invariant_of-self-2 g c =
     let step = rw c.in-Ok-Some.field-0-is at c.in-Ok-Some.ensures.completes in
     kept s.config s.core _ _ _ _ _ _ _ c.self.invariant c.in-Ok-Some.ensures.setting (
     retired_hall s.core c.retire.new.self s.trace.entries c.end-receipt.new.self.entries s.trace.reserved c.end-receipt.new.self.reserved s.config.trace s.spaces.slots.items c.take-space.new.self.slots.items c.args.rank c.args.ticket c.in-Ok-Some.outcome (hall_in c.self.invariant) c.in-Ok-Some.ensures.setting step
-    c.take-space.ensures.spaces (retired_entry _ _ _ _ _ _ _ _ _ c.end-receipt.ensures.entries (c.copied-bytes.ensures ∙ c.deref.ensures.value)) c.end-receipt.ensures.reserved
+    c.take-space.ensures.spaces (retired_entry _ _ _ _ _ _ _ _ _ c.end-receipt.ensures.entries (c.outcome-bytes.ensures ∙ c.deref.ensures.value)) c.end-receipt.ensures.reserved
     )
