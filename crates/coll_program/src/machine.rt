@@ -1,7 +1,7 @@
 use crate::running::{run, told};
 use coll_job::JobFault;
-use std::process::ExitCode;
 use std::fs::Files;
+use std::process::ExitCode;
 use std::sync::Wait;
 use std::thread::Threads;
 use std::{env, io};

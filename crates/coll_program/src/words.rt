@@ -62,7 +62,9 @@ fn command<'a>(alloc: Global) -> Result<Command<'a>, AllocError> {
         .default_value("2")
         .help("Progress threads beside a thread for each rank, 0 to 8");
     let run = Command::new(alloc, "run")
-        .about("Has a job text carried out by threads on one engine, and writes the values that they got")
+        .about(
+            "Has a job text carried out by threads on one engine, and writes the values that they got",
+        )
         .arg(workers)?
         .arg(text_file(alloc))?;
     // The name in usage lines, whatever file the program was started from.
@@ -80,9 +82,9 @@ fn command<'a>(alloc: Global) -> Result<Command<'a>, AllocError> {
 
 /// The word for a file.
 fn text_file<'a>(alloc: Global) -> Arg<'a> {
-    Arg::new(alloc, FILE)
-        .value_name("FILE")
-        .help("The job text; standard input where there is no FILE, or where it is -")
+    Arg::new(alloc, FILE).value_name("FILE").help(
+        "The job text; standard input where there is no FILE, or where it is -",
+    )
 }
 
 /// The task that the words name. Else the error has what a user is told.

@@ -57,8 +57,10 @@ impl Example {
                 return Ok(false);
             }
         }
-        Ok(self.is_answered_by_name(machine, alloc, "plain", &self.plain)?
-            && self.is_answered_by_name(machine, alloc, "run", &self.run)?)
+        Ok(
+            self.is_answered_by_name(machine, alloc, "plain", &self.plain)?
+                && self.is_answered_by_name(machine, alloc, "run", &self.run)?,
+        )
     }
 
     /// Whether the word with the text's file behind it has that answer.
