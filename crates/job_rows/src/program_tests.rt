@@ -125,7 +125,7 @@ const FILES: [(&str, (u8, &str, &str)); 5] = [
         ),
     ),
     ("", (1, "", ": No such file or directory (os error 2)\n")),
-    (".", (1, "", ".: is a directory\n")),
+    ("/", (1, "", "/: is a directory\n")),
     ("/dev/null", (2, "", "/dev/null: line 1: missing ranks\n")),
 ];
 
