@@ -1,0 +1,125 @@
+//! A job in which memory may be refused: each call that is refused some is made again, and all outcomes are those of the job
+//! in which none is refused.
+
+ghost use Rattle.std.specs.Prelude.{◌≡◌, ◌*◌};
+
+use crate::ports::Row;
+use crate::ports::answer::Answer;
+use crate::ports::call::Call;
+use crate::ports::closed::Closed;
+use crate::ports::driver::Driver;
+use crate::ports::noted::{Bytes, Noted};
+use crate::ports::setup::{PAIR, Setup};
+use crate::signatures::{BCAST, PERSISTENT_SUM, SUM_OF_I32};
+use coll_kinds::{Kind, Refusal, Signature};
+use coll_shared::{Entries, ledger_for};
+use std::alloc::Global;
+use std::marker::Brand;
+use std::sync::Wait;
+use std::sync::ledger::Blank;
+use std::test::Fail;
+
+/// The trace has just as much room as the job takes.
+const JOB: Setup = Setup {
+    slots: 8,
+    trace: 24,
+    ..PAIR
+};
+
+/// An alltoall of one number for each member.
+const ALLTOALL: Signature = Signature {
+    kind: Kind::Alltoall,
+    ..BCAST
+};
+
+const BARRIER: Signature = Signature {
+    kind: Kind::Barrier,
+    count: 0,
+    ..BCAST
+};
+
+const NOT_YET: Answer = Answer::Flag(false, Noted::Nothing);
+
+const THREE: Bytes = Bytes::Four(3, 0, 0, 0);
+
+const NOTHING: Bytes = Bytes::Other(0);
+
+/// Two ranks post an allreduce, an alltoall and a barrier, and start a persistent allreduce twice.
+const CALLS: &[Row] = &[
+    (
+        Call::Post(0, 0, SUM_OF_I32, &[1, 0, 0, 0]),
+        Answer::Accepted,
+    ),
+    (
+        Call::Post(1, 0, SUM_OF_I32, &[2, 0, 0, 0]),
+        Answer::Accepted,
+    ),
+    (Call::Post(0, 0, ALLTOALL, &[1, 2]), Answer::Accepted),
+    (Call::Post(1, 0, ALLTOALL, &[3, 4]), Answer::Accepted),
+    (Call::Post(0, 0, BARRIER, &[]), Answer::Accepted),
+    (Call::Post(1, 0, BARRIER, &[]), Answer::Accepted),
+    (Call::Init(0, 0, PERSISTENT_SUM), Answer::Accepted),
+    (Call::Init(1, 0, PERSISTENT_SUM), Answer::Accepted),
+    (Call::Start(0, 6, &[5]), Answer::Accepted),
+    (Call::Start(1, 7, &[6]), Answer::Accepted),
+    (Call::Test(0, 0), NOT_YET),
+    (Call::Wait(1, 7), Answer::Outcome(Bytes::One(11))),
+    (
+        Call::Test(0, 6),
+        Answer::Flag(true, Noted::One(6, Bytes::One(11))),
+    ),
+    (Call::Test(0, 0), Answer::Flag(true, Noted::One(0, THREE))),
+    (Call::Test(1, 1), Answer::Flag(true, Noted::One(1, THREE))),
+    (Call::Start(0, 6, &[7]), Answer::Accepted),
+    (
+        Call::Test(0, 2),
+        Answer::Flag(true, Noted::One(2, Bytes::Two(1, 3))),
+    ),
+    (
+        Call::Test(1, 3),
+        Answer::Flag(true, Noted::One(3, Bytes::Two(2, 4))),
+    ),
+    (Call::Start(1, 7, &[8]), Answer::Accepted),
+    (Call::Test(0, 4), Answer::Flag(true, Noted::One(4, NOTHING))),
+    (Call::Test(1, 5), Answer::Flag(true, Noted::One(5, NOTHING))),
+    (Call::Wait(0, 6), Answer::Outcome(Bytes::One(15))),
+    (Call::Wait(1, 7), Answer::Outcome(Bytes::One(15))),
+    (Call::Free(0, 6), Answer::Accepted),
+    (Call::Free(1, 7), Answer::Accepted),
+    (Call::Finish, Answer::Ended(1, 12)),
+    (Call::Finish, Answer::Ended(0, 12)),
+];
+
+/// How many calls of the job were refused memory. Torn where one was answered otherwise, or where the report hasn't all
+/// entries; the refusal to open.
+fn refusals_in<L: Entries, R: Wait>(rt: &R, alloc: Global, entries: Blank) -> Result<u32, Refusal>
+    requires name { entries.name ≡ L.name }
+    requires parts { (entries.parts ≡ L.parts) × (L.parts ≡ 2 * L.ranks) × (L.ranks ≡ 2) }
+{
+    let mut driver = Driver::<L>::open(alloc, &JOB, entries)?;
+    let Ok(refusals) = driver.refusals_among(rt, CALLS) else {
+        return Err(Refusal::Torn);
+    };
+    let Ok(Closed { report, .. }) = driver.close(rt) else {
+        return Err(Refusal::Torn);
+    };
+    match report {
+        Ok(report) if report.entries().len() == 24 => Ok(refusals),
+        _ => Err(Refusal::Torn),
+    }
+}
+
+/// The same, with the engine opened again where it was refused memory.
+fn refusals<R: Wait>(rt: &R, alloc: Global) -> Result<u32, Refusal> {
+    match refusals_in::<Brand, R>(rt, alloc, ledger_for(2)) {
+        Err(Refusal::NoMemory) => refusals_in::<Brand, R>(rt, alloc, ledger_for(2)),
+        answer => answer,
+    }
+}
+
+/// Where one allocation of this test is refused, at most one call is.
+#[test]
+fn each_growth_refused(rt: HostRuntime) -> Result<(), Fail> {
+    assert!(rt; refusals(&rt, rt.alloc())? <= 1);
+    Ok(())
+}
