@@ -1,5 +1,5 @@
-//! A job in which memory may be refused: each call that is refused some is made again, and all outcomes are those of the job
-//! in which none is refused.
+//! Jobs in which memory may be refused: each call that is refused some is made again, and all outcomes are those of a job in
+//! which none is refused.
 
 ghost use Rattle.std.specs.Prelude.{◌≡◌, ◌*◌};
 
@@ -10,7 +10,7 @@ use crate::ports::driver::Driver;
 use crate::ports::noted::{Bytes, Noted};
 use crate::ports::setup::{PAIR, Setup};
 use crate::ports::{Misfit, Row};
-use crate::signatures::{BCAST, PERSISTENT_SUM, SUM_OF_I32};
+use crate::signatures::{BCAST, PERSISTENT_SUM, SUM, SUM_OF_I32};
 use coll_kinds::{Kind, Refusal, Signature};
 use coll_shared::{Entries, ledger_for};
 use std::alloc::Global;
@@ -19,11 +19,29 @@ use std::sync::Wait;
 use std::sync::ledger::Blank;
 use std::test::Fail;
 
-/// The trace has just as much room as the job takes.
-const JOB: Setup = Setup {
-    slots: 8,
-    trace: 24,
-    ..PAIR
+/// What two ranks do on an engine whose trace has just as much room as that takes.
+#[derive(Clone, Copy)]
+struct Job {
+    setup: Setup,
+    calls: &'static [Row],
+}
+
+const SHORT_ROWS: Job = Job {
+    setup: Setup {
+        slots: 8,
+        trace: 24,
+        ..PAIR
+    },
+    calls: CALLS,
+};
+
+const LONG_ROWS: Job = Job {
+    setup: Setup {
+        slots: 2,
+        trace: 4,
+        ..PAIR
+    },
+    calls: LONG_CALLS,
 };
 
 /// An alltoall of one number for each member.
@@ -90,18 +108,31 @@ const CALLS: &[Row] = &[
     (Call::Finish, Answer::Ended(0, 12)),
 ];
 
+/// An allreduce whose combinations take memory.
+const LONG_SUM: Signature = Signature { count: 64, ..SUM };
+
+const LONG_CALLS: &[Row] = &[
+    (Call::Post(0, 0, LONG_SUM, &[1; 64]), Answer::Accepted),
+    (Call::Post(1, 0, LONG_SUM, &[2; 64]), Answer::Accepted),
+    (Call::Wait(0, 0), Answer::Outcome(Bytes::Same(64, 3))),
+    (Call::Wait(1, 1), Answer::Outcome(Bytes::Same(64, 3))),
+    (Call::Finish, Answer::Ended(1, 2)),
+    (Call::Finish, Answer::Ended(0, 2)),
+];
+
 /// How many calls of the job were refused memory; or the first that was answered otherwise. Torn where the report hasn't all
 /// entries; the refusal to open.
 fn refusals_in<L: Entries, R: Wait>(
     rt: &R,
     alloc: Global,
+    job: &Job,
     entries: Blank,
 ) -> Result<Result<u32, Misfit>, Refusal>
     requires name { entries.name ≡ L.name }
-    requires parts { (entries.parts ≡ L.parts) × (L.parts ≡ 2 * L.ranks) × (L.ranks ≡ 2) }
+    requires parts { (entries.parts ≡ L.parts) × (L.parts ≡ 2 * L.ranks) × (L.ranks ≡ job.now.setup.ranks) }
 {
-    let mut driver = Driver::<L>::open(alloc, &JOB, entries)?;
-    let refusals = match driver.refusals_among(rt, CALLS) {
+    let mut driver = Driver::<L>::open(alloc, &job.setup, entries)?;
+    let refusals = match driver.refusals_among(rt, job.calls) {
         Ok(refusals) => refusals,
         Err(misfit) => return Ok(Err(misfit)),
     };
@@ -114,16 +145,22 @@ fn refusals_in<L: Entries, R: Wait>(
     else {
         return Err(Refusal::Torn);
     };
-    if report.entries().len() != 24 {
+    if report.entries().len() != job.setup.trace as usize {
         return Err(Refusal::Torn);
     }
     Ok(Ok(refusals))
 }
 
-/// The same, with the engine opened again where it was refused memory.
-fn refusals<R: Wait>(rt: &R, alloc: Global) -> Result<Result<u32, Misfit>, Refusal> {
-    match refusals_in::<Brand, R>(rt, alloc, ledger_for(2)) {
-        Err(Refusal::NoMemory) => refusals_in::<Brand, R>(rt, alloc, ledger_for(2)),
+/// The same, with the ledger of its engine.
+fn refusals_of<R: Wait>(rt: &R, alloc: Global, job: &Job) -> Result<Result<u32, Misfit>, Refusal> {
+    let entries = ledger_for(job.setup.ranks);
+    refusals_in::<Brand, R>(rt, alloc, job, entries)
+}
+
+/// The same, where the engine is opened again if memory was refused.
+fn refusals<R: Wait>(rt: &R, alloc: Global, job: &Job) -> Result<Result<u32, Misfit>, Refusal> {
+    match refusals_of(rt, alloc, job) {
+        Err(Refusal::NoMemory) => refusals_of(rt, alloc, job),
         answer => answer,
     }
 }
@@ -131,7 +168,9 @@ fn refusals<R: Wait>(rt: &R, alloc: Global) -> Result<Result<u32, Misfit>, Refus
 /// Where one allocation of this test is refused, as by `rt try --test --fail-alloc`, at most one call is refused memory.
 #[test]
 fn each_growth_refused(rt: HostRuntime) -> Result<(), Fail> {
-    let refusals = refusals(&rt, rt.alloc())?;
-    assert!(rt; matches!(refusals, Ok(0) | Ok(1)), "{refusals:?}");
+    for job in [&SHORT_ROWS, &LONG_ROWS] {
+        let refusals = refusals(&rt, rt.alloc(), job)?;
+        assert!(rt; matches!(refusals, Ok(0) | Ok(1)), "{refusals:?}");
+    }
     Ok(())
 }
