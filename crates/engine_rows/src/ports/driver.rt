@@ -308,35 +308,24 @@ impl<L: Entries> Driver<L> {
     pub fn close<R: Wait>(self, rt: &R) -> Result<Closed, Refusal>
         requires { L.parts ≡ 2 * L.ranks }
     {
+        let mut driver = self;
+        for _port in 0..driver.ports.len() {
+            driver.finish(rt)?;
+        }
         let Driver {
             engine,
-            ports,
             aside: _aside,
             ended,
             outcomes,
             ..
-        } = self;
-        let spents = ends_of(rt, ports, ended)?;
+        } = driver;
+        let mut spents = ended;
+        spents.reverse();
         Ok(Closed {
             outcomes,
             report: report_of(rt, engine, spents),
         })
     }
-}
-
-/// The ends of all ports, in rising rank: of these, and of those that ended before, the highest rank's first.
-fn ends_of<L: Entries, R: Wait>(
-    rt: &R,
-    ports: Vec<Port<L>>,
-    ended: Vec<Spent<L>>,
-) -> Result<Vec<Spent<L>>, Refusal> {
-    let mut ports = ports;
-    let mut spents = ended;
-    while let Some(port) = ports.pop() {
-        spents.push(port.finish(rt))?;
-    }
-    spents.reverse();
-    Ok(spents)
 }
 
 /// Closes an engine with these ends.

@@ -136,19 +136,14 @@ fn refusals_in<L: Entries, R: Wait>(
         Ok(refusals) => refusals,
         Err(misfit) => return Ok(Err(misfit)),
     };
-    let Ok(
-        Closed {
-            report: Ok(report),
-            ..
-        },
-    ) = driver.close(rt)
-    else {
+    let Ok(closed) = driver.close(rt) else {
         return Err(Refusal::Torn);
     };
-    if report.entries().len() != job.setup.trace as usize {
-        return Err(Refusal::Torn);
+    let Closed { report, .. } = closed;
+    match report {
+        Ok(report) if report.entries().len() == job.setup.trace as usize => Ok(Ok(refusals)),
+        _ => Err(Refusal::Torn),
     }
-    Ok(Ok(refusals))
 }
 
 /// The same, with the ledger of its engine.
