@@ -26,6 +26,7 @@
 //! | `run_tests` | texts run by threads, with their lines or their fault |
 //! | `wait_tests` | texts run by threads that go on only by the right wait, or by none |
 //! | `gate_tests` | a run in which two combinations wait for a third |
+//! | `memory_tests` | a run in which memory may be refused |
 //! | `program_tests` | the program's status, and what it writes |
 #![tactic(auto)]
 
@@ -55,6 +56,8 @@ mod history_tests;
 mod large_tests;
 #[cfg(test)]
 mod limit_tests;
+#[cfg(test)]
+mod memory_tests;
 #[cfg(test)]
 mod program_tests;
 #[cfg(test)]
