@@ -25,7 +25,6 @@
 //! | `attest_tests` | lines that a report attests, and reports of other runs |
 //! | `run_tests` | texts run by threads, with their lines or their fault |
 //! | `wait_tests` | texts run by threads that go on only by the right wait, or by none |
-//! | `gate_tests` | a run in which two combinations wait for a third |
 //! | `memory_tests` | a run in which memory may be refused |
 //! | `program_tests` | the program's status, and what it writes |
 #![tactic(auto)]
@@ -48,8 +47,6 @@ mod fakes;
 mod fault_tests;
 #[cfg(test)]
 mod faults;
-#[cfg(test)]
-mod gate_tests;
 #[cfg(test)]
 mod history_tests;
 #[cfg(test)]
