@@ -1,0 +1,53 @@
+//! A job in which each allocation of each of the engine's calls is refused in turn.
+//!
+//! A refusal is to change nothing that can be seen, to hand back what was handed in, and to leave the call free to be made
+//! again. The job is made twice: where memory is ample, and where the process has none but what the job is given, a little
+//! more at each attempt.
+//!
+//! | Module | Has |
+//! |---|---|
+//! | `requests` | what the members ask for, what they give, and what they are to get |
+//! | `calls` | the calls of the job |
+//! | `hoard` | `Hoard`, nearly all memory that the process can have |
+//! | `memory` | `Memory`, what a call is granted |
+//! | `flaw` | `Flaw`, what a call did otherwise than it is to |
+//! | `seen` | `Seen`, what a refusal is to leave as it was |
+//! | `driver` | `Driver`, an engine that makes the calls |
+
+mod calls;
+mod driver;
+mod flaw;
+mod hoard;
+mod memory;
+mod requests;
+mod seen;
+
+use calls::JOB;
+use driver::{Driver, Refusals};
+use std::test::Fail;
+
+/// `rt try --test --fail-alloc N` refuses its Nth allocation.
+#[test]
+fn growth_of_a_job(rt: HostRuntime) -> Result<(), Fail> {
+    let mut driver = Driver::open(rt.alloc())?;
+    assert_eq!(rt; driver.first_misfit(JOB), None);
+    Ok(())
+}
+
+/// Under `rt try` memory can't be used up, so the test fails there.
+#[test]
+fn each_growth_refused_in_core(rt: HostRuntime) -> Result<(), Fail> {
+    let mut driver = Driver::open(rt.alloc())?;
+    assert!(rt; driver.use_up()?, "memory can't be used up");
+    assert_eq!(rt; driver.first_misfit(JOB), None);
+    let Refusals {
+        posts,
+        inits,
+        starts,
+        steps,
+        combinations,
+    } = driver.refusals();
+    assert!(rt; posts > 0 && inits > 0 && starts > 0);
+    assert!(rt; steps > 0 && combinations > 0);
+    Ok(())
+}
