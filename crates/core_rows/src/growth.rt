@@ -24,12 +24,13 @@ mod seen;
 
 use calls::JOB;
 use driver::{Driver, Refusals};
+use memory::Memory;
 use std::test::Fail;
 
 /// `rt try --test --fail-alloc N` refuses its Nth allocation.
 #[test]
 fn growth_of_a_job(rt: HostRuntime) -> Result<(), Fail> {
-    let mut driver = Driver::open(rt.alloc())?;
+    let mut driver = Driver::open(rt.alloc(), Memory::Ample)?;
     assert_eq!(rt; driver.first_misfit(JOB), None);
     Ok(())
 }
@@ -37,17 +38,19 @@ fn growth_of_a_job(rt: HostRuntime) -> Result<(), Fail> {
 /// Under `rt try` memory can't be used up, so the test fails there.
 #[test]
 fn each_growth_refused_in_core(rt: HostRuntime) -> Result<(), Fail> {
-    let mut driver = Driver::open(rt.alloc())?;
-    assert!(rt; driver.use_up()?, "memory can't be used up");
+    let memory = Memory::scarce(rt.alloc())?;
+    assert!(rt; memory.is_used_up(), "memory can't be used up");
+    let mut driver = Driver::open(rt.alloc(), memory)?;
     assert_eq!(rt; driver.first_misfit(JOB), None);
     let Refusals {
+        opens,
         posts,
         inits,
         starts,
         steps,
         combinations,
     } = driver.refusals();
-    assert!(rt; posts > 0 && inits > 0 && starts > 0);
-    assert!(rt; steps > 0 && combinations > 0);
+    assert!(rt; opens > 0 && posts > 0 && inits > 0);
+    assert!(rt; starts > 0 && steps > 0 && combinations > 0);
     Ok(())
 }

@@ -8,11 +8,12 @@ use crate::growth::seen::{Piece, REQUESTS, Seen};
 use coll_core::{Config, Core, DoneWork, Offer, Outcome, Stepped, Work};
 use coll_kinds::{Refusal, Refused, Ticket};
 use coll_plans::Plan;
-use std::alloc::{AllocError, Global};
+use std::alloc::Global;
 
 /// How often memory was refused, by the calls that it was refused to.
 #[derive(Clone, Copy, Debug)]
 pub struct Refusals {
+    pub opens: u32,
     pub posts: u32,
     pub inits: u32,
     pub starts: u32,
@@ -31,38 +32,62 @@ pub struct Driver {
     refusals: Refusals,
 }
 
-/// An engine of two ranks, with two communicators of both.
-fn open_core(alloc: Global) -> Result<Core, Refusal> {
+/// Two ranks, with two communicators of both.
+fn config(alloc: Global) -> Result<Config, Refusal> {
     let mut groups = Vec::new(alloc);
     groups.push(Vec::from_slice(alloc, &[0, 1])?)?;
     groups.push(Vec::from_slice(alloc, &[0, 1])?)?;
-    Core::open(
-        alloc,
-        Config {
-            ranks: 2,
-            groups,
-            slots: 8,
-            places: 4,
-            wear: 8,
-            starts: 4,
-            trace: 64,
-        },
-    )
+    Ok(Config {
+        ranks: 2,
+        groups,
+        slots: 8,
+        places: 4,
+        wear: 8,
+        starts: 4,
+        trace: 64,
+    })
+}
+
+/// A configuration, for which memory is granted.
+fn granted_config(alloc: Global, memory: &mut Memory) -> Result<Config, Refusal> {
+    let rest = memory.grant(alloc);
+    let made = match config(alloc) {
+        Ok(made) => Ok(made),
+        Err(_) => config(alloc),
+    };
+    memory.close(rest);
+    made
+}
+
+/// An engine, and how often memory was refused to its opening.
+fn open_core(alloc: Global, memory: &mut Memory) -> Result<(Core, u32), Flaw> {
+    let mut refusals: u32 = 0;
+    for attempt in 0..memory.attempts() {
+        let config = granted_config(alloc, memory)?;
+        let rest = memory.lend(alloc, attempt);
+        let made = open(alloc, config);
+        memory.close(rest);
+        match made {
+            Ok(core) => return Ok((core, refusals)),
+            Err(Refusal::NoMemory) => refusals = refusals.wrapping_add(1),
+            Err(why) => return Err(Flaw::Refused(why)),
+        }
+    }
+    Err(Flaw::Endless)
 }
 
 impl Driver {
-    /// Where memory is ample.
-    pub fn open(alloc: Global) -> Result<Driver, Refusal> {
-        let core = match open_core(alloc) {
-            Ok(core) => core,
-            Err(_) => open_core(alloc)?,
-        };
+    /// An engine that is opened, and then used, with so much memory.
+    pub fn open(alloc: Global, memory: Memory) -> Result<Driver, Flaw> {
+        let mut memory = memory;
+        let (core, opens) = open_core(alloc, &mut memory)?;
         Ok(Driver {
             alloc,
             core,
-            memory: Memory::Ample,
+            memory,
             tickets: [None; REQUESTS],
             refusals: Refusals {
+                opens,
                 posts: 0,
                 inits: 0,
                 starts: 0,
@@ -70,12 +95,6 @@ impl Driver {
                 combinations: 0,
             },
         })
-    }
-
-    /// Uses memory up. Answers whether that could be done.
-    pub fn use_up(&mut self) -> Result<bool, AllocError> {
-        self.memory = Memory::scarce(self.alloc)?;
-        Ok(self.memory.is_used_up())
     }
 
     /// How often memory was refused so far.
@@ -312,6 +331,10 @@ impl Driver {
 }
 
 // The calls of the core, with nothing that they promise: what they do is compared when the job runs.
+
+fn open(alloc: Global, config: Config) -> Result<Core, Refusal> {
+    Core::open(alloc, config)
+}
 
 fn post(core: &mut Core, part: Part, offer: Offer) -> Result<Ticket, Refused<Offer>> {
     core.post(part.member, part.comm(), offer)
