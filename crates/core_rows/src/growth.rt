@@ -8,7 +8,7 @@
 //! |---|---|
 //! | `requests` | what the members ask for, what they give, and what they are to get |
 //! | `calls` | the calls of the job |
-//! | `hoard` | `Hoard`, nearly all memory that the process can have |
+//! | `exhausted` | `Exhausted`, an address space of which nothing is granted |
 //! | `memory` | `Memory`, what a call is granted |
 //! | `flaw` | `Flaw`, what a call did otherwise than it is to |
 //! | `seen` | `Seen`, what a refusal is to leave as it was |
@@ -16,8 +16,8 @@
 
 mod calls;
 mod driver;
+mod exhausted;
 mod flaw;
-mod hoard;
 mod memory;
 mod requests;
 mod seen;
@@ -27,7 +27,7 @@ use driver::{Driver, Refusals};
 use memory::Memory;
 use std::test::Fail;
 
-/// `rt try --test --fail-alloc N` refuses its Nth allocation.
+/// Nothing is refused here but by `rt try --test --fail-alloc N`, which refuses the Nth allocation.
 #[test]
 fn growth_of_a_job(rt: HostRuntime) -> Result<(), Fail> {
     let mut driver = Driver::open(rt.alloc(), Memory::Ample)?;
@@ -35,11 +35,11 @@ fn growth_of_a_job(rt: HostRuntime) -> Result<(), Fail> {
     Ok(())
 }
 
-/// Under `rt try` memory can't be used up, so the test fails there.
+/// `rt try` runs tests over another heap, of which the address space can't be exhausted: this one fails there.
 #[test]
 fn each_growth_refused_in_core(rt: HostRuntime) -> Result<(), Fail> {
     let memory = Memory::scarce(rt.alloc())?;
-    assert!(rt; memory.is_used_up(), "memory can't be used up");
+    assert!(rt; memory.is_used_up(), "the address space can't be exhausted");
     let mut driver = Driver::open(rt.alloc(), memory)?;
     assert_eq!(rt; driver.first_misfit(JOB), None);
     let Refusals {

@@ -1,4 +1,4 @@
-use crate::growth::hoard::{Hoard, STEPS};
+use crate::growth::exhausted::{Exhausted, STEPS};
 use std::alloc::{AllocError, Global};
 
 /// What memory a call is granted.
@@ -7,20 +7,20 @@ pub enum Memory {
     /// As much as it asks for.
     Ample,
     /// None at the first attempt, and a little more at each that follows.
-    Scarce(Hoard),
+    Scarce(Exhausted),
 }
 
 impl Memory {
     /// Memory of which there is none beyond what is granted.
     pub fn scarce(alloc: Global) -> Result<Memory, AllocError> {
-        Ok(Memory::Scarce(Hoard::open(alloc)?))
+        Ok(Memory::Scarce(Exhausted::open(alloc)?))
     }
 
     /// Whether nothing is granted.
     pub fn is_used_up(&self) -> bool {
         match self {
             Memory::Ample => false,
-            Memory::Scarce(hoard) => hoard.is_full(),
+            Memory::Scarce(exhausted) => exhausted.is_full(),
         }
     }
 
@@ -41,7 +41,7 @@ impl Memory {
     pub fn lend(&mut self, alloc: Global, attempt: usize) -> Vec<u8> {
         match self {
             Memory::Ample => Vec::new(alloc),
-            Memory::Scarce(hoard) => hoard.lend(attempt),
+            Memory::Scarce(exhausted) => exhausted.lend(attempt),
         }
     }
 
@@ -49,7 +49,7 @@ impl Memory {
     pub fn close(&mut self, rest: Vec<u8>) {
         match self {
             Memory::Ample => drop(rest),
-            Memory::Scarce(hoard) => hoard.close(rest),
+            Memory::Scarce(exhausted) => exhausted.close(rest),
         }
     }
 
@@ -57,7 +57,7 @@ impl Memory {
     pub fn fill(&mut self) {
         match self {
             Memory::Ample => {}
-            Memory::Scarce(hoard) => hoard.fill(),
+            Memory::Scarce(exhausted) => exhausted.fill(),
         }
     }
 }

@@ -1,28 +1,28 @@
 use std::alloc::{AllocError, Global};
 
-/// The most blocks of a hoard.
+/// The most blocks that are taken.
 const BLOCKS: usize = 60_000;
 
-/// How many purses there are.
-const PURSES: usize = 1_000;
+/// How many reserves there are.
+const RESERVES: usize = 1_000;
 
-/// The bytes of a purse.
-const PURSE: usize = 32_768;
+/// The bytes of a reserve.
+const RESERVE: usize = 32_768;
 
-/// What one block less, or more, differs by: the least block that the C library's heap hands out.
-pub const STEP: usize = 32;
+/// The bytes of a step: the least block that the C library's heap hands out.
+const STEP: usize = 32;
 
-/// How many steps a purse has.
-pub const STEPS: usize = PURSE / STEP;
+/// How many steps a reserve has.
+pub const STEPS: usize = RESERVE / STEP;
 
-/// Nearly all memory that the process can have: its addresses are taken in blocks until none is granted any more, of whatever
-/// size. The blocks are never written, so they take up no more than their place. Some small ones, the purses, are given back
-/// one at a time: then that much is granted, and nothing beyond.
+/// The address space of the process, exhausted: blocks of it are taken until none is granted any more, of whatever size. They
+/// are never written, so they take up addresses and next to no memory. Some small ones, the reserves, are given back one at a
+/// time: then that much is granted, and nothing beyond.
 #[derive(Drop)]
-pub struct Hoard {
+pub struct Exhausted {
     alloc: Global,
     blocks: Vec<Vec<u8>>,
-    purses: Vec<Vec<u8>>,
+    reserves: Vec<Vec<u8>>,
 }
 
 /// Takes blocks of that size until one is refused or the list is full.
@@ -44,17 +44,17 @@ fn is_granted(alloc: Global, size: usize) -> bool {
     block.is_ok()
 }
 
-impl Hoard {
-    /// Takes all memory.
-    pub fn open(alloc: Global) -> Result<Hoard, AllocError> {
-        let mut hoard = Hoard {
+impl Exhausted {
+    /// Takes all addresses.
+    pub fn open(alloc: Global) -> Result<Exhausted, AllocError> {
+        let mut exhausted = Exhausted {
             alloc,
             blocks: Vec::with_capacity(alloc, BLOCKS)?,
-            purses: Vec::with_capacity(alloc, PURSES)?,
+            reserves: Vec::with_capacity(alloc, RESERVES)?,
         };
-        take_all(alloc, PURSE, &mut hoard.purses);
-        hoard.fill();
-        Ok(hoard)
+        take_all(alloc, RESERVE, &mut exhausted.reserves);
+        exhausted.fill();
+        Ok(exhausted)
     }
 
     /// Takes what there is, the greatest blocks first; the C library keeps a list for each small size, so each is tried.
@@ -71,25 +71,25 @@ impl Hoard {
 
     /// Whether nothing is granted.
     pub fn is_full(&self) -> bool {
-        !is_granted(self.alloc, 1) && !is_granted(self.alloc, PURSE)
+        !is_granted(self.alloc, 1) && !is_granted(self.alloc, RESERVE)
     }
 
-    /// Gives a purse back, and takes all of it again but so many steps. To be handed to `close`.
+    /// Gives a reserve back, and takes all of it again but so many steps. To be handed to `close`.
     pub fn lend(&mut self, steps: usize) -> Vec<u8> {
-        drop(self.purses.pop());
-        let rest = PURSE.saturating_sub(steps.saturating_mul(STEP));
+        drop(self.reserves.pop());
+        let rest = RESERVE.saturating_sub(steps.saturating_mul(STEP));
         match Vec::with_capacity(self.alloc, rest) {
             Ok(block) => block,
             Err(_) => Vec::new(self.alloc),
         }
     }
 
-    /// Takes all memory again. Where nothing of the purse was used it is a purse again.
+    /// Takes all addresses again. Where nothing of the reserve was used it is one again.
     pub fn close(&mut self, rest: Vec<u8>) {
         drop(rest);
-        match Vec::with_capacity(self.alloc, PURSE) {
-            Ok(purse) => {
-                let _ = self.purses.push(purse);
+        match Vec::with_capacity(self.alloc, RESERVE) {
+            Ok(reserve) => {
+                let _ = self.reserves.push(reserve);
             }
             Err(_) => self.fill(),
         }
