@@ -142,6 +142,7 @@ impl<L: Entries> Hall<L> {
     /// still, others go on. Else answers what the port may hope for, unless its request is Done.
     pub(crate) fn go(&self, held: Held<'_, L>, rank: u8, ticket: Ticket) -> Option<Hope> {
         let mut held = held;
+        self.do_asked(&mut *held.shared);
         do_at_once(&mut *held.shared);
         let called = self.prepare(&mut *held.shared);
         let next = next_holder(&self.doors, &*held.shared);
