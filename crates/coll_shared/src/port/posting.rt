@@ -96,11 +96,15 @@ impl<L: Entries> Port<L> {
     {
         let hall: &Hall<L> = &*self.hall;
         let mut held = hall.enter(rt);
-        let inited = held.shared.init(&mut self.tally, self.rank, comm, plan);
-        hall.release(held);
-        match inited {
-            Ok((ticket, receipt)) => Ok((Request::of(ticket), receipt)),
-            Err(refused) => Err(refused),
+        match held.shared.init(&mut self.tally, self.rank, comm, plan) {
+            Ok((ticket, receipt)) => {
+                hall.release(held);
+                Ok((Request::of(ticket), receipt))
+            }
+            Err(refused) => {
+                hall.release(held);
+                Err(refused)
+            }
         }
     }
 
