@@ -1,17 +1,20 @@
 //! The program `colljob` but for its `main`: from words and streams to an exit status, so that all of it can be tested.
-//! `plain` computes a job's values directly; `run` has it carried out by threads, with the same lines.
+//! `plain` computes a job's values directly; `run` has it carried out by threads, with the same lines. The text comes from
+//! a file or from standard input.
 //!
 //! | Module | Has |
 //! |---|---|
 //! | `machine` | `main_of`, which takes words and streams from the machine |
+//! | `opening` | opens the file that the words name |
 //! | `running` | `run`, which checks the words and does what they ask for |
 //! | `words` | `Task`, what the words of the command line ask for |
 #![tactic(auto)]
 
 mod machine;
+mod opening;
 mod running;
 mod words;
 
 pub use machine::main_of;
 pub use running::run;
-pub use words::Task;
+pub use words::{Task, Way};

@@ -1,13 +1,14 @@
 use crate::running::{run, told};
 use coll_job::JobFault;
+use std::fs::Files;
 use std::process::ExitCode;
 use std::sync::Wait;
 use std::thread::Threads;
 use std::{env, io};
 
-/// Runs the program on the machine's words and standard streams, and gives its exit status. `main` has the machine's
-/// threads, and passes itself for them.
-pub fn main_of<T: Threads + Wait + Sync>(rt: &HostRuntime, threads: &T) -> ExitCode {
+/// Runs the program on the machine's words, files and standard streams, and gives its exit status. The leave to start
+/// threads comes from `main`, which passes its runtime for it.
+pub fn main_of<M: Threads + Wait + Sync + Files>(rt: &HostRuntime, machine: &M) -> ExitCode {
     let alloc = rt.alloc();
     let stderr = rt.stderr();
     let mut errors = io::writer(&stderr);
@@ -16,11 +17,11 @@ pub fn main_of<T: Threads + Wait + Sync>(rt: &HostRuntime, threads: &T) -> ExitC
         return ExitCode::from(2);
     };
     let Ok(words) = words.collect::<Vec<String>>(alloc) else {
-        return ExitCode::from(told(JobFault::Memory, &mut errors));
+        return ExitCode::from(told(None, JobFault::Memory, &mut errors));
     };
     let mut input = rt.reader();
     let status = run(
-        threads,
+        machine,
         alloc,
         &words,
         &mut input,

@@ -1,23 +1,30 @@
-ghost use Rattle.std.specs.Prelude.{◌≡◌, ◌<◌, ◌≤◌};
+ghost use Rattle.std.specs.Prelude.{◌≡◌, ◌<◌, ◌≤◌, IfErr};
 ghost use Rattle.std.specs.Io.KnownBytes.{Keeps};
 ghost use Rattle.coll_job.specs.Faults.{status_of};
+ghost use Rattle.coll_program.specs.Tasks.{workers_of};
 
-use crate::words::{Task, task_of};
+use crate::opening::open_text;
+use crate::words::{Way, task_of};
 use clap::Error;
 use clap::error::ErrorKind;
 use coll_job::{Counted, JobFault, plain_job};
 use coll_run::threaded_job;
 use std::alloc::Global;
+use std::fs::Files;
 use std::io::{Read, Write};
 use std::sync::Wait;
 use std::thread::Threads;
 
-/// Does what the words of a command line ask for, the program's own name first: `colljob plain` reads a job text and
-/// writes its lines, `colljob run` has it carried out by `threads` and writes what they got. Answers the exit
-/// status. At a fault nothing is written to `output`, but at a write fault, and the fault's line goes to `errors`; where
-/// that fails too, nobody is left to be told.
-pub fn run<T: Threads + Wait + Sync, R: Read, W: Write, E: Write>(
-    threads: &T,
+/// The exit status where a file can't be opened: that of a read fault.
+const UNOPENED: u8 = 1;
+
+/// Does what the words of a command line ask for, the program's own name first: `colljob plain` writes the lines of a
+/// job text, `colljob run` has the text carried out by threads of `machine` and writes what they got. The text stands in
+/// the file of `machine` that the words name, or comes from `input`. Answers the exit status. At a fault nothing is
+/// written to `output`, but at a write fault, and the fault's line goes to `errors`; where that fails too, nobody is left
+/// to be told.
+pub fn run<M: Threads + Wait + Sync + Files, R: Read, W: Write, E: Write>(
+    machine: &M,
     alloc: Global,
     words: &[String],
     input: &mut R,
@@ -32,15 +39,38 @@ pub fn run<T: Threads + Wait + Sync, R: Read, W: Write, E: Write>(
         Ok(task) => task,
         Err(error) => return help(&error, output, errors),
     };
-    let answer = match task {
-        Task::Plain => plain_job(alloc, &mut Counted::new(input), output),
-        Task::Run { workers } => {
-            threaded_job(threads, alloc, workers, &mut Counted::new(input), output)
-        }
+    let answer = match task.file {
+        None => write_answer(machine, alloc, task.way, input, output),
+        Some(name) => match open_text(machine, name) {
+            Ok(mut file) => write_answer(machine, alloc, task.way, &mut file, output),
+            Err(error) => {
+                let _ = writeln!(errors, "{name}: {error}");
+                return UNOPENED;
+            }
+        },
     };
     match answer {
         Ok(()) => 0,
-        Err(fault) => told(fault, errors),
+        Err(fault) => told(task.file, fault, errors),
+    }
+}
+
+/// Reads a job text and writes its lines, found in the way that was asked for.
+fn write_answer<T: Threads + Wait + Sync, R: Read, W: Write>(
+    threads: &T,
+    alloc: Global,
+    way: Way,
+    text: &mut R,
+    output: &mut W,
+) -> Result<(), JobFault>
+    requires workers { workers_of way ≤ 8 }
+    ensures unwritten { IfErr result (λ fault. 1 < status_of fault → Keeps (W.contents output.old) (W.contents output.new)) }
+{
+    match way {
+        Way::Plain => plain_job(alloc, &mut Counted::new(text), output),
+        Way::Run { workers } => {
+            threaded_job(threads, alloc, workers, &mut Counted::new(text), output)
+        }
     }
 }
 
@@ -50,7 +80,7 @@ fn help<W: Write, E: Write>(error: &Error, output: &mut W, errors: &mut E) -> u8
     ensures unwritten { 1 < result → Keeps (W.contents output.old) (W.contents output.new) }
 {
     if error.kind() == ErrorKind::OutOfMemory {
-        return told(JobFault::Memory, errors);
+        return told(None, JobFault::Memory, errors);
     }
     if error.use_stderr() {
         let _ = write!(errors, "{error}");
@@ -58,14 +88,19 @@ fn help<W: Write, E: Write>(error: &Error, output: &mut W, errors: &mut E) -> u8
     }
     match write!(output, "{error}") {
         Ok(()) => 0,
-        Err(_) => told(JobFault::Write, errors),
+        Err(_) => told(None, JobFault::Write, errors),
     }
 }
 
-/// Tells a fault, and gives its exit status.
-pub fn told<E: Write>(fault: JobFault, errors: &mut E) -> u8
+/// Tells a fault, behind the name of the text's file, and gives its exit status. A write fault is none of that file.
+pub fn told<E: Write>(file: Option<&str>, fault: JobFault, errors: &mut E) -> u8
     ensures { result ≡ status_of fault }
 {
+    if let Some(name) = file {
+        if fault != JobFault::Write {
+            let _ = write!(errors, "{name}: ");
+        }
+    }
     let _ = fault.print(errors);
     fault.status()
 }

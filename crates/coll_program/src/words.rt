@@ -4,21 +4,33 @@ ghost use Rattle.std.specs.Prelude.{◌≤◌, IfOk};
 ghost use Rattle.coll_program.specs.Tasks.{workers_of};
 
 use clap::builder::ValueParser;
-use clap::{Arg, Command, Error};
+use clap::{Arg, ArgMatches, Command, Error};
 use std::alloc::{AllocError, Global};
 
-/// What the words of a command line ask for.
+/// What the words of a command line ask for: a job text's lines.
 #[derive(Clone, Copy, Debug, PartialEq, Eq)]
-pub enum Task {
-    /// The lines of a job text, each value computed directly.
+pub struct Task<'w> {
+    pub way: Way,
+    /// The file that has the text. Without one the text is read from standard input.
+    pub file: Option<&'w str>,
+}
+
+/// How the values of a job text are found.
+#[derive(Clone, Copy, Debug, PartialEq, Eq)]
+pub enum Way {
+    /// Each value is computed directly.
     Plain,
-    /// The lines of a job text that threads carried out, so many progress threads beside a thread for each rank.
+    /// Threads carry the text out: one for each rank, and `workers` progress threads beside them.
     Run { workers: u8 },
 }
 
 const MAX_WORKERS: u8 = 8;
 
 const WORKERS: u8 = 2;
+
+const FILE: &str = "file";
+
+const NAME: &str = "colljob";
 
 /// What stands below the help.
 const FORMAT: &str = "\
@@ -32,17 +44,17 @@ A job text begins so; docs/JOB_TEXT.md has the whole format:
   post 0 allreduce sum i32 1 : 3
 
 Its lines are `rank R req Q start S : VALUES`, here with the value 6 three times:
-  colljob run --workers 2 < examples/sum_of_three.job
+  colljob run --workers 2 examples/sum_of_three.job
 
-Exit status: 0 done; 1 read or write fault; 2 a fault of the text or of the words; 3 stalled;
-4 another refusal of the engine; 5 no memory, no thread, or a report that doesn't agree with the text.
-At a fault standard output stays empty, and one line on standard error tells it.";
+Exit status: 0 done; 1 a file can't be opened, read fault, write fault; 2 a fault of the text or of the words;
+3 stalled; 4 another refusal of the engine; 5 no memory, no thread, or a report that doesn't agree with the text.
+At a fault standard output stays empty, and one line on standard error tells it, behind the name of FILE.";
 
 /// The one command of the program, with its subcommands.
 fn command<'a>(alloc: Global) -> Result<Command<'a>, AllocError> {
-    let plain = Command::new(alloc, "plain").about(
-        "Reads a job text on standard input and writes the value of every post and start, computed directly",
-    );
+    let plain = Command::new(alloc, "plain")
+        .about("Writes the value of every post and start of a job text, each computed directly")
+        .arg(text_file(alloc))?;
     let workers = Arg::new(alloc, "workers")
         .long("workers")
         .value_name("W")
@@ -51,10 +63,13 @@ fn command<'a>(alloc: Global) -> Result<Command<'a>, AllocError> {
         .help("Progress threads beside a thread for each rank, 0 to 8");
     let run = Command::new(alloc, "run")
         .about(
-            "Has the text carried out by threads on one engine, and writes the values that they got",
+            "Has a job text carried out by threads on one engine, and writes the values that they got",
         )
-        .arg(workers)?;
-    Command::new(alloc, "colljob")
+        .arg(workers)?
+        .arg(text_file(alloc))?;
+    // The name in usage lines, whatever file the program was started from.
+    Command::new(alloc, NAME)
+        .bin_name(NAME)?
         .version("0.1.0")
         .about(
             "Answers job texts: MPI's nonblocking and persistent collectives of the ranks of a job",
@@ -65,18 +80,42 @@ fn command<'a>(alloc: Global) -> Result<Command<'a>, AllocError> {
         .subcommand(plain)
 }
 
+/// The word for a file.
+fn text_file<'a>(alloc: Global) -> Arg<'a> {
+    Arg::new(alloc, FILE).value_name("FILE").help(
+        "The job text; standard input where there is no FILE, or where it is -",
+    )
+}
+
 /// The task that the words name. Else the error has what a user is told.
-pub fn task_of(alloc: Global, words: &[String]) -> Result<Task, Error>
-    ensures { IfOk result (λ task. workers_of task ≤ 8) }
+pub fn task_of<'w>(alloc: Global, words: &'w [String]) -> Result<Task<'w>, Error>
+    ensures { IfOk result (λ task. workers_of task.way ≤ 8) }
 {
     let matches = command(alloc)?.try_get_matches_from(words)?;
-    Ok(match matches.subcommand_matches("run") {
-        Some(run) => Task::Run {
-            workers: run
-                .get_one::<u8>("workers")
-                .unwrap_or(WORKERS)
-                .min(MAX_WORKERS),
-        },
-        None => Task::Plain,
+    if let Some(run) = matches.subcommand_matches("run") {
+        let workers = run
+            .get_one::<u8>("workers")
+            .unwrap_or(WORKERS)
+            .min(MAX_WORKERS);
+        return Ok(Task {
+            way: Way::Run { workers },
+            file: file_of(run),
+        });
+    }
+    let file = match matches.subcommand_matches("plain") {
+        Some(plain) => file_of(plain),
+        None => None,
+    };
+    Ok(Task {
+        way: Way::Plain,
+        file,
     })
+}
+
+/// The file that the words behind a subcommand name.
+fn file_of<'w>(matches: &ArgMatches<'w>) -> Option<&'w str> {
+    match matches.get_str(FILE) {
+        Some("-") | None => None,
+        file => file,
+    }
 }

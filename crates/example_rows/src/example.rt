@@ -1,7 +1,7 @@
-use coll_program::run;
+use crate::answer::Answer;
 use std::alloc::Global;
-use std::fs;
-use std::io::{self, Cursor};
+use std::fs::{self, Files};
+use std::io;
 use std::sync::Wait;
 use std::thread::Threads;
 
@@ -14,17 +14,10 @@ const RUNS: [&[&str]; 3] = [
     &["run", "--workers", "8"],
 ];
 
-/// What a user sees: the exit status, standard output and standard error.
-#[derive(PartialEq, Drop)]
-struct Answer {
-    status: u8,
-    lines: Vec<u8>,
-    told: Vec<u8>,
-}
-
 /// A job text, and what is stored of its answers.
 #[derive(Drop)]
 pub struct Example {
+    file: String,
     text: Vec<u8>,
     plain: Answer,
     run: Answer,
@@ -34,74 +27,61 @@ impl Example {
     /// Reads the example of that name: `NAME.job`, and beside it `NAME.out` or `NAME.fault`. Where its run by threads
     /// stalls, the line of that stands in `NAME.run`.
     pub fn read(rt: &HostRuntime, name: &str) -> io::Result<Example> {
-        let text = fs::read(rt, format!(in rt.alloc(); "{name}.job")?)?;
+        let file = format!(in rt.alloc(); "{name}.job")?;
+        let text = fs::read(rt, file.as_str())?;
         let plain = plain_answer(rt, name)?;
         let run = match fs::read(rt, format!(in rt.alloc(); "{name}.run")?) {
-            Ok(told) => refused(rt, 3, told),
+            Ok(told) => Answer::of_fault(rt.alloc(), 3, told),
             Err(_) => plain_answer(rt, name)?,
         };
-        Ok(Example { text, plain, run })
+        Ok(Example {
+            file,
+            text,
+            plain,
+            run,
+        })
     }
 
-    /// Whether the text is answered as stored, computed directly and run by threads.
-    pub fn is_answered<T: Threads + Wait + Sync>(
+    /// Whether the text is answered as stored, computed directly and run by threads, from standard input and from its
+    /// file.
+    pub fn is_answered<M: Threads + Wait + Sync + Files>(
         &self,
-        threads: &T,
+        machine: &M,
         alloc: Global,
     ) -> io::Result<bool> {
-        if self.answer(threads, alloc, PLAIN)? != self.plain {
+        if Answer::to(machine, alloc, PLAIN, &self.text)? != self.plain {
             return Ok(false);
         }
         for words in RUNS {
-            if self.answer(threads, alloc, words)? != self.run {
+            if Answer::to(machine, alloc, words, &self.text)? != self.run {
                 return Ok(false);
             }
         }
-        Ok(true)
+        Ok(
+            self.is_answered_by_name(machine, alloc, "plain", &self.plain)?
+                && self.is_answered_by_name(machine, alloc, "run", &self.run)?,
+        )
     }
 
-    fn answer<T: Threads + Wait + Sync>(
+    /// Whether the word with the text's file behind it has that answer.
+    fn is_answered_by_name<M: Threads + Wait + Sync + Files>(
         &self,
-        threads: &T,
+        machine: &M,
         alloc: Global,
-        words: &[&str],
-    ) -> io::Result<Answer> {
-        let mut owned = Vec::new(alloc);
-        owned.push(String::from_str(alloc, "colljob")?)?;
-        for word in words {
-            owned.push(String::from_str(alloc, word)?)?;
-        }
-        let mut lines = Vec::new(alloc);
-        let mut told = Vec::new(alloc);
-        let mut input = Cursor::new(self.text.as_slice());
-        let status = run(threads, alloc, &owned, &mut input, &mut lines, &mut told);
-        Ok(Answer {
-            status,
-            lines,
-            told,
-        })
+        word: &str,
+        answer: &Answer,
+    ) -> io::Result<bool> {
+        let file = self.file.as_str();
+        Ok(Answer::to(machine, alloc, &[word, file], b"")? == answer.named(alloc, file)?)
     }
 }
 
 fn plain_answer(rt: &HostRuntime, name: &str) -> io::Result<Answer> {
     match fs::read(rt, format!(in rt.alloc(); "{name}.out")?) {
-        Ok(lines) => Ok(Answer {
-            status: 0,
-            lines,
-            told: Vec::new(rt.alloc()),
-        }),
+        Ok(lines) => Ok(Answer::of_lines(rt.alloc(), lines)),
         Err(_) => {
             let told = fs::read(rt, format!(in rt.alloc(); "{name}.fault")?)?;
-            Ok(refused(rt, 2, told))
+            Ok(Answer::of_fault(rt.alloc(), 2, told))
         }
-    }
-}
-
-/// A fault with that status.
-fn refused(rt: &HostRuntime, status: u8, told: Vec<u8>) -> Answer {
-    Answer {
-        status,
-        lines: Vec::new(rt.alloc()),
-        told,
     }
 }

@@ -1,17 +1,21 @@
 //! Answers the stored examples, directly and by threads: each job text of the folder that this program runs in, against
-//! the lines or the fault that are stored beside it. It prints one line for each text. Then it goes on as `colljob` does with
-//! its own words and standard input, which has a text with a fault: so it ends with the status for that, and writes no more.
+//! the lines or the fault that are stored beside it. It prints one line for each text, and then one for each text of
+//! `words/`, which the program prints of its own words. Then it goes on as `colljob` does with its own words and standard
+//! input, which has a text with a fault: so it ends with the status for that, and writes no more.
 #![tactic(auto)]
 
+mod answer;
 mod example;
+mod words;
 
 use coll_program::main_of;
 use example::Example;
-use std::fs::read_dir;
+use std::fs::{Files, read_dir};
 use std::io;
 use std::process::ExitCode;
 use std::sync::Wait;
 use std::thread::Threads;
+use words::{TEXTS, are_answered};
 
 fn main(rt: HostRuntime) -> ExitCode {
     match answer_all(&rt, &rt) {
@@ -20,20 +24,26 @@ fn main(rt: HostRuntime) -> ExitCode {
     }
 }
 
-/// Answers each example and prints a line for it.
-fn answer_all<T: Threads + Wait + Sync>(rt: &HostRuntime, threads: &T) -> anyhow::Result<()> {
+/// Answers each example and each stored text of the program's words, and prints a line for it.
+fn answer_all<M: Threads + Wait + Sync + Files>(
+    rt: &HostRuntime,
+    machine: &M,
+) -> anyhow::Result<()> {
     let mut names = names(rt)?;
     names.sort()?;
     for name in &names {
         let example = Example::read(rt, name)?;
-        let answer = if example.is_answered(threads, rt.alloc())? {
-            "as stored"
-        } else {
-            "otherwise"
-        };
-        println!(rt; "{name}: {answer}")?;
+        print(rt, name, example.is_answered(machine, rt.alloc())?)?;
+    }
+    for (text, words) in TEXTS {
+        print(rt, text, are_answered(rt, machine, text, words)?)?;
     }
     Ok(())
+}
+
+fn print(rt: &HostRuntime, name: &str, as_stored: bool) -> io::Result<()> {
+    let answer = if as_stored { "as stored" } else { "otherwise" };
+    println!(rt; "{name}: {answer}")
 }
 
 /// The names of the job texts, without their ending.

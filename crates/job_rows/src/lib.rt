@@ -23,6 +23,7 @@
 //! | `reading_tests` | how often a reader is read, and what its errors and a writer's come to |
 //! | `large_tests` | a job with many ranks, bytes and starts |
 //! | `attest_tests` | lines that a report attests, and reports of other runs |
+//! | `gate_tests` | a text whose combinations are held, so that threads are at work at one time |
 //! | `run_tests` | texts run by threads, with their lines or their fault |
 //! | `wait_tests` | texts run by threads that go on only by the right wait, or by none |
 //! | `memory_tests` | a run in which memory may be refused |
@@ -47,6 +48,8 @@ mod fakes;
 mod fault_tests;
 #[cfg(test)]
 mod faults;
+#[cfg(test)]
+mod gate_tests;
 #[cfg(test)]
 mod history_tests;
 #[cfg(test)]

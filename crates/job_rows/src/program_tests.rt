@@ -3,6 +3,7 @@
 use crate::run_tests::CROSSED_BARRIERS;
 use coll_program::run;
 use std::alloc::Global;
+use std::fs::Files;
 use std::io;
 use std::io::{Cursor, Write};
 use std::sync::Wait;
@@ -47,8 +48,8 @@ impl Write for Short {
 }
 
 /// What a user sees: the exit status, what went to standard output, and what to standard error.
-fn seen<T: Threads + Wait + Sync>(
-    threads: &T,
+fn seen<M: Threads + Wait + Sync + Files>(
+    machine: &M,
     alloc: Global,
     words: &[&str],
     text: &str,
@@ -61,7 +62,7 @@ fn seen<T: Threads + Wait + Sync>(
     let mut output = Short::new(alloc, room);
     let mut errors = Short::new(alloc, 4096);
     let status = run(
-        threads,
+        machine,
         alloc,
         &owned,
         &mut Cursor::new(text.as_bytes()),
@@ -112,12 +113,40 @@ fn a_stall(rt: HostRuntime) -> Result<(), Fail> {
     Ok(())
 }
 
+/// What stands for the text on the command line, and what is seen then.
+const FILES: [(&str, (u8, &str, &str)); 5] = [
+    ("-", (0, ITS_LINES, "")),
+    (
+        "no_such_file.job",
+        (
+            1,
+            "",
+            "no_such_file.job: No such file or directory (os error 2)\n",
+        ),
+    ),
+    ("", (1, "", ": No such file or directory (os error 2)\n")),
+    ("/", (1, "", "/: is a directory\n")),
+    ("/dev/null", (2, "", "/dev/null: line 1: missing ranks\n")),
+];
+
+#[test]
+fn files(rt: HostRuntime) -> Result<(), Fail> {
+    for word in ["plain", "run"] {
+        for (file, want) in FILES {
+            let words = ["colljob", word, file];
+            let (status, lines, told) = seen(&rt, rt.alloc(), &words, SUM_OF_TWO, 4096)?;
+            assert_eq!(rt; (status, lines.as_str(), told.as_str()), want, "at {file}");
+        }
+    }
+    Ok(())
+}
+
 #[test]
 fn words(rt: HostRuntime) -> Result<(), Fail> {
     let wrong: &[&[&str]] = &[
         &["colljob"],
         &["colljob", "plan"],
-        &["colljob", "plain", "x"],
+        &["colljob", "plain", "x", "y"],
         &["colljob", "plain", "--workers", "2"],
         &["colljob", "run", "--workers", "9"],
         &["colljob", "run", "--workers", "two"],
@@ -131,6 +160,7 @@ fn words(rt: HostRuntime) -> Result<(), Fail> {
         (&["colljob", "--help"], "Exit status"),
         (&["colljob", "run", "--help"], "--workers"),
         (&["colljob", "plain", "--help"], "standard input"),
+        (&["some/folder/program", "run", "--help"], "colljob run"),
         (&["colljob", "--version"], "colljob 0.1.0"),
     ];
     for (words, part) in helped {

@@ -1,0 +1,72 @@
+use coll_program::run;
+use std::alloc::Global;
+use std::fs::Files;
+use std::io::{self, Cursor};
+use std::sync::Wait;
+use std::thread::Threads;
+
+/// What a user sees: the exit status, standard output and standard error.
+#[derive(PartialEq, Drop)]
+pub struct Answer {
+    pub status: u8,
+    pub lines: Vec<u8>,
+    pub told: Vec<u8>,
+}
+
+impl Answer {
+    /// What the program answers to the words behind its name, with that text on standard input.
+    pub fn to<M: Threads + Wait + Sync + Files>(
+        machine: &M,
+        alloc: Global,
+        words: &[&str],
+        text: &[u8],
+    ) -> io::Result<Answer> {
+        let mut owned = Vec::new(alloc);
+        owned.push(String::from_str(alloc, "colljob")?)?;
+        for word in words {
+            owned.push(String::from_str(alloc, word)?)?;
+        }
+        let mut lines = Vec::new(alloc);
+        let mut told = Vec::new(alloc);
+        let mut input = Cursor::new(text);
+        let status = run(machine, alloc, &owned, &mut input, &mut lines, &mut told);
+        Ok(Answer {
+            status,
+            lines,
+            told,
+        })
+    }
+
+    /// The lines of a job.
+    pub fn of_lines(alloc: Global, lines: Vec<u8>) -> Answer {
+        Answer {
+            status: 0,
+            lines,
+            told: Vec::new(alloc),
+        }
+    }
+
+    /// A fault with that status.
+    pub fn of_fault(alloc: Global, status: u8, told: Vec<u8>) -> Answer {
+        Answer {
+            status,
+            lines: Vec::new(alloc),
+            told,
+        }
+    }
+
+    /// The same answer to a text that was named: a fault is told behind that name.
+    pub fn named(&self, alloc: Global, name: &str) -> io::Result<Answer> {
+        let mut told = Vec::new(alloc);
+        if !self.told.is_empty() {
+            told.extend_from_slice(name.as_bytes())?;
+            told.extend_from_slice(b": ")?;
+        }
+        told.extend_from_slice(&self.told)?;
+        Ok(Answer {
+            status: self.status,
+            lines: Vec::from_slice(alloc, &self.lines)?,
+            told,
+        })
+    }
+}

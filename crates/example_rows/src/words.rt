@@ -1,0 +1,37 @@
+use crate::answer::Answer;
+use std::fs::{self, Files};
+use std::io;
+use std::sync::Wait;
+use std::thread::Threads;
+
+/// Words of a command line, and the stored text of `words/` that they print. The script `colljob` answers them from it.
+pub const TEXTS: [(&str, &[&str]); 12] = [
+    ("help", &["--help"]),
+    ("help", &["-h"]),
+    ("help", &["help"]),
+    ("help_plain", &["plain", "--help"]),
+    ("help_plain", &["plain", "-h"]),
+    ("help_plain", &["help", "plain"]),
+    ("help_run", &["run", "--help"]),
+    ("help_run", &["run", "-h"]),
+    ("help_run", &["help", "run"]),
+    ("version", &["--version"]),
+    ("version", &["-V"]),
+    ("no_words", &[]),
+];
+
+/// Whether the words print the stored text: on standard output, or where no words stand on standard error.
+pub fn are_answered<M: Threads + Wait + Sync + Files>(
+    rt: &HostRuntime,
+    machine: &M,
+    text: &str,
+    words: &[&str],
+) -> io::Result<bool> {
+    let stored = fs::read(rt, format!(in rt.alloc(); "words/{text}")?)?;
+    let wanted = if words.is_empty() {
+        Answer::of_fault(rt.alloc(), 2, stored)
+    } else {
+        Answer::of_lines(rt.alloc(), stored)
+    };
+    Ok(Answer::to(machine, rt.alloc(), words, b"")? == wanted)
+}
