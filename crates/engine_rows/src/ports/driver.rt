@@ -121,13 +121,13 @@ impl<L: Entries> Driver<L> {
             Call::Made(rank) => self.made(rank),
             Call::Finish => self.finish(rt),
             Call::PutAside => self.put_aside(),
-            Call::Over(call) => self.complete(rt, call, 0, self.requests.len()),
-            Call::OverSome(call, from, count) => self.complete(rt, call, from, count),
-            Call::Stop => {
-                self.engine.stop(rt);
-                Ok(Answer::Accepted)
+            Call::Over(call) => {
+                let count = self.count();
+                self.complete(rt, call, 0, count)
             }
-            Call::Work => Ok(Answer::Worked(self.engine.work(rt, &NoGate)?)),
+            Call::OverSome(call, from, count) => self.complete(rt, call, from, count),
+            Call::Stop => Ok(self.stop(rt)),
+            Call::Work => self.work(rt),
         }
     }
 
@@ -251,6 +251,11 @@ impl<L: Entries> Driver<L> {
         Ok(answer)
     }
 
+    /// How many requests were numbered.
+    fn count(&self) -> usize {
+        self.requests.len()
+    }
+
     /// A call of rank 0 over some requests: from that number on, so many.
     fn complete<R: Wait>(
         &mut self,
@@ -302,6 +307,15 @@ impl<L: Entries> Driver<L> {
     fn put_aside(&mut self) -> Result<Answer, Refusal> {
         self.aside = self.ports.pop();
         Ok(Answer::Accepted)
+    }
+
+    fn stop<R: Wait>(&self, rt: &R) -> Answer {
+        self.engine.stop(rt);
+        Answer::Accepted
+    }
+
+    fn work<R: Wait>(&self, rt: &R) -> Result<Answer, Refusal> {
+        Ok(Answer::Worked(self.engine.work(rt, &NoGate)?))
     }
 
     /// Ends the ports that haven't, but the one that was put aside, and closes the engine.
