@@ -32,8 +32,8 @@ pub enum Act {
     WaitAll,
     /// Waits for some of the requests, of which just one must be Done.
     WaitSome,
-    /// Tests the request, a sum, until it is Done, at most so often; it must come to this.
-    TestSum(usize, u16, u32),
+    /// Tests the request, a sum, until it is Done, at most 10,000 times in 500 turns of 10 ms; it must come to this.
+    TestSum(usize, u16),
     /// Tests the request once, which mustn't be Done.
     TestPending(usize),
     /// Tests a null request so often.

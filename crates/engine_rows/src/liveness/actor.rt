@@ -13,6 +13,11 @@ use std::sync::Wait;
 use std::thread::yield_now;
 use std::time::Clock;
 
+/// How often a rank tests a request before it sleeps for a moment, at most so often.
+const TESTS: u32 = 20;
+
+const TURNS: u32 = 500;
+
 const SUM: Signature = Signature {
     kind: Kind::Allreduce,
     mode: Mode::Once,
@@ -109,13 +114,25 @@ impl<L: Entries, R: Wait + Clock> Actor<'_, L, R> {
         calls::test(self.site.rt, port, request)
     }
 
-    fn test_until(&mut self, number: usize, wanted: u16, most: u32) -> Result<bool, Refusal> {
-        for _test in 0..most {
+    /// Tests a request some times in a row. Answers its outcome, if it is done then.
+    fn test_some(&mut self, number: usize) -> Result<Option<Outcome>, Refusal> {
+        for _test in 0..TESTS {
             let outcome = self.test(number)?;
+            if outcome.is_some() {
+                return Ok(outcome);
+            }
+            yield_now();
+        }
+        Ok(None)
+    }
+
+    fn test_until(&mut self, number: usize, wanted: u16) -> Result<bool, Refusal> {
+        for _turn in 0..TURNS {
+            let outcome = self.test_some(number)?;
             if outcome.is_some() {
                 return Ok(is_number(&outcome, wanted));
             }
-            yield_now();
+            self.site.nap();
         }
         Ok(false)
     }
@@ -145,7 +162,7 @@ impl<L: Entries, R: Wait + Clock> Actor<'_, L, R> {
             Act::WaitAny(count, wanted) => self.wait_any(count, wanted),
             Act::WaitAll => self.wait_all(),
             Act::WaitSome => self.wait_some(),
-            Act::TestSum(number, wanted, most) => self.test_until(number, wanted, most),
+            Act::TestSum(number, wanted) => self.test_until(number, wanted),
             Act::TestPending(number) => Ok(self.test(number)?.is_none()),
             Act::TestNull(count) => self.test_null(count),
             Act::Until(event) => Ok(self.site.until(event)),

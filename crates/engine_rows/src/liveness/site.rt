@@ -81,9 +81,14 @@ impl<L: Entries, R: Wait + Clock> Site<'_, L, R> {
             if self.has_come(event) {
                 return true;
             }
-            let _ = thread::sleep(self.rt, Duration::from_millis(NAP_IN_MILLIS));
+            self.nap();
         }
         false
+    }
+
+    /// Sleeps between two looks.
+    pub fn nap(&self) {
+        let _ = thread::sleep(self.rt, Duration::from_millis(NAP_IN_MILLIS));
     }
 
     /// Holds the engine's lock until just so many ports have published an operation, for a bounded time. Answers whether they have.

@@ -16,9 +16,6 @@ use std::sync::Wait;
 use std::sync::ledger::Blank;
 use std::test::Fail;
 
-/// How often a rank tests at most.
-const TESTS: u32 = 10_000;
-
 /// How often a port is tested at most, where two are tested by turns.
 const TURNS: u32 = 8;
 
@@ -32,13 +29,13 @@ fn ranks_that_test_get_on(rt: HostRuntime) -> Result<(), Fail> {
                 Act::Sum(0, 1),
                 Act::Set(0),
                 Act::Until(Event::Mark(1)),
-                Act::TestSum(0, 3, TESTS),
+                Act::TestSum(0, 3),
             ],
             &[
                 Act::Sum(0, 2),
                 Act::Set(1),
                 Act::Until(Event::Mark(0)),
-                Act::TestSum(0, 3, TESTS),
+                Act::TestSum(0, 3),
             ],
         ],
         holds: &[],

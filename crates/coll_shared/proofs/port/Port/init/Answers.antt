@@ -11,6 +11,6 @@ returns-clause-receipt g c =
       | in-Ok w ↦
           let found = w.in-Ok.ensures.receipt in
           subst (λ m. IfOk m (λ r. IsInited c.args.self.now.rank r.0 c.args.comm c.args.plan.sig r.1)) (sym w.result-is)
-            (w.in-Ok.ticket, found.0, w.of.ensures, subst (λ p. w.in-Ok.receipt ≡ Inited p.rank w.in-Ok.ticket c.args.comm found.0 c.args.plan.sig) c.self.view_is found.1)
+          (w.in-Ok.ticket, found.0, w.of.ensures, subst (λ p. w.in-Ok.receipt ≡ Inited p.rank w.in-Ok.ticket c.args.comm found.0 c.args.plan.sig) c.self.view_is found.1)
       | in-Err w ↦ subst (λ m. IfOk m (λ r. IsInited c.args.self.now.rank r.0 c.args.comm c.args.plan.sig r.1)) (sym w.result-is) tt
     ]
