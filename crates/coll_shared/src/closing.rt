@@ -63,27 +63,32 @@ fn settle<L: Entries, R: Wait>(
     ensures back { IfErr result (λ refused. (refused.back.0 ≡ vacant) × (refused.back.1 ≡ spents)) }
     ensures refused { IfErr result (λ refused. IsClosing refused.why) }
 {
-    let mut shared = hall.enter(rt);
-    if let Some(why) = shared.objection(&spents) {
+    let mut held = hall.enter(rt);
+    if let Some(why) = held.shared.objection(&spents) {
+        hall.release(held);
         return Err(Refused {
             why,
             back: (vacant, spents),
         });
     }
     if spents.is_empty() {
+        hall.release(held);
         return Err(Refused {
             why: Refusal::Torn,
             back: (vacant, spents),
         });
     }
     let Some(mut all) = hall.parts(rt) else {
+        hall.release(held);
         return Err(Refused {
             why: Refusal::Torn,
             back: (vacant, spents),
         });
     };
     all.merge(merged(spents));
-    Ok(shared.take_report(vacant, &mut all))
+    let report = held.shared.take_report(vacant, &mut all);
+    hall.release(held);
+    Ok(report)
 }
 
 /// The shares of all ports as one.

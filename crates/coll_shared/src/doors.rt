@@ -2,77 +2,46 @@
 
 ghost use Rattle.std.specs.Prelude.{◌≡◌, IfErr};
 
+use crate::door::Door;
+use crate::ranks::{Ranks, bit};
 use coll_kinds::Refusal;
 use crossbeam_utils::CachePadded;
 use std::alloc::Global;
 use std::hint::spin_loop;
-use std::sync::Condvar;
+use std::sync::Wait;
 use std::sync::atomic::{AtomicU64, Ordering};
 use std::thread::yield_now;
 
-/// The places to wait: one for each rank's port, and one for progress threads. Those of ports lie on cache lines of their own,
-/// since each is looked at again and again while others are called.
+/// The places to wait: one for each rank's port, and one for progress threads; and what threads tell one another without the
+/// engine's lock.
 #[derive(Drop)]
 pub(crate) struct Doors {
-    ports: Vec<CachePadded<Condvar>>,
-    workers: Condvar,
+    ports: Vec<Door>,
+    workers: Door,
     /// How many progress threads there are.
     progress_threads: CachePadded<AtomicU64>,
-    /// How many ports linger without a note, and will look soon. They are counted only where there are progress threads.
+    /// How many progress threads sleep, or are about to.
+    idle: CachePadded<AtomicU64>,
+    /// How many threads sleep, ports' and progress threads.
+    sleepers: CachePadded<AtomicU64>,
+    /// The ranks whose ports are in a wait, haven't noted so under the lock, and will take the lock unless what they wait for is
+    /// completed for them. They are marked only where there are progress threads.
     hopeful: CachePadded<AtomicU64>,
     /// The ranks whose ports left something on their shelves for whoever has the engine's lock.
     asking: CachePadded<AtomicU64>,
     /// How many threads compute short combinations, and will have the engine's lock again soon.
     returning: CachePadded<AtomicU64>,
-}
-
-/// Some of an engine's ranks, of which there are 64 at most: a bit for each.
-#[derive(Clone, Copy, Debug, PartialEq, Eq)]
-pub(crate) struct Ranks(pub(crate) u64);
-
-fn bit(rank: u8) -> u64 {
-    1u64.wrapping_shl(u32::from(rank))
-}
-
-impl Ranks {
-    pub(crate) const NONE: Ranks = Ranks(0);
-
-    pub(crate) fn has(self, rank: u8) -> bool {
-        self.0 & bit(rank) != 0
-    }
-
-    /// These and the rank.
-    pub(crate) fn with(self, rank: u8) -> Ranks {
-        Ranks(self.0 | bit(rank))
-    }
-
-    /// These but the rank.
-    pub(crate) fn without(self, rank: u8) -> Ranks {
-        Ranks(self.0 & !bit(rank))
-    }
-
-    /// These and those.
-    pub(crate) fn or(self, others: Ranks) -> Ranks {
-        Ranks(self.0 | others.0)
-    }
-
-    pub(crate) fn is_empty(self) -> bool {
-        self.0 == 0
-    }
-
-    /// The lowest of them alone.
-    pub(crate) fn first(self) -> Ranks {
-        Ranks(self.0 & self.0.wrapping_neg())
-    }
+    /// The ranks whose ports were dropped unfinished, which nobody has noted yet.
+    departed: CachePadded<AtomicU64>,
 }
 
 /// How often a lingering thread looks in a row; before each later look it gives others a turn.
 const LOOKS: u32 = 10;
 
 /// Waits for a call at a door, and looks so often. `seen` is how many there were before. Answers whether there was another one.
-pub(crate) fn linger(door: &Condvar, seen: u64, looks: u32) -> bool {
+pub(crate) fn linger(door: &Door, seen: u64, looks: u32) -> bool {
     for round in 0..looks {
-        if door.notifications() != seen {
+        if door.calls() != seen {
             return true;
         }
         if round < LOOKS {
@@ -84,6 +53,10 @@ pub(crate) fn linger(door: &Condvar, seen: u64, looks: u32) -> bool {
     false
 }
 
+fn no_marks() -> CachePadded<AtomicU64> {
+    CachePadded::new(AtomicU64::new(0))
+}
+
 impl Doors {
     /// For so many ranks.
     pub(crate) fn open(alloc: Global, ranks: u8) -> Result<Doors, Refusal>
@@ -91,29 +64,44 @@ impl Doors {
     {
         let mut ports = Vec::with_capacity(alloc, usize::from(ranks))?;
         for _rank in 0..ranks {
-            ports.push(CachePadded::new(Condvar::new()))?;
+            ports.push(Door::new())?;
         }
         Ok(Doors {
             ports,
-            workers: Condvar::new(),
-            progress_threads: CachePadded::new(AtomicU64::new(0)),
-            hopeful: CachePadded::new(AtomicU64::new(0)),
-            asking: CachePadded::new(AtomicU64::new(0)),
-            returning: CachePadded::new(AtomicU64::new(0)),
+            workers: Door::new(),
+            progress_threads: no_marks(),
+            idle: no_marks(),
+            sleepers: no_marks(),
+            hopeful: no_marks(),
+            asking: no_marks(),
+            returning: no_marks(),
+            departed: no_marks(),
         })
     }
 
     /// The place of a rank's port.
-    pub(crate) fn of(&self, rank: u8) -> &Condvar {
+    pub(crate) fn of(&self, rank: u8) -> &Door {
         match self.ports.get(usize::from(rank)) {
             Some(door) => door,
             None => &self.workers,
         }
     }
 
-    /// The place of progress threads.
-    pub(crate) fn of_workers(&self) -> &Condvar {
-        &self.workers
+    /// Sleeps at a door until it is called; `seen` is how many calls there were before.
+    fn sleep_at<R: Wait>(&self, rt: &R, door: &Door, seen: u64) {
+        self.sleepers.fetch_add(1, Ordering::SeqCst);
+        door.sleep(rt, seen);
+        self.sleepers.fetch_sub(1, Ordering::SeqCst);
+    }
+
+    /// A port sleeps until it is called.
+    pub(crate) fn sleep<R: Wait>(&self, rt: &R, rank: u8, seen: u64) {
+        self.sleep_at(rt, self.of(rank), seen);
+    }
+
+    /// How many threads sleep.
+    pub(crate) fn sleepers(&self) -> u64 {
+        self.sleepers.load(Ordering::SeqCst)
     }
 
     /// Counts a progress thread.
@@ -126,27 +114,63 @@ impl Doors {
         self.progress_threads.fetch_sub(1, Ordering::SeqCst);
     }
 
-    /// A port begins to linger, and will look soon: progress threads are left asleep meanwhile. Answers whether there are any.
-    pub(crate) fn begin_hope(&self) -> bool {
+    /// A progress thread that has the lock is about to sleep. Answers how many calls there were.
+    pub(crate) fn begin_idle(&self) -> u64 {
+        self.idle.fetch_add(1, Ordering::SeqCst);
+        self.workers.calls()
+    }
+
+    /// It sleeps until one is called.
+    pub(crate) fn sleep_idle<R: Wait>(&self, rt: &R, seen: u64) {
+        self.sleep_at(rt, &self.workers, seen);
+    }
+
+    /// It is about to look again.
+    pub(crate) fn end_idle(&self) {
+        self.idle.fetch_sub(1, Ordering::SeqCst);
+    }
+
+    /// Whether a progress thread sleeps, or is about to.
+    pub(crate) fn has_idle(&self) -> bool {
+        self.idle.load(Ordering::SeqCst) != 0
+    }
+
+    /// Calls a progress thread.
+    pub(crate) fn call_worker(&self) {
+        self.workers.wake_one();
+    }
+
+    /// Calls all progress threads.
+    pub(crate) fn call_workers(&self) {
+        self.workers.wake_all();
+    }
+
+    /// A port in a wait begins to linger without a note. Answers whether it is marked.
+    pub(crate) fn begin_hope(&self, rank: u8) -> bool {
         let has_workers = self.progress_threads.load(Ordering::SeqCst) != 0;
         if has_workers {
-            self.hopeful.fetch_add(1, Ordering::SeqCst);
+            self.hopeful.fetch_or(bit(rank), Ordering::SeqCst);
         }
         has_workers
     }
 
-    /// It looks now; `counted` is what was answered when it began.
-    pub(crate) fn end_hope(&self, counted: bool) {
-        if counted {
-            self.hopeful.fetch_sub(1, Ordering::SeqCst);
+    /// It looks now; `marked` is what was answered when it began.
+    pub(crate) fn end_hope(&self, rank: u8, marked: bool) {
+        if marked {
+            self.hopeful.fetch_and(!bit(rank), Ordering::SeqCst);
         }
     }
 
-    /// Waits at a rank's door for a call, and looks so often; `seen` is how many there were before.
-    pub(crate) fn linger_in_hope(&self, rank: u8, seen: u64, looks: u32) {
-        let counted = self.begin_hope();
-        linger(self.of(rank), seen, looks);
-        self.end_hope(counted);
+    /// What these ports wait for was completed for them: they may go on without the lock.
+    pub(crate) fn end_hopes(&self, answered: Ranks) {
+        if !answered.is_empty() {
+            self.hopeful.fetch_and(!answered.0, Ordering::SeqCst);
+        }
+    }
+
+    /// Whether a port in a wait lingers without a note, and will take the lock.
+    pub(crate) fn has_hopeful(&self) -> bool {
+        self.hopeful.load(Ordering::SeqCst) != 0
     }
 
     /// A rank's port left something on its shelf.
@@ -160,6 +184,11 @@ impl Doors {
             return Ranks::NONE;
         }
         Ranks(self.asking.swap(0, Ordering::SeqCst))
+    }
+
+    /// How many ports left something on their shelves that nobody has looked at.
+    pub(crate) fn published(&self) -> u64 {
+        u64::from(Ranks(self.asking.load(Ordering::SeqCst)).count())
     }
 
     /// A thread gives the engine's lock up, to have it again soon.
@@ -177,15 +206,25 @@ impl Doors {
         self.returning.load(Ordering::SeqCst) != 0
     }
 
-    /// Calls a progress thread to go on with what is ready, unless a port lingers that will look soon.
-    pub(crate) fn call_worker(&self) {
-        if self.hopeful.load(Ordering::SeqCst) == 0 {
-            self.workers.notify_one();
+    /// A rank's port is dropped unfinished. All are called, so that one of them looks under the lock and notes it.
+    pub(crate) fn depart(&self, rank: u8) {
+        self.departed.fetch_or(bit(rank), Ordering::SeqCst);
+        for door in self.ports.iter() {
+            door.wake_all();
         }
+        self.call_workers();
     }
 
-    /// Calls the ports of these ranks.
-    pub(crate) fn call(&self, called: Ranks) {
+    /// The ranks whose ports were dropped unfinished since this was asked before.
+    pub(crate) fn departed(&self) -> Ranks {
+        if self.departed.load(Ordering::SeqCst) == 0 {
+            return Ranks::NONE;
+        }
+        Ranks(self.departed.swap(0, Ordering::SeqCst))
+    }
+
+    /// Calls the ports of these ranks, and wakes those of them that sleep.
+    pub(crate) fn call(&self, called: Ranks, parked: Ranks) {
         if called.is_empty() {
             return;
         }
@@ -193,8 +232,10 @@ impl Doors {
             if called.0 >> rank == 0 {
                 break;
             }
-            if called.has(rank) {
-                self.of(rank).notify_all();
+            if parked.has(rank) {
+                self.of(rank).wake_one();
+            } else if called.has(rank) {
+                self.of(rank).call();
             }
         }
     }

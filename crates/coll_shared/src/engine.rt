@@ -11,6 +11,7 @@ use crate::doors::Doors;
 use crate::gate::Gate;
 use crate::groups::copied_groups;
 use crate::hall::{Chore, Hall};
+use crate::inspect::Inspect;
 use crate::port::Port;
 use crate::shared::Shared;
 use crate::shelves::Shelves;
@@ -67,9 +68,29 @@ impl<L: Entries> Engine<L> {
     /// Lets progress threads end.
     pub fn stop<R: Wait>(&self, rt: &R) {
         let hall: &Hall<L> = &*self.hall;
-        let mut shared = hall.enter(rt);
-        shared.stop();
-        hall.call_all(shared);
+        let mut held = hall.enter(rt);
+        held.shared.stop();
+        hall.call_all(held);
+    }
+
+    /// How many threads sleep in the engine: waiting ports and progress threads. It is read without the lock.
+    pub fn sleepers(&self) -> u64 {
+        let hall: &Hall<L> = &*self.hall;
+        hall.sleepers()
+    }
+
+    /// How many ports have published a post, a start or a wait that no thread has served yet. It is read without the lock.
+    pub fn published(&self) -> u64 {
+        let hall: &Hall<L> = &*self.hall;
+        hall.published()
+    }
+
+    /// Looks at what lies under the lock, for tests and tools.
+    pub fn inspect<R: Wait, I: Inspect<L>>(&self, rt: &R, inspector: &mut I) {
+        let hall: &Hall<L> = &*self.hall;
+        let held = hall.enter(rt);
+        inspector.inspect(&*held.shared);
+        hall.release(held);
     }
 }
 

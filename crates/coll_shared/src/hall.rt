@@ -7,8 +7,14 @@
 //! waits for just one request says so on its shelf: whoever finishes that completes it for the port, which takes it from there
 //! without the lock. A port that finds the lock taken leaves a short post or a start on its shelf: whoever has the lock makes it
 //! before the lock is given up.
+//!
+//! Nobody waits for ever, since each way on which the lock is given up does the same: it makes what was left on shelves, completes or
+//! calls for those who wait for what is Done, tells a stall where all rest, and where a request is ready sees that somebody takes the
+//! lock once more (`leaving`).
 
+mod leaving;
 mod ordering;
+mod testing;
 mod waits;
 mod working;
 
@@ -16,8 +22,9 @@ ghost use Rattle.std.specs.Prelude.{◌≡◌, ◌+◌, IfErr, IfSome, IsNone, I
 ghost use Rattle.coll_shared.specs.Tests.{TestsOne};
 ghost use Rattle.coll_shared.specs.Wishes.{IsHindrance};
 
-use crate::doors::{Doors, Ranks, linger};
+use crate::doors::{Doors, linger};
 use crate::gate::Gate;
+use crate::held::Held;
 use crate::hope::Hope;
 use crate::lock::Lock;
 use crate::receipts::Receipts;
@@ -28,8 +35,8 @@ use crate::wish::Wish;
 use coll_complete::Request;
 use coll_core::{Outcome, Stepped};
 use coll_kinds::{Refusal, Ticket};
+use std::sync::Wait;
 use std::sync::ledger::Share;
-use std::sync::{Condvar, MutexGuard, Wait};
 pub(crate) use working::Chore;
 
 /// The one lock of an engine, and the places to wait.
@@ -66,7 +73,6 @@ fn advance<L: Entries>(shared: &mut Shared<L>) -> Progress
     ensures { IsOkUnless result.last Refusal.NoMemory }
 {
     let mut finished = false;
-    shared.settle(true);
     for _step in 0..STEPS {
         match shared.step() {
             Ok(Stepped::Moved) => {}
@@ -75,7 +81,6 @@ fn advance<L: Entries>(shared: &mut Shared<L>) -> Progress
                 finished = true;
             }
             Ok(Stepped::Quiet) => {
-                shared.settle(false);
                 return Progress {
                     finished,
                     last: Ok(Stepped::Quiet),
@@ -90,19 +95,16 @@ fn advance<L: Entries>(shared: &mut Shared<L>) -> Progress
     }
 }
 
-/// Does what can be done without a combination, at most so many steps. Answers whether no request is ready then. Where a step
-/// is refused memory the request stays ready, and who steps next is told.
-fn do_at_once<L: Entries>(shared: &mut Shared<L>) -> bool {
+/// Does what can be done without a combination, at most so many steps. Where a step is refused memory the request stays ready,
+/// and who steps next is told.
+fn do_at_once<L: Entries>(shared: &mut Shared<L>) {
     for _step in 0..STEPS {
         match shared.move_on() {
             Ok(Stepped::Moved) => {}
             Ok(Stepped::Finished) => shared.announce(),
-            _ => break,
+            _ => return,
         }
     }
-    let unsettled = shared.is_ready();
-    shared.settle(unsettled);
-    !unsettled
 }
 
 impl<L: Entries> Hall<L> {
@@ -116,70 +118,32 @@ impl<L: Entries> Hall<L> {
     }
 
     /// Takes the lock.
-    pub(crate) fn enter<R: Wait>(&self, rt: &R) -> MutexGuard<'_, Shared<L>> {
-        self.shared.enter(rt)
-    }
-
-    /// The ranks whose ports are to be called, since what they wait or hope for is the case now. Those that wait for one request
-    /// have it completed and left for them.
-    fn serve(&self, shared: &mut Shared<L>) -> Ranks {
-        let called = shared.fulfilled();
-        self.shelves.fill(called, shared);
-        called
-    }
-
-    /// Gives the lock up after requests were finished, and calls those who waited for them.
-    fn leave(&self, mut shared: MutexGuard<'_, Shared<L>>) {
-        self.do_asked(&mut *shared);
-        let called = self.serve(&mut *shared);
-        drop(shared);
-        self.doors.call(called);
-    }
-
-    /// Gives the lock up for good. Where requests are ready still, one who waits is called to go on with them, or else a
-    /// progress thread.
-    pub(crate) fn depart(&self, mut shared: MutexGuard<'_, Shared<L>>) {
-        self.do_asked(&mut *shared);
-        let called = self.serve(&mut *shared);
-        if !shared.is_unsettled() {
-            drop(shared);
-            self.doors.call(called);
-            return;
-        }
-        let next = shared.waiting().first();
-        drop(shared);
-        self.doors.call(called.or(next));
-        if next.is_empty() {
-            self.doors.call_worker();
+    pub(crate) fn enter<R: Wait>(&self, rt: &R) -> Held<'_, L> {
+        Held {
+            shared: self.shared.enter(rt),
         }
     }
 
-    /// Gives the lock up after a post or a start, once what can be done without a combination was done. Where requests are ready
-    /// still, others are called as in `hand_on`. Else answers what the port may hope for, unless its request is Done.
-    pub(crate) fn go(
-        &self,
-        mut shared: MutexGuard<'_, Shared<L>>,
-        rank: u8,
-        ticket: Ticket,
-    ) -> Option<Hope> {
-        self.do_asked(&mut *shared);
-        if !do_at_once(&mut *shared) {
-            self.hand_on(shared);
-            return None;
-        }
-        let hopes = shared.hope(rank, ticket);
-        let calls = self.doors.of(rank).notifications();
-        self.leave(shared);
-        if hopes {
-            Some(Hope { ticket, calls })
-        } else {
-            None
-        }
+    /// How many threads sleep.
+    pub(crate) fn sleepers(&self) -> u64 {
+        self.doors.sleepers()
+    }
+
+    /// How many ports left something on their shelves that nobody has looked at.
+    pub(crate) fn published(&self) -> u64 {
+        self.doors.published()
+    }
+
+    /// A rank's port is dropped unfinished: whoever has the lock next notes that it has ended.
+    pub(crate) fn depart(&self, rank: u8) {
+        self.doors.depart(rank);
     }
 
     /// Waits a while for what a port hopes for, without the lock.
     pub(crate) fn linger(&self, rank: u8, hope: Hope) {
-        self.doors.linger_in_hope(rank, hope.calls, HOPES);
+        let marked = self.doors.begin_hope(rank);
+        linger(self.doors.of(rank), hope.calls, HOPES);
+        self.doors.end_hope(rank, marked);
     }
 
     /// The same for a port that wants nothing else: who finishes the request completes it for the port.
@@ -196,11 +160,14 @@ impl<L: Entries> Hall<L> {
         ensures none { IsNone result → (request.new ≡ request.old) × (mine.new ≡ mine.old) }
     {
         // who called already has gone by, and completes nothing for the port
-        if self.doors.of(rank).notifications() != hope.calls {
+        if self.doors.of(rank).calls() != hope.calls {
             return None;
         }
+        // marked first: once the request is completed for the port, that takes the mark away
+        let marked = self.doors.begin_hope(rank);
         self.shelves.ask(rt, rank, hope.ticket);
-        self.linger(rank, hope);
+        linger(self.doors.of(rank), hope.calls, HOPES);
+        self.doors.end_hope(rank, marked);
         self.shelves.collect(rt, mine, rank, request)
     }
 
@@ -209,30 +176,6 @@ impl<L: Entries> Hall<L> {
         ensures { IfSome result (λ parts. (parts.parts ≡ L.ranks) × (parts.amount ≡ 0)) }
     {
         self.shelves.parts(rt)
-    }
-
-    /// Gives the lock up to compute a combination, while requests may be ready still: calls those whose wish is fulfilled,
-    /// and one who sleeps to go on with what is ready, or a progress thread where no port waits.
-    fn hand_on(&self, mut shared: MutexGuard<'_, Shared<L>>) {
-        self.do_asked(&mut *shared);
-        let called = self.serve(&mut *shared);
-        let waiting = shared.waiting();
-        let asleep = shared.has_sleepers();
-        drop(shared);
-        self.doors.call(called);
-        if asleep {
-            self.doors.call(waiting.first());
-        } else if waiting.is_empty() {
-            self.doors.call_worker();
-        }
-    }
-
-    /// Gives the lock up, and calls all who wait.
-    pub(crate) fn call_all(&self, mut shared: MutexGuard<'_, Shared<L>>) {
-        let called = shared.waiting();
-        drop(shared);
-        self.doors.call(called);
-        self.doors.of_workers().notify_all();
     }
 
     /// A progress thread begins.
@@ -252,53 +195,61 @@ impl<L: Entries> Hall<L> {
     ///
     /// NoMemory of a step, of a combination, which is given back, or of the note of a list that names a request twice;
     /// Stale where a result isn't wanted any longer; Stalled where it would sleep and nothing can go on any more.
-    fn go_on<R: Wait, G: Gate>(
-        &self,
+    fn go_on<'a, R: Wait, G: Gate>(
+        &'a self,
         rt: &R,
         gate: &G,
-        mut shared: MutexGuard<'_, Shared<L>>,
+        held: Held<'a, L>,
         rank: u8,
         wish: Wish<'_>,
         looks: u32,
     ) -> Result<u32, Refusal>
         ensures { IfErr result IsHindrance }
     {
-        let Progress { finished, last } = advance(&mut *shared);
+        let mut held = held;
+        let Progress { finished, last } = advance(&mut *held.shared);
         match last {
-            Ok(Stepped::Quiet) if !finished => self.rest(rt, shared, rank, wish, looks),
+            Ok(Stepped::Quiet) if !finished => self.rest(rt, held, rank, wish, looks),
             Ok(Stepped::Out(work)) => {
-                self.carry_out(rt, gate, shared, work)?;
+                self.carry_out(rt, gate, held, work)?;
                 Ok(0)
             }
             Ok(_) => {
-                self.leave(shared);
+                self.leave(held);
                 Ok(0)
             }
             Err(why) => {
-                self.call_all(shared);
+                self.call_all(held);
                 Err(why)
             }
         }
     }
 
     /// Waits for a wish, if it needs to: lingers, or sleeps where it lingered before.
-    fn rest<R: Wait>(
-        &self,
+    fn rest<'a, R: Wait>(
+        &'a self,
         rt: &R,
-        mut shared: MutexGuard<'_, Shared<L>>,
+        held: Held<'a, L>,
         rank: u8,
         wish: Wish<'_>,
         looks: u32,
     ) -> Result<u32, Refusal>
         ensures { IfErr result IsHindrance }
     {
-        match shared.note_for(rank, wish) {
+        let mut held = held;
+        match held.shared.note_for(rank, wish) {
             Ok(true) => {}
-            Ok(false) => return Ok(0),
-            Err(why) => return Err(why),
+            Ok(false) => {
+                self.leave(held);
+                return Ok(0);
+            }
+            Err(why) => {
+                self.release(held);
+                return Err(why);
+            }
         }
-        if !shared.lie_down(rank) {
-            self.call_all(shared);
+        if !held.shared.lie_down(rank) {
+            self.call_all(held);
             return Err(Refusal::Stalled);
         }
         if let Wish::One(request) = wish {
@@ -306,15 +257,15 @@ impl<L: Entries> Hall<L> {
                 self.shelves.ask(rt, rank, ticket);
             }
         }
-        let door = self.doors.of(rank);
+        let seen = self.doors.of(rank).calls();
         if looks == 0 {
-            let seen = door.notifications();
-            drop(shared);
-            return Ok(if linger(door, seen, YIELDS) { 0 } else { 1 });
+            self.leave(held);
+            let called = linger(self.doors.of(rank), seen, YIELDS);
+            return Ok(if called { 0 } else { 1 });
         }
-        shared.fall_asleep();
-        let mut shared = door.wait(rt, shared);
-        shared.wake_up();
+        if self.leave_to_sleep(held, rank) {
+            self.doors.sleep(rt, rank, seen);
+        }
         Ok(0)
     }
 }

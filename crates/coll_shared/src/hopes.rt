@@ -2,7 +2,7 @@
 
 ghost use Rattle.std.specs.Prelude.{◌≡◌, IfErr};
 
-use crate::doors::Ranks;
+use crate::ranks::Ranks;
 use coll_core::{Core, Phase};
 use coll_kinds::{Refusal, Ticket};
 use std::alloc::Global;

@@ -10,10 +10,14 @@
 //! | `spaces` | `Spaces`, memory for the outcomes of live requests |
 //! | `recent` | `Recent`, long bytes that further entries can share |
 //! | `gate` | `Gate`, which may hold a thread up before and after a combination |
-//! | `doors` | `Doors`, where threads wait to be called |
+//! | `ranks` | `Ranks`, some of an engine's ranks |
+//! | `door` | `Door`, where a thread waits to be called |
+//! | `inspect` | `Inspect`, what looks at an engine under its lock |
+//! | `doors` | `Doors`, those of all threads |
 //! | `hopes` | `Hopes`, which requests ports hope to find Done before they look |
 //! | `hope` | `Hope`, what a port that just posted may wait for without the lock |
 //! | `lock` | `Lock`, a lock that is taken by who may wait alone |
+//! | `held` | `Held`, the lock while a thread has it |
 //! | `hall` | `Hall`, the lock round it, and what is done while a thread has or wants it |
 //! | `kept` | `Kept`, what a post or a start keeps |
 //! | `plans` | `Plans`, those that a port made last |
@@ -37,13 +41,16 @@
 mod balance;
 mod bed;
 mod closing;
+mod door;
 mod doors;
 mod engine;
 mod gate;
 mod groups;
 mod hall;
+mod held;
 mod hope;
 mod hopes;
+mod inspect;
 mod kept;
 mod lock;
 mod notes;
@@ -52,6 +59,7 @@ mod parcel;
 mod plans;
 mod port;
 mod post_order;
+mod ranks;
 mod receipt;
 mod receipts;
 mod recent;
@@ -70,6 +78,7 @@ mod wish;
 pub use closing::close;
 pub use engine::{Engine, open};
 pub use gate::{Gate, NoGate};
+pub use inspect::Inspect;
 pub use kept::Kept;
 pub use port::Port;
 pub use receipt::Receipt;

@@ -6,7 +6,7 @@ ghost use Rattle.coll_shared.specs.Stalls.{Rests};
 ghost use Rattle.coll_shared.specs.Wishes.{tickets_in};
 
 use crate::bed::Bed;
-use crate::doors::Ranks;
+use crate::ranks::Ranks;
 use crate::rest::Rest;
 use coll_complete::Request;
 use coll_core::Core;
@@ -20,8 +20,10 @@ use std::marker::Model;
 pub(crate) struct Notes {
     slots: u32,
     beds: Vec<Bed>,
-    /// Ranks, with all among them whose ports sleep.
+    /// The ranks whose ports wait.
     asleep: Ranks,
+    /// The ranks whose ports have ended.
+    ended: Ranks,
 }
 
 impl Model for Notes {
@@ -57,6 +59,7 @@ impl Notes {
             slots,
             beds,
             asleep: Ranks::NONE,
+            ended: Ranks::NONE,
         })
     }
 
@@ -65,11 +68,8 @@ impl Notes {
         ensures notes { self.new.notes ≡ slice_set self.old.notes rank (note_of rest []) }
         ensures slots { self.new.slots ≡ self.old.slots }
     {
-        self.asleep = if rest.is_asleep() {
-            self.asleep.with(rank)
-        } else {
-            self.asleep.without(rank)
-        };
+        self.asleep = self.asleep.set(rank, rest.is_asleep());
+        self.ended = self.ended.set(rank, matches!(rest, Rest::Ended));
         if (rank as usize) < self.beds.len() {
             self.beds[rank as usize].put(rest);
         }
@@ -87,9 +87,11 @@ impl Notes {
         ensures longer { OnErr result (self.old.slots < length (tickets_in requests.now)) }
         ensures err { OnErr result (self.new.notes ≡ slice_set self.old.notes rank Awake) }
     {
-        self.asleep = self.asleep.with(rank);
         if (rank as usize) < self.beds.len() {
-            return self.beds[rank as usize].put_list(rank, requests);
+            let noted = self.beds[rank as usize].put_list(rank, requests);
+            self.asleep = self.asleep.set(rank, noted.is_ok());
+            self.ended = self.ended.without(rank);
+            return noted;
         }
         Ok(())
     }
@@ -117,8 +119,13 @@ impl Notes {
         called
     }
 
-    /// Ranks, with all among them whose ports sleep.
+    /// The ranks whose ports wait.
     pub(crate) fn sleeping(&self) -> Ranks {
         self.asleep
+    }
+
+    /// Whether each port waits or has ended, whether or not what it waits for is the case: where not, `all_rest` needn't be asked.
+    pub(crate) fn are_all_noted(&self) -> bool {
+        self.asleep.or(self.ended).count() as usize == self.beds.len()
     }
 }

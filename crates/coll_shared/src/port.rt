@@ -25,7 +25,6 @@ use std::sync::{Arc, Wait};
 
 /// A rank's way into the engine. It may move to a thread of its own. Contracts see its rank, how many entries it made,
 /// and the communicators.
-#[derive(Drop)]
 pub struct Port<L: Entries> {
     alloc: Global,
     hall: Arc<Hall<L>>,
@@ -115,15 +114,35 @@ impl<L: Entries> Port<L> {
         ensures { result ≡ (self.rank, self.made) }
     {
         let Port {
+            alloc: _,
             hall,
             rank,
+            groups: _groups,
+            plans: _plans,
+            hope: _,
             tally,
-            ..
         } = self;
         let hall: &Hall<L> = &*hall;
-        let mut shared = hall.enter(rt);
-        shared.note(rank, Rest::Ended);
-        hall.call_all(shared);
+        let mut held = hall.enter(rt);
+        held.shared.note(rank, Rest::Ended);
+        hall.release(held);
         Spent::new(rank, tally)
+    }
+}
+
+/// A port that is let go unfinished ends too, so that no other waits for it for ever; its engine can't be closed any longer.
+impl<L: Entries> Drop for Port<L> {
+    fn drop(self) {
+        let Port {
+            alloc: _,
+            hall,
+            rank,
+            groups: _groups,
+            plans: _plans,
+            hope: _,
+            tally: _tally,
+        } = self;
+        let hall: &Hall<L> = &*hall;
+        hall.depart(rank);
     }
 }

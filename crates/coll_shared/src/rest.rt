@@ -14,7 +14,7 @@ pub(crate) enum Rest {
 }
 
 impl Rest {
-    /// Whether the port sleeps.
+    /// Whether the port waits.
     pub(crate) fn is_asleep(self) -> bool {
         matches!(self, Rest::ForOne { .. } | Rest::ForAny { .. })
     }

@@ -21,6 +21,7 @@ ghost use Rattle.coll_shared.specs.Notes.{Awake};
 use crate::groups::copied_config;
 use crate::hopes::Hopes;
 use crate::notes::Notes;
+use crate::ranks::Ranks;
 use crate::recent::Recent;
 use crate::spaces::Spaces;
 use crate::tally::Entries;
@@ -45,9 +46,8 @@ pub struct Shared<L: Entries> {
     hopes: Hopes,
     stalled: bool,
     stopped: bool,
-    unsettled: bool,
+    parked: Ranks,
     news: bool,
-    sleepers: u32,
     pieces: u64,
 }
 
@@ -104,9 +104,8 @@ impl<L: Entries> Shared<L> {
             hopes,
             stalled: false,
             stopped: false,
-            unsettled: false,
+            parked: Ranks::NONE,
             news: false,
-            sleepers: 0,
             pieces: 0,
         })
     }

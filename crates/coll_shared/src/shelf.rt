@@ -164,25 +164,27 @@ impl<L: Entries> Shelf<L> {
         self.wanted = Some(ticket);
     }
 
-    /// Completes the request that the port of the rank waits for, if it is Done, and leaves it here.
-    pub(crate) fn fill(&mut self, shared: &mut Shared<L>, rank: u8) {
+    /// Completes the request that the port of the rank waits for, if it is Done, and leaves it here. Answers whether it did.
+    pub(crate) fn fill(&mut self, shared: &mut Shared<L>, rank: u8) -> bool {
         let Some(ticket) = self.wanted else {
-            return;
+            return false;
         };
         if self.parcel.is_some() {
-            return;
+            return false;
         }
         let Some(tally) = &mut self.tally else {
-            return;
+            return false;
         };
         let mut request = Request::of(ticket);
         let Ok(Some((outcome, _receipts))) = shared.fulfil(tally, rank, &mut request) else {
-            return;
+            return false;
         };
-        if let Some(outcome) = outcome {
-            self.wanted = None;
-            self.parcel = Some(Parcel::new(rank, ticket, request, outcome));
-        }
+        let Some(outcome) = outcome else {
+            return false;
+        };
+        self.wanted = None;
+        self.parcel = Some(Parcel::new(rank, ticket, request, outcome));
+        true
     }
 
     /// What was left here of the request, if anything was, with the entry counted at the port. The port doesn't wait here any

@@ -4,8 +4,8 @@ ghost use Rattle.std.specs.Prelude.{◌≡◌, ◌+◌, ◌<◌, IfErr, IfSome, 
 ghost use Rattle.coll_shared.specs.Ports.{IsPosted, IsStarted};
 ghost use Rattle.coll_shared.specs.Tests.{TestsOne};
 
-use crate::doors::Ranks;
 use crate::order::Order;
+use crate::ranks::Ranks;
 use crate::receipt::Receipt;
 use crate::receipts::Receipts;
 use crate::shared::Shared;
@@ -114,9 +114,10 @@ impl<L: Entries> Shelves<L> {
         }
     }
 
-    /// What others completed of these ranks' requests is left for them. A shelf that its port has is passed over: the port will
-    /// look under the engine's lock.
-    pub(crate) fn fill(&self, ranks: Ranks, shared: &mut Shared<L>) {
+    /// Completes what these ranks wait for, and leaves it for them. Answers for whom. A shelf that its port has is passed over: the
+    /// port will look under the engine's lock.
+    pub(crate) fn fill(&self, ranks: Ranks, shared: &mut Shared<L>) -> Ranks {
+        let mut answered = Ranks::NONE;
         for rank in 0..64u8 {
             if ranks.0 >> rank == 0 {
                 break;
@@ -126,10 +127,13 @@ impl<L: Entries> Shelves<L> {
             }
             if let Some(shelf) = self.shelves.get(usize::from(rank)) {
                 if let Some(mut shelf) = shelf.try_lock() {
-                    shelf.fill(shared, rank);
+                    if shelf.fill(shared, rank) {
+                        answered = answered.with(rank);
+                    }
                 }
             }
         }
+        answered
     }
 
     /// The outcome of a port's request, if another thread completed it; the port waits here no longer.

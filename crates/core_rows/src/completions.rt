@@ -124,9 +124,19 @@ fn bad_lists(rt: HostRuntime) -> Result<(), Fail> {
             alloc,
             Call::Start,
             &list,
-            (halted, &[(0, 1), (1, 1)], &list)
+            (halted, &[(0, 1), (1, 2)], &list)
         )?
     );
+    Ok(())
+}
+
+#[test]
+fn another_ranks_ticket(rt: HostRuntime) -> Result<(), Fail> {
+    let list = [Made::Foreign];
+    let refused = Answer::Refused(Refusal::NotYours);
+    for call in [Call::Test, Call::Free] {
+        assert!(rt; holds(rt.alloc(), call, &list, (refused, &[], &list))?);
+    }
     Ok(())
 }
 
@@ -173,7 +183,7 @@ fn start_all_halts(rt: HostRuntime) -> Result<(), Fail> {
             alloc,
             Call::Start,
             &list,
-            (halted, &[(0, 0), (1, 1)], &pending)
+            (halted, &[(0, 0), (1, 2)], &pending)
         )?
     );
     let list = [Made::Idle, Made::Idle];

@@ -14,6 +14,7 @@
 //! | `value_rows` | such values of small jobs, and all members' at once |
 //! | `job_tests` | random jobs, each outcome compared with the value computed directly |
 //! | `rows` | worked rows, each answer compared with the one that must come |
+//! | `growth` | a job in which each allocation is refused in turn |
 //! | `completions` | the same of completion calls |
 //! | `plans` | actions, schedules, and plans of all collectives, carried out in lock-step, with their numbers of messages |
 #![tactic(auto)]
@@ -22,6 +23,8 @@
 mod arena;
 #[cfg(test)]
 mod completions;
+#[cfg(test)]
+mod growth;
 #[cfg(test)]
 mod job;
 #[cfg(test)]

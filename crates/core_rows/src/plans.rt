@@ -6,6 +6,7 @@
 //! | `schedule_tests` | which schedules of one member are accepted, and what a schedule tells |
 //! | `lock_step` | runs all members of a family in lock-step |
 //! | `family_tests` | each family's outcomes and messages |
+//! | `tree_tests` | the builders of binomial trees by themselves |
 //! | `exchange_tests` | how many rounds have a Send or a Recv, and what long bcasts and allreduces carry |
 //! | `round_tests` | the rounds of a barrier and of a scan |
 //! | `direct_tests` | the builders of direct exchanges |
@@ -17,3 +18,4 @@ mod family_tests;
 mod lock_step;
 mod round_tests;
 mod schedule_tests;
+mod tree_tests;

@@ -1,10 +1,14 @@
 //! The calls of a port, as the players make them.
 
-use coll_complete::Request;
+ghost use Rattle.std.specs.Prelude.{◌+◌, ◌≤◌, IfOk, OnOk, length, vec_capacity, vec_len};
+ghost use Rattle.coll_complete.specs.Requests.{AreDistinct};
+
+use coll_complete::{Request, are_distinct};
 use coll_core::{Offer, Outcome};
 use coll_kinds::Refusal;
 use coll_plans::Plan;
 use coll_shared::{Entries, Gate, Port};
+use std::alloc::Global;
 use std::sync::Wait;
 
 pub fn post<L: Entries, R: Wait>(
@@ -69,4 +73,15 @@ pub fn wait<L: Entries, R: Wait, G: Gate>(
 ) -> Result<Option<Outcome>, Refusal> {
     let (outcome, _receipts) = port.wait(rt, gate, request)?;
     Ok(outcome)
+}
+
+/// Room for the outcomes of a list; Torn where a request stands in it twice.
+pub fn room_for(alloc: Global, list: &[Request]) -> Result<Vec<(usize, Outcome)>, Refusal>
+    ensures distinct { OnOk result (AreDistinct list.now) }
+    ensures room { IfOk result (λ out. vec_len out + length list.now ≤ vec_capacity out) }
+{
+    if !are_distinct(list) {
+        return Err(Refusal::Torn);
+    }
+    Ok(Vec::with_capacity(alloc, list.len())?)
 }

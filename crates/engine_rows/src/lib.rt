@@ -16,6 +16,7 @@
 //! | `running` | `run`, a job from the opening of its engine to the last outcome |
 //! | `gate_tests` | two threads that really run at one time |
 //! | `stress_tests` | a large random job |
+//! | `liveness` | threads that must go on, or be told that nobody can |
 //! | `signatures` | the signatures of the rows |
 //! | `ports` | worked rows of ports in one thread, each answer compared with the one that must come |
 //! | `reports` | traces and a report as data, with what they tell |
@@ -37,6 +38,8 @@ mod gate_tests;
 mod job;
 #[cfg(test)]
 mod judge;
+#[cfg(test)]
+mod liveness;
 #[cfg(test)]
 mod pace;
 #[cfg(test)]

@@ -5,6 +5,11 @@ use coll_shared::{Gate, NoGate};
 pub trait Pace: Gate {
     /// Called before each command of a rank, with the lock free, and once more behind the last with None.
     fn before_command(&self, rank: u8, command: Option<Command>);
+
+    /// Whether a rank tests a request again and again where others wait for it.
+    fn polls(&self, _rank: u8) -> bool {
+        false
+    }
 }
 
 impl Pace for NoGate {

@@ -11,6 +11,10 @@ use coll_kinds::{Refusal, member_of};
 use coll_shared::{Entries, Port, Spent};
 use std::alloc::Global;
 use std::sync::Wait;
+use std::thread::yield_now;
+
+/// How often a rank that tests where others wait tests a request at most.
+const TESTS: u32 = 100_000_000;
 
 /// How far a rank is with a collective.
 #[derive(Drop)]
@@ -94,6 +98,18 @@ impl<L: Entries> Player<'_, L> {
         calls::free(rt, &mut self.port, &mut seat.request)
     }
 
+    /// Tests a request until it is done.
+    fn poll<R: Wait>(&mut self, rt: &R, number: usize) -> Result<Option<Outcome>, Refusal> {
+        let seat = self.seats.get_mut(number).ok_or(Refusal::Torn)?;
+        for _test in 0..TESTS {
+            if let Some(outcome) = calls::test(rt, &mut self.port, &mut seat.request)? {
+                return Ok(Some(outcome));
+            }
+            yield_now();
+        }
+        Ok(None)
+    }
+
     /// Completes a collective, unless it is no longer active: waits for it, or only tests it.
     fn complete<R: Wait, G: Pace>(
         &mut self,
@@ -102,15 +118,19 @@ impl<L: Entries> Player<'_, L> {
         number: usize,
         waits: bool,
     ) -> Result<(), Refusal> {
+        let polls = pace.polls(self.port.rank());
         let seat = self.seats.get_mut(number).ok_or(Refusal::Torn)?;
         if !seat.is_active {
             return Ok(());
         }
-        let found = if waits {
+        let found = if waits && polls {
+            self.poll(rt, number)?
+        } else if waits {
             calls::wait(rt, pace, &mut self.port, &mut seat.request)?
         } else {
             calls::test(rt, &mut self.port, &mut seat.request)?
         };
+        let seat = self.seats.get_mut(number).ok_or(Refusal::Torn)?;
         match found {
             Some(outcome) => {
                 seat.is_active = false;

@@ -13,6 +13,8 @@
 //! | `entry_tests` | how many entries a completion call makes |
 //! | `completion_tests` | each completion call, where all is Done and where nothing can go on |
 //! | `closing_tests` | engines that are closed, and that aren't |
+//! | `foreign_tests` | calls that name requests of another rank |
+//! | `memory_tests` | a job in which memory may be refused |
 //! | `attested_tests` | the outcomes that reports attest |
 
 mod answer;
@@ -24,6 +26,8 @@ mod completion_tests;
 mod completions;
 mod driver;
 mod entry_tests;
+mod foreign_tests;
+mod memory_tests;
 mod noted;
 mod setup;
 mod trace_tests;

@@ -15,12 +15,18 @@
 //! | `cause_tests` | the words of each cause |
 //! | `answering` | the calls that read and answer a text |
 //! | `fakes` | readers and writers that fail, or never end |
+//! | `shown` | what a user is shown of a text |
 //! | `answer_tests` | texts, with what a user is shown |
+//! | `told_tests` | texts with a fault, and the line that a user is told |
+//! | `cut_tests` | texts that were cut off |
 //! | `status_tests` | the status and the line of each fault of a job |
 //! | `reading_tests` | how often a reader is read, and what its errors and a writer's come to |
 //! | `large_tests` | a job with many ranks, bytes and starts |
 //! | `attest_tests` | lines that a report attests, and reports of other runs |
+//! | `gate_tests` | a text whose combinations are held, so that threads are at work at one time |
 //! | `run_tests` | texts run by threads, with their lines or their fault |
+//! | `wait_tests` | texts run by threads that go on only by the right wait, or by none |
+//! | `memory_tests` | a run in which memory may be refused |
 //! | `program_tests` | the program's status, and what it writes |
 #![tactic(auto)]
 
@@ -33,6 +39,8 @@ mod attest_tests;
 #[cfg(test)]
 mod cause_tests;
 #[cfg(test)]
+mod cut_tests;
+#[cfg(test)]
 mod element_tests;
 #[cfg(test)]
 mod fakes;
@@ -41,11 +49,15 @@ mod fault_tests;
 #[cfg(test)]
 mod faults;
 #[cfg(test)]
+mod gate_tests;
+#[cfg(test)]
 mod history_tests;
 #[cfg(test)]
 mod large_tests;
 #[cfg(test)]
 mod limit_tests;
+#[cfg(test)]
+mod memory_tests;
 #[cfg(test)]
 mod program_tests;
 #[cfg(test)]
@@ -59,6 +71,12 @@ mod said;
 #[cfg(test)]
 mod script_tests;
 #[cfg(test)]
+mod shown;
+#[cfg(test)]
 mod signature_tests;
 #[cfg(test)]
 mod status_tests;
+#[cfg(test)]
+mod told_tests;
+#[cfg(test)]
+mod wait_tests;

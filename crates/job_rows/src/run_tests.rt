@@ -1,5 +1,6 @@
 //! Job texts run by threads, with their lines or their fault.
 
+use coll_core::Outcome;
 use coll_job::JobFault;
 use coll_report::{Entry, Report};
 use coll_run::run_job;
@@ -63,7 +64,7 @@ const EMPTY_BCAST: (&str, &str) = (
     "rank 0 req 0 start 0 :\nrank 1 req 0 start 0 :\n",
 );
 
-const STARTS_OUT_OF_ORDER: (&str, &str) = (
+pub(crate) const STARTS_OUT_OF_ORDER: (&str, &str) = (
     "ranks 2\nrank 0\ninit 0 allreduce sum i32 1\ninit 0 allreduce max i32 1\n\
      start 0 : 1\nstart 1 : 10\nwaitall\nstart 0 : 2\nstart 1 : 20\nwaitall\nstart 0 : 3\nstart 1 : 30\n\
      rank 1\ninit 0 allreduce sum i32 1\ninit 0 allreduce max i32 1\n\
@@ -97,21 +98,18 @@ const ANY_AND_SOME: (&str, &str) = (
      rank 1 req 0 start 0 : 1 2\nrank 1 req 1 start 0 :\nrank 1 req 2 start 0 : 7\n",
 );
 
+/// A request that is started more often than the whole text has requests.
+const STARTED_AGAIN: (&str, &str) = (
+    "ranks 2\nrank 0\ninit 0 allgather u8 1\nstart 0 : 1\nwait 0\nstart 0 : 3\nwait 0\nstart 0 : 5\n\
+     rank 1\ninit 0 allgather u8 1\nstart 0 : 2\nwaitall\nstart 0 : 4\nwaitall\nstart 0 : 6\n",
+    "rank 0 req 0 start 0 : 1 2\nrank 0 req 0 start 1 : 3 4\nrank 0 req 0 start 2 : 5 6\n\
+     rank 1 req 0 start 0 : 1 2\nrank 1 req 0 start 1 : 3 4\nrank 1 req 0 start 2 : 5 6\n",
+);
+
 /// Two ranks wait for one another's first posts on two communicators.
 pub(crate) const CROSSED_BARRIERS: &str =
     "ranks 2\ncomm 0 1\ncomm 0 1\nrank 0\npost 1 barrier\nwait 0\npost 2 barrier\nwait 1\n\
      rank 1\npost 2 barrier\nwait 0\npost 1 barrier\nwait 1\n";
-
-/// The same with a wait for any and one for some.
-const CROSSED_ANY_AND_SOME: &str = "ranks 2\ncomm 0 1\ncomm 0 1\n\
-     rank 0\npost 1 barrier\nwaitany 0\npost 2 barrier\n\
-     rank 1\npost 2 barrier\nwaitsome 0\npost 1 barrier\n";
-
-/// Each of three ranks waits for a post that the next one makes only after its own wait.
-const STALL_OF_THREE: &str = "ranks 3\ncomm 0 1\ncomm 1 2\ncomm 2 0\n\
-     rank 0\npost 1 barrier\nwait 0\npost 3 barrier\n\
-     rank 1\npost 2 barrier\nwait 0\npost 1 barrier\n\
-     rank 2\npost 3 barrier\nwait 0\npost 2 barrier\n";
 
 /// The lines of a text that has no fault, computed directly.
 fn plain(alloc: Global, text: &str) -> Result<Vec<u8>, Fail> {
@@ -134,6 +132,7 @@ fn texts_and_their_lines(rt: HostRuntime) -> Result<(), Fail> {
         COMMENTS_AND_LEADING_ZEROS,
         TESTED_AND_FREED,
         ANY_AND_SOME,
+        STARTED_AGAIN,
     ] {
         let plain = plain(rt.alloc(), text)?;
         assert_eq!(rt; plain.as_slice(), want.as_bytes());
@@ -149,8 +148,6 @@ fn texts_and_their_lines(rt: HostRuntime) -> Result<(), Fail> {
 fn texts_without_lines(rt: HostRuntime) -> Result<(), Fail> {
     for (text, want) in [
         (CROSSED_BARRIERS, JobFault::Stalled),
-        (STALL_OF_THREE, JobFault::Stalled),
-        (CROSSED_ANY_AND_SOME, JobFault::Stalled),
         (
             "",
             JobFault::Text(Fault {
@@ -198,6 +195,18 @@ fn many_requests(rt: HostRuntime) -> Result<(), Fail> {
     Ok(())
 }
 
+/// Whether the report attests that the first collective of communicator 0 handed these bytes to the rank.
+fn is_attested(alloc: Global, report: &Report, rank: u8, bytes: &[u8]) -> Result<bool, Fail> {
+    let bytes = Vec::from_slice(alloc, bytes)?;
+    Ok(report.attests(&Outcome {
+        rank,
+        comm: 0,
+        place: 0,
+        start: 0,
+        bytes,
+    }))
+}
+
 /// How many entries of the report are completions of the rank.
 fn completions(report: &Report, rank: u8) -> usize {
     report
@@ -229,6 +238,8 @@ fn report_of_sum_of_three(rt: HostRuntime) -> Result<(), Fail> {
             }
             assert!(rt; posts.next().is_none());
             assert_eq!(rt; completions(&report, rank), 1);
+            assert!(rt; is_attested(rt.alloc(), &report, rank, &[6, 0, 0, 0])?);
+            assert!(rt; !is_attested(rt.alloc(), &report, rank, &[7, 0, 0, 0])?);
         }
         assert_eq!(rt; report.entries().len(), 6);
     }

@@ -6,8 +6,10 @@ ghost use Rattle.coll_shared.specs.Ports.{IsPosted, IsStarted};
 ghost use Rattle.coll_shared.specs.Tests.{TestsOne};
 
 use crate::hall::{Hall, do_at_once};
+use crate::held::Held;
 use crate::hope::Hope;
 use crate::order::Order;
+use crate::ranks::Ranks;
 use crate::receipt::Receipt;
 use crate::receipts::Receipts;
 use crate::shared::Shared;
@@ -17,7 +19,7 @@ use coll_core::{Offer, Outcome};
 use coll_kinds::Ticket;
 use std::alloc::Global;
 use std::hint::spin_loop;
-use std::sync::{MutexGuard, Wait};
+use std::sync::Wait;
 use std::thread::yield_now;
 
 /// How often who has the lock looks in a row what was asked for meanwhile.
@@ -34,11 +36,12 @@ const SELDOM: u32 = 16;
 
 impl<L: Entries> Hall<L> {
     /// Takes the lock, unless a thread has it, or will have it again soon.
-    pub(crate) fn try_enter<R: Wait>(&self, rt: &R) -> Option<MutexGuard<'_, Shared<L>>> {
+    pub(crate) fn try_enter<R: Wait>(&self, rt: &R) -> Option<Held<'_, L>> {
         if self.doors.is_awaited() {
             return None;
         }
-        self.shared.try_enter(rt)
+        let shared = self.shared.try_enter(rt)?;
+        Some(Held { shared })
     }
 
     /// Does what ports asked for on their shelves while the lock was taken.
@@ -52,34 +55,26 @@ impl<L: Entries> Hall<L> {
             if made.is_empty() {
                 continue;
             }
-            let settled = do_at_once(shared);
-            self.doors.call(made);
-            if !settled {
+            do_at_once(shared);
+            self.doors.call(made, Ranks::NONE);
+            if shared.is_ready() {
                 // once more, so that they don't linger in hope: a combination is to be computed
-                self.doors.call(made);
+                self.doors.call(made, Ranks::NONE);
             }
         }
     }
 
-    /// Waits until the port is called, or has the lock. It is called once what it asked for was done; `seen` is how many calls
-    /// there were before it asked.
-    fn attend<R: Wait>(&self, rt: &R, rank: u8, seen: u64) -> Option<MutexGuard<'_, Shared<L>>> {
-        let counted = self.doors.begin_hope();
-        let entered = self.look_out(rt, rank, seen);
-        self.doors.end_hope(counted);
-        entered
-    }
-
-    /// Looks whether the port was called, and now and then whether the lock is free.
-    fn look_out<R: Wait>(&self, rt: &R, rank: u8, seen: u64) -> Option<MutexGuard<'_, Shared<L>>> {
+    /// Waits until the port is called, or has the lock: looks whether it was called, and now and then whether the lock is free. It is
+    /// called once what it asked for was done; `seen` is how many calls there were before it asked.
+    fn attend<R: Wait>(&self, rt: &R, rank: u8, seen: u64) -> Option<Held<'_, L>> {
         let door = self.doors.of(rank);
         for look in 0..LOOKS {
-            if door.notifications() != seen {
+            if door.calls() != seen {
                 return None;
             }
             if look % SELDOM == SELDOM - 1 {
-                if let Some(shared) = self.try_enter(rt) {
-                    return Some(shared);
+                if let Some(held) = self.try_enter(rt) {
+                    return Some(held);
                 }
             }
             if look < QUICK {
@@ -94,16 +89,11 @@ impl<L: Entries> Hall<L> {
     /// Leaves an order on the port's shelf, and waits until it was made, by this thread if nobody has the lock. Answers how
     /// many calls there are at the door then, while the request isn't Done.
     fn order<R: Wait>(&self, rt: &R, rank: u8, order: Order) -> u64 {
-        let seen = self.doors.of(rank).notifications();
+        let seen = self.doors.of(rank).calls();
         self.shelves.put(rt, rank, order);
         self.doors.ask(rank);
-        if let Some(mut shared) = self.attend(rt, rank, seen) {
-            self.do_asked(&mut *shared);
-            if shared.is_unsettled() {
-                self.hand_on(shared);
-            } else {
-                self.leave(shared);
-            }
+        if let Some(held) = self.attend(rt, rank, seen) {
+            self.hand_on(held);
         }
         seen.wrapping_add(1)
     }
@@ -159,7 +149,7 @@ impl<L: Entries> Hall<L> {
         mine: &mut Tally<L>,
         rank: u8,
         request: &mut Request,
-    ) -> Result<MutexGuard<'_, Shared<L>>, (Outcome, Receipts)>
+    ) -> Result<Held<'_, L>, (Outcome, Receipts)>
         ensures told { IfErr result (λ r. TestsOne rank request.old request.new true (Some r.0) r.1) }
         ensures counted { IfErr result (λ r. mine.new ≡ mine.old + 1) }
         ensures none { OnOk result ((request.new ≡ request.old) × (mine.new ≡ mine.old)) }
@@ -167,24 +157,27 @@ impl<L: Entries> Hall<L> {
         if let Some(answer) = self.shelves.collect(rt, mine, rank, request) {
             return Err(answer);
         }
-        if let Some(shared) = self.try_enter(rt) {
-            return Ok(shared);
+        if let Some(held) = self.try_enter(rt) {
+            return Ok(held);
         }
         let Some(ticket) = request.ticket() else {
             return Ok(self.enter(rt));
         };
-        let seen = self.doors.of(rank).notifications();
+        let seen = self.doors.of(rank).calls();
+        // marked first: once the request is completed for the port, that takes the mark away
+        let marked = self.doors.begin_hope(rank);
         self.shelves.ask(rt, rank, ticket);
         self.doors.ask(rank);
         let entered = self.attend(rt, rank, seen);
+        self.doors.end_hope(rank, marked);
         if let Some(answer) = self.shelves.collect(rt, mine, rank, request) {
-            if let Some(shared) = entered {
-                self.depart(shared);
+            if let Some(held) = entered {
+                self.release(held);
             }
             return Err(answer);
         }
         match entered {
-            Some(shared) => Ok(shared),
+            Some(held) => Ok(held),
             None => Ok(self.enter(rt)),
         }
     }

@@ -40,22 +40,22 @@ impl<L: Entries> Hall<L> {
         }
         let mut looks = 0u32;
         for _ in rt.forever() {
-            let mut shared = match self.enter_for(rt, mine, rank, request) {
-                Ok(shared) => shared,
+            let mut held = match self.enter_for(rt, mine, rank, request) {
+                Ok(held) => held,
                 Err((outcome, receipts)) => return Ok((Some(outcome), receipts)),
             };
-            match shared.fulfil(mine, rank, request) {
+            match held.shared.fulfil(mine, rank, request) {
                 Ok(Some(answer)) => {
-                    self.depart(shared);
+                    self.release(held);
                     return Ok(answer);
                 }
                 Ok(None) => {}
                 Err(why) => {
-                    self.depart(shared);
+                    self.release(held);
                     return Err(why);
                 }
             }
-            match self.go_on(rt, gate, shared, rank, Wish::One(request), looks) {
+            match self.go_on(rt, gate, held, rank, Wish::One(request), looks) {
                 Ok(now) => looks = now,
                 Err(why) => return Err(why),
             }
@@ -80,19 +80,19 @@ impl<L: Entries> Hall<L> {
     {
         let mut looks = 0u32;
         for _ in rt.forever() {
-            let mut shared = self.enter(rt);
-            match shared.fulfil_any(mine, rank, requests) {
+            let mut held = self.enter(rt);
+            match held.shared.fulfil_any(mine, rank, requests) {
                 Ok(Some(answer)) => {
-                    self.depart(shared);
+                    self.release(held);
                     return Ok(answer);
                 }
                 Ok(None) => {}
                 Err(why) => {
-                    self.depart(shared);
+                    self.release(held);
                     return Err(why);
                 }
             }
-            match self.go_on(rt, gate, shared, rank, Wish::Any(requests), looks) {
+            match self.go_on(rt, gate, held, rank, Wish::Any(requests), looks) {
                 Ok(now) => looks = now,
                 Err(why) => return Err(why),
             }
@@ -119,19 +119,19 @@ impl<L: Entries> Hall<L> {
     {
         let mut looks = 0u32;
         for _ in rt.forever() {
-            let mut shared = self.enter(rt);
-            match shared.fulfil_all(mine, rank, requests, out) {
+            let mut held = self.enter(rt);
+            match held.shared.fulfil_all(mine, rank, requests, out) {
                 Ok(Some(receipts)) => {
-                    self.depart(shared);
+                    self.release(held);
                     return Ok(receipts);
                 }
                 Ok(None) => {}
                 Err(why) => {
-                    self.depart(shared);
+                    self.release(held);
                     return Err(why);
                 }
             }
-            match self.go_on(rt, gate, shared, rank, Wish::All(requests), looks) {
+            match self.go_on(rt, gate, held, rank, Wish::All(requests), looks) {
                 Ok(now) => looks = now,
                 Err(why) => return Err(why),
             }
@@ -160,19 +160,19 @@ impl<L: Entries> Hall<L> {
     {
         let mut looks = 0u32;
         for _ in rt.forever() {
-            let mut shared = self.enter(rt);
-            match shared.fulfil_some(mine, rank, requests, out) {
+            let mut held = self.enter(rt);
+            match held.shared.fulfil_some(mine, rank, requests, out) {
                 Ok(Some(answer)) => {
-                    self.depart(shared);
+                    self.release(held);
                     return Ok(answer);
                 }
                 Ok(None) => {}
                 Err(why) => {
-                    self.depart(shared);
+                    self.release(held);
                     return Err(why);
                 }
             }
-            match self.go_on(rt, gate, shared, rank, Wish::Any(requests), looks) {
+            match self.go_on(rt, gate, held, rank, Wish::Any(requests), looks) {
                 Ok(now) => looks = now,
                 Err(why) => return Err(why),
             }

@@ -42,8 +42,8 @@ impl<L: Entries> Port<L> {
     {
         let kept = Kept::of(self.alloc, &offer);
         let hall: &Hall<L> = &*self.hall;
-        let mut shared = match hall.try_enter(rt) {
-            Some(shared) => shared,
+        let mut held = match hall.try_enter(rt) {
+            Some(held) => held,
             None => {
                 let ordered = hall.post_by_order(
                     rt,
@@ -60,12 +60,18 @@ impl<L: Entries> Port<L> {
                 hall.enter(rt)
             }
         };
-        match shared.post(&mut self.tally, self.rank, comm, offer, kept) {
+        match held
+            .shared
+            .post(&mut self.tally, self.rank, comm, offer, kept)
+        {
             Ok((ticket, receipt)) => {
-                self.hope = hall.go(shared, self.rank, ticket);
+                self.hope = hall.go(held, self.rank, ticket);
                 Ok((Request::of(ticket), receipt))
             }
-            Err(refused) => Err(refused),
+            Err(refused) => {
+                hall.release(held);
+                Err(refused)
+            }
         }
     }
 
@@ -89,8 +95,10 @@ impl<L: Entries> Port<L> {
         ensures back { IfErr result (λ refused. refused.back ≡ plan) }
     {
         let hall: &Hall<L> = &*self.hall;
-        let mut shared = hall.enter(rt);
-        match shared.init(&mut self.tally, self.rank, comm, plan) {
+        let mut held = hall.enter(rt);
+        let inited = held.shared.init(&mut self.tally, self.rank, comm, plan);
+        hall.release(held);
+        match inited {
             Ok((ticket, receipt)) => Ok((Request::of(ticket), receipt)),
             Err(refused) => Err(refused),
         }
@@ -122,8 +130,8 @@ impl<L: Entries> Port<L> {
             });
         };
         let hall: &Hall<L> = &*self.hall;
-        let mut shared = match hall.try_enter(rt) {
-            Some(shared) => shared,
+        let mut held = match hall.try_enter(rt) {
+            Some(held) => held,
             None => {
                 let ordered = hall.start_by_order(
                     rt,
@@ -140,12 +148,15 @@ impl<L: Entries> Port<L> {
                 hall.enter(rt)
             }
         };
-        match shared.start(&mut self.tally, self.rank, ticket, bytes) {
+        match held.shared.start(&mut self.tally, self.rank, ticket, bytes) {
             Ok(receipt) => {
-                self.hope = hall.go(shared, self.rank, ticket);
+                self.hope = hall.go(held, self.rank, ticket);
                 Ok(receipt)
             }
-            Err(refused) => Err(refused),
+            Err(refused) => {
+                hall.release(held);
+                Err(refused)
+            }
         }
     }
 
@@ -165,7 +176,11 @@ impl<L: Entries> Port<L> {
         ensures err { OnErr result ((self.new.made ≡ self.old.made) × (request.new ≡ request.old)) }
     {
         let hall: &Hall<L> = &*self.hall;
-        let mut shared = hall.enter(rt);
-        shared.request_free(&mut self.tally, self.rank, request)
+        let mut held = hall.enter(rt);
+        let freed = held
+            .shared
+            .request_free(&mut self.tally, self.rank, request);
+        hall.release(held);
+        freed
     }
 }

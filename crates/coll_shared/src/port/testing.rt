@@ -1,4 +1,5 @@
-//! A port's tests, which don't wait. They take no memory. What they tell was so while the port had the engine.
+//! A port's tests, which don't wait for others. They take no memory. What they tell was so while the port had the engine. Each makes
+//! progress: it does what can be done without a combination, and computes one where nobody else is there to do it.
 
 ghost use Rattle.std.specs.Prelude.{◌≡◌, ◌+◌, ◌≤◌, IfOk, IfSome, None, OnErr, length, vec_capacity, vec_len};
 ghost use Rattle.std.specs.Result.{result_err};
@@ -10,6 +11,7 @@ use crate::hall::Hall;
 use crate::port::Port;
 use crate::receipts::Receipts;
 use crate::tally::Entries;
+use crate::wish::Wish;
 use coll_complete::{Any, Request, Tested};
 use coll_core::Outcome;
 use coll_kinds::Refusal;
@@ -36,8 +38,10 @@ impl<L: Entries> Port<L> {
         ensures err { OnErr result ((self.new.made ≡ self.old.made) × (request.new ≡ request.old)) }
     {
         let hall: &Hall<L> = &*self.hall;
-        let mut shared = hall.enter(rt);
-        shared.tested(&mut self.tally, self.rank, request)
+        let mut held = hall.enter_to_test(rt, self.rank, Wish::One(request));
+        let tested = held.shared.tested(&mut self.tally, self.rank, request);
+        hall.release(held);
+        tested
     }
 
     /// Completes the lowest request of a list that is Done (`MPI_Testany`; MPI 4.1, 3.7.5). Null and Idle requests are
@@ -61,8 +65,10 @@ impl<L: Entries> Port<L> {
         ensures err { OnErr result ((self.new.made ≡ self.old.made) × (requests.new ≡ requests.old)) }
     {
         let hall: &Hall<L> = &*self.hall;
-        let mut shared = hall.enter(rt);
-        shared.tested_any(&mut self.tally, self.rank, requests)
+        let mut held = hall.enter_to_test(rt, self.rank, Wish::Any(requests));
+        let tested = held.shared.tested_any(&mut self.tally, self.rank, requests);
+        hall.release(held);
+        tested
     }
 
     /// Completes all requests of a list that are Done, if no request of it is Pending (`MPI_Testall`; MPI 4.1, 3.7.5),
@@ -87,8 +93,12 @@ impl<L: Entries> Port<L> {
         ensures err { OnErr result ((self.new.made ≡ self.old.made) × (requests.new ≡ requests.old) × (out.new ≡ out.old)) }
     {
         let hall: &Hall<L> = &*self.hall;
-        let mut shared = hall.enter(rt);
-        shared.tested_all(&mut self.tally, self.rank, requests, out)
+        let mut held = hall.enter_to_test(rt, self.rank, Wish::All(requests));
+        let tested = held
+            .shared
+            .tested_all(&mut self.tally, self.rank, requests, out);
+        hall.release(held);
+        tested
     }
 
     /// Completes all requests of a list that are Done (`MPI_Testsome`; MPI 4.1, 3.7.5), pushes each position with its
@@ -114,7 +124,11 @@ impl<L: Entries> Port<L> {
         ensures err { OnErr result ((self.new.made ≡ self.old.made) × (requests.new ≡ requests.old) × (out.new ≡ out.old)) }
     {
         let hall: &Hall<L> = &*self.hall;
-        let mut shared = hall.enter(rt);
-        shared.tested_some(&mut self.tally, self.rank, requests, out)
+        let mut held = hall.enter_to_test(rt, self.rank, Wish::Any(requests));
+        let tested = held
+            .shared
+            .tested_some(&mut self.tally, self.rank, requests, out);
+        hall.release(held);
+        tested
     }
 }

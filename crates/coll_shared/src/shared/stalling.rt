@@ -6,7 +6,7 @@ ghost use Rattle.coll_shared.specs.Notes.{Awake, note_of};
 ghost use Rattle.coll_shared.specs.Stalls.{IsStalled};
 
 use crate::bed::is_done;
-use crate::doors::Ranks;
+use crate::ranks::Ranks;
 use crate::rest::Rest;
 use crate::shared::Shared;
 use crate::tally::Entries;
@@ -58,6 +58,22 @@ impl<L: Entries> Shared<L> {
         false
     }
 
+    /// Marks the engine as stalled for good where nothing can go on, unless it is marked already. Answers whether it did that. Linear
+    /// in the ports and in what they wait for where none of them runs, else a few instructions.
+    pub(crate) fn tell_stall(&mut self) -> bool
+        ensures core { self.new.core ≡ self.old.core }
+        ensures entries { self.new.entries ≡ self.old.entries }
+        ensures notes { self.new.notes ≡ self.old.notes }
+        ensures told { OnTrue result (IsStalled self.old × (self.new.stalled ≡ true)) }
+        ensures none { OnFalse result (self.new.stalled ≡ self.old.stalled) }
+    {
+        if self.stalled || !self.notes.are_all_noted() || !self.stall_now() {
+            return false;
+        }
+        self.stalled = true;
+        true
+    }
+
     /// Notes that a request was finished.
     pub(crate) fn announce(&mut self)
         ensures { self.new ≡ self.old }
@@ -99,40 +115,30 @@ impl<L: Entries> Shared<L> {
         roused.or(self.hopes.come_true(&self.core))
     }
 
-    /// Ranks, with all among them whose ports wait.
+    /// The ranks whose ports wait.
     pub(crate) fn waiting(&self) -> Ranks {
         self.notes.sleeping()
     }
 
-    /// Notes whether requests may be ready.
-    pub(crate) fn settle(&mut self, unsettled: bool)
+    /// Notes that a port sleeps at its door, or is about to.
+    pub(crate) fn park(&mut self, rank: u8)
         ensures { self.new ≡ self.old }
     {
-        self.unsettled = unsettled;
+        self.parked = self.parked.with(rank);
     }
 
-    /// Whether requests may be ready.
-    pub(crate) fn is_unsettled(&self) -> bool {
-        self.unsettled
+    /// The ranks whose ports sleep.
+    pub(crate) fn parked(&self) -> Ranks {
+        self.parked
     }
 
-    /// Counts a port that sleeps at its door.
-    pub(crate) fn fall_asleep(&mut self)
+    /// Those of the ranks whose ports sleep. They are called now, and sleep no longer.
+    pub(crate) fn wake(&mut self, called: Ranks) -> Ranks
         ensures { self.new ≡ self.old }
     {
-        self.sleepers = self.sleepers.saturating_add(1);
-    }
-
-    /// Counts it as awake.
-    pub(crate) fn wake_up(&mut self)
-        ensures { self.new ≡ self.old }
-    {
-        self.sleepers = self.sleepers.saturating_sub(1);
-    }
-
-    /// Whether ports sleep at their doors.
-    pub(crate) fn has_sleepers(&self) -> bool {
-        self.sleepers != 0
+        let woken = self.parked.among(called);
+        self.parked = self.parked.but(called);
+        woken
     }
 
     /// Marks that progress threads are to end.

@@ -9,6 +9,7 @@ ghost use Rattle.coll_shared.specs.Notes.{Awake, ForOne};
 ghost use Rattle.coll_shared.specs.Tests.{RefusesList, RefusesOne, TestsAll, TestsAny, TestsOne, TestsSome, any_of};
 ghost use Rattle.coll_shared.specs.Wishes.{IsListed, NeedsNoSleep, NotesFor};
 
+use crate::bed::is_done;
 use crate::receipts::Receipts;
 use crate::rest::Rest;
 use crate::shared::Shared;
@@ -161,6 +162,35 @@ impl<L: Entries> Shared<L> {
                 true
             }
             None => false,
+        }
+    }
+
+    /// Whether a request of the rank is Pending.
+    fn is_pending(&self, rank: u8, request: &Request) -> bool {
+        match request.ticket() {
+            Some(ticket) => matches!(self.core.phase(rank, ticket), Ok(Phase::Pending)),
+            None => false,
+        }
+    }
+
+    /// Whether a request of the rank is Done.
+    fn is_complete(&self, rank: u8, request: &Request) -> bool {
+        match request.ticket() {
+            Some(ticket) => is_done(&self.core, rank, ticket),
+            None => false,
+        }
+    }
+
+    /// Whether a test for the wish answers more than that it isn't fulfilled. Nothing is claimed of it: it only spares a test the work
+    /// that nobody waits for.
+    pub(crate) fn is_fulfilled(&self, rank: u8, wish: Wish<'_>) -> bool {
+        match wish {
+            Wish::One(request) => !self.is_pending(rank, request),
+            Wish::All(requests) => !requests.iter().any(|one| self.is_pending(rank, one)),
+            Wish::Any(requests) => {
+                requests.iter().any(|one| self.is_complete(rank, one))
+                    || !requests.iter().any(|one| self.is_pending(rank, one))
+            }
         }
     }
 

@@ -41,7 +41,7 @@ fn value_of(outcome: &Outcome) -> u8 {
     }
 }
 
-/// Positions: of each outcome, with its value; of each list of bytes that came back, with 1 where it isn't empty.
+/// Positions: of each outcome, with its value; of each list of bytes that came back, with its first, or 0 where it is empty.
 pub(super) type Noted = Vec<(usize, u8)>;
 
 fn ask_test(core: &mut Core, list: &mut [Request], noted: &mut Noted) -> Result<Answer, Refusal> {
@@ -125,7 +125,7 @@ fn ask_some(
 
 fn note_back(back: &[Vec<u8>], noted: &mut Noted) -> Result<(), Refusal> {
     for (position, bytes) in back.iter().enumerate() {
-        noted.push((position, u8::from(!bytes.is_empty())))?;
+        noted.push((position, bytes.first().copied().unwrap_or(0)))?;
     }
     Ok(())
 }
@@ -137,8 +137,10 @@ fn ask_start(
     noted: &mut Noted,
 ) -> Result<Answer, Refusal> {
     let mut given = Vec::new(alloc);
+    let mut value: u8 = 1;
     for _ in list {
-        given.push(byte(alloc, 1)?)?;
+        given.push(byte(alloc, value)?)?;
+        value = value.wrapping_add(1);
     }
     if given.len() != list.len() {
         return Err(Refusal::Torn);

@@ -1,23 +1,11 @@
 //! How many rounds have a Send or a Recv, and what long bcasts and allreduces carry.
 
-ghost use Rattle.std.specs.Prelude.{◌≤◌};
-
-use super::family_tests::{compare, signature};
+use super::family_tests::{compare, plans_of, schedules_of, signature};
 use super::lock_step::run;
 use coll_kinds::{Datatype, Kind, Op, Refusal, Signature};
 use coll_plans::{Plan, plan};
 use std::alloc::Global;
 use std::process::Abort;
-
-fn plans_of(alloc: Global, sig: Signature, n: u8) -> Result<Vec<Plan>, Refusal>
-    requires { n ≤ 64 }
-{
-    let mut plans = Vec::new(alloc);
-    for r in 0..n {
-        plans.push(plan(alloc, sig, n, r)?)?;
-    }
-    Ok(plans)
-}
 
 // The rounds in which some member sends or receives.
 fn family_exchanges(rt: &impl Abort, plans: &[Plan]) -> usize {
@@ -149,7 +137,10 @@ fn lastnz_of_five(rt: HostRuntime) {
     let Ok(given) = rows_of(rt.alloc(), [3, 0, 5, 0, 0]) else {
         return assert!(rt; false);
     };
-    let Ok(bufs) = run(&rt, rt.alloc(), &plans, &given) else {
+    let Ok(schedules) = schedules_of(rt.alloc(), &plans) else {
+        return assert!(rt; false);
+    };
+    let Ok(bufs) = run(&rt, rt.alloc(), &schedules, &given) else {
         return assert!(rt; false);
     };
     assert_eq!(rt; bufs.len(), 5);

@@ -7,7 +7,7 @@ use super::lock_step::run;
 use crate::plain::value_of;
 use coll_kinds::{Datatype, Kind, Mode, Op, Refusal, Signature, SignatureFault};
 use coll_plans::{Plan, plan};
-use coll_sched::Action;
+use coll_sched::{Action, Schedule};
 use std::alloc::Global;
 use std::process::Abort;
 
@@ -85,7 +85,43 @@ pub(super) fn contribution(alloc: Global, len: usize, r: u8) -> Result<Vec<u8>, 
     Ok(bytes)
 }
 
-// Runs a family, and compares each member's outcome with the value computed directly, and its exchanges
+// What each of n members gives.
+fn contributions(alloc: Global, sig: Signature, n: u8) -> Result<Vec<Vec<u8>>, Refusal>
+    requires { n ≤ 64 }
+{
+    let mut given = Vec::new(alloc);
+    for r in 0..n {
+        given.push(contribution(alloc, sig.given_len(n, r), r)?)?;
+    }
+    Ok(given)
+}
+
+// Runs the schedules of all n members in lock-step, and compares each member's outcome with the value computed directly.
+pub(super) fn compare_outcomes(
+    rt: &impl Abort,
+    alloc: Global,
+    sig: Signature,
+    schedules: &[&Schedule],
+) -> Result<(), Refusal> {
+    assert!(rt; schedules.len() <= 64);
+    let n = schedules.len() as u8;
+    let given = contributions(alloc, sig, n)?;
+    let bufs = run(rt, alloc, schedules, &given)?;
+    for r in 0..n {
+        let me = r as usize;
+        assert!(rt; me < bufs.len());
+        assert!(rt; me < schedules.len());
+        let want = value_of(alloc, sig, &given, r)?;
+        let output = schedules[me].output();
+        let buf = &bufs[me];
+        assert!(rt; buf.len() < 1000000);
+        assert!(rt; output.is_inside(buf.len() as u32));
+        assert_eq!(rt; output.read(buf), want.as_slice(), "member {r} of {n}");
+    }
+    Ok(())
+}
+
+// Runs a family of plans, and compares the outcomes with the values computed directly, and each member's exchanges
 // with the bound.
 pub(super) fn compare(
     rt: &impl Abort,
@@ -94,32 +130,38 @@ pub(super) fn compare(
     n: u8,
 ) -> Result<(), Refusal> {
     assert!(rt; n <= 64);
-    let mut plans = Vec::new(alloc);
-    let mut given = Vec::new(alloc);
-    for r in 0..n {
-        plans.push(plan(alloc, sig, n, r)?)?;
-        given.push(contribution(alloc, sig.given_len(n, r), r)?)?;
-    }
-    let bufs = run(rt, alloc, &plans, &given)?;
-    for r in 0..n {
-        let me = r as usize;
-        assert!(rt; me < bufs.len());
-        assert!(rt; me < plans.len());
-        let want = value_of(alloc, sig, &given, r)?;
-        let schedule = plans[me].schedule();
-        let output = schedule.output();
-        let buf = &bufs[me];
-        assert!(rt; buf.len() < 1000000);
-        assert!(rt; output.is_inside(buf.len() as u32));
-        assert_eq!(rt; output.read(buf), want.as_slice(), "member {r} of {n}");
-        let most = if matches!(sig.kind, Kind::Bcast) && n > 1 && sig.block_len() >= 65_536 {
-            sig.block_len().div_ceil(16_384).saturating_add(1)
-        } else {
-            most_exchanges(sig.kind, n)
-        };
-        assert!(rt; schedule.exchanges() <= most, "member {r} of {n}");
+    let plans = plans_of(alloc, sig, n)?;
+    let schedules = schedules_of(alloc, &plans)?;
+    compare_outcomes(rt, alloc, sig, &schedules)?;
+    let most = if matches!(sig.kind, Kind::Bcast) && n > 1 && sig.block_len() >= 65_536 {
+        sig.block_len().div_ceil(16_384).saturating_add(1)
+    } else {
+        most_exchanges(sig.kind, n)
+    };
+    for schedule in &schedules {
+        assert!(rt; schedule.exchanges() <= most, "among {n}");
     }
     Ok(())
+}
+
+// The plans of all n members.
+pub(super) fn plans_of(alloc: Global, sig: Signature, n: u8) -> Result<Vec<Plan>, Refusal>
+    requires { n ≤ 64 }
+{
+    let mut plans = Vec::new(alloc);
+    for r in 0..n {
+        plans.push(plan(alloc, sig, n, r)?)?;
+    }
+    Ok(plans)
+}
+
+// The schedules of plans.
+pub(super) fn schedules_of(alloc: Global, plans: &[Plan]) -> Result<Vec<&Schedule>, Refusal> {
+    let mut schedules = Vec::new(alloc);
+    for plan in plans {
+        schedules.push(plan.schedule())?;
+    }
+    Ok(schedules)
 }
 
 // Every operation where the kind has one, else one type.

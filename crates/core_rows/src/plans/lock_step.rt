@@ -1,7 +1,6 @@
 //! Runs all members of a family in lock-step, for tests.
 
 use coll_kinds::Refusal;
-use coll_plans::Plan;
 use coll_sched::{Action, Schedule};
 use std::alloc::Global;
 use std::process::Abort;
@@ -45,22 +44,21 @@ fn message_to(
 fn messages_to(
     rt: &impl Abort,
     alloc: Global,
-    plans: &[Plan],
+    schedules: &[&Schedule],
     bufs: &[Vec<u8>],
     j: usize,
     r: u8,
 ) -> Result<Vec<Vec<u8>>, Refusal> {
     let mut messages = Vec::new(alloc);
-    assert!(rt; (r as usize) < plans.len());
-    let rounds = plans[r as usize].schedule().rounds();
+    assert!(rt; (r as usize) < schedules.len());
+    let rounds = schedules[r as usize].rounds();
     assert!(rt; j < rounds.len());
     for action in rounds[j].actions() {
         if let Action::Recv { of, .. } = *action {
             let sender = of as usize;
-            assert!(rt; sender < plans.len());
+            assert!(rt; sender < schedules.len());
             assert!(rt; sender < bufs.len());
-            let schedule = plans[sender].schedule();
-            messages.push(message_to(rt, alloc, schedule, &bufs[sender], j, r)?)?;
+            messages.push(message_to(rt, alloc, schedules[sender], &bufs[sender], j, r)?)?;
         }
     }
     Ok(messages)
@@ -100,26 +98,19 @@ fn act(
 fn turn(
     rt: &impl Abort,
     alloc: Global,
-    plans: &[Plan],
+    schedules: &[&Schedule],
     bufs: &mut Vec<Vec<u8>>,
     j: usize,
 ) -> Result<(), Refusal> {
     let mut messages = Vec::new(alloc);
-    assert!(rt; plans.len() <= 64);
-    for r in 0..plans.len() as u8 {
-        messages.push(messages_to(rt, alloc, plans, bufs, j, r)?)?;
+    assert!(rt; schedules.len() <= 64);
+    for r in 0..schedules.len() as u8 {
+        messages.push(messages_to(rt, alloc, schedules, bufs, j, r)?)?;
     }
-    for r in 0..plans.len() {
+    for r in 0..schedules.len() {
         assert!(rt; r < bufs.len());
         assert!(rt; r < messages.len());
-        act(
-            rt,
-            alloc,
-            plans[r].schedule(),
-            j,
-            &messages[r],
-            &mut bufs[r],
-        )?;
+        act(rt, alloc, schedules[r], j, &messages[r], &mut bufs[r])?;
     }
     Ok(())
 }
@@ -128,17 +119,17 @@ fn turn(
 pub(super) fn run(
     rt: &impl Abort,
     alloc: Global,
-    plans: &[Plan],
+    schedules: &[&Schedule],
     given: &[Vec<u8>],
 ) -> Result<Vec<Vec<u8>>, Refusal> {
     let mut bufs = Vec::new(alloc);
-    for r in 0..plans.len() {
+    for r in 0..schedules.len() {
         assert!(rt; r < given.len());
-        bufs.push(laid_in(rt, alloc, plans[r].schedule(), &given[r])?)?;
+        bufs.push(laid_in(rt, alloc, schedules[r], &given[r])?)?;
     }
-    assert!(rt; !plans.is_empty());
-    for j in 0..plans[0].schedule().rounds().len() {
-        turn(rt, alloc, plans, &mut bufs, j)?;
+    assert!(rt; !schedules.is_empty());
+    for j in 0..schedules[0].rounds().len() {
+        turn(rt, alloc, schedules, &mut bufs, j)?;
     }
     Ok(bufs)
 }

@@ -63,6 +63,17 @@ fn schedule(
     output: Region,
     actions: &[Action],
 ) -> Option<Schedule> {
+    schedule_in(rt, alloc, SIZE, (input, output), actions)
+}
+
+// The schedule of two rounds, the first of them empty.
+fn schedule_in(
+    rt: &impl Abort,
+    alloc: Global,
+    size: u32,
+    (input, output): (Region, Region),
+    actions: &[Action],
+) -> Option<Schedule> {
     let mut round = Round::new(alloc);
     for action in actions {
         assert!(rt; round.push(*action).is_ok());
@@ -70,7 +81,7 @@ fn schedule(
     let mut rounds = Vec::new(alloc);
     assert!(rt; rounds.push(Round::new(alloc)).is_ok());
     assert!(rt; rounds.push(round).is_ok());
-    Schedule::of_rounds(SIZE, input, output, rounds)
+    Schedule::of_rounds(size, input, output, rounds)
 }
 
 fn is_accepted(rt: &impl Abort, alloc: Global, actions: &[Action]) -> bool {
@@ -96,6 +107,28 @@ fn schedules_refused(rt: HostRuntime) {
     assert!(rt; !is_accepted(&rt, rt.alloc(), &twice));
     assert!(rt; !is_accepted(&rt, rt.alloc(), &over));
     assert!(rt; is_accepted(&rt, rt.alloc(), &onto_left));
+}
+
+// In a buffer of four bytes: four bytes from 2 on leave it, as the input, as the output and as what is sent.
+#[test]
+fn a_region_past_the_end_is_refused(rt: HostRuntime) {
+    let all = region(0, 4);
+    let past = region(2, 4);
+    let rows = [
+        (all, all, all, true),
+        (past, all, all, false),
+        (all, past, all, false),
+        (all, all, past, false),
+    ];
+    for (input, output, from, accepted) in rows {
+        let actions = [send(1, from)];
+        let schedule = schedule_in(&rt, rt.alloc(), 4, (input, output), &actions);
+        assert_eq!(rt;
+            schedule.is_some(),
+            accepted,
+            "{input:?}, {output:?}, {from:?}"
+        );
+    }
 }
 
 // Each row breaks one condition alone.

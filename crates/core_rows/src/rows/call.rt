@@ -6,6 +6,8 @@ use coll_kinds::Signature;
 pub enum Call {
     /// A rank posts i32 values on communicator 0, as the member that it is there.
     Post(u8, Signature, &'static [u8]),
+    /// A rank posts so many bytes on communicator 0.
+    PostBytes(u8, Signature, u8),
     /// A rank posts i32 values on a communicator, with a plan made for a number of members and one of them.
     Offer(u8, u32, (Signature, u8, u8), &'static [u8]),
     /// A rank initialises on communicator 0, as the member that it is there.
@@ -33,7 +35,9 @@ pub enum Call {
     Commit,
     /// Abandons the combination that is held.
     Abandon,
-    /// Holds another engine's combination in place of its own: the first where ranks 0 and 1 post 1 and 2 with this
-    /// signature. Its ticket is the same.
-    HoldForeign(Signature),
+    /// Computes a combination of another engine, of the same ticket, and commits it here. It is the first where ranks 0
+    /// and 1 post these values with this signature.
+    CommitForeign(Signature, [u8; 2]),
+    /// Abandons such a combination here.
+    AbandonForeign(Signature, [u8; 2]),
 }

@@ -33,6 +33,22 @@ fn offer(
     })
 }
 
+/// What a post of so many bytes hands in, or why there is none.
+fn offer_of_bytes(
+    alloc: Global,
+    sig: Signature,
+    size: u8,
+    member: u8,
+    count: u8,
+) -> Result<Offer, Refusal> {
+    let plan = plan_of(alloc, sig, size, member)?;
+    let mut bytes = Vec::new(alloc);
+    for byte in 0..count {
+        bytes.push(byte)?;
+    }
+    Ok(Offer { plan, bytes })
+}
+
 /// A member's plan; Torn where there is no such member.
 fn plan_of(alloc: Global, sig: Signature, size: u8, member: u8) -> Result<Plan, Refusal> {
     if member >= size || size > 64 {
@@ -70,6 +86,7 @@ impl Driver {
         let all = self.size;
         match call {
             Call::Post(rank, sig, values) => self.post(rank, 0, (sig, all, rank), values),
+            Call::PostBytes(rank, sig, count) => self.post_bytes(rank, sig, count),
             Call::Offer(rank, comm, planned, values) => self.post(rank, comm, planned, values),
             Call::Init(rank, sig) => self.init(rank, sig),
             Call::Start(rank, request, values) => self.start(rank, request, values),
@@ -85,7 +102,8 @@ impl Driver {
             Call::Rest => calls::rest(&mut self.core),
             Call::Commit => self.commit(),
             Call::Abandon => self.abandon(),
-            Call::HoldForeign(sig) => self.hold_foreign(sig),
+            Call::CommitForeign(sig, values) => self.commit_foreign(sig, values),
+            Call::AbandonForeign(sig, values) => self.abandon_foreign(sig, values),
         }
     }
 
@@ -122,6 +140,16 @@ impl Driver {
         match offer(self.alloc, sig, size, member, values) {
             Ok(offer) => {
                 let made = calls::post(&mut self.core, rank, comm, offer);
+                self.number(made)
+            }
+            Err(why) => Answer::Refused(why),
+        }
+    }
+
+    fn post_bytes(&mut self, rank: u8, sig: Signature, count: u8) -> Answer {
+        match offer_of_bytes(self.alloc, sig, self.size, rank, count) {
+            Ok(offer) => {
+                let made = calls::post(&mut self.core, rank, 0, offer);
                 self.number(made)
             }
             Err(why) => Answer::Refused(why),
@@ -188,30 +216,43 @@ impl Driver {
         }
     }
 
-    fn hold_foreign(&mut self, sig: Signature) -> Answer {
-        match foreign(self.alloc, sig) {
-            Ok((answer, work)) => self.exchange(answer, work),
-            Err(why) => Answer::Refused(why),
+    /// Commits another engine's combination.
+    fn commit_foreign(&mut self, sig: Signature, values: [u8; 2]) -> Answer {
+        match self.foreign(sig, values) {
+            Some(work) => calls::finish(&mut self.core, work),
+            None => Answer::NoWork,
         }
     }
 
-    /// Holds another combination, unless the one that is held has another ticket.
-    fn exchange(&mut self, answer: Answer, work: Option<Work>) -> Answer {
-        if let (Some(own), Some(other)) = (&self.held, &work)
-            && own.ticket() != other.ticket()
-        {
-            return Answer::NoWork;
+    /// Abandons another engine's combination.
+    fn abandon_foreign(&mut self, sig: Signature, values: [u8; 2]) -> Answer {
+        match self.foreign(sig, values) {
+            Some(work) => calls::abandon(&mut self.core, work),
+            None => Answer::NoWork,
         }
-        self.held = work;
-        answer
+    }
+
+    /// Another engine's combination; none where the one that is held has another ticket.
+    fn foreign(&self, sig: Signature, values: [u8; 2]) -> Option<Work> {
+        let foreign = foreign(self.alloc, sig, values).ok()??;
+        if let Some(own) = &self.held
+            && own.ticket() != foreign.ticket()
+        {
+            return None;
+        }
+        Some(foreign)
     }
 }
 
-/// The first combination of an engine where ranks 0 and 1 post 1 and 2.
-fn foreign(alloc: Global, sig: Signature) -> Result<(Answer, Option<Work>), Refusal> {
+/// The first combination of an engine where ranks 0 and 1 post these values.
+fn foreign(
+    alloc: Global,
+    sig: Signature,
+    [first, second]: [u8; 2],
+) -> Result<Option<Work>, Refusal> {
     let mut driver = Driver::open(alloc, &PAIR)?;
-    driver.post(0, 0, (sig, 2, 0), &[1]);
-    driver.post(1, 0, (sig, 2, 1), &[2]);
-    let answer = driver.steps_to_work();
-    Ok((answer, driver.held.take()))
+    driver.post(0, 0, (sig, 2, 0), &[first]);
+    driver.post(1, 0, (sig, 2, 1), &[second]);
+    driver.steps_to_work();
+    Ok(driver.held.take())
 }

@@ -47,8 +47,11 @@ fn stale_ticket_and_full(rt: HostRuntime) -> Result<(), Fail> {
     Ok(())
 }
 
-// Each is also wrong in a later field, save the last.
-const MISFITS: [(Setup, ConfigField); 6] = [
+// As many communicators as none may have.
+const SEVENTEEN: [&[u8]; 17] = [&[0]; 17];
+
+// The first field of two that are out of their ranges.
+const FIRST_MISFITS: [(Setup, ConfigField); 6] = [
     (
         Setup {
             ranks: 65,
@@ -89,14 +92,95 @@ const MISFITS: [(Setup, ConfigField); 6] = [
         },
         ConfigField::Wear,
     ),
+    (
+        Setup {
+            starts: 0,
+            trace: 1,
+            ..PAIR
+        },
+        ConfigField::Starts,
+    ),
+];
+
+// One field alone is out of its range.
+const LONE_MISFITS: [(Setup, ConfigField); 16] = [
+    (Setup { ranks: 0, ..PAIR }, ConfigField::Ranks),
+    (Setup { ranks: 65, ..PAIR }, ConfigField::Ranks),
+    (
+        Setup {
+            groups: &[],
+            ..PAIR
+        },
+        ConfigField::Groups,
+    ),
+    (
+        Setup {
+            groups: &[&[0, 1], &[]],
+            ..PAIR
+        },
+        ConfigField::Groups,
+    ),
+    (
+        Setup {
+            groups: &[&[1, 1]],
+            ..PAIR
+        },
+        ConfigField::Groups,
+    ),
+    (
+        Setup {
+            groups: &[&[0, 2]],
+            ..PAIR
+        },
+        ConfigField::Groups,
+    ),
+    (
+        Setup {
+            groups: &SEVENTEEN,
+            ..PAIR
+        },
+        ConfigField::Groups,
+    ),
+    (Setup { slots: 0, ..PAIR }, ConfigField::Slots),
+    (
+        Setup {
+            slots: 4_097,
+            ..PAIR
+        },
+        ConfigField::Slots,
+    ),
+    (Setup { places: 0, ..PAIR }, ConfigField::Places),
+    (
+        Setup {
+            places: 65_537,
+            ..PAIR
+        },
+        ConfigField::Places,
+    ),
+    (Setup { wear: 0, ..PAIR }, ConfigField::Wear),
     (Setup { starts: 0, ..PAIR }, ConfigField::Starts),
+    (
+        Setup {
+            starts: 1_048_577,
+            ..PAIR
+        },
+        ConfigField::Starts,
+    ),
+    (Setup { trace: 1, ..PAIR }, ConfigField::Trace),
+    (
+        Setup {
+            trace: 1_048_577,
+            ..PAIR
+        },
+        ConfigField::Trace,
+    ),
 ];
 
 #[test]
 fn bad_configs(rt: HostRuntime) {
-    for (setup, field) in MISFITS {
-        let opened = first_misfit(rt.alloc(), &setup, &[]);
-        assert_eq!(rt; opened, Err(Refusal::BadConfig { field }));
+    for (setup, field) in FIRST_MISFITS.iter().chain(LONE_MISFITS.iter()) {
+        let opened = first_misfit(rt.alloc(), setup, &[]);
+        assert_eq!(rt; opened, Err(Refusal::BadConfig { field: *field }));
     }
 }
 
@@ -117,7 +201,9 @@ const BAD_GROUP: Refusal = Refusal::BadSignature {
     cause: SignatureFault::Group,
 };
 
-const BAD_LENGTH: Refusal = Refusal::BadLength { want: 4, got: 8 };
+const TOO_SHORT: Refusal = Refusal::BadLength { want: 4, got: 3 };
+
+const TOO_LONG: Refusal = Refusal::BadLength { want: 4, got: 8 };
 
 const OFFERS: &[Row] = &[
     (
@@ -141,7 +227,8 @@ const OFFERS: &[Row] = &[
         Call::Offer(0, 0, (SUM, 2, 1), &[1]),
         Answer::Back(BAD_GROUP, 4),
     ),
-    (Call::Post(0, SUM, &[1, 2]), Answer::Back(BAD_LENGTH, 8)),
+    (Call::PostBytes(0, SUM, 3), Answer::Back(TOO_SHORT, 3)),
+    (Call::Post(0, SUM, &[1, 2]), Answer::Back(TOO_LONG, 8)),
     (Call::Lent, Answer::Lent(0)),
     (Call::Quiet, Answer::Quiet(true)),
 ];

@@ -12,6 +12,7 @@ pub struct Setup {
     pub places: u32,
     pub wear: u32,
     pub starts: u32,
+    pub trace: u32,
 }
 
 impl Setup {
@@ -28,7 +29,7 @@ impl Setup {
             places: self.places,
             wear: self.wear,
             starts: self.starts,
-            trace: 64,
+            trace: self.trace,
         })
     }
 }
@@ -40,6 +41,7 @@ pub const ALONE: Setup = Setup {
     places: 4,
     wear: 8,
     starts: 4,
+    trace: 64,
 };
 
 pub const PAIR: Setup = Setup {

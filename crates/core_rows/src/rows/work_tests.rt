@@ -20,7 +20,9 @@ const BESIDE_RUNNING: &[Row] = &[
     (Call::Phase(1, 1), Answer::Phase(Phase::Pending)),
     (Call::Quiet, Answer::Quiet(false)),
     (Call::Commit, Answer::Finished),
+    (Call::Rest, Answer::Accepted),
     (Call::Quiet, Answer::Quiet(true)),
+    (Call::Phase(0, 0), Answer::Phase(Phase::Done)),
     (Call::Phase(1, 1), Answer::Phase(Phase::Done)),
 ];
 
@@ -44,30 +46,38 @@ const ABANDONED: &[Row] = &[
     (Call::Retire(1, 1), Answer::Outcome(0, 0, Values::One(3))),
 ];
 
-// Another engine has the same ticket out, for another operation.
+const STALE: Answer = Answer::Refused(Refusal::Stale);
+
+// Another engine has the same ticket out, for another operation or another operand. What it computed is refused, and the
+// engine's own work is still accepted.
 const FOREIGN: &[Row] = &[
     (Call::Post(0, SUM, &[1]), Answer::Accepted),
     (Call::Post(1, SUM, &[2]), Answer::Accepted),
     (Call::StepsToWork, OUT),
-    (Call::HoldForeign(MAX), OUT),
-    (Call::Commit, Answer::Refused(Refusal::Stale)),
-    (Call::HoldForeign(MAX), OUT),
-    (Call::Abandon, Answer::Refused(Refusal::Stale)),
+    (Call::CommitForeign(MAX, [1, 2]), STALE),
+    (Call::CommitForeign(SUM, [3, 2]), STALE),
+    (Call::CommitForeign(SUM, [1, 3]), STALE),
+    (Call::AbandonForeign(MAX, [1, 2]), STALE),
+    (Call::AbandonForeign(SUM, [1, 3]), STALE),
     (Call::Quiet, Answer::Quiet(false)),
     (Call::Rest, Answer::Accepted),
     (Call::Phase(1, 1), Answer::Phase(Phase::Pending)),
+    (Call::Lent, Answer::Lent(16)),
+    (Call::Commit, Answer::Finished),
+    (Call::Quiet, Answer::Quiet(true)),
+    (Call::Retire(0, 0), Answer::Outcome(0, 0, Values::One(3))),
+    (Call::Retire(1, 1), Answer::Outcome(0, 0, Values::One(3))),
 ];
 
 // A combination is accepted once.
 const SPENT: &[Row] = &[
     (Call::Post(0, SUM, &[1]), Answer::Accepted),
     (Call::Post(1, SUM, &[2]), Answer::Accepted),
+    (Call::AbandonForeign(SUM, [1, 2]), STALE),
     (Call::StepsToWork, OUT),
     (Call::Commit, Answer::Finished),
-    (Call::HoldForeign(SUM), OUT),
-    (Call::Abandon, Answer::Refused(Refusal::Stale)),
-    (Call::HoldForeign(SUM), OUT),
-    (Call::Commit, Answer::Refused(Refusal::Stale)),
+    (Call::AbandonForeign(SUM, [1, 2]), STALE),
+    (Call::CommitForeign(SUM, [1, 2]), STALE),
 ];
 
 #[test]

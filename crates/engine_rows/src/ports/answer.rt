@@ -24,4 +24,6 @@ pub enum Answer {
     Made(u8, u64),
     /// The same of a port that has ended.
     Ended(u8, u64),
+    /// How many combinations a progress thread wrote.
+    Worked(u64),
 }

@@ -21,13 +21,10 @@ pub enum Call {
     Wait(u8, usize),
     /// Rank 0 posts a request, which has no number, and waits for it.
     PostAndWait(u32, Signature, &'static [u8]),
-    /// Rank 0's calls over all requests.
-    TestAny,
-    WaitAny,
-    TestAll,
-    WaitAll,
-    TestSome,
-    WaitSome,
+    /// A call of rank 0 over all requests.
+    Over(ListCall),
+    /// A call of rank 0 over some requests: from that number on, so many.
+    OverSome(ListCall, usize, usize),
     /// Is a request null?
     IsNull(usize),
     /// How many requests aren't null.
@@ -38,4 +35,29 @@ pub enum Call {
     Finish,
     /// The port of the highest rank that has one is put aside, and doesn't end.
     PutAside,
+    /// Progress threads are to end.
+    Stop,
+    /// What a progress thread does.
+    Work,
+}
+
+impl Call {
+    /// Whether the call may take memory. A test of one request and a free take none.
+    pub fn takes_memory(self) -> bool {
+        !matches!(
+            self,
+            Call::Test(..) | Call::TestTicket(..) | Call::Free(..) | Call::Made(_)
+        )
+    }
+}
+
+/// A completion call over a list of requests.
+#[derive(Clone, Copy)]
+pub enum ListCall {
+    TestAny,
+    WaitAny,
+    TestAll,
+    WaitAll,
+    TestSome,
+    WaitSome,
 }

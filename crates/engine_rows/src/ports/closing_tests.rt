@@ -3,7 +3,7 @@
 use crate::ports::answer::Answer;
 use crate::ports::call::Call;
 use crate::ports::closed::Closed;
-use crate::ports::noted::Bytes;
+use crate::ports::noted::{Bytes, Noted};
 use crate::ports::setup::PAIR;
 use crate::ports::{Row, closed_after};
 use crate::signatures::SUM_OF_I32;
@@ -86,6 +86,29 @@ const POSTED: &[Row] = &[(
 fn close_refuses_active(rt: HostRuntime) -> Result<(), Fail> {
     let refusal = refusal_after(&rt, rt.alloc(), POSTED)?;
     assert_eq!(rt; refusal, Some((Refusal::StillActive { rank: 1 }, 2)));
+    Ok(())
+}
+
+const STALLED: Answer = Answer::Refused(Refusal::Stalled);
+
+// Rank 0 waits twice for a rank whose port has ended, and keeps its request.
+const STALL: &[Row] = &[
+    (
+        Call::Post(0, 0, SUM_OF_I32, &[1, 0, 0, 0]),
+        Answer::Accepted,
+    ),
+    (Call::Finish, Answer::Ended(1, 0)),
+    (Call::Wait(0, 0), STALLED),
+    (Call::IsNull(0), Answer::IsNull(false)),
+    (Call::Test(0, 0), Answer::Flag(false, Noted::Nothing)),
+    (Call::Wait(0, 0), STALLED),
+    (Call::Finish, Answer::Ended(0, 1)),
+];
+
+#[test]
+fn stall_in_one_thread(rt: HostRuntime) -> Result<(), Fail> {
+    let refusal = refusal_after(&rt, rt.alloc(), STALL)?;
+    assert_eq!(rt; refusal, Some((Refusal::StillActive { rank: 0 }, 2)));
     Ok(())
 }
 

@@ -1,11 +1,11 @@
 //! Each completion call of a port: what it completes, and that it doesn't sleep where nothing can go on.
 
 use crate::ports::answer::Answer;
-use crate::ports::call::Call;
+use crate::ports::call::{Call, ListCall};
 use crate::ports::noted::{Bytes, Noted};
-use crate::ports::setup::{ALONE, BOTH, TWO_GROUPS};
+use crate::ports::setup::{ALONE, BOTH, LONE, Setup, TWO_GROUPS};
 use crate::ports::{Row, first_misfit};
-use crate::signatures::SUM;
+use crate::signatures::{SUM, SUM_OF_I32};
 use coll_kinds::Refusal;
 use std::test::Fail;
 
@@ -33,16 +33,26 @@ const ALL: Noted = Noted::Two((1, TEN), (2, Bytes::One(11)));
 const COMPLETIONS: &[(Call, Answer, usize, u64)] = &[
     (Call::Test(0, 1), Answer::Flag(true, FIRST), 1, 5),
     (Call::Wait(0, 1), Answer::Outcome(TEN), 1, 5),
-    (Call::TestAny, Answer::At(1, TEN), 1, 5),
-    (Call::WaitAny, Answer::At(1, TEN), 1, 5),
-    (Call::TestAll, Answer::Flag(true, ALL), 0, 6),
-    (Call::WaitAll, Answer::Flag(true, ALL), 0, 6),
-    (Call::TestSome, Answer::Count(Some(2), ALL), 0, 6),
-    (Call::WaitSome, Answer::Count(Some(2), ALL), 0, 6),
+    (Call::Over(ListCall::TestAny), Answer::At(1, TEN), 1, 5),
+    (Call::Over(ListCall::WaitAny), Answer::At(1, TEN), 1, 5),
+    (Call::Over(ListCall::TestAll), Answer::Flag(true, ALL), 0, 6),
+    (Call::Over(ListCall::WaitAll), Answer::Flag(true, ALL), 0, 6),
+    (
+        Call::Over(ListCall::TestSome),
+        Answer::Count(Some(2), ALL),
+        0,
+        6,
+    ),
+    (
+        Call::Over(ListCall::WaitSome),
+        Answer::Count(Some(2), ALL),
+        0,
+        6,
+    ),
 ];
 
 #[test]
-fn every_port_completion(rt: HostRuntime) -> Result<(), Fail> {
+fn each_completion(rt: HostRuntime) -> Result<(), Fail> {
     for (call, answer, left, made) in COMPLETIONS {
         let rows = [
             (*call, *answer),
@@ -52,6 +62,83 @@ fn every_port_completion(rt: HostRuntime) -> Result<(), Fail> {
         let misfit = first_misfit(&rt, rt.alloc(), &TWO_GROUPS, &[DONE, &rows])?;
         assert_eq!(rt; misfit, None);
     }
+    Ok(())
+}
+
+// Seven requests of a rank that is alone, each completed by another call.
+const SEVEN: &[Row] = &[
+    (
+        Call::Post(0, 0, SUM_OF_I32, &[1, 0, 0, 0]),
+        Answer::Accepted,
+    ),
+    (
+        Call::Post(0, 0, SUM_OF_I32, &[2, 0, 0, 0]),
+        Answer::Accepted,
+    ),
+    (
+        Call::Post(0, 0, SUM_OF_I32, &[3, 0, 0, 0]),
+        Answer::Accepted,
+    ),
+    (
+        Call::Post(0, 0, SUM_OF_I32, &[4, 0, 0, 0]),
+        Answer::Accepted,
+    ),
+    (
+        Call::Post(0, 0, SUM_OF_I32, &[5, 0, 0, 0]),
+        Answer::Accepted,
+    ),
+    (
+        Call::Post(0, 0, SUM_OF_I32, &[6, 0, 0, 0]),
+        Answer::Accepted,
+    ),
+    (
+        Call::Post(0, 0, SUM_OF_I32, &[7, 0, 0, 0]),
+        Answer::Accepted,
+    ),
+    (
+        Call::OverSome(ListCall::WaitAll, 6, 1),
+        Answer::Flag(true, Noted::One(0, Bytes::Four(7, 0, 0, 0))),
+    ),
+    (Call::Left, Answer::Left(6)),
+    (
+        Call::Test(0, 0),
+        Answer::Flag(true, Noted::One(0, Bytes::Four(1, 0, 0, 0))),
+    ),
+    (
+        Call::OverSome(ListCall::TestAny, 1, 2),
+        Answer::At(0, Bytes::Four(2, 0, 0, 0)),
+    ),
+    (
+        Call::OverSome(ListCall::WaitAny, 2, 2),
+        Answer::At(0, Bytes::Four(3, 0, 0, 0)),
+    ),
+    (
+        Call::OverSome(ListCall::TestSome, 3, 1),
+        Answer::Count(Some(1), Noted::One(0, Bytes::Four(4, 0, 0, 0))),
+    ),
+    (
+        Call::OverSome(ListCall::WaitSome, 4, 1),
+        Answer::Count(Some(1), Noted::One(0, Bytes::Four(5, 0, 0, 0))),
+    ),
+    (
+        Call::OverSome(ListCall::TestAll, 5, 1),
+        Answer::Flag(true, Noted::One(0, Bytes::Four(6, 0, 0, 0))),
+    ),
+    (Call::Left, Answer::Left(0)),
+    (Call::Made(0), Answer::Made(0, 14)),
+    (Call::Stop, Answer::Accepted),
+    (Call::Work, Answer::Worked(0)),
+];
+
+#[test]
+fn every_port_completion(rt: HostRuntime) -> Result<(), Fail> {
+    let setup = Setup {
+        slots: 7,
+        trace: 14,
+        ..LONE
+    };
+    let misfit = first_misfit(&rt, rt.alloc(), &setup, &[SEVEN])?;
+    assert_eq!(rt; misfit, None);
     Ok(())
 }
 
@@ -73,17 +160,23 @@ const STALLED: Answer = Answer::Refused(Refusal::Stalled);
 
 const STALLS: &[Row] = &[
     (Call::Test(0, 1), Answer::Flag(false, Noted::Nothing)),
-    (Call::TestAny, Answer::Unfinished),
-    (Call::TestAll, Answer::Flag(false, Noted::Nothing)),
-    (Call::TestSome, Answer::Count(Some(0), Noted::Nothing)),
+    (Call::Over(ListCall::TestAny), Answer::Unfinished),
+    (
+        Call::Over(ListCall::TestAll),
+        Answer::Flag(false, Noted::Nothing),
+    ),
+    (
+        Call::Over(ListCall::TestSome),
+        Answer::Count(Some(0), Noted::Nothing),
+    ),
     (Call::Wait(0, 1), STALLED),
-    (Call::WaitAny, STALLED),
-    (Call::WaitAll, STALLED),
-    (Call::WaitSome, STALLED),
+    (Call::Over(ListCall::WaitAny), STALLED),
+    (Call::Over(ListCall::WaitAll), STALLED),
+    (Call::Over(ListCall::WaitSome), STALLED),
 ];
 
 #[test]
-fn stall_in_one_thread(rt: HostRuntime) -> Result<(), Fail> {
+fn stalls_change_nothing(rt: HostRuntime) -> Result<(), Fail> {
     for row in STALLS {
         let misfit = first_misfit(&rt, rt.alloc(), &TWO_GROUPS, &[PENDING, &[*row], KEPT])?;
         assert_eq!(rt; misfit, None);

@@ -1,12 +1,9 @@
 //! The completion calls of a port, each with its answer. They promise nothing: rows compare what they answer.
 
-ghost use Rattle.std.specs.Prelude.{◌+◌, ◌≤◌, IfOk, OnOk, length, vec_capacity, vec_len};
-ghost use Rattle.coll_complete.specs.Requests.{AreDistinct};
-
+use crate::calls::room_for;
 use crate::ports::answer::Answer;
 use crate::ports::noted::{Bytes, Noted};
-use coll_complete::{Any, Request, are_distinct};
-use coll_core::Outcome;
+use coll_complete::{Any, Request};
 use coll_kinds::Refusal;
 use coll_shared::{Entries, NoGate, Port};
 use std::alloc::Global;
@@ -47,17 +44,6 @@ pub fn wait_any<L: Entries, R: Wait>(
         Some((position, outcome)) => Answer::At(position, Bytes::of(&outcome)),
         None => Answer::Undefined,
     })
-}
-
-/// Room for the outcomes of a list; Torn where a request stands in it twice.
-fn room_for(alloc: Global, list: &[Request]) -> Result<Vec<(usize, Outcome)>, Refusal>
-    ensures distinct { OnOk result (AreDistinct list.now) }
-    ensures room { IfOk result (λ out. vec_len out + length list.now ≤ vec_capacity out) }
-{
-    if !are_distinct(list) {
-        return Err(Refusal::Torn);
-    }
-    Ok(Vec::with_capacity(alloc, list.len())?)
 }
 
 pub fn test_all<L: Entries, R: Wait>(

@@ -4,7 +4,7 @@ ghost use Rattle.std.specs.Prelude.{◌≡◌, ◌*◌};
 
 use crate::calls;
 use crate::ports::answer::Answer;
-use crate::ports::call::Call;
+use crate::ports::call::{Call, ListCall};
 use crate::ports::closed::Closed;
 use crate::ports::noted::Bytes;
 use crate::ports::setup::Setup;
@@ -18,6 +18,8 @@ use std::alloc::Global;
 use std::sync::Wait;
 use std::sync::ledger::Blank;
 
+const NO_MEMORY: Answer = Answer::Refused(Refusal::NoMemory);
+
 /// An engine with its ports, and the requests that rows made.
 #[derive(Drop)]
 pub struct Driver<L: Entries> {
@@ -26,6 +28,8 @@ pub struct Driver<L: Entries> {
     /// Those that haven't ended, by their ranks.
     ports: Vec<Port<L>>,
     aside: Option<Port<L>>,
+    /// The ends of those that have ended, the highest rank's first.
+    ended: Vec<Spent<L>>,
     requests: Vec<Request>,
     /// What each request named when it was made.
     tickets: Vec<Option<Ticket>>,
@@ -45,6 +49,7 @@ impl<L: Entries> Driver<L> {
             engine,
             ports,
             aside: None,
+            ended: Vec::new(alloc),
             requests: Vec::new(alloc),
             tickets: Vec::new(alloc),
             outcomes: Vec::new(alloc),
@@ -60,6 +65,23 @@ impl<L: Entries> Driver<L> {
             }
         }
         None
+    }
+
+    /// Makes the calls of a list, and once more each that is refused memory and may take some, until one is answered
+    /// otherwise. Else how many were refused memory.
+    pub fn refusals_among<R: Wait>(&mut self, rt: &R, rows: &[Row]) -> Result<u32, Misfit> {
+        let mut refusals = 0u32;
+        for (index, (call, want)) in rows.iter().enumerate() {
+            let mut got = self.answer(rt, *call);
+            if got == NO_MEMORY && call.takes_memory() {
+                refusals = refusals.saturating_add(1);
+                got = self.answer(rt, *call);
+            }
+            if got != *want {
+                return Err(Misfit { index, got });
+            }
+        }
+        Ok(refusals)
     }
 
     fn misfit_among<R: Wait>(&mut self, rt: &R, rows: &[Row]) -> Option<Misfit> {
@@ -99,15 +121,29 @@ impl<L: Entries> Driver<L> {
             Call::Made(rank) => self.made(rank),
             Call::Finish => self.finish(rt),
             Call::PutAside => self.put_aside(),
-            _ => self.complete(rt, call),
+            Call::Over(call) => self.complete(rt, call, 0, self.requests.len()),
+            Call::OverSome(call, from, count) => self.complete(rt, call, from, count),
+            Call::Stop => {
+                self.engine.stop(rt);
+                Ok(Answer::Accepted)
+            }
+            Call::Work => Ok(Answer::Worked(self.engine.work(rt, &NoGate)?)),
         }
     }
 
-    /// Numbers a request that was made.
+    /// Numbers a request, for which `room_for_one` has made room.
     fn number(&mut self, request: Request) -> Result<Answer, Refusal> {
         self.tickets.push(request.ticket())?;
         self.requests.push(request)?;
         Ok(Answer::Accepted)
+    }
+
+    /// Makes room for one more request and for its outcome, so that no refusal of memory can lose it.
+    fn room_for_one(&mut self) -> Result<(), Refusal> {
+        self.tickets.reserve(1)?;
+        self.requests.reserve(1)?;
+        self.outcomes.reserve(1)?;
+        Ok(())
     }
 
     fn post<R: Wait>(
@@ -118,10 +154,18 @@ impl<L: Entries> Driver<L> {
         sig: Signature,
         bytes: &[u8],
     ) -> Result<Request, Refusal> {
+        self.room_for_one()?;
         let port = self.ports.get_mut(usize::from(rank)).ok_or(Refusal::Torn)?;
         let plan = port.ready_plan(comm, sig)?;
-        let bytes = Vec::from_slice(self.alloc, bytes)?;
-        calls::post(rt, port, comm, Offer { plan, bytes })
+        let offer = Offer {
+            plan,
+            bytes: Vec::from_slice(self.alloc, bytes)?,
+        };
+        match port.post(rt, comm, offer) {
+            Ok((request, _receipt)) => Ok(request),
+            Err(refused) if refused.back.bytes.as_slice() == bytes => Err(refused.why),
+            Err(_) => Err(Refusal::Torn),
+        }
     }
 
     fn init<R: Wait>(
@@ -131,6 +175,7 @@ impl<L: Entries> Driver<L> {
         comm: u32,
         sig: Signature,
     ) -> Result<Answer, Refusal> {
+        self.room_for_one()?;
         let port = self.ports.get_mut(usize::from(rank)).ok_or(Refusal::Torn)?;
         let plan = port.ready_plan(comm, sig)?;
         let request = calls::init(rt, port, comm, plan)?;
@@ -146,9 +191,12 @@ impl<L: Entries> Driver<L> {
     ) -> Result<Answer, Refusal> {
         let port = self.ports.get_mut(usize::from(rank)).ok_or(Refusal::Torn)?;
         let request = self.requests.get(number).ok_or(Refusal::Torn)?;
-        let bytes = Vec::from_slice(self.alloc, bytes)?;
-        calls::start(rt, port, request, bytes)?;
-        Ok(Answer::Accepted)
+        let own = Vec::from_slice(self.alloc, bytes)?;
+        match port.start(rt, request, own) {
+            Ok(_receipt) => Ok(Answer::Accepted),
+            Err(refused) if refused.back.as_slice() == bytes => Err(refused.why),
+            Err(_) => Err(Refusal::Torn),
+        }
     }
 
     fn free<R: Wait>(&mut self, rt: &R, rank: u8, number: usize) -> Result<Answer, Refusal> {
@@ -175,6 +223,7 @@ impl<L: Entries> Driver<L> {
     fn wait<R: Wait>(&mut self, rt: &R, rank: u8, number: usize) -> Result<Answer, Refusal> {
         let port = self.ports.get_mut(usize::from(rank)).ok_or(Refusal::Torn)?;
         let request = self.requests.get_mut(number).ok_or(Refusal::Torn)?;
+        self.outcomes.reserve(1)?;
         let outcome = calls::wait(rt, &NoGate, port, request)?;
         self.keep(outcome)
     }
@@ -202,18 +251,27 @@ impl<L: Entries> Driver<L> {
         Ok(answer)
     }
 
-    /// A call of rank 0 over all requests.
-    fn complete<R: Wait>(&mut self, rt: &R, call: Call) -> Result<Answer, Refusal> {
+    /// A call of rank 0 over some requests: from that number on, so many.
+    fn complete<R: Wait>(
+        &mut self,
+        rt: &R,
+        call: ListCall,
+        from: usize,
+        count: usize,
+    ) -> Result<Answer, Refusal> {
         let port = self.ports.get_mut(0).ok_or(Refusal::Torn)?;
-        let list = self.requests.as_mut_slice();
+        let (_, rest) = self
+            .requests
+            .split_at_mut_checked(from)
+            .ok_or(Refusal::Torn)?;
+        let (list, _) = rest.split_at_mut_checked(count).ok_or(Refusal::Torn)?;
         match call {
-            Call::TestAny => completions::test_any(rt, port, list),
-            Call::WaitAny => completions::wait_any(rt, port, list),
-            Call::TestAll => completions::test_all(rt, self.alloc, port, list),
-            Call::WaitAll => completions::wait_all(rt, self.alloc, port, list),
-            Call::TestSome => completions::test_some(rt, self.alloc, port, list),
-            Call::WaitSome => completions::wait_some(rt, self.alloc, port, list),
-            _ => Err(Refusal::Torn),
+            ListCall::TestAny => completions::test_any(rt, port, list),
+            ListCall::WaitAny => completions::wait_any(rt, port, list),
+            ListCall::TestAll => completions::test_all(rt, self.alloc, port, list),
+            ListCall::WaitAll => completions::wait_all(rt, self.alloc, port, list),
+            ListCall::TestSome => completions::test_some(rt, self.alloc, port, list),
+            ListCall::WaitSome => completions::wait_some(rt, self.alloc, port, list),
         }
     }
 
@@ -233,9 +291,12 @@ impl<L: Entries> Driver<L> {
     }
 
     fn finish<R: Wait>(&mut self, rt: &R) -> Result<Answer, Refusal> {
+        self.ended.reserve(1)?;
         let port = self.ports.pop().ok_or(Refusal::Torn)?;
         let spent = port.finish(rt);
-        Ok(Answer::Ended(spent.rank(), spent.made()))
+        let answer = Answer::Ended(spent.rank(), spent.made());
+        self.ended.push(spent)?;
+        Ok(answer)
     }
 
     fn put_aside(&mut self) -> Result<Answer, Refusal> {
@@ -243,37 +304,28 @@ impl<L: Entries> Driver<L> {
         Ok(Answer::Accepted)
     }
 
-    /// Ends the ports but the one that was put aside, and closes the engine.
+    /// Ends the ports that haven't, but the one that was put aside, and closes the engine.
     pub fn close<R: Wait>(self, rt: &R) -> Result<Closed, Refusal>
         requires { L.parts ≡ 2 * L.ranks }
     {
+        let mut driver = self;
+        for _port in 0..driver.ports.len() {
+            driver.finish(rt)?;
+        }
         let Driver {
-            alloc,
             engine,
-            ports,
             aside: _aside,
+            ended,
             outcomes,
             ..
-        } = self;
-        let spents = ends_of(rt, alloc, ports)?;
+        } = driver;
+        let mut spents = ended;
+        spents.reverse();
         Ok(Closed {
             outcomes,
             report: report_of(rt, engine, spents),
         })
     }
-}
-
-/// The ends of these ports.
-fn ends_of<L: Entries, R: Wait>(
-    rt: &R,
-    alloc: Global,
-    ports: Vec<Port<L>>,
-) -> Result<Vec<Spent<L>>, Refusal> {
-    let mut spents = Vec::new(alloc);
-    for port in ports {
-        spents.push(port.finish(rt))?;
-    }
-    Ok(spents)
 }
 
 /// Closes an engine with these ends.

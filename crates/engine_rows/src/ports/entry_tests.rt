@@ -1,7 +1,7 @@
 //! How many entries a call makes: one for each outcome, one for a free, and none where nothing is done.
 
 use crate::ports::answer::Answer;
-use crate::ports::call::Call;
+use crate::ports::call::{Call, ListCall};
 use crate::ports::noted::{Bytes, Noted};
 use crate::ports::setup::{ALONE, BOTH, TWO_GROUPS};
 use crate::ports::{Misfit, Row, first_misfit};
@@ -53,9 +53,21 @@ const TEN_AND_TWELVE: Noted = Noted::Two((0, Bytes::One(10)), (2, Bytes::One(12)
 
 const OUTCOMES: &[Counted] = &[
     (Call::Test(0, 0), Answer::Flag(true, TEN), 1),
-    (Call::TestAny, Answer::At(0, Bytes::One(10)), 1),
-    (Call::TestAll, Answer::Flag(true, TEN_AND_TWELVE), 2),
-    (Call::TestSome, Answer::Count(Some(2), TEN_AND_TWELVE), 2),
+    (
+        Call::Over(ListCall::TestAny),
+        Answer::At(0, Bytes::One(10)),
+        1,
+    ),
+    (
+        Call::Over(ListCall::TestAll),
+        Answer::Flag(true, TEN_AND_TWELVE),
+        2,
+    ),
+    (
+        Call::Over(ListCall::TestSome),
+        Answer::Count(Some(2), TEN_AND_TWELVE),
+        2,
+    ),
 ];
 
 #[test]
@@ -76,9 +88,17 @@ const NOT_DONE: &[Row] = &[
 
 const NOTHING: &[Counted] = &[
     (Call::Test(0, 0), Answer::Flag(false, Noted::Nothing), 0),
-    (Call::TestAny, Answer::Unfinished, 0),
-    (Call::TestAll, Answer::Flag(false, Noted::Nothing), 0),
-    (Call::TestSome, Answer::Count(Some(0), Noted::Nothing), 0),
+    (Call::Over(ListCall::TestAny), Answer::Unfinished, 0),
+    (
+        Call::Over(ListCall::TestAll),
+        Answer::Flag(false, Noted::Nothing),
+        0,
+    ),
+    (
+        Call::Over(ListCall::TestSome),
+        Answer::Count(Some(0), Noted::Nothing),
+        0,
+    ),
     (Call::Free(0, 0), Answer::Refused(Refusal::NotPersistent), 0),
 ];
 

@@ -8,7 +8,9 @@ pub enum Bytes {
     One(u8),
     Two(u8, u8),
     Four(u8, u8, u8, u8),
-    /// As many as no row has.
+    /// So many times the same byte.
+    Same(usize, u8),
+    /// None, or as many as no row has.
     Other(usize),
 }
 
@@ -28,6 +30,9 @@ impl Bytes {
             [one] => Bytes::One(*one),
             [one, two] => Bytes::Two(*one, *two),
             [one, two, three, four] => Bytes::Four(*one, *two, *three, *four),
+            [first, rest @ ..] if rest.iter().all(|byte| byte == first) => {
+                Bytes::Same(rest.len().saturating_add(1), *first)
+            }
             bytes => Bytes::Other(bytes.len()),
         }
     }

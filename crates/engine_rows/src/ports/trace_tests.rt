@@ -45,9 +45,31 @@ const FULL: &[Row] = &[
 ];
 
 #[test]
-fn trace_full_then_free(rt: HostRuntime) -> Result<(), Fail> {
+fn trace_full_of_one_init(rt: HostRuntime) -> Result<(), Fail> {
     let setup = Setup { trace: 3, ..LONE };
     let misfit = first_misfit(&rt, rt.alloc(), &setup, &[FULL])?;
+    assert_eq!(rt; misfit, None);
+    Ok(())
+}
+
+// With four entries it can be started and completed once, and still be freed.
+const FULL_OF_ONE_START: &[Row] = &[
+    (Call::Init(0, 0, PERSISTENT_BCAST_OF_TWO), Answer::Accepted),
+    (Call::Start(0, 0, BYTES), Answer::Accepted),
+    (Call::Wait(0, 0), Answer::Outcome(Bytes::Two(7, 9))),
+    (
+        Call::Start(0, 0, BYTES),
+        Answer::Refused(Refusal::TraceFull),
+    ),
+    (Call::Made(0), Answer::Made(0, 3)),
+    (Call::Free(0, 0), Answer::Accepted),
+    (Call::Made(0), Answer::Made(0, 4)),
+];
+
+#[test]
+fn trace_full_then_free(rt: HostRuntime) -> Result<(), Fail> {
+    let setup = Setup { trace: 4, ..LONE };
+    let misfit = first_misfit(&rt, rt.alloc(), &setup, &[FULL_OF_ONE_START])?;
     assert_eq!(rt; misfit, None);
     Ok(())
 }

@@ -10,5 +10,5 @@ returns-clause-refused g c =
     record {
       setting = setting hall.core;
       engine = seen hall.core;
-      why_is = subst (λ p. result_err c.request_free.result ≡ free_refusal (setting hall.core) (seen hall.core).state p.rank c.args.request.now) c.self.view_is c.request_free.ensures.refused;
+      why_is = subst (λ p. result_err c.request_free-freed.result ≡ free_refusal (setting hall.core) (seen hall.core).state p.rank c.args.request.now) c.self.view_is c.request_free-freed.ensures.refused;
     }

@@ -1,0 +1,168 @@
+//! Work that is ready, which somebody must go on with: a rank that waits, a progress thread, or a rank that sleeps.
+
+use super::act::{Act, Event};
+use super::scenario::{Scenario, first_misfit};
+use std::test::Fail;
+
+/// The posts of ranks 1 and 2 are made while rank 0 and the progress thread sleep, by a thread that wants nothing itself. Ranks 1 and 2
+/// call no more until rank 0 has its sum.
+#[test]
+fn a_post_wakes_who_waits(rt: HostRuntime) -> Result<(), Fail> {
+    let scenario = Scenario {
+        groups: &[&[0, 1], &[2]],
+        acts: &[
+            &[Act::Sum(0, 1), Act::WaitSum(0, 3), Act::Set(1)],
+            &[
+                Act::Until(Event::Mark(0)),
+                Act::Sum(0, 2),
+                Act::Until(Event::Mark(1)),
+                Act::WaitSum(0, 3),
+            ],
+            &[
+                Act::Until(Event::Mark(0)),
+                Act::Barrier(1),
+                Act::Until(Event::Mark(1)),
+                Act::Wait(0),
+            ],
+            &[
+                Act::Finish,
+                Act::Until(Event::Sleepers(2)),
+                Act::Set(0),
+                Act::HoldUntilPublished(2),
+            ],
+        ],
+        holds: &[],
+    };
+    assert_eq!(rt; first_misfit(&rt, rt.alloc(), &scenario, 1)?, None);
+    Ok(())
+}
+
+/// The same of one post and no progress thread: rank 1 sleeps for what rank 0's post makes ready.
+#[test]
+fn an_exit_hands_on(rt: HostRuntime) -> Result<(), Fail> {
+    let scenario = Scenario {
+        groups: &[&[0, 1]],
+        acts: &[
+            &[
+                Act::Until(Event::Mark(0)),
+                Act::Sum(0, 1),
+                Act::Until(Event::Mark(1)),
+                Act::WaitSum(0, 3),
+            ],
+            &[Act::Sum(0, 2), Act::WaitSum(0, 3), Act::Set(1)],
+            &[
+                Act::Finish,
+                Act::Until(Event::Sleepers(1)),
+                Act::Set(0),
+                Act::HoldUntilPublished(1),
+            ],
+        ],
+        holds: &[],
+    };
+    assert_eq!(rt; first_misfit(&rt, rt.alloc(), &scenario, 0)?, None);
+    Ok(())
+}
+
+/// Ranks that don't call leave the combinations to a progress thread.
+#[test]
+fn a_worker_works(rt: HostRuntime) -> Result<(), Fail> {
+    let scenario = Scenario {
+        groups: &[&[0, 1]],
+        acts: &[
+            &[
+                Act::Sum(0, 1),
+                Act::Until(Event::Ended(2)),
+                Act::WaitSum(0, 3),
+            ],
+            &[
+                Act::Sum(0, 2),
+                Act::Until(Event::Ended(2)),
+                Act::WaitSum(0, 3),
+            ],
+        ],
+        holds: &[],
+    };
+    assert_eq!(rt; first_misfit(&rt, rt.alloc(), &scenario, 1)?, None);
+    Ok(())
+}
+
+/// Pieces 0 and 1 are held until piece 2 was ended, so three threads are at work at one time.
+#[test]
+fn three_at_one_time(rt: HostRuntime) -> Result<(), Fail> {
+    for workers in 1..3u8 {
+        let scenario = Scenario {
+            groups: &[&[0, 1]],
+            acts: &[
+                &[
+                    Act::Sum(0, 1),
+                    Act::Sum(0, 10),
+                    Act::Sum(0, 100),
+                    Act::WaitSum(0, 3),
+                    Act::WaitSum(1, 30),
+                    Act::WaitSum(2, 300),
+                    Act::Until(Event::EndOf(2)),
+                ],
+                &[
+                    Act::Sum(0, 2),
+                    Act::Sum(0, 20),
+                    Act::Sum(0, 200),
+                    Act::WaitSum(0, 3),
+                    Act::WaitSum(1, 30),
+                    Act::WaitSum(2, 300),
+                ],
+            ],
+            holds: &[(0, Event::EndOf(2)), (1, Event::EndOf(2))],
+        };
+        assert_eq!(rt; first_misfit(&rt, rt.alloc(), &scenario, workers)?, None);
+    }
+    Ok(())
+}
+
+/// A rank that sleeps for a list is woken where what it waits for is done, and not before.
+#[test]
+fn lists_wake(rt: HostRuntime) -> Result<(), Fail> {
+    let scenario = Scenario {
+        groups: &[&[0, 1], &[0, 1]],
+        acts: &[
+            &[
+                Act::Barrier(0),
+                Act::Barrier(1),
+                Act::WaitAny(2, 1),
+                Act::Set(0),
+                Act::WaitAny(2, 0),
+                Act::Barrier(0),
+                Act::Barrier(1),
+                Act::Set(1),
+                Act::WaitAll,
+                Act::Barrier(0),
+                Act::Barrier(1),
+                Act::Set(2),
+                Act::WaitSome,
+                Act::Set(3),
+                Act::WaitSome,
+            ],
+            &[
+                Act::Until(Event::Sleepers(1)),
+                Act::Barrier(1),
+                Act::Until(Event::Mark(0)),
+                Act::Until(Event::Sleepers(1)),
+                Act::Barrier(0),
+                Act::Until(Event::Mark(1)),
+                Act::Until(Event::Sleepers(1)),
+                Act::Barrier(1),
+                Act::Until(Event::Sleepers(1)),
+                Act::Barrier(0),
+                Act::Until(Event::Mark(2)),
+                Act::Until(Event::Sleepers(1)),
+                Act::Barrier(1),
+                Act::Until(Event::Mark(3)),
+                Act::Until(Event::Sleepers(1)),
+                Act::Barrier(0),
+                Act::WaitAll,
+            ],
+        ],
+        holds: &[],
+    };
+    assert_eq!(rt; first_misfit(&rt, rt.alloc(), &scenario, 0)?, None);
+    Ok(())
+}

@@ -1,0 +1,141 @@
+//! What the threads of a scenario share.
+
+use super::act::Event;
+use coll_shared::{Engine, Entries, Gate, Inspect, Shared};
+use std::sync::Wait;
+use std::sync::atomic::{AtomicU64, Ordering};
+use std::thread;
+use std::time::{Clock, Duration};
+
+/// How often a thread looks for an event, and how long it sleeps between two looks.
+const TURNS: u32 = 500;
+
+const NAP_IN_MILLIS: u64 = 10;
+
+/// Counts and marks, which are only raised.
+#[derive(Drop)]
+pub struct Marks {
+    begun: AtomicU64,
+    ended: AtomicU64,
+    /// A bit for each of the first 64 pieces that were ended.
+    ends: AtomicU64,
+    /// A bit for each mark that was set.
+    marks: AtomicU64,
+    /// How many events a gate waited for in vain.
+    missed: AtomicU64,
+}
+
+fn bit(number: u32) -> u64 {
+    1u64.wrapping_shl(number)
+}
+
+impl Marks {
+    /// None.
+    pub fn new() -> Marks {
+        Marks {
+            begun: AtomicU64::new(0),
+            ended: AtomicU64::new(0),
+            ends: AtomicU64::new(0),
+            marks: AtomicU64::new(0),
+            missed: AtomicU64::new(0),
+        }
+    }
+
+    /// Sets a mark.
+    pub fn set(&self, mark: u32) {
+        self.marks.fetch_or(bit(mark), Ordering::SeqCst);
+    }
+
+    /// How many events a gate waited for in vain.
+    pub fn missed(&self) -> u64 {
+        self.missed.load(Ordering::SeqCst)
+    }
+}
+
+/// The engine, with the marks, and which pieces are held until an event has come.
+#[derive(Drop)]
+pub struct Site<'x, L: Entries, R> {
+    pub rt: &'x R,
+    pub engine: &'x Engine<L>,
+    pub marks: &'x Marks,
+    pub holds: &'x [(u64, Event)],
+}
+
+impl<L: Entries, R: Wait + Clock> Site<'_, L, R> {
+    fn has_come(&self, event: Event) -> bool {
+        let marks = self.marks;
+        match event {
+            Event::Begun(count) => marks.begun.load(Ordering::SeqCst) >= count,
+            Event::Ended(count) => marks.ended.load(Ordering::SeqCst) >= count,
+            Event::EndOf(piece) => {
+                piece < 64 && marks.ends.load(Ordering::SeqCst) & bit(piece as u32) != 0
+            }
+            Event::Sleepers(count) => self.engine.sleepers() == count,
+            Event::Mark(mark) => marks.marks.load(Ordering::SeqCst) & bit(mark) != 0,
+        }
+    }
+
+    /// Waits for an event, for a bounded time. Answers whether it has come.
+    pub fn until(&self, event: Event) -> bool {
+        for _turn in 0..TURNS {
+            if self.has_come(event) {
+                return true;
+            }
+            let _ = thread::sleep(self.rt, Duration::from_millis(NAP_IN_MILLIS));
+        }
+        false
+    }
+
+    /// Holds the engine's lock until just so many ports have published an operation, for a bounded time. Answers whether they have.
+    pub fn hold_until_published(&self, count: u64) -> bool {
+        let mut holding = Holding {
+            rt: self.rt,
+            engine: self.engine,
+            count,
+            has_come: false,
+        };
+        self.engine.inspect(self.rt, &mut holding);
+        holding.has_come
+    }
+}
+
+/// Waits, with the engine's lock, until just so many ports have published an operation.
+#[derive(Drop)]
+struct Holding<'x, L: Entries, R> {
+    rt: &'x R,
+    engine: &'x Engine<L>,
+    count: u64,
+    has_come: bool,
+}
+
+impl<L: Entries, R: Wait + Clock> Inspect<L> for Holding<'_, L, R> {
+    fn inspect(&mut self, _shared: &Shared<L>) {
+        for _turn in 0..TURNS {
+            if self.engine.published() == self.count {
+                self.has_come = true;
+                return;
+            }
+            let _ = thread::sleep(self.rt, Duration::from_millis(NAP_IN_MILLIS));
+        }
+    }
+}
+
+impl<L: Entries, R: Wait + Clock> Gate for Site<'_, L, R> {
+    fn before(&self, piece: u64) {
+        self.marks.begun.fetch_add(1, Ordering::SeqCst);
+        for (held, event) in self.holds.iter() {
+            if *held == piece && !self.until(*event) {
+                self.marks.missed.fetch_add(1, Ordering::SeqCst);
+            }
+        }
+    }
+
+    fn after(&self, piece: u64) {
+        if piece < 64 {
+            self.marks
+                .ends
+                .fetch_or(bit(piece as u32), Ordering::SeqCst);
+        }
+        self.marks.ended.fetch_add(1, Ordering::SeqCst);
+    }
+}

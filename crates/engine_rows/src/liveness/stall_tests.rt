@@ -1,0 +1,93 @@
+//! Stalls, which must be told to each rank that waits, however they begin.
+
+use super::act::{Act, Event};
+use super::scenario::{Scenario, first_misfit};
+use std::test::Fail;
+
+const THREE_AND_TWO: &[&[u8]] = &[&[0, 1, 2], &[1, 2]];
+
+/// A progress thread has a combination while all ranks sleep, and its commit finishes no request. Ranks 0 and 1 wait for rank 2's post
+/// of the sum, and rank 2 for rank 1's barrier. Rank 3 looks under the lock at last, so that a stall that isn't told ends the test.
+#[test]
+fn stall_after_a_commit(rt: HostRuntime) -> Result<(), Fail> {
+    let scenario = Scenario {
+        groups: THREE_AND_TWO,
+        acts: &[
+            &[
+                Act::Sum(0, 1),
+                Act::Until(Event::Begun(1)),
+                Act::WaitStalled(0),
+                Act::Set(0),
+            ],
+            &[
+                Act::Sum(0, 1),
+                Act::Until(Event::Begun(1)),
+                Act::WaitStalled(0),
+                Act::Set(1),
+            ],
+            &[
+                Act::Barrier(1),
+                Act::Until(Event::Begun(1)),
+                Act::WaitStalled(0),
+                Act::Set(2),
+            ],
+            &[
+                Act::Finish,
+                Act::Until(Event::Mark(0)),
+                Act::Until(Event::Mark(1)),
+                Act::Until(Event::Mark(2)),
+                Act::HoldUntilPublished(0),
+            ],
+        ],
+        holds: &[(0, Event::Sleepers(3))],
+    };
+    assert_eq!(rt; first_misfit(&rt, rt.alloc(), &scenario, 1)?, None);
+    Ok(())
+}
+
+/// Rank 1 ends while rank 0 sleeps for its post.
+#[test]
+fn a_stall_at_an_end(rt: HostRuntime) -> Result<(), Fail> {
+    for workers in [0u8, 2] {
+        let scenario = Scenario {
+            groups: &[&[0, 1]],
+            acts: &[
+                &[
+                    Act::Sum(0, 1),
+                    Act::WaitStalled(0),
+                    Act::WaitStalled(0),
+                    Act::TestPending(0),
+                ],
+                &[
+                    Act::Until(Event::Sleepers(u64::from(workers) + 1)),
+                    Act::Finish,
+                ],
+            ],
+            holds: &[],
+        };
+        assert_eq!(rt; first_misfit(&rt, rt.alloc(), &scenario, workers)?, None);
+    }
+    Ok(())
+}
+
+/// A rank that tests isn't one that waits: nothing is told while it can still post.
+#[test]
+fn no_stall_while_one_tests(rt: HostRuntime) -> Result<(), Fail> {
+    for workers in [0u8, 1] {
+        let scenario = Scenario {
+            groups: &[&[0, 1]],
+            acts: &[
+                &[Act::Barrier(0), Act::Wait(0)],
+                &[
+                    Act::Until(Event::Sleepers(u64::from(workers) + 1)),
+                    Act::TestNull(1_000),
+                    Act::Barrier(0),
+                    Act::Wait(0),
+                ],
+            ],
+            holds: &[],
+        };
+        assert_eq!(rt; first_misfit(&rt, rt.alloc(), &scenario, workers)?, None);
+    }
+    Ok(())
+}

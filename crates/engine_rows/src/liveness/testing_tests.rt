@@ -1,0 +1,100 @@
+//! Ranks that only test, which must get on (MPI 4.1, 3.7.4).
+
+ghost use Rattle.std.specs.Prelude.{◌≡◌, ◌*◌};
+
+use super::act::{Act, Event};
+use super::scenario::{Scenario, first_misfit};
+use crate::calls;
+use coll_complete::Request;
+use coll_core::Offer;
+use coll_crew::roomy;
+use coll_kinds::{Datatype, Kind, Mode, Op, Refusal, Signature};
+use coll_shared::{Entries, Port, ledger_for, open};
+use std::alloc::Global;
+use std::marker::Brand;
+use std::sync::Wait;
+use std::sync::ledger::Blank;
+use std::test::Fail;
+
+/// How often a rank tests at most.
+const TESTS: u32 = 10_000;
+
+/// How often a port is tested at most, where two are tested by turns.
+const TURNS: u32 = 8;
+
+/// Both ranks test, once both have posted.
+#[test]
+fn ranks_that_test_get_on(rt: HostRuntime) -> Result<(), Fail> {
+    let scenario = Scenario {
+        groups: &[&[0, 1]],
+        acts: &[
+            &[
+                Act::Sum(0, 1),
+                Act::Set(0),
+                Act::Until(Event::Mark(1)),
+                Act::TestSum(0, 3, TESTS),
+            ],
+            &[
+                Act::Sum(0, 2),
+                Act::Set(1),
+                Act::Until(Event::Mark(0)),
+                Act::TestSum(0, 3, TESTS),
+            ],
+        ],
+        holds: &[],
+    };
+    for workers in 0..3u8 {
+        assert_eq!(rt; first_misfit(&rt, rt.alloc(), &scenario, workers)?, None);
+    }
+    Ok(())
+}
+
+fn posted<L: Entries, R: Wait>(
+    rt: &R,
+    alloc: Global,
+    port: &mut Port<L>,
+) -> Result<Request, Refusal> {
+    let sum = Signature {
+        kind: Kind::Allreduce,
+        mode: Mode::Once,
+        root: 0,
+        op: Some(Op::Sum),
+        ty: Datatype::I32,
+        count: 1,
+    };
+    let plan = port.ready_plan(0, sum)?;
+    let bytes = Vec::from_slice(alloc, &[1u8, 0, 0, 0])?;
+    calls::post(rt, port, 0, Offer { plan, bytes })
+}
+
+/// How many requests of two ports in this thread are complete, once each was tested so often.
+fn complete_in<L: Entries, R: Wait>(rt: &R, alloc: Global, entries: Blank) -> Result<usize, Refusal>
+    requires name { entries.name ≡ L.name }
+    requires parts { (entries.parts ≡ L.parts) × (L.parts ≡ 2 * L.ranks) × (L.ranks ≡ 2) }
+{
+    let mut groups = Vec::new(alloc);
+    groups.push(Vec::from_slice(alloc, &[0u8, 1])?)?;
+    let (_engine, ports) = open::<L>(alloc, roomy(2, groups), entries)?;
+    let mut pairs = Vec::new(alloc);
+    for port in ports {
+        let mut port = port;
+        let request = posted(rt, alloc, &mut port)?;
+        pairs.push((port, request))?;
+    }
+    let mut complete = 0usize;
+    for _turn in 0..TURNS {
+        for (port, request) in pairs.iter_mut() {
+            if calls::test(rt, port, request)?.is_some() {
+                complete = complete.wrapping_add(1);
+            }
+        }
+    }
+    Ok(complete)
+}
+
+#[test]
+fn two_ports_tested_by_turns(rt: HostRuntime) -> Result<(), Fail> {
+    let complete = complete_in::<Brand, HostRuntime>(&rt, rt.alloc(), ledger_for(2))?;
+    assert_eq!(rt; complete, 2);
+    Ok(())
+}

@@ -1,0 +1,171 @@
+//! Jobs in which memory may be refused: each call that is refused some is made again, and all outcomes are those of a job in
+//! which none is refused.
+
+ghost use Rattle.std.specs.Prelude.{◌≡◌, ◌*◌};
+
+use crate::ports::answer::Answer;
+use crate::ports::call::Call;
+use crate::ports::closed::Closed;
+use crate::ports::driver::Driver;
+use crate::ports::noted::{Bytes, Noted};
+use crate::ports::setup::{PAIR, Setup};
+use crate::ports::{Misfit, Row};
+use crate::signatures::{BCAST, PERSISTENT_SUM, SUM, SUM_OF_I32};
+use coll_kinds::{Kind, Refusal, Signature};
+use coll_shared::{Entries, ledger_for};
+use std::alloc::Global;
+use std::marker::Brand;
+use std::sync::Wait;
+use std::sync::ledger::Blank;
+use std::test::Fail;
+
+/// What two ranks do on an engine whose trace has just as much room as that takes.
+#[derive(Clone, Copy)]
+struct Job {
+    setup: Setup,
+    calls: &'static [Row],
+}
+
+const SHORT_ROWS: Job = Job {
+    setup: Setup {
+        slots: 8,
+        trace: 24,
+        ..PAIR
+    },
+    calls: CALLS,
+};
+
+const LONG_ROWS: Job = Job {
+    setup: Setup {
+        slots: 2,
+        trace: 4,
+        ..PAIR
+    },
+    calls: LONG_CALLS,
+};
+
+/// An alltoall of one number for each member.
+const ALLTOALL: Signature = Signature {
+    kind: Kind::Alltoall,
+    ..BCAST
+};
+
+const BARRIER: Signature = Signature {
+    kind: Kind::Barrier,
+    count: 0,
+    ..BCAST
+};
+
+const NOT_YET: Answer = Answer::Flag(false, Noted::Nothing);
+
+const THREE: Bytes = Bytes::Four(3, 0, 0, 0);
+
+const NOTHING: Bytes = Bytes::Other(0);
+
+/// Two ranks post an allreduce, an alltoall and a barrier, and start a persistent allreduce twice.
+const CALLS: &[Row] = &[
+    (
+        Call::Post(0, 0, SUM_OF_I32, &[1, 0, 0, 0]),
+        Answer::Accepted,
+    ),
+    (
+        Call::Post(1, 0, SUM_OF_I32, &[2, 0, 0, 0]),
+        Answer::Accepted,
+    ),
+    (Call::Post(0, 0, ALLTOALL, &[1, 2]), Answer::Accepted),
+    (Call::Post(1, 0, ALLTOALL, &[3, 4]), Answer::Accepted),
+    (Call::Post(0, 0, BARRIER, &[]), Answer::Accepted),
+    (Call::Post(1, 0, BARRIER, &[]), Answer::Accepted),
+    (Call::Init(0, 0, PERSISTENT_SUM), Answer::Accepted),
+    (Call::Init(1, 0, PERSISTENT_SUM), Answer::Accepted),
+    (Call::Start(0, 6, &[5]), Answer::Accepted),
+    (Call::Start(1, 7, &[6]), Answer::Accepted),
+    (Call::Test(0, 0), NOT_YET),
+    (Call::Wait(1, 7), Answer::Outcome(Bytes::One(11))),
+    (
+        Call::Test(0, 6),
+        Answer::Flag(true, Noted::One(6, Bytes::One(11))),
+    ),
+    (Call::Test(0, 0), Answer::Flag(true, Noted::One(0, THREE))),
+    (Call::Test(1, 1), Answer::Flag(true, Noted::One(1, THREE))),
+    (Call::Start(0, 6, &[7]), Answer::Accepted),
+    (
+        Call::Test(0, 2),
+        Answer::Flag(true, Noted::One(2, Bytes::Two(1, 3))),
+    ),
+    (
+        Call::Test(1, 3),
+        Answer::Flag(true, Noted::One(3, Bytes::Two(2, 4))),
+    ),
+    (Call::Start(1, 7, &[8]), Answer::Accepted),
+    (Call::Test(0, 4), Answer::Flag(true, Noted::One(4, NOTHING))),
+    (Call::Test(1, 5), Answer::Flag(true, Noted::One(5, NOTHING))),
+    (Call::Wait(0, 6), Answer::Outcome(Bytes::One(15))),
+    (Call::Wait(1, 7), Answer::Outcome(Bytes::One(15))),
+    (Call::Free(0, 6), Answer::Accepted),
+    (Call::Free(1, 7), Answer::Accepted),
+    (Call::Finish, Answer::Ended(1, 12)),
+    (Call::Finish, Answer::Ended(0, 12)),
+];
+
+/// An allreduce whose combinations take memory.
+const LONG_SUM: Signature = Signature { count: 64, ..SUM };
+
+const LONG_CALLS: &[Row] = &[
+    (Call::Post(0, 0, LONG_SUM, &[1; 64]), Answer::Accepted),
+    (Call::Post(1, 0, LONG_SUM, &[2; 64]), Answer::Accepted),
+    (Call::Wait(0, 0), Answer::Outcome(Bytes::Same(64, 3))),
+    (Call::Wait(1, 1), Answer::Outcome(Bytes::Same(64, 3))),
+    (Call::Finish, Answer::Ended(1, 2)),
+    (Call::Finish, Answer::Ended(0, 2)),
+];
+
+/// How many calls of the job were refused memory; or the first that was answered otherwise. Torn where the report hasn't all
+/// entries; the refusal to open.
+fn refusals_in<L: Entries, R: Wait>(
+    rt: &R,
+    alloc: Global,
+    job: &Job,
+    entries: Blank,
+) -> Result<Result<u32, Misfit>, Refusal>
+    requires name { entries.name ≡ L.name }
+    requires parts { (entries.parts ≡ L.parts) × (L.parts ≡ 2 * L.ranks) × (L.ranks ≡ job.now.setup.ranks) }
+{
+    let mut driver = Driver::<L>::open(alloc, &job.setup, entries)?;
+    let refusals = match driver.refusals_among(rt, job.calls) {
+        Ok(refusals) => refusals,
+        Err(misfit) => return Ok(Err(misfit)),
+    };
+    let Ok(closed) = driver.close(rt) else {
+        return Err(Refusal::Torn);
+    };
+    let Closed { report, .. } = closed;
+    match report {
+        Ok(report) if report.entries().len() == job.setup.trace as usize => Ok(Ok(refusals)),
+        _ => Err(Refusal::Torn),
+    }
+}
+
+/// The same, with the ledger of its engine.
+fn refusals_of<R: Wait>(rt: &R, alloc: Global, job: &Job) -> Result<Result<u32, Misfit>, Refusal> {
+    let entries = ledger_for(job.setup.ranks);
+    refusals_in::<Brand, R>(rt, alloc, job, entries)
+}
+
+/// The same, where the engine is opened again if memory was refused.
+fn refusals<R: Wait>(rt: &R, alloc: Global, job: &Job) -> Result<Result<u32, Misfit>, Refusal> {
+    match refusals_of(rt, alloc, job) {
+        Err(Refusal::NoMemory) => refusals_of(rt, alloc, job),
+        answer => answer,
+    }
+}
+
+/// Where one allocation of this test is refused, as by `rt try --test --fail-alloc`, at most one call is refused memory.
+#[test]
+fn each_growth_refused(rt: HostRuntime) -> Result<(), Fail> {
+    for job in [&SHORT_ROWS, &LONG_ROWS] {
+        let refusals = refusals(&rt, rt.alloc(), job)?;
+        assert!(rt; matches!(refusals, Ok(0) | Ok(1)), "{refusals:?}");
+    }
+    Ok(())
+}
