@@ -2,8 +2,12 @@ use crate::command::Command;
 use crate::job::Job;
 use crate::pace::Pace;
 use crate::running::run;
+use coll_kinds::Refusal;
 use coll_shared::Gate;
+use std::alloc::Global;
+use std::sync::Wait;
 use std::test::Fail;
+use std::thread::Threads;
 
 /// Each third rank tests where others wait.
 #[derive(Clone, Copy, Debug)]
@@ -23,13 +27,33 @@ impl Pace for EachThirdTests {
     }
 }
 
-/// Eight ranks carry out 2,000 collectives of all kinds, with no, two and eight progress threads.
+/// Eight ranks carry out 2,000 collectives of all kinds. Answers how many outcomes they had, each of which was the value.
+fn outcomes<R: Threads + Wait + Sync>(
+    rt: &R,
+    alloc: Global,
+    workers: u8,
+) -> Result<usize, Refusal> {
+    let job = Job::new(alloc, 8, 2_000, 1)?;
+    run(rt, alloc, &EachThirdTests, &job, workers)
+}
+
 #[test]
-fn outcomes_of_many_threads_are_the_values(rt: HostRuntime) -> Result<(), Fail> {
-    for workers in [0u8, 2, 8] {
-        let job = Job::new(rt.alloc(), 8, 2_000, 1)?;
-        let outcomes = run(&rt, rt.alloc(), &EachThirdTests, &job, workers)?;
-        assert!(rt; outcomes >= 15_000, "{outcomes}");
-    }
+fn many_threads(rt: HostRuntime) -> Result<(), Fail> {
+    let outcomes = outcomes(&rt, rt.alloc(), 0)?;
+    assert!(rt; outcomes >= 15_000, "{outcomes}");
+    Ok(())
+}
+
+#[test]
+fn many_threads_beside_two(rt: HostRuntime) -> Result<(), Fail> {
+    let outcomes = outcomes(&rt, rt.alloc(), 2)?;
+    assert!(rt; outcomes >= 15_000, "{outcomes}");
+    Ok(())
+}
+
+#[test]
+fn many_threads_beside_eight(rt: HostRuntime) -> Result<(), Fail> {
+    let outcomes = outcomes(&rt, rt.alloc(), 8)?;
+    assert!(rt; outcomes >= 15_000, "{outcomes}");
     Ok(())
 }

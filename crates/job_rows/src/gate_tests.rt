@@ -9,8 +9,9 @@ use std::test::Fail;
 use std::thread;
 use std::time::{Clock, Duration};
 
-/// How often a held piece looks, and how long it sleeps between two looks.
-const TURNS: u32 = 500;
+/// How often a held piece looks, and how long it sleeps between two looks: for so long that a third thread comes to its turn also on a
+/// machine whose processors all are at work elsewhere.
+const TURNS: u32 = 3_000;
 
 const NAP_IN_MILLIS: u64 = 10;
 

@@ -32,13 +32,13 @@ pub enum Act {
     WaitAll,
     /// Waits for some of the requests, of which just one must be Done.
     WaitSome,
-    /// Tests the request, a sum, until it is Done, at most 10,000 times in 500 turns of 10 ms; it must come to this.
+    /// Tests the request, a sum, until it is Done, in some 30 seconds at most; it must come to this.
     TestSum(usize, u16),
     /// Tests the request once, which mustn't be Done.
     TestPending(usize),
     /// Tests a null request so often.
     TestNull(u32),
-    /// Waits for the event, at most 500 turns of 10 ms.
+    /// Waits for the event, at most 30 seconds.
     Until(Event),
     /// Sets a mark.
     Set(u32),

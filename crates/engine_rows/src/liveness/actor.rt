@@ -13,10 +13,10 @@ use std::sync::Wait;
 use std::thread::yield_now;
 use std::time::Clock;
 
-/// How often a rank tests a request before it sleeps for a moment, at most so often.
+/// How often a rank tests a request before it sleeps for a moment, and how often it sleeps at most.
 const TESTS: u32 = 20;
 
-const TURNS: u32 = 500;
+const TURNS: u32 = 3_000;
 
 const SUM: Signature = Signature {
     kind: Kind::Allreduce,

@@ -118,49 +118,57 @@ fn three_at_one_time(rt: HostRuntime) -> Result<(), Fail> {
     Ok(())
 }
 
-/// A rank that sleeps for a list is woken where what it waits for is done, and not before.
+/// Two ranks with two communicators. Rank 0 posts a barrier on each and then acts; rank 1 posts the second and then the first, each
+/// once rank 0 sleeps.
+fn lists<'x>(zero: &'x [Act]) -> [&'x [Act]; 2] {
+    [
+        zero,
+        &[
+            Act::Until(Event::Sleepers(1)),
+            Act::Barrier(1),
+            Act::Until(Event::Mark(0)),
+            Act::Until(Event::Sleepers(1)),
+            Act::Barrier(0),
+            Act::WaitAll,
+        ],
+    ]
+}
+
+/// A rank that sleeps for any of a list, or for some of it, is woken once one is done.
 #[test]
-fn lists_wake(rt: HostRuntime) -> Result<(), Fail> {
+fn one_of_a_list_wakes(rt: HostRuntime) -> Result<(), Fail> {
+    let any: &[Act] = &[
+        Act::Barrier(0),
+        Act::Barrier(1),
+        Act::WaitAny(2, 1),
+        Act::Set(0),
+        Act::WaitAny(2, 0),
+    ];
+    let some: &[Act] = &[
+        Act::Barrier(0),
+        Act::Barrier(1),
+        Act::WaitSome,
+        Act::Set(0),
+        Act::WaitSome,
+    ];
+    for zero in [any, some] {
+        let scenario = Scenario {
+            groups: &[&[0, 1], &[0, 1]],
+            acts: &lists(zero),
+            holds: &[],
+        };
+        assert_eq!(rt; first_misfit(&rt, rt.alloc(), &scenario, 0)?, None);
+    }
+    Ok(())
+}
+
+/// A rank that sleeps for all of a list is woken once the last is done.
+#[test]
+fn the_last_of_a_list_wakes(rt: HostRuntime) -> Result<(), Fail> {
+    let zero: &[Act] = &[Act::Barrier(0), Act::Barrier(1), Act::Set(0), Act::WaitAll];
     let scenario = Scenario {
         groups: &[&[0, 1], &[0, 1]],
-        acts: &[
-            &[
-                Act::Barrier(0),
-                Act::Barrier(1),
-                Act::WaitAny(2, 1),
-                Act::Set(0),
-                Act::WaitAny(2, 0),
-                Act::Barrier(0),
-                Act::Barrier(1),
-                Act::Set(1),
-                Act::WaitAll,
-                Act::Barrier(0),
-                Act::Barrier(1),
-                Act::Set(2),
-                Act::WaitSome,
-                Act::Set(3),
-                Act::WaitSome,
-            ],
-            &[
-                Act::Until(Event::Sleepers(1)),
-                Act::Barrier(1),
-                Act::Until(Event::Mark(0)),
-                Act::Until(Event::Sleepers(1)),
-                Act::Barrier(0),
-                Act::Until(Event::Mark(1)),
-                Act::Until(Event::Sleepers(1)),
-                Act::Barrier(1),
-                Act::Until(Event::Sleepers(1)),
-                Act::Barrier(0),
-                Act::Until(Event::Mark(2)),
-                Act::Until(Event::Sleepers(1)),
-                Act::Barrier(1),
-                Act::Until(Event::Mark(3)),
-                Act::Until(Event::Sleepers(1)),
-                Act::Barrier(0),
-                Act::WaitAll,
-            ],
-        ],
+        acts: &lists(zero),
         holds: &[],
     };
     assert_eq!(rt; first_misfit(&rt, rt.alloc(), &scenario, 0)?, None);

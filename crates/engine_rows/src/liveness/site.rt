@@ -7,8 +7,9 @@ use std::sync::atomic::{AtomicU64, Ordering};
 use std::thread;
 use std::time::{Clock, Duration};
 
-/// How often a thread looks for an event, and how long it sleeps between two looks.
-const TURNS: u32 = 500;
+/// How often a thread looks for an event, and how long it sleeps between two looks: for so long that threads of a machine whose
+/// processors all are at work elsewhere come to it, too.
+const TURNS: u32 = 3_000;
 
 const NAP_IN_MILLIS: u64 = 10;
 
