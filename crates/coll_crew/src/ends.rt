@@ -1,4 +1,4 @@
-ghost use Rattle.std.specs.Prelude.{◌≡◌, IfErr, IfOk, true};
+ghost use Rattle.std.specs.Prelude.{◌≡◌, All, IfErr, IfOk, None, true};
 
 use coll_kinds::Refusal;
 
@@ -21,6 +21,7 @@ impl<T: Drop> Ends<T> {
     /// NoMemory where a thread couldn't be started; else why the first progress thread ended that did before it was to.
     pub fn into_ranks(self) -> Result<Vec<T>, Refusal>
         ensures started { IfOk result (λ ranks. self.all_started ≡ true) }
+        ensures workers { IfOk result (λ ranks. All (λ end. end ≡ None) self.workers.items) }
         ensures ranks { IfOk result (λ ranks. ranks ≡ self.ranks) }
     {
         let Ends {

@@ -1,6 +1,6 @@
 //! A job text's answer by a run of its script.
 
-ghost use Rattle.std.specs.Prelude.{◌≡◌, ◌≤◌, ◌*◌, Ok, All, IfErr, IfOk, IsTrue, OnOk};
+ghost use Rattle.std.specs.Prelude.{◌≡◌, ◌≤◌, ◌*◌, ◌⊎◌, Ok, All, IfErr, IfOk, IfSome, IsErrOf, IsTrue, OnOk, map};
 ghost use Rattle.std.specs.Prelude.{◌↔◌};
 ghost use Rattle.coll_core.specs.declared.config.Config.{Config as TheConfig};
 ghost use Rattle.coll_script.specs.Jobs.{job_of, script_of};
@@ -11,7 +11,7 @@ ghost use Rattle.coll_report.specs.Scripted.{Tells};
 ghost use Rattle.coll_attest.specs.Commands.{commands_by};
 ghost use Rattle.coll_attest.specs.Lines.{told, told_lines};
 ghost use Rattle.coll_attest.specs.Runs.{IsRun};
-ghost use Rattle.coll_run.specs.Faults.{IsEnd, IsRunFault};
+ghost use Rattle.coll_run.specs.Faults.{IsEnd, IsRunFault, fault_of};
 
 use crate::ends::first_fault;
 use crate::rank::{Got, RankEnd, run_ranks};
@@ -22,7 +22,7 @@ use coll_job::JobFault;
 use coll_kinds::Refusal;
 use coll_report::Report;
 use coll_script::Script;
-use coll_shared::{Entries, Gate, Spent, close, ledger_for, open};
+use coll_shared::{Engine, Entries, Gate, Spent, close, ledger_for, open};
 use std::alloc::{AllocError, Global};
 use std::marker::Brand;
 use std::sync::Wait;
@@ -117,6 +117,30 @@ fn run_in<L: Entries + Send + Sync, R: Threads + Wait + Sync, G: Gate + Sync>(
     let Ok(ends) = run_ranks(rt, alloc, gate, script, &engine, ports, workers) else {
         return Err(JobFault::Memory);
     };
+    concluded(rt, alloc, script, engine, ends)
+}
+
+/// The answer of a run whose threads ended so: the fault that is told of them, and else what the engine's report attests.
+fn concluded<L: Entries, R: Wait>(
+    rt: &R,
+    alloc: Global,
+    script: &Script,
+    engine: Engine<L>,
+    ends: Ends<RankEnd<L>>,
+) -> Result<(Vec<u8>, Report), JobFault>
+    requires { L.parts ≡ 2 * L.ranks }
+    // The fault of the threads is told, unless memory is refused before it is found,
+    ensures ends { IfSome (fault_of ends.all_started (map (λ end. end.refusal) ends.ranks.items) ends.workers.items)
+        (λ fault. IsErrOf result fault ⊎ IsErrOf result JobFault.Memory) }
+    // and where there is none, each rank got just what its completions handed out.
+    ensures got { IfOk result (λ done.
+        All (λ got. HandedOut done.1.entries got.rank got.outcomes.items) (map (λ end. end.got) ends.ranks.items)) }
+    ensures run { IfOk result (λ done. IsRun script.now done.1) }
+    ensures tells { IfOk result (λ done. Tells done.1 (λ rank. asked (commands_by script.now rank))) }
+    ensures told { IfOk result (λ done. done.0.items ≡ told_lines (told done.1.entries) (job_of script.now)) }
+    ensures meaning { IfOk result (λ done. done.0.items ≡ job_lines (job_of script.now)) }
+    ensures faults { IfErr result IsEnd }
+{
     let Ends {
         all_started,
         ranks,
@@ -138,7 +162,10 @@ fn run_in<L: Entries + Send + Sync, R: Threads + Wait + Sync, G: Gate + Sync>(
 fn apart<L: Entries>(
     alloc: Global,
     ranks: Vec<RankEnd<L>>,
-) -> Result<(Vec<Option<Refusal>>, Vec<Spent<L>>, Vec<Got>), AllocError> {
+) -> Result<(Vec<Option<Refusal>>, Vec<Spent<L>>, Vec<Got>), AllocError>
+    ensures refusals { IfOk result (λ parts. parts.0.items ≡ map (λ end. end.refusal) ranks.items) }
+    ensures got { IfOk result (λ parts. parts.2.items ≡ map (λ end. end.got) ranks.items) }
+{
     let mut refusals = Vec::new(alloc);
     let mut spents = Vec::new(alloc);
     let mut all_got = Vec::new(alloc);
@@ -162,6 +189,7 @@ fn judge(
     got: &[Got],
     report: Report,
 ) -> Result<(Vec<u8>, Report), JobFault>
+    ensures got { IfOk result (λ done. All (λ got. HandedOut done.1.entries got.rank got.outcomes.items) got.now) }
     ensures run { IfOk result (λ done. IsRun script.now done.1) }
     ensures tells { IfOk result (λ done. Tells done.1 (λ rank. asked (commands_by script.now rank))) }
     ensures told { IfOk result (λ done. done.0.items ≡ told_lines (told done.1.entries) (job_of script.now)) }
