@@ -8,23 +8,19 @@
 //! |---|---|
 //! | `requests` | what the members ask for, what they give, and what they are to get |
 //! | `calls` | the calls of the job |
-//! | `exhausted` | `Exhausted`, an address space of which nothing is granted |
-//! | `memory` | `Memory`, what a call is granted |
 //! | `flaw` | `Flaw`, what a call did otherwise than it is to |
 //! | `seen` | `Seen`, what a refusal is to leave as it was |
 //! | `driver` | `Driver`, an engine that makes the calls |
 
 mod calls;
 mod driver;
-mod exhausted;
 mod flaw;
-mod memory;
 mod requests;
 mod seen;
 
 use calls::JOB;
 use driver::{Driver, Refusals};
-use memory::Memory;
+use scarce_memory::Memory;
 use std::test::Fail;
 
 /// Nothing is refused here but by `rt try --test --fail-alloc N`, which refuses the Nth allocation.

@@ -8,13 +8,14 @@
 //! | `answer` | `Answer`, what a call answered |
 //! | `completions` | the completion calls of a port, each with its answer |
 //! | `driver` | `Driver`, an engine that makes the calls of rows |
+//! | `scarce` | `Scarce`, an engine that makes them where memory is refused |
 //! | `closed` | `Closed`, what came of the closing of an engine |
 //! | `trace_tests` | traces that fill up |
 //! | `entry_tests` | how many entries a completion call makes |
 //! | `completion_tests` | each completion call, where all is Done and where nothing can go on |
 //! | `closing_tests` | engines that are closed, and that aren't |
 //! | `foreign_tests` | calls that name requests of another rank |
-//! | `memory_tests` | a job in which memory may be refused |
+//! | `memory_tests` | jobs in which memory is refused |
 //! | `attested_tests` | the outcomes that reports attest |
 
 mod answer;
@@ -29,6 +30,7 @@ mod entry_tests;
 mod foreign_tests;
 mod memory_tests;
 mod noted;
+mod scarce;
 mod setup;
 mod trace_tests;
 

@@ -2,12 +2,12 @@
 
 use crate::growth::calls::Call;
 use crate::growth::flaw::Flaw;
-use crate::growth::memory::Memory;
 use crate::growth::requests::Part;
 use crate::growth::seen::{Piece, REQUESTS, Seen};
 use coll_core::{Config, Core, DoneWork, Offer, Outcome, Stepped, Work};
 use coll_kinds::{Refusal, Refused, Ticket};
 use coll_plans::Plan;
+use scarce_memory::Memory;
 use std::alloc::Global;
 
 /// How often memory was refused, by the calls that it was refused to.

@@ -18,7 +18,7 @@ use std::alloc::Global;
 use std::sync::Wait;
 use std::sync::ledger::Blank;
 
-const NO_MEMORY: Answer = Answer::Refused(Refusal::NoMemory);
+pub const NO_MEMORY: Answer = Answer::Refused(Refusal::NoMemory);
 
 /// An engine with its ports, and the requests that rows made.
 #[derive(Drop)]
@@ -44,12 +44,18 @@ impl<L: Entries> Driver<L> {
     {
         let config = setup.config(alloc)?;
         let (engine, ports) = open::<L>(alloc, config, entries)?;
+        Driver::of(alloc, engine, ports)
+    }
+
+    /// Of an engine that was opened. Its ports end, and it is closed, without further memory.
+    pub fn of(alloc: Global, engine: Engine<L>, ports: Vec<Port<L>>) -> Result<Driver<L>, Refusal> {
+        let ended = Vec::with_capacity(alloc, ports.len())?;
         Ok(Driver {
             alloc,
             engine,
             ports,
             aside: None,
-            ended: Vec::new(alloc),
+            ended,
             requests: Vec::new(alloc),
             tickets: Vec::new(alloc),
             outcomes: Vec::new(alloc),
@@ -94,7 +100,8 @@ impl<L: Entries> Driver<L> {
         None
     }
 
-    fn answer<R: Wait>(&mut self, rt: &R, call: Call) -> Answer {
+    /// Makes a call.
+    pub fn answer<R: Wait>(&mut self, rt: &R, call: Call) -> Answer {
         match self.carry_out(rt, call) {
             Ok(answer) => answer,
             Err(why) => Answer::Refused(why),
@@ -132,18 +139,34 @@ impl<L: Entries> Driver<L> {
     }
 
     /// Numbers a request, for which `room_for_one` has made room.
-    fn number(&mut self, request: Request) -> Result<Answer, Refusal> {
+    pub fn number(&mut self, request: Request) -> Result<Answer, Refusal> {
         self.tickets.push(request.ticket())?;
         self.requests.push(request)?;
         Ok(Answer::Accepted)
     }
 
     /// Makes room for one more request and for its outcome, so that no refusal of memory can lose it.
-    fn room_for_one(&mut self) -> Result<(), Refusal> {
+    pub fn room_for_one(&mut self) -> Result<(), Refusal> {
         self.tickets.reserve(1)?;
         self.requests.reserve(1)?;
         self.outcomes.reserve(1)?;
         Ok(())
+    }
+
+    /// The port of a rank. Torn where there is none.
+    pub fn port(&mut self, rank: u8) -> Result<&mut Port<L>, Refusal> {
+        self.ports.get_mut(usize::from(rank)).ok_or(Refusal::Torn)
+    }
+
+    /// The port of a rank, and the request of that number. Torn where there isn't such a one.
+    pub fn port_and_request(
+        &mut self,
+        rank: u8,
+        number: usize,
+    ) -> Result<(&mut Port<L>, &Request), Refusal> {
+        let port = self.ports.get_mut(usize::from(rank)).ok_or(Refusal::Torn)?;
+        let request = self.requests.get(number).ok_or(Refusal::Torn)?;
+        Ok((port, request))
     }
 
     fn post<R: Wait>(

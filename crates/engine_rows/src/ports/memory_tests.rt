@@ -1,4 +1,4 @@
-//! Jobs in which memory may be refused: each call that is refused some is made again, and all outcomes are those of a job in
+//! Jobs in which memory is refused: each call that is refused some is made again, and all outcomes are those of a job in
 //! which none is refused.
 
 ghost use Rattle.std.specs.Prelude.{◌≡◌, ◌*◌};
@@ -8,11 +8,14 @@ use crate::ports::call::Call;
 use crate::ports::closed::Closed;
 use crate::ports::driver::Driver;
 use crate::ports::noted::{Bytes, Noted};
+use crate::ports::scarce::{Refusals, Scarce};
 use crate::ports::setup::{PAIR, Setup};
 use crate::ports::{Misfit, Row};
 use crate::signatures::{BCAST, PERSISTENT_SUM, SUM, SUM_OF_I32};
-use coll_kinds::{Kind, Refusal, Signature};
+use coll_kinds::{Kind, Refusal, Refused, Signature};
+use coll_report::Report;
 use coll_shared::{Entries, ledger_for};
+use scarce_memory::Memory;
 use std::alloc::Global;
 use std::marker::Brand;
 use std::sync::Wait;
@@ -28,6 +31,7 @@ struct Job {
 
 const SHORT_ROWS: Job = Job {
     setup: Setup {
+        groups: &[&[0, 1], &[0, 1]],
         slots: 8,
         trace: 24,
         ..PAIR
@@ -62,7 +66,8 @@ const THREE: Bytes = Bytes::Four(3, 0, 0, 0);
 
 const NOTHING: Bytes = Bytes::Other(0);
 
-/// Two ranks post an allreduce, an alltoall and a barrier, and start a persistent allreduce twice.
+/// Two ranks post an allreduce, an alltoall and a barrier, and start a persistent allreduce twice, which has a communicator for
+/// itself: so both the first post and the first initialisation make a list grow.
 const CALLS: &[Row] = &[
     (
         Call::Post(0, 0, SUM_OF_I32, &[1, 0, 0, 0]),
@@ -76,8 +81,8 @@ const CALLS: &[Row] = &[
     (Call::Post(1, 0, ALLTOALL, &[3, 4]), Answer::Accepted),
     (Call::Post(0, 0, BARRIER, &[]), Answer::Accepted),
     (Call::Post(1, 0, BARRIER, &[]), Answer::Accepted),
-    (Call::Init(0, 0, PERSISTENT_SUM), Answer::Accepted),
-    (Call::Init(1, 0, PERSISTENT_SUM), Answer::Accepted),
+    (Call::Init(0, 1, PERSISTENT_SUM), Answer::Accepted),
+    (Call::Init(1, 1, PERSISTENT_SUM), Answer::Accepted),
     (Call::Start(0, 6, &[5]), Answer::Accepted),
     (Call::Start(1, 7, &[6]), Answer::Accepted),
     (Call::Test(0, 0), NOT_YET),
@@ -167,5 +172,128 @@ fn each_growth_refused(rt: HostRuntime) -> Result<(), Fail> {
         let refusals = refusals(&rt, rt.alloc(), job)?;
         assert!(rt; matches!(refusals, Ok(0) | Ok(1)), "{refusals:?}");
     }
+    Ok(())
+}
+
+/// What a job came to: how often memory was refused, and the report.
+#[derive(Drop)]
+struct Course {
+    refusals: Refusals,
+    report: Report,
+}
+
+/// A job on an engine that is opened with so much memory as the attempt of that number is lent; or the first call that was
+/// answered otherwise. Where the opening is refused the memory is handed back.
+fn course_in<L: Entries, R: Wait>(
+    rt: &R,
+    alloc: Global,
+    job: &Job,
+    memory: Memory,
+    attempt: usize,
+    entries: Blank,
+) -> Result<Result<Course, Misfit>, Refused<Memory>>
+    requires name { entries.name ≡ L.name }
+    requires parts { (entries.parts ≡ L.parts) × (L.parts ≡ 2 * L.ranks) × (L.ranks ≡ job.now.setup.ranks) }
+{
+    let mut scarce = Scarce::<L>::open(alloc, &job.setup, memory, attempt, entries)?;
+    if let Some(misfit) = scarce.first_misfit(rt, job.calls) {
+        return Ok(Err(misfit));
+    }
+    let refusals = scarce.refusals();
+    match scarce.close(rt) {
+        Ok(report) => Ok(Ok(Course { refusals, report })),
+        Err(why) => Ok(Err(Misfit {
+            index: job.calls.len(),
+            got: Answer::Refused(why),
+        })),
+    }
+}
+
+/// The same, with the ledger of its engine.
+fn course_of<R: Wait>(
+    rt: &R,
+    alloc: Global,
+    job: &Job,
+    memory: Memory,
+    attempt: usize,
+) -> Result<Result<Course, Misfit>, Refused<Memory>> {
+    let entries = ledger_for(job.setup.ranks);
+    course_in::<Brand, R>(rt, alloc, job, memory, attempt, entries)
+}
+
+/// The same, with an engine that is opened again with more memory until it isn't refused.
+fn whole_course<R: Wait>(
+    rt: &R,
+    alloc: Global,
+    job: &Job,
+    memory: Memory,
+) -> Result<Result<Course, Misfit>, Refusal> {
+    let mut memory = memory;
+    for attempt in 0..memory.attempts() {
+        match course_of(rt, alloc, job, memory, attempt) {
+            Ok(course) => return Ok(course),
+            Err(
+                Refused {
+                    why: Refusal::NoMemory,
+                    back,
+                },
+            ) => memory = back,
+            Err(Refused { why, .. }) => return Err(why),
+        }
+    }
+    Err(Refusal::NoMemory)
+}
+
+/// Whether reports are the same, in all that they have.
+fn are_same(alloc: Global, left: &Report, right: &Report) -> Result<bool, Refusal> {
+    let left = format!(in alloc; "{left:?}")?;
+    let right = format!(in alloc; "{right:?}")?;
+    Ok(left == right)
+}
+
+/// How often memory was refused in a job where there is none but what is granted; or the first call that was answered otherwise.
+/// Torn where the report isn't that of the same job with ample memory.
+fn refusals_in_turn<R: Wait>(
+    rt: &R,
+    alloc: Global,
+    job: &Job,
+) -> Result<Result<Refusals, Misfit>, Refusal> {
+    let ample = whole_course(rt, alloc, job, Memory::Ample)?;
+    let scarce = whole_course(rt, alloc, job, Memory::scarce(alloc)?)?;
+    match (ample, scarce) {
+        (Ok(ample), Ok(scarce)) => {
+            if !are_same(alloc, &ample.report, &scarce.report)? {
+                return Err(Refusal::Torn);
+            }
+            Ok(Ok(scarce.refusals))
+        }
+        (Err(misfit), _) => Ok(Err(misfit)),
+        (_, Err(misfit)) => Ok(Err(misfit)),
+    }
+}
+
+/// Whether the openings, plans and posts were refused memory; and the initialisations and starts where there are any, else the
+/// waits.
+fn is_each_refused(refusals: &Result<Refusals, Misfit>, has_starts: bool) -> bool {
+    match refusals {
+        Ok(all) => {
+            let begun = all.opens > 0 && all.plans > 0 && all.posts > 0;
+            let started = all.inits > 0 && all.starts > 0;
+            begun && if has_starts { started } else { all.waits > 0 }
+        }
+        Err(_) => false,
+    }
+}
+
+/// `rt try` runs tests over another heap, of which the address space can't be exhausted: this one fails there.
+#[test]
+fn each_growth_refused_at_ports(rt: HostRuntime) -> Result<(), Fail> {
+    let memory = Memory::scarce(rt.alloc())?;
+    assert!(rt; memory.is_used_up(), "the address space can't be exhausted");
+    drop(memory);
+    let short = refusals_in_turn(&rt, rt.alloc(), &SHORT_ROWS)?;
+    assert!(rt; is_each_refused(&short, true), "{short:?}");
+    let long = refusals_in_turn(&rt, rt.alloc(), &LONG_ROWS)?;
+    assert!(rt; is_each_refused(&long, false), "{long:?}");
     Ok(())
 }

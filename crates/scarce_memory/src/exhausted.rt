@@ -12,12 +12,14 @@ const RESERVE: usize = 32_768;
 /// The bytes of a step: the least block that the C library's heap hands out.
 const STEP: usize = 32;
 
-/// How many steps a reserve has.
+/// How many steps a reserve has, and so how many attempts a call has.
 pub const STEPS: usize = RESERVE / STEP;
 
 /// The address space of the process, exhausted: blocks of it are taken until none is granted any more, of whatever size. They
 /// are never written, so they take up addresses and next to no memory. Some small ones, the reserves, are given back one at a
-/// time: then that much is granted, and nothing beyond.
+/// time: then that much is granted, and nothing beyond. All is given back when it is dropped.
+///
+/// It is good for some hundred calls: each that keeps memory uses a reserve up, of which there are 1,000.
 #[derive(Drop)]
 pub struct Exhausted {
     alloc: Global,
@@ -46,6 +48,10 @@ fn is_granted(alloc: Global, size: usize) -> bool {
 
 impl Exhausted {
     /// Takes all addresses.
+    ///
+    /// # Errors
+    ///
+    /// AllocError where there is no memory for the lists of blocks, which are 1.5 MB.
     pub fn open(alloc: Global) -> Result<Exhausted, AllocError> {
         let mut exhausted = Exhausted {
             alloc,
@@ -57,7 +63,8 @@ impl Exhausted {
         Ok(exhausted)
     }
 
-    /// Takes what there is, the greatest blocks first; the C library keeps a list for each small size, so each is tried.
+    /// Takes what there is, the greatest blocks first; the C library keeps a list for each small size, so each is tried. To be
+    /// called before each call that isn't to live on what earlier ones freed.
     pub fn fill(&mut self) {
         let mut size: usize = 1 << 46;
         for _halving in 0..36 {
@@ -74,7 +81,7 @@ impl Exhausted {
         !is_granted(self.alloc, 1) && !is_granted(self.alloc, RESERVE)
     }
 
-    /// Gives a reserve back, and takes all of it again but so many steps. To be handed to `close`.
+    /// Gives a reserve back, and takes all of it again but so many steps, which are granted until `close`. To be handed to that.
     pub fn lend(&mut self, steps: usize) -> Vec<u8> {
         drop(self.reserves.pop());
         let rest = RESERVE.saturating_sub(steps.saturating_mul(STEP));

@@ -1,4 +1,4 @@
-use crate::growth::exhausted::{Exhausted, STEPS};
+use crate::exhausted::{Exhausted, STEPS};
 use std::alloc::{AllocError, Global};
 
 /// What memory a call is granted.
@@ -12,11 +12,15 @@ pub enum Memory {
 
 impl Memory {
     /// Memory of which there is none beyond what is granted.
+    ///
+    /// # Errors
+    ///
+    /// AllocError where there is no memory for the lists of what is taken.
     pub fn scarce(alloc: Global) -> Result<Memory, AllocError> {
         Ok(Memory::Scarce(Exhausted::open(alloc)?))
     }
 
-    /// Whether nothing is granted.
+    /// Whether nothing is granted. It is false where memory is ample, and where the address space can't be exhausted.
     pub fn is_used_up(&self) -> bool {
         match self {
             Memory::Ample => false,
@@ -32,12 +36,12 @@ impl Memory {
         }
     }
 
-    /// Grants what the test's own values need. To be handed to `close`, as what `lend` answers.
+    /// Grants what the test's own values need, up to 32 KiB. To be handed to `close`, as what `lend` answers.
     pub fn grant(&mut self, alloc: Global) -> Vec<u8> {
         self.lend(alloc, STEPS)
     }
 
-    /// Grants so much for an attempt.
+    /// Grants so much for an attempt: none for the first, numbered 0.
     pub fn lend(&mut self, alloc: Global, attempt: usize) -> Vec<u8> {
         match self {
             Memory::Ample => Vec::new(alloc),
