@@ -89,9 +89,14 @@ fn complete_in<L: Entries, R: Wait>(rt: &R, alloc: Global, entries: Blank) -> Re
     Ok(complete)
 }
 
+/// The same, with the ledger of its engine.
+fn complete<R: Wait>(rt: &R, alloc: Global) -> Result<usize, Refusal> {
+    complete_in::<Brand, R>(rt, alloc, ledger_for(2))
+}
+
 #[test]
 fn two_ports_tested_by_turns(rt: HostRuntime) -> Result<(), Fail> {
-    let complete = complete_in::<Brand, HostRuntime>(&rt, rt.alloc(), ledger_for(2))?;
+    let complete = complete(&rt, rt.alloc())?;
     assert_eq!(rt; complete, 2);
     Ok(())
 }

@@ -1,0 +1,7 @@
+use Rattle.engine_rows.proofs.liveness.scenario.first_misfit.Given as goal
+
+abbrev pub ghosts-played_in-L-Ledger : goal.ghosts-played_in-L-Ledger
+ghosts-played_in-L-Ledger g a = record { name = a.entries.name; parts = a.entries.parts }
+
+abbrev pub ghosts-played_in-L-Entries : goal.ghosts-played_in-L-Entries
+ghosts-played_in-L-Entries g a = record { ranks = a.ranks }
