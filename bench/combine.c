@@ -48,6 +48,24 @@ TYPE(u16, uint16_t)
 TYPE(u32, uint32_t)
 TYPE(u64, uint64_t)
 
+/* MPI_2INT: a value and its index. */
+struct pair {
+    int32_t value, index;
+};
+
+#define LOCATE(op, before)                                                                                            \
+    __attribute__((noinline)) static void op##_pair(const void *l, const void *r, void *o) {                          \
+        const struct pair *a_row = l, *b_row = r;                                                                     \
+        struct pair *out_row = o;                                                                                     \
+        for (size_t i = 0; i < BYTES / sizeof(struct pair); i++) {                                                    \
+            struct pair a = a_row[i], b = b_row[i];                                                                   \
+            out_row[i] = b.value before a.value || (b.value == a.value && b.index < a.index) ? b : a;                 \
+        }                                                                                                             \
+    }
+
+LOCATE(maxloc, >)
+LOCATE(minloc, <)
+
 #define ROW(op) {#op, {op##_i8, op##_i16, op##_i32, op##_i64, op##_u8, op##_u16, op##_u32, op##_u64}}
 
 static const struct {
@@ -77,22 +95,26 @@ static uint32_t checksum(void) {
     return sum;
 }
 
+/* One combination, and then the time of many. */
+static void report(const char *op, const char *type, loop run) {
+    fill(left, 1);
+    fill(right, 2);
+    fill(out, 3);
+    turn(run);
+    uint32_t first = checksum();
+    struct timespec start, end;
+    clock_gettime(CLOCK_MONOTONIC, &start);
+    for (int i = 0; i < TURNS; i++)
+        turn(run);
+    clock_gettime(CLOCK_MONOTONIC, &end);
+    long took = (end.tv_sec - start.tv_sec) * 1000000 + (end.tv_nsec - start.tv_nsec) / 1000;
+    printf("%s %s %u %ld %u\n", op, type, first, took, checksum());
+}
+
 int main(void) {
-    for (size_t op = 0; op < sizeof TABLE / sizeof *TABLE; op++) {
-        for (int type = 0; type < 8; type++) {
-            loop run = TABLE[op].loops[type];
-            fill(left, 1);
-            fill(right, 2);
-            fill(out, 3);
-            turn(run);
-            uint32_t first = checksum();
-            struct timespec start, end;
-            clock_gettime(CLOCK_MONOTONIC, &start);
-            for (int i = 0; i < TURNS; i++)
-                turn(run);
-            clock_gettime(CLOCK_MONOTONIC, &end);
-            long took = (end.tv_sec - start.tv_sec) * 1000000 + (end.tv_nsec - start.tv_nsec) / 1000;
-            printf("%s %s %u %ld %u\n", TABLE[op].op, TYPES[type], first, took, checksum());
-        }
-    }
+    for (size_t op = 0; op < sizeof TABLE / sizeof *TABLE; op++)
+        for (int type = 0; type < 8; type++)
+            report(TABLE[op].op, TYPES[type], TABLE[op].loops[type]);
+    report("maxloc", "2int", maxloc_pair);
+    report("minloc", "2int", minloc_pair);
 }

@@ -20,6 +20,8 @@ PROGRAM = os.path.join(os.path.dirname(__file__), "..", "crates", "colljob", "ou
 RANKS = 16
 COLLECTIVES = 500
 OPERATIONS = ["max", "min", "sum", "prod", "land", "lor", "lxor", "band", "bor", "bxor", "lastnz"]
+# those of pairs of a value and an index
+LOCATIONS = ["maxloc", "minloc"]
 TYPES = ["i8", "i16", "i32", "i64", "u8", "u16", "u32", "u64"]
 # how many values each member gives, as a multiple of the count; where only the root gives, in ROOTED
 GIVEN = {"barrier": "none", "bcast": "root", "gather": "own", "scatter": "root all", "allgather": "own", "alltoall": "all",
@@ -42,9 +44,12 @@ class Collective:
         if self.kind in ROOTED:
             words.append(str(self.root))
         if self.kind in REDUCING:
-            words.append(dice.choice(OPERATIONS))
+            words.append(dice.choice(OPERATIONS + LOCATIONS))
+            self.type = "2int" if words[-1] in LOCATIONS else dice.choice(TYPES)
+        else:
+            self.type = dice.choice(TYPES + ["2int"])
         if self.kind != "barrier":
-            words += [dice.choice(TYPES), str(self.count)]
+            words += [self.type, str(self.count)]
         self.words = " ".join(words)
 
     def given(self, dice, rank):
@@ -55,7 +60,7 @@ class Collective:
             n *= len(self.members)
         if rule.startswith("root") and self.members[self.root] != rank:
             n = 0
-        return "".join(f" {dice.randint(0, 9)}" for _ in range(n))
+        return "".join(f" {dice.randint(0, 9)}" + (f",{rank}" if self.type == "2int" else "") for _ in range(n))
 
 
 def mixed(dice):

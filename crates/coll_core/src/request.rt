@@ -16,7 +16,7 @@ use crate::sent::Sent;
 use crate::spares::Spares;
 use crate::work::{DoneWork, Work};
 use coll_arena::{ListName, Ticket};
-use coll_kinds::Refusal;
+use coll_kinds::{Datatype, Op, Refusal};
 use coll_match::{Key, Matches};
 use coll_ops::are_same;
 use coll_plans::Plan;
@@ -190,7 +190,7 @@ impl Request {
         if self.round != work.round() || self.index != work.index() {
             return false;
         }
-        if op != work.op() || ty != work.ty() {
+        if !are_alike(op, ty, work) {
             return false;
         }
         are_same(left.read(self.buffer.bytes()), work.left())
@@ -223,4 +223,11 @@ impl Request {
         self.index = 0;
         cut(buffer, output)
     }
+}
+
+/// Whether the work is of that operation and type.
+fn are_alike(op: Op, ty: Datatype, work: &Work) -> bool
+    ensures { IsTrue result ↔ ((op ≡ work.now.op) × (ty ≡ work.now.ty)) }
+{
+    op == work.op() && ty == work.ty()
 }

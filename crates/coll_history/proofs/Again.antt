@@ -1,25 +1,26 @@
 -- What is written is read again.
-use Rattle.std.proofs.Common.{◌≡◌, ℕ, suc, ◌^◌, ◌<◌, ◌≤◌, Bool, true, false, cond, eqb, ltb, leb, List, [], ◌∷◌, ◌++◌, length, map, Option, Some, None, Ok, refl, sym, ap, subst, ◌∙◌, append_assoc, arith, inl, inr}
-use Rattle.std.specs.Prelude.{ℤ, pos, negsuc, MatchBool, flat_map, slice_index, unwrap_or, is_some, ok_or, decimal}
-use Rattle.std.specs.List.{AllByRecursion, list_all}
+use Rattle.std.proofs.Common.{◌≡◌, ℕ, suc, ◌+◌, ◌^◌, ◌<◌, ◌≤◌, Bool, true, false, not, cond, eqb, ltb, leb, List, [], ◌∷◌, ◌++◌, length, take, drop, map, Option, Some, None, Ok, refl, sym, ap, subst, ◌∙◌, append_assoc, arith, inl, inr}
+use Rattle.std.specs.Prelude.{ℤ, pos, negsuc, ◌&&◌, MatchBool, flat_map, slice_index, unwrap_or, is_some, ok_or, decimal}
+use Rattle.std.specs.List.{AllByRecursion, list_all, position, position_or_len}
+use Rattle.std.specs.Char.{is_ascii_digit}
 use Rattle.std.specs.Fmt.{signed_decimal}
 use Rattle.std.specs.Str.{all_ascii_digits}
 use Rattle.std.specs.Str.Parse.{digits_value}
 use Rattle.std.proofs.lemmas.Str.Parse.{IsNumeralModel, numerals_by_value, tells_all_ascii_digits}
 use Rattle.std.proofs.lemmas.Fmt.{digits_decimal, digits_value-decimal, length-decimal-le, decimal_nonempty}
-use Rattle.std.proofs.lemmas.Bool.{cases_eq, eq-eqb, ne_eqb, lt-ltb, le-leb, ltb-true, and_parts}
-use Rattle.std.proofs.lemmas.List.{append-nil, length-map}
+use Rattle.std.proofs.lemmas.Bool.{cases_eq, eq-eqb, ne_eqb, lt-ltb, le-leb, ltb-true, and_parts, not-true}
+use Rattle.std.proofs.lemmas.List.{append-nil, length-map, length-append, take_at, drop_at}
 use Rattle.std.proofs.lemmas.List.Concat.{flat_map-cons}
 use Rattle.coll_kinds.specs.declared.datatype.Datatype.{Datatype}
-use Rattle.coll_kinds.specs.declared.datatype.Datatype.TheVariants.{I8, I16, I32, I64, U8, U16, U32, U64, Byte}
+use Rattle.coll_kinds.specs.declared.datatype.Datatype.TheVariants.{I8, I16, I32, I64, U8, U16, U32, U64, Byte, Pair}
 use Rattle.coll_kinds.specs.declared.operation.Op.{Op}
-use Rattle.coll_kinds.specs.declared.operation.Op.TheVariants.{Max, Min, Sum, Prod, Land, Lor, Lxor, Band, Bor, Bxor, LastNz}
+use Rattle.coll_kinds.specs.declared.operation.Op.TheVariants.{Max, Min, Sum, Prod, Land, Lor, Lxor, Band, Bor, Bxor, LastNz, MaxLoc, MinLoc}
 use Rattle.coll_kinds.specs.declared.kind.Kind.{Kind}
 use Rattle.coll_kinds.specs.declared.kind.Kind.TheVariants.{Barrier, Bcast, Gather, Scatter, Allgather, Alltoall, Reduce, Allreduce, Rsblock, Scan, Exscan}
 use Rattle.coll_kinds.specs.declared.signature.Signature.{Signature}
 use Rattle.coll_kinds.specs.Checks.{has_root, has_operation, is_barrier, broken}
-use Rattle.coll_kinds.specs.Elements.{is_signed, limit, IsElement, element_bytes}
-use Rattle.coll_kinds.specs.Texts.{number_of, value_of}
+use Rattle.coll_kinds.specs.Elements.{Element, whole, pair, is_signed, is_pair, limit, in_range, IsElement, element_bytes}
+use Rattle.coll_kinds.specs.Texts.{number_of, number_in, pair_of, value_of, text_of}
 use Rattle.coll_history.specs.declared.cause.Cause.TheVariants.{BadSignature, NamedTwice}
 use Rattle.coll_kinds.specs.Words.{kind_word, operation_word, datatype_word, kind_of, operation_of, datatype_of}
 use Rattle.coll_history.specs.Reading.{Reading, and_then, ◌>>=◌, give, numbers_from}
@@ -77,6 +78,8 @@ operation-again Band = refl
 operation-again Bor = refl
 operation-again Bxor = refl
 operation-again LastNz = refl
+operation-again MaxLoc = refl
+operation-again MinLoc = refl
 
 pub datatype-again : (ty : Datatype) → datatype_of (datatype_word ty) ≡ Some ty
 datatype-again I8 = refl
@@ -88,10 +91,11 @@ datatype-again U16 = refl
 datatype-again U32 = refl
 datatype-again U64 = refl
 datatype-again Byte = refl
+datatype-again Pair = refl
 
 -- ---- values
 
-pub limit-le : (ty : Datatype) → limit ty ≤ 2 ^ 64
+limit-le : (ty : Datatype) → limit ty ≤ 2 ^ 64
 limit-le I8 = omega arith
 limit-le I16 = omega arith
 limit-le I32 = omega arith
@@ -101,8 +105,9 @@ limit-le U16 = omega arith
 limit-le U32 = omega arith
 limit-le U64 = omega arith
 limit-le Byte = omega arith
+limit-le Pair = omega arith
 
-pub limit-signed : (ty : Datatype) → is_signed ty ≡ true → limit ty ≤ 2 ^ 63
+limit-signed : (ty : Datatype) → is_signed ty ≡ true → limit ty ≤ 2 ^ 63
 limit-signed I8 e = omega arith
 limit-signed I16 e = omega arith
 limit-signed I32 e = omega arith
@@ -112,6 +117,16 @@ limit-signed U16 e = absurd cc
 limit-signed U32 e = absurd cc
 limit-signed U64 e = absurd cc
 limit-signed Byte e = absurd cc
+limit-signed Pair e = absurd cc
+
+-- a number in a type's range has the digits of a u64
+pub small-positive : (ty : Datatype) (n : ℕ) → in_range ty (pos n) ≡ true → n < 2 ^ 64
+small-positive ty n is = omega (arith, ltb-true n (limit ty) is, limit-le ty)
+
+pub small-negative : (ty : Datatype) (n : ℕ) → in_range ty (negsuc n) ≡ true → suc n < 2 ^ 64
+small-negative ty n is =
+    let parts = and_parts (is_signed ty) (ltb n (limit ty)) is in
+    omega (arith, ltb-true n (limit ty) parts.1, limit-signed ty parts.0)
 
 -- a text of digits doesn't begin with a minus sign
 not-minus : (ds : List ℕ) → all_ascii_digits ds ≡ true → eqb (slice_index ds 0) 45 ≡ false
@@ -122,36 +137,87 @@ not-minus (c ∷ ds) digits =
       | inr ne ↦ ne_eqb c 45 ne
     ]
 
-pub value-again : (ty : Datatype) (z : ℤ) → IsElement ty z → value_of ty (signed_decimal z) ≡ Some z
-value-again ty (pos n) is =
-    let below : n < limit ty = ltb-true n (limit ty) is in
-    let small : n < 2 ^ 64 = omega (arith, below, limit-le ty) in
+number-in-again : (ty : Datatype) (z : ℤ) → in_range ty z ≡ true → number_in ty (signed_decimal z) ≡ Some z
+number-in-again ty (pos n) is =
+    let small = small-positive ty n is in
     let plain : eqb (slice_index (decimal n) 0) 45 ≡ false = not-minus (decimal n) (digits_decimal numerals n small) in
     rw (plain, number-again n small, is) refl
-value-again ty (negsuc n) is =
-    let parts = and_parts (is_signed ty) (ltb n (limit ty)) is in
-    let below : n < limit ty = ltb-true n (limit ty) parts.1 in
-    let small : suc n < 2 ^ 64 = omega (arith, below, limit-signed ty parts.0) in
-    rw (number-again (suc n) small, is) refl
+number-in-again ty (negsuc n) is = rw (number-again (suc n) (small-negative ty n is), is) refl
 
-all-again : (ty : Datatype) (zs : List ℤ) → AllByRecursion (IsElement ty) zs → list_all (λ w. is_some (value_of ty w)) (map signed_decimal zs) ≡ true
+-- ---- pairs
+
+-- the byte is no comma
+abbrev is_other : ℕ → Bool
+is_other c = not (eqb c 44)
+
+other-digits : (ds : List ℕ) → all_ascii_digits ds ≡ true → list_all is_other ds ≡ true
+other-digits [] digits = refl
+other-digits (c ∷ ds) digits =
+    let parts = and_parts (is_ascii_digit c) (all_ascii_digits ds) digits in
+    let other : eqb c 44 ≡ false = ne_eqb c 44 (λ e. absurd (let none : false ≡ true = subst (λ d. is_ascii_digit d ≡ true) e parts.0 in cc)) in
+    rw (other, other-digits ds parts.1) refl
+
+-- there is no comma in the text of a number
+other-number : (ty : Datatype) (z : ℤ) → in_range ty z ≡ true → list_all is_other (signed_decimal z) ≡ true
+other-number ty (pos n) is = other-digits (decimal n) (digits_decimal numerals n (small-positive ty n is))
+other-number ty (negsuc n) is = other-digits (decimal (suc n)) (digits_decimal numerals (suc n) (small-negative ty n is))
+
+-- the first comma stands behind a text that has none
+first-comma : (text behind : List ℕ) → list_all is_other text ≡ true → position_or_len (λ c. eqb c 44) (text ++ 44 ∷ behind) ≡ length text
+first-comma [] behind others = refl
+first-comma (c ∷ text) behind others =
+    let parts = and_parts (is_other c) (list_all is_other text) others in
+    rw parts.0 (omega (arith, first-comma text behind parts.1))
+
+comma-again : (text behind : List ℕ) → list_all is_other text ≡ true → position (λ c. eqb c 44) (text ++ 44 ∷ behind) ≡ Some (length text)
+comma-again text behind others =
+    let within : ltb (length text) (length (text ++ 44 ∷ behind)) ≡ true = lt-ltb _ _ (omega (arith, length-append text (44 ∷ behind))) in
+    rw (first-comma text behind others, within) refl
+
+behind-again : (text behind : List ℕ) → drop (length text + 1) (text ++ 44 ∷ behind) ≡ behind
+behind-again text behind =
+    ap (drop (length text + 1)) (sym (append_assoc text (44 ∷ []) behind)) ∙ drop_at (text ++ 44 ∷ []) behind (length text + 1) (length-append text (44 ∷ []))
+
+pair-read : (word : List ℕ) (comma : ℕ) (z at : ℤ) → position (λ c. eqb c 44) word ≡ Some comma → number_in I32 (take comma word) ≡ Some z → number_in I32 (drop (comma + 1) word) ≡ Some at → pair_of word ≡ Some (pair z at)
+pair-read word comma z at there first second = rw (there, first, second) refl
+
+pair-again : (z at : ℤ) → in_range I32 z ≡ true → in_range I32 at ≡ true → pair_of (text_of (pair z at)) ≡ Some (pair z at)
+pair-again z at value index =
+    let text = signed_decimal z in
+    let behind = signed_decimal at in
+    pair-read (text ++ 44 ∷ behind) (length text) z at (comma-again text behind (other-number I32 z value))
+    (ap (number_in I32) (take_at text (44 ∷ behind) (length text) refl) ∙ number-in-again I32 z value)
+    (ap (number_in I32) (behind-again text behind) ∙ number-in-again I32 at index)
+
+-- ---- elements
+
+pub value-again : (ty : Datatype) (e : Element) → IsElement ty e → value_of ty (text_of e) ≡ Some e
+value-again ty (whole z) is =
+    let parts = and_parts (not (is_pair ty)) (in_range ty z) is in
+    rw (not-true (is_pair ty) parts.0, number-in-again ty z parts.1) refl
+value-again ty (pair z at) is =
+    let parts = and_parts (is_pair ty) (in_range I32 z && in_range I32 at) is in
+    let numbers = and_parts (in_range I32 z) (in_range I32 at) parts.1 in
+    rw parts.0 (pair-again z at numbers.0 numbers.1)
+
+all-again : (ty : Datatype) (es : List Element) → AllByRecursion (IsElement ty) es → list_all (λ w. is_some (value_of ty w)) (map text_of es) ≡ true
 all-again ty [] are = refl
-all-again ty (z ∷ zs) are = rw (value-again ty z are.0, all-again ty zs are.1) refl
+all-again ty (e ∷ es) are = rw (value-again ty e are.0, all-again ty es are.1) refl
 
 abbrev bytes_of : Datatype → List ℕ → List ℕ
-bytes_of ty w = element_bytes ty (unwrap_or (value_of ty w) (pos 0))
+bytes_of ty w = element_bytes ty (unwrap_or (value_of ty w) (whole (pos 0)))
 
-bytes-again : (ty : Datatype) (zs : List ℤ) → AllByRecursion (IsElement ty) zs → flat_map (bytes_of ty) (map signed_decimal zs) ≡ flat_map (element_bytes ty) zs
+bytes-again : (ty : Datatype) (es : List Element) → AllByRecursion (IsElement ty) es → flat_map (bytes_of ty) (map text_of es) ≡ flat_map (element_bytes ty) es
 bytes-again ty [] are = refl
-bytes-again ty (z ∷ zs) are =
-    let here : bytes_of ty (signed_decimal z) ≡ element_bytes ty z = rw (value-again ty z are.0) refl in
-    flat_map-cons (bytes_of ty) (signed_decimal z) (map signed_decimal zs) ∙ (ap (λ (x : List ℕ). x ++ flat_map (bytes_of ty) (map signed_decimal zs)) here
-    ∙ ap (λ (x : List ℕ). element_bytes ty z ++ x) (bytes-again ty zs are.1)) ∙ sym (flat_map-cons (element_bytes ty) z zs)
+bytes-again ty (e ∷ es) are =
+    let here : bytes_of ty (text_of e) ≡ element_bytes ty e = rw (value-again ty e are.0) refl in
+    flat_map-cons (bytes_of ty) (text_of e) (map text_of es) ∙ (ap (λ (x : List ℕ). x ++ flat_map (bytes_of ty) (map text_of es)) here
+    ∙ ap (λ (x : List ℕ). element_bytes ty e ++ x) (bytes-again ty es are.1)) ∙ sym (flat_map-cons (element_bytes ty) e es)
 
-pub values-again : (ty : Datatype) (count : ℕ) (elements : List ℤ) (given : List ℕ) → AreValues ty count elements given → values count ty (value_words elements) ≡ Ok (given, [])
+pub values-again : (ty : Datatype) (count : ℕ) (elements : List Element) (given : List ℕ) → AreValues ty count elements given → values count ty (value_words elements) ≡ Ok (given, [])
 unfolding values
 values-again ty count elements given are =
-    let counted : eqb (length (map signed_decimal elements)) count ≡ true = eq-eqb _ _ (length-map elements signed_decimal ∙ are.0) in
+    let counted : eqb (length (map text_of elements)) count ≡ true = eq-eqb _ _ (length-map elements text_of ∙ are.0) in
     rw (counted, all-again ty elements are.1) (ap (λ (x : List ℕ). Ok (x, [])) (bytes-again ty elements are.1 ∙ sym are.2))
 
 -- ---- signatures

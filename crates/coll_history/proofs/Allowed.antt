@@ -1,18 +1,18 @@
 -- What a line that is accepted says could be said after the lines before it.
 use Rattle.std.proofs.Common.{◌≡◌, ℕ, zero, suc, ◌+◌, ◌*◌, ◌/◌, ◌<◌, Bool, true, false, cond, ltb, eqb, List, [], ◌∷◌, ◌++◌, length, Option, Some, None, Result, Ok, Err, refl, sym, ap, subst, ◌∙◌, arith}
-use Rattle.std.specs.Prelude.{ℤ, pos, is_some, is_none, flat_map, unwrap_or, slice_get, ok_or, IfSome}
+use Rattle.std.specs.Prelude.{pos, is_some, is_none, flat_map, unwrap_or, slice_get, ok_or, IfSome}
 use Rattle.std.specs.List.{AllByRecursion, list_all, range_with_len}
 use Rattle.std.proofs.lemmas.Bool.{eqb-true, ltb-true}
 use Rattle.std.proofs.lemmas.List.{length-append}
 use Rattle.std.proofs.lemmas.List.Concat.{flat_map-cons}
 use Rattle.std.proofs.lemmas.Option.{slice_get_within, get_or_from_slice_get}
 use Rattle.coll_kinds.specs.declared.datatype.Datatype.{Datatype}
-use Rattle.coll_kinds.specs.declared.datatype.Datatype.TheVariants.{I8, I16, I32, I64, U8, U16, U32, U64, Byte}
+use Rattle.coll_kinds.specs.declared.datatype.Datatype.TheVariants.{I8, I16, I32, I64, U8, U16, U32, U64, Byte, Pair}
 use Rattle.coll_kinds.specs.declared.kind.Mode.{Mode}
 use Rattle.coll_kinds.specs.declared.kind.Mode.TheVariants.{Once, Persistent}
 use Rattle.coll_kinds.specs.declared.signature.Signature.{Signature}
 use Rattle.coll_kinds.specs.Checks.{broken}
-use Rattle.coll_kinds.specs.Elements.{element_bytes, width}
+use Rattle.coll_kinds.specs.Elements.{Element, whole, element_bytes, width}
 use Rattle.coll_kinds.specs.Groups.{member_of, is_among}
 use Rattle.coll_kinds.specs.Texts.{number_of, value_of}
 use Rattle.coll_kinds.specs.Words.{kind_of}
@@ -27,7 +27,7 @@ use Rattle.coll_history.specs.Histories.{History, Posting, posting, group_of, sa
 use Rattle.coll_history.specs.Lines.{next, request_in, communicator, fields, signature, due, colon, values, room, post, init, made, startable, start, free, one, some, all, wait, test, waitany, waitsome, waitall}
 use Rattle.coll_history.specs.Sound.{IsPosting, MaySay}
 use Rattle.coll_history.specs.Code.{read_by}
-use Rattle.coll_history.proofs.Gifts.{given_len-whole}
+use Rattle.coll_history.proofs.Contributions.{given_len-whole}
 
 -- ---- a step that was read, and what followed it
 
@@ -55,7 +55,7 @@ next-is read (w ∷ words) a e =
 
 -- ---- values
 
-pub length-element_bytes : (ty : Datatype) (value : ℤ) → length (element_bytes ty value) ≡ width ty
+pub length-element_bytes : (ty : Datatype) (value : Element) → length (element_bytes ty value) ≡ width ty
 length-element_bytes I8 value = refl
 length-element_bytes I16 value = refl
 length-element_bytes I32 value = refl
@@ -65,15 +65,16 @@ length-element_bytes U16 value = refl
 length-element_bytes U32 value = refl
 length-element_bytes U64 value = refl
 length-element_bytes Byte value = refl
+length-element_bytes Pair value = refl
 
 abbrev bytes_of : Datatype → List ℕ → List ℕ
-bytes_of ty w = element_bytes ty (unwrap_or (value_of ty w) (pos 0))
+bytes_of ty w = element_bytes ty (unwrap_or (value_of ty w) (whole (pos 0)))
 
 length-bytes : (ty : Datatype) (words : List (List ℕ)) → length (flat_map (bytes_of ty) words) ≡ length words * width ty
 length-bytes ty [] = omega arith
 length-bytes ty (w ∷ words) =
     ap length (flat_map-cons (bytes_of ty) w words) ∙ length-append (bytes_of ty w) (flat_map (bytes_of ty) words)
-    ∙ omega (arith, length-element_bytes ty (unwrap_or (value_of ty w) (pos 0)), length-bytes ty words)
+    ∙ omega (arith, length-element_bytes ty (unwrap_or (value_of ty w) (whole (pos 0))), length-bytes ty words)
 
 -- the bytes of so many values
 pub values-length : (count : ℕ) (ty : Datatype) (words : List (List ℕ)) (a : List ℕ × List (List ℕ)) → values count ty words ≡ Ok a → length a.0 ≡ count * width ty

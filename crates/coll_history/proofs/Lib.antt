@@ -1,7 +1,7 @@
 pub mod Lists
 mod Again
 mod SaidAgain
-pub mod Gifts
+pub mod Contributions
 mod Cuts
 mod Texts
 mod First

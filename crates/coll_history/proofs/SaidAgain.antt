@@ -1,6 +1,6 @@
 -- A command that is written so is read so.
 use Rattle.std.proofs.Common.{◌≡◌, ℕ, ◌/◌, true, List, [], ◌∷◌, ◌++◌, length, map, Some, Result, Ok, refl, sym, ap, subst, ◌∙◌, inl, inr}
-use Rattle.std.specs.Prelude.{ℤ, codes, nat_lt, decimal}
+use Rattle.std.specs.Prelude.{codes, nat_lt, decimal}
 use Rattle.std.specs.List.{range_with_len}
 use Rattle.std.proofs.lemmas.Bool.{lt-ltb}
 use Rattle.std.proofs.lemmas.Option.{get_or_from_slice_get, slice_get_within}
@@ -8,7 +8,7 @@ use Rattle.std.proofs.lemmas.List.{append-nil}
 use Rattle.coll_kinds.specs.declared.kind.Mode.{Mode}
 use Rattle.coll_kinds.specs.declared.kind.Mode.TheVariants.{Once, Persistent}
 use Rattle.coll_kinds.specs.declared.signature.Signature.{Signature}
-use Rattle.coll_kinds.specs.Elements.{width}
+use Rattle.coll_kinds.specs.Elements.{Element, width}
 use Rattle.coll_history.specs.declared.cause.Cause.{Cause}
 use Rattle.coll_history.specs.declared.command.Command.{Command}
 use Rattle.coll_history.specs.declared.command.Command.TheVariants.{Post, Init, Start, Wait, Test, Free, WaitAny, WaitSome, WaitAll}
@@ -60,7 +60,7 @@ module _ (number rank n : ℕ) (h : History) (ranks : h.ranks ≡ Some n) (opene
   unfolding line command free startable
   free-line q p may = rw (ranks, opened, startable-again q p [] may) refl
 
-  pub start-line : (q : ℕ) (p : Posting) (elements : List ℤ) (given : List ℕ) → MayStart h rank q p → AreValues p.sig.ty (due h.groups rank p.comm p.sig / width p.sig.ty) elements given
+  pub start-line : (q : ℕ) (p : Posting) (elements : List Element) (given : List ℕ) → MayStart h rank q p → AreValues p.sig.ty (due h.groups rank p.comm p.sig / width p.sig.ty) elements given
       → line number h (codes "start" ∷ decimal q ∷ value_words elements) ≡ Ok (tell number rank (Start q given) h)
   unfolding line command start startable
   start-line q p elements given may are =
@@ -75,7 +75,7 @@ module _ (number rank n : ℕ) (h : History) (ranks : h.ranks ≡ Some n) (opene
       let here : signature sig.mode (length (group_of h.groups comm)) (signature_words sig ++ rest) ≡ Ok (sig, rest) = rw group (signature-again sig (length may.group) rest may.words may.checked) in
       subst (λ (m : Mode). signature m (length (group_of h.groups comm)) (signature_words sig ++ rest) ≡ Ok (sig, rest)) may.mode_is here
 
-  pub post-line : (comm : ℕ) (sig : Signature) (elements : List ℤ) (given : List ℕ) → MayPost h rank Once comm sig → AreValues sig.ty (due h.groups rank comm sig / width sig.ty) elements given
+  pub post-line : (comm : ℕ) (sig : Signature) (elements : List Element) (given : List ℕ) → MayPost h rank Once comm sig → AreValues sig.ty (due h.groups rank comm sig / width sig.ty) elements given
       → line number h (codes "post" ∷ decimal comm ∷ (signature_words sig ++ value_words elements)) ≡ Ok (tell number rank (Post comm sig given) h)
   unfolding line command post
   post-line comm sig elements given may are =

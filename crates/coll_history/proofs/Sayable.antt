@@ -1,29 +1,30 @@
 -- A command that is accepted could have been written: the words that write it.
-use Rattle.std.proofs.Common.{◌≡◌, ℕ, ◌/◌, ◌^◌, ◌<◌, ◌≤◌, Bool, true, false, cond, ltb, leb, eqb, List, [], ◌∷◌, ◌++◌, length, map, Option, Some, None, Result, Ok, Err, refl, sym, ap, subst, ◌∙◌, append_assoc, arith, inl, inr}
+use Rattle.std.proofs.Common.{◌≡◌, ℕ, ◌+◌, ◌/◌, ◌^◌, ◌<◌, ◌≤◌, Bool, true, false, cond, ltb, leb, eqb, List, [], ◌∷◌, ◌++◌, length, take, drop, map, Option, Some, None, Result, Ok, Err, refl, sym, ap, subst, ◌∙◌, append_assoc, arith, inl, inr}
 use Rattle.std.specs.Prelude.{ℤ, pos, MatchBool, codes, decimal, flat_map, is_some, is_none, ok_or, unwrap_or, option_and_then, ◌&&◌}
-use Rattle.std.specs.List.{AllByRecursion, list_all, range_with_len}
+use Rattle.std.specs.Option.{option_map}
+use Rattle.std.specs.List.{AllByRecursion, list_all, position, range_with_len}
 use Rattle.std.specs.Str.{bytes_eq}
 use Rattle.std.proofs.lemmas.Bool.{eqb-true, leb-true, ltb-true, and_parts}
 use Rattle.std.proofs.lemmas.List.{append-nil, length-map}
 use Rattle.std.proofs.lemmas.List.Concat.{flat_map-cons}
 use Rattle.std.proofs.lemmas.Option.{slice_get_within}
 use Rattle.coll_kinds.specs.declared.datatype.Datatype.{Datatype}
-use Rattle.coll_kinds.specs.declared.datatype.Datatype.TheVariants.{Byte}
+use Rattle.coll_kinds.specs.declared.datatype.Datatype.TheVariants.{I32, Byte}
 use Rattle.coll_kinds.specs.declared.kind.Kind.{Kind}
 use Rattle.coll_kinds.specs.declared.kind.Mode.{Mode}
 use Rattle.coll_kinds.specs.declared.kind.Mode.TheVariants.{Once, Persistent}
 use Rattle.coll_kinds.specs.declared.operation.Op.{Op}
 use Rattle.coll_kinds.specs.declared.signature.Signature.{Signature}
 use Rattle.coll_kinds.specs.Checks.{has_root, has_operation, is_barrier, broken}
-use Rattle.coll_kinds.specs.Elements.{width, is_element, element_bytes, IsElement}
+use Rattle.coll_kinds.specs.Elements.{Element, whole, pair, width, is_pair, in_range, element_bytes, IsElement}
 use Rattle.coll_kinds.specs.Groups.{is_among}
-use Rattle.coll_kinds.specs.Texts.{number_of, whole_number_of, value_of}
+use Rattle.coll_kinds.specs.Texts.{number_of, whole_number_of, number_in, pair_of, value_of}
 use Rattle.coll_kinds.specs.Words.{kind_of, operation_of, datatype_of}
 use Rattle.coll_history.specs.declared.cause.Cause.{Cause}
 use Rattle.coll_history.specs.declared.cause.Cause.TheVariants.{BadSignature, BadValue, WrongValueCount, NamedTwice}
 use Rattle.coll_history.specs.declared.command.Command.{Command}
 use Rattle.coll_history.specs.declared.command.Command.TheVariants.{Post, Init, Start, Wait, Test, Free, WaitAny, WaitSome, WaitAll}
-use Rattle.coll_history.specs.Reading.{Reading, and_then, ◌>>=◌, give, known, must, end, numbers_from, numbers}
+use Rattle.coll_history.specs.Reading.{Reading, and_then, ◌>>=◌, give, must, end, numbers_from, numbers}
 use Rattle.coll_history.specs.Histories.{History, Posting, group_of, total}
 use Rattle.coll_history.specs.Lines.{number_within, request_in, next, communicator, fields, signature, due, colon, values, room, post, init, made, startable, start, free, one, some, all, wait, test, waitany, waitsome, waitall, command_of}
 use Rattle.coll_history.specs.Sound.{IsPosting}
@@ -102,26 +103,55 @@ numbers-are P read twice each (w ∷ words) a e =
 
 -- ---- values
 
-abbrev element_of : Datatype → List ℕ → ℤ
-element_of ty w = unwrap_or (value_of ty w) (pos 0)
+abbrev element_of : Datatype → List ℕ → Element
+element_of ty w = unwrap_or (value_of ty w) (whole (pos 0))
 
-element-from : (ty : Datatype) (z y : ℤ) (b : Bool) → is_element ty z ≡ b → cond b (Some z) None ≡ Some y → IsElement ty y
-element-from ty z y true is e = let same : z ≡ y = cc in subst (IsElement ty) same is
-element-from ty z y false is e = absurd cc
+-- what was read lies in the range
+abbrev AreRanged : Datatype → Option ℤ → Type 0
+AreRanged ty read = (z : ℤ) → read ≡ Some z → in_range ty z ≡ true
 
-element-some : (ty : Datatype) (o : Option ℤ) (y : ℤ) → option_and_then (λ z. cond (is_element ty z) (Some z) None) o ≡ Some y → IsElement ty y
-element-some ty None y e = absurd cc
-element-some ty (Some z) y e = element-from ty z y (is_element ty z) refl e
+number-from : (ty : Datatype) (z y : ℤ) (b : Bool) → in_range ty z ≡ b → cond b (Some z) None ≡ Some y → in_range ty y ≡ true
+number-from ty z y true is e = let same : z ≡ y = cc in subst (λ x. in_range ty x ≡ true) same is
+number-from ty z y false is e = absurd cc
 
-unwrapped : (ty : Datatype) (o : Option ℤ) → is_some o ≡ true → ((y : ℤ) → o ≡ Some y → IsElement ty y) → IsElement ty (unwrap_or o (pos 0))
-unwrapped ty None e f = absurd cc
-unwrapped ty (Some y) e f = f y refl
+number-some : (ty : Datatype) (o : Option ℤ) (y : ℤ) → option_and_then (λ z. cond (in_range ty z) (Some z) None) o ≡ Some y → in_range ty y ≡ true
+number-some ty None y e = absurd cc
+number-some ty (Some z) y e = number-from ty z y (in_range ty z) refl e
+
+number-ranged : (ty : Datatype) (text : List ℕ) → AreRanged ty (number_in ty text)
+number-ranged ty text = number-some ty (whole_number_of text)
+
+whole-is : (ty : Datatype) → is_pair ty ≡ false → (o : Option ℤ) → AreRanged ty o → (e : Element) → option_map whole o ≡ Some e → IsElement ty e
+whole-is ty plain None ranged e is = absurd cc
+whole-is ty plain (Some z) ranged e is = let same : whole z ≡ e = cc in subst (IsElement ty) same (rw (plain, ranged z refl) refl)
+
+pair-is : (ty : Datatype) → is_pair ty ≡ true → (value index : Option ℤ) → AreRanged I32 value → AreRanged I32 index → (e : Element) → option_and_then (λ z. option_map (pair z) index) value ≡ Some e → IsElement ty e
+pair-is ty two None index first second e is = absurd cc
+pair-is ty two (Some z) None first second e is = absurd cc
+pair-is ty two (Some z) (Some at) first second e is = let same : pair z at ≡ e = cc in subst (IsElement ty) same (rw (two, first z refl, second at refl) refl)
+
+pair-from : (ty : Datatype) → is_pair ty ≡ true → (word : List ℕ) (comma : Option ℕ) (e : Element)
+    → option_and_then (λ comma. option_and_then (λ z. option_map (pair z) (number_in I32 (drop (comma + 1) word))) (number_in I32 (take comma word))) comma ≡ Some e → IsElement ty e
+pair-from ty two word None e is = absurd cc
+pair-from ty two word (Some comma) e is =
+    pair-is ty two (number_in I32 (take comma word)) (number_in I32 (drop (comma + 1) word)) (number-ranged I32 (take comma word)) (number-ranged I32 (drop (comma + 1) word)) e is
+
+element-from : (ty : Datatype) (b : Bool) → is_pair ty ≡ b → (word : List ℕ) (e : Element) → cond b (pair_of word) (option_map whole (number_in ty word)) ≡ Some e → IsElement ty e
+element-from ty true two word e is = pair-from ty two word (position (λ c. eqb c 44) word) e is
+element-from ty false plain word e is = whole-is ty plain (number_in ty word) (number-ranged ty word) e is
+
+element-some : (ty : Datatype) (word : List ℕ) (e : Element) → value_of ty word ≡ Some e → IsElement ty e
+element-some ty word e is = element-from ty (is_pair ty) refl word e is
+
+unwrapped : (ty : Datatype) (o : Option Element) → is_some o ≡ true → ((e : Element) → o ≡ Some e → IsElement ty e) → IsElement ty (unwrap_or o (whole (pos 0)))
+unwrapped ty None is f = absurd cc
+unwrapped ty (Some e) is f = f e refl
 
 elements-are : (ty : Datatype) (words : List (List ℕ)) → list_all (λ w. is_some (value_of ty w)) words ≡ true → AllByRecursion (IsElement ty) (map (element_of ty) words)
 elements-are ty [] e = tt
 elements-are ty (w ∷ words) e =
     let parts = and_parts (is_some (value_of ty w)) (list_all (λ v. is_some (value_of ty v)) words) e in
-    (unwrapped ty (value_of ty w) parts.0 (element-some ty (whole_number_of w)), elements-are ty words parts.1)
+    (unwrapped ty (value_of ty w) parts.0 (element-some ty w), elements-are ty words parts.1)
 
 bytes-map : (ty : Datatype) (words : List (List ℕ)) → flat_map (λ w. element_bytes ty (element_of ty w)) words ≡ flat_map (element_bytes ty) (map (element_of ty) words)
 bytes-map ty [] = refl
@@ -131,12 +161,12 @@ bytes-map ty (w ∷ words) =
 
 -- bytes that were read are those of values
 abbrev pub CanGive : Datatype → ℕ → List ℕ → Type 0
-CanGive ty count given = (elements : List ℤ) × AreValues ty count elements given
+CanGive ty count given = (elements : List Element) × AreValues ty count elements given
 
 values-given : (count : ℕ) (ty : Datatype) (words : List (List ℕ)) (a : List ℕ × List (List ℕ)) → values count ty words ≡ Ok a → CanGive ty count a.0
 unfolding values
 values-given count ty words a e =
-    let bytes = λ (w : List ℕ). element_bytes ty (unwrap_or (value_of ty w) (pos 0)) in
+    let bytes = λ (w : List ℕ). element_bytes ty (unwrap_or (value_of ty w) (whole (pos 0))) in
     let first = bind-is (colon count) (λ ws. must (eqb (length ws) count) WrongValueCount >>= λ counted. must (list_all (λ w. is_some (value_of ty w)) ws) BadValue >>= λ valued. give (flat_map bytes ws)) words a e in
     let ws = first.0.0 in
     let second = bind-is (must (eqb (length ws) count) WrongValueCount) (λ counted. must (list_all (λ w. is_some (value_of ty w)) ws) BadValue >>= λ valued. give (flat_map bytes ws)) first.0.1 a first.2 in

@@ -1,20 +1,21 @@
 -- A text that is written so is read so.
-use Rattle.std.proofs.Common.{◌≡◌, ℕ, suc, ◌+◌, ◌^◌, ◌<◌, ◌≤◌, Bool, true, false, cond, ltb, List, [], ◌∷◌, ◌++◌, length, map, Option, Some, None, Result, Ok, refl, sym, ap, ◌∙◌, append_assoc, arith, inl, inr}
-use Rattle.std.specs.Prelude.{ℤ, pos, negsuc, MatchBool, codes, decimal}
+use Rattle.std.proofs.Common.{◌≡◌, ℕ, suc, ◌+◌, ◌^◌, ◌<◌, ◌≤◌, Bool, true, false, cond, List, [], ◌∷◌, ◌++◌, length, map, Option, Some, None, Result, Ok, refl, sym, ap, ◌∙◌, append_assoc, arith, inl, inr}
+use Rattle.std.specs.Prelude.{ℤ, pos, negsuc, not, ◌&&◌, MatchBool, codes, decimal}
 use Rattle.std.specs.List.{AllByRecursion, list_all}
 use Rattle.std.specs.Fmt.{signed_decimal}
-use Rattle.std.proofs.lemmas.Bool.{eq-eqb, ltb-true, lt-ltb, and_parts}
-use Rattle.std.proofs.lemmas.List.{append-nil}
+use Rattle.std.proofs.lemmas.Bool.{eq-eqb, lt-ltb, and_parts}
+use Rattle.std.proofs.lemmas.List.{append-nil, length-append}
 use Rattle.std.proofs.lemmas.Fmt.{digits_decimal, decimal_nonempty}
 use Rattle.coll_kinds.specs.declared.datatype.Datatype.{Datatype}
-use Rattle.coll_kinds.specs.declared.datatype.Datatype.TheVariants.{I8, I16, I32, I64, U8, U16, U32, U64, Byte}
+use Rattle.coll_kinds.specs.declared.datatype.Datatype.TheVariants.{I8, I16, I32, I64, U8, U16, U32, U64, Byte, Pair}
 use Rattle.coll_kinds.specs.declared.operation.Op.{Op}
-use Rattle.coll_kinds.specs.declared.operation.Op.TheVariants.{Max, Min, Sum, Prod, Land, Lor, Lxor, Band, Bor, Bxor, LastNz}
+use Rattle.coll_kinds.specs.declared.operation.Op.TheVariants.{Max, Min, Sum, Prod, Land, Lor, Lxor, Band, Bor, Bxor, LastNz, MaxLoc, MinLoc}
 use Rattle.coll_kinds.specs.declared.kind.Kind.{Kind}
 use Rattle.coll_kinds.specs.declared.kind.Kind.TheVariants.{Barrier, Bcast, Gather, Scatter, Allgather, Alltoall, Reduce, Allreduce, Rsblock, Scan, Exscan}
 use Rattle.coll_kinds.specs.declared.signature.Signature.{Signature}
 use Rattle.coll_kinds.specs.Checks.{has_root, is_barrier}
-use Rattle.coll_kinds.specs.Elements.{is_signed, limit, IsElement}
+use Rattle.coll_kinds.specs.Elements.{Element, whole, pair, is_pair, in_range, IsElement}
+use Rattle.coll_kinds.specs.Texts.{text_of as element_text}
 use Rattle.coll_history.specs.declared.cause.Cause.{Cause}
 use Rattle.coll_history.specs.declared.cause.Cause.TheVariants.{BadRank}
 use Rattle.coll_history.specs.declared.command.Command.{Command}
@@ -26,7 +27,7 @@ use Rattle.coll_history.specs.Histories.{History, beginning}
 use Rattle.coll_history.specs.Lines.{rank_in, ranks, comm, section, line}
 use Rattle.coll_history.specs.Judging.{judged}
 use Rattle.coll_history.specs.Writing.{is_plain, IsWord, IsSkipped, skipped_line, operation_words, signature_words, value_words, HasWords, IsMade, IsSome, NoneTwice, Writes, Says, ranks_line, comm_line, rank_line, command_line, Tells, spaced, text_of}
-use Rattle.coll_history.proofs.Again.{numerals, limit-le, limit-signed, within-again}
+use Rattle.coll_history.proofs.Again.{numerals, small-positive, small-negative, within-again}
 use Rattle.coll_history.proofs.SaidAgain.{command-again}
 use Rattle.coll_history.proofs.Cuts.{plain-digits, AllByRecursion-append, words_of-spaced, lines_of-text}
 
@@ -35,12 +36,30 @@ use Rattle.coll_history.proofs.Cuts.{plain-digits, AllByRecursion-append, words_
 number-word : (n : ℕ) → n < 2 ^ 64 → IsWord (decimal n)
 number-word n small = record { some = decimal_nonempty n small; plain = plain-digits (decimal n) (digits_decimal numerals n small) }
 
-value-word : (ty : Datatype) (z : ℤ) → IsElement ty z → IsWord (signed_decimal z)
-value-word ty (pos n) is = number-word n (omega (arith, ltb-true n (limit ty) is, limit-le ty))
-value-word ty (negsuc n) is =
-    let parts = and_parts (is_signed ty) (ltb n (limit ty)) is in
-    let digits = number-word (suc n) (omega (arith, ltb-true n (limit ty) parts.1, limit-signed ty parts.0)) in
+signed-word : (ty : Datatype) (z : ℤ) → in_range ty z ≡ true → IsWord (signed_decimal z)
+signed-word ty (pos n) is = number-word n (small-positive ty n is)
+signed-word ty (negsuc n) is =
+    let digits = number-word (suc n) (small-negative ty n is) in
     record { some = omega arith; plain = digits.plain }
+
+plain-append : (v w : List ℕ) → list_all is_plain v ≡ true → list_all is_plain w ≡ true → list_all is_plain (v ++ w) ≡ true
+plain-append [] w first second = second
+plain-append (c ∷ v) w first second =
+    let parts = and_parts (is_plain c) (list_all is_plain v) first in
+    rw (parts.0, plain-append v w parts.1 second) refl
+
+-- a comma cuts no word
+pair-word : (v w : List ℕ) → IsWord v → IsWord w → IsWord (v ++ 44 ∷ w)
+pair-word v w first second = record {
+  some = omega (arith, length-append v (44 ∷ w));
+  plain = plain-append v (44 ∷ w) first.plain second.plain;
+}
+
+element-word : (ty : Datatype) (e : Element) → IsElement ty e → IsWord (element_text e)
+element-word ty (whole z) is = signed-word ty z (and_parts (not (is_pair ty)) (in_range ty z) is).1
+element-word ty (pair z at) is =
+    let numbers = and_parts (in_range I32 z) (in_range I32 at) (and_parts (is_pair ty) (in_range I32 z && in_range I32 at) is).1 in
+    pair-word (signed_decimal z) (signed_decimal at) (signed-word I32 z numbers.0) (signed-word I32 at numbers.1)
 
 kind-word : (kind : Kind) → IsWord (kind_word kind)
 kind-word Barrier = record { some = omega arith; plain = refl }
@@ -67,6 +86,8 @@ operation-word Band = record { some = omega arith; plain = refl }
 operation-word Bor = record { some = omega arith; plain = refl }
 operation-word Bxor = record { some = omega arith; plain = refl }
 operation-word LastNz = record { some = omega arith; plain = refl }
+operation-word MaxLoc = record { some = omega arith; plain = refl }
+operation-word MinLoc = record { some = omega arith; plain = refl }
 
 datatype-word : (ty : Datatype) → IsWord (datatype_word ty)
 datatype-word I8 = record { some = omega arith; plain = refl }
@@ -78,6 +99,7 @@ datatype-word U16 = record { some = omega arith; plain = refl }
 datatype-word U32 = record { some = omega arith; plain = refl }
 datatype-word U64 = record { some = omega arith; plain = refl }
 datatype-word Byte = record { some = omega arith; plain = refl }
+datatype-word Pair = record { some = omega arith; plain = refl }
 
 abbrev AreWords : List (List ℕ) → Type 0
 AreWords words = AllByRecursion IsWord words
@@ -86,12 +108,12 @@ numbers-words : (qs : List ℕ) → AllByRecursion (λ q. q < 2 ^ 64) qs → Are
 numbers-words [] are = tt
 numbers-words (q ∷ qs) are = (number-word q are.0, numbers-words qs are.1)
 
-elements-words : (ty : Datatype) (zs : List ℤ) → AllByRecursion (IsElement ty) zs → AreWords (map signed_decimal zs)
+elements-words : (ty : Datatype) (es : List Element) → AllByRecursion (IsElement ty) es → AreWords (map element_text es)
 elements-words ty [] are = tt
-elements-words ty (z ∷ zs) are = (value-word ty z are.0, elements-words ty zs are.1)
+elements-words ty (e ∷ es) are = (element-word ty e are.0, elements-words ty es are.1)
 
-values-words : (ty : Datatype) (zs : List ℤ) → AllByRecursion (IsElement ty) zs → AreWords (value_words zs)
-values-words ty zs are = (record { some = omega arith; plain = refl }, elements-words ty zs are)
+values-words : (ty : Datatype) (es : List Element) → AllByRecursion (IsElement ty) es → AreWords (value_words es)
+values-words ty es are = (record { some = omega arith; plain = refl }, elements-words ty es are)
 
 root-words : (b : Bool) (root : ℕ) → MatchBool b (root < 256) (root ≡ 0) → AreWords (cond b (decimal root ∷ []) [])
 root-words true root fits = (number-word root (omega (arith, fits)), tt)

@@ -1,11 +1,11 @@
 -- The bytes of values, one after another.
-use Rattle.std.proofs.Common.{◌≡◌, ℕ, ◌+◌, ◌<◌, ◌≤◌, Bool, true, false, cond, List, [], ◌∷◌, ◌++◌, length, take, drop, get_or, refl, sym, ap, ◌∙◌, append_assoc, Option, Some, None, Result, Ok, Err, ℤ, Bor}
+use Rattle.std.proofs.Common.{◌≡◌, ℕ, ◌+◌, ◌<◌, ◌≤◌, Bool, true, false, cond, List, [], ◌∷◌, ◌++◌, length, take, drop, get_or, refl, sym, ap, ◌∙◌, append_assoc, Option, Some, None, Result, Ok, Err, Bor}
 use Rattle.std.specs.Prelude.{pos, flat_map, is_some, unwrap_or}
 use Rattle.std.specs.List.{list_all}
 use Rattle.std.specs.Option.{option_map}
 use Rattle.std.proofs.lemmas.List.{take_at, append-nil}
 use Rattle.coll_kinds.specs.declared.datatype.Datatype.{Datatype}
-use Rattle.coll_kinds.specs.Elements.{element_bytes, width}
+use Rattle.coll_kinds.specs.Elements.{Element, whole, element_bytes, width}
 use Rattle.coll_kinds.specs.Texts.{value_of, padded_bytes}
 use Rattle.coll_history.specs.declared.cause.Cause.{Cause}
 use Rattle.coll_history.specs.declared.cause.Cause.TheVariants.{BadValue}
@@ -27,18 +27,18 @@ value-first : (b : Bool) (front first rest : List ℕ) → with_front front (con
 value-first true front first rest = ap Ok (sym (append_assoc front first rest))
 value-first false front first rest = refl
 
-with_front-value : (front : List ℕ) (ty : Datatype) (word : List ℕ) (words : List (List ℕ)) (value : ℤ) → value_of ty word ≡ Some value
+with_front-value : (front : List ℕ) (ty : Datatype) (word : List ℕ) (words : List (List ℕ)) (value : Element) → value_of ty word ≡ Some value
     → with_front front (valued ty (word ∷ words)) ≡ with_front (front ++ element_bytes ty value) (valued ty words)
-with_front-value front ty word words value e = rw e (value-first (list_all (λ w. is_some (value_of ty w)) words) front (element_bytes ty value) (flat_map (λ w. element_bytes ty (unwrap_or (value_of ty w) (pos 0))) words))
+with_front-value front ty word words value e = rw e (value-first (list_all (λ w. is_some (value_of ty w)) words) front (element_bytes ty value) (flat_map (λ w. element_bytes ty (unwrap_or (value_of ty w) (whole (pos 0)))) words))
 
 -- the word that was read is the text of a value
 pub record IsValue (ty : Datatype) (word element : List ℕ) : Type 0 where
-  pub value : ℤ
+  pub value : Element
   pub read : value_of ty word ≡ Some value
   pub bytes : take (width ty) element ≡ element_bytes ty value
   pub length : length (take (width ty) element) ≡ width ty
 
-is_value_from : (ty : Datatype) (word element : List ℕ) (read : Option ℤ) → value_of ty word ≡ read → option_map (padded_bytes ty) read ≡ Some element → IsValue ty word element
+is_value_from : (ty : Datatype) (word element : List ℕ) (read : Option Element) → value_of ty word ≡ read → option_map (padded_bytes ty) read ≡ Some element → IsValue ty word element
 is_value_from ty word element None e is = absurd cc
 is_value_from ty word element (Some value) e is =
     let padded : padded_bytes ty value ≡ element = cc in
@@ -48,7 +48,7 @@ is_value_from ty word element (Some value) e is =
 pub is_value : (ty : Datatype) (word element : List ℕ) (result : Option (List ℕ)) → result ≡ option_map (padded_bytes ty) (value_of ty word) → result ≡ Some element → IsValue ty word element
 is_value ty word element result gives is = is_value_from ty word element (value_of ty word) refl (sym gives ∙ is)
 
-is_none_from : (ty : Datatype) (read : Option ℤ) → option_map (padded_bytes ty) read ≡ None → read ≡ None
+is_none_from : (ty : Datatype) (read : Option Element) → option_map (padded_bytes ty) read ≡ None → read ≡ None
 is_none_from ty None e = refl
 is_none_from ty (Some value) e = absurd cc
 

@@ -24,7 +24,7 @@ use Rattle.coll_history.specs.declared.cause.Cause.TheVariants.{BadValue}
 use Rattle.coll_history.specs.declared.verb.Verb.{Verb}
 use Rattle.coll_history.specs.declared.verb.Verb.TheVariants as verb
 use Rattle.coll_kinds.specs.declared.datatype.Datatype.{Datatype}
-use Rattle.coll_kinds.specs.Elements.{element_bytes}
+use Rattle.coll_kinds.specs.Elements.{whole, element_bytes}
 use Rattle.coll_kinds.specs.Texts.{value_of}
 use Rattle.coll_history.specs.Sound.{IsHistory}
 
@@ -102,7 +102,7 @@ FindsSo view (Err fault) given = FailsSo fault given
 abbrev pub valued : Datatype → List (List ℕ) → Result (List ℕ) Cause
 valued ty words =
     if list_all (λ w. is_some (value_of ty w)) words
-    then Ok (flat_map (λ w. element_bytes ty (unwrap_or (value_of ty w) (pos 0))) words)
+    then Ok (flat_map (λ w. element_bytes ty (unwrap_or (value_of ty w) (whole (pos 0)))) words)
     else Err BadValue
 
 -- what a line's first word has its rank read

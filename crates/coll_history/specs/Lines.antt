@@ -11,7 +11,7 @@ use Rattle.coll_kinds.specs.declared.kind.Mode.{Mode}
 use Rattle.coll_kinds.specs.declared.kind.Mode.TheVariants.{Once, Persistent}
 use Rattle.coll_kinds.specs.declared.operation.Op.{Op}
 use Rattle.coll_kinds.specs.declared.signature.Signature.{Signature}
-use Rattle.coll_kinds.specs.Elements.{width, element_bytes}
+use Rattle.coll_kinds.specs.Elements.{whole, width, element_bytes}
 use Rattle.coll_kinds.specs.Texts.{number_of, value_of}
 use Rattle.coll_kinds.specs.Lengths.{given_len}
 use Rattle.coll_kinds.specs.Checks.{has_root, has_operation, is_barrier, broken}
@@ -95,7 +95,7 @@ values count ty = do
   words ← colon count
   counted ← must (length words == count) WrongValueCount
   valued ← must (list_all (λ w. is_some (value_of ty w)) words) BadValue
-  give (flat_map (λ w. element_bytes ty (unwrap_or (value_of ty w) (pos 0))) words)
+  give (flat_map (λ w. element_bytes ty (unwrap_or (value_of ty w) (whole (pos 0)))) words)
 
 -- a job has at most 4,096 requests
 abbrev pub room : History → Reading (Unit {0})

@@ -151,6 +151,24 @@ posts : HaveFaults (codes "ranks 1" ∷ codes "rank 0" ∷ []) posts_rows
 unfolding line ranks comm section command post init start startable free signature fields values
 posts = refl
 
+-- pairs have a comma between their numbers, and operations of their own
+abbrev pairs_rows : List Row
+pairs_rows =
+    (codes "post 0 bcast 0 2int 2 : 7,2 -3,04", None)
+    ∷ (codes "post 0 bcast 0 2int 2 : 7,2", fault 3 WrongValueCount)
+    ∷ (codes "post 0 bcast 0 2int 1 : 7", fault 3 BadValue)
+    ∷ (codes "post 0 bcast 0 2int 1 : 7,", fault 3 BadValue)
+    ∷ (codes "post 0 bcast 0 2int 1 : 7,2,1", fault 3 BadValue)
+    ∷ (codes "post 0 bcast 0 i32 1 : 7,2", fault 3 BadValue)
+    ∷ (codes "post 0 allreduce maxloc 2int 1 : 7,0", None)
+    ∷ (codes "post 0 allreduce sum 2int 1 : 7,0", fault 3 BadSignature)
+    ∷ (codes "post 0 allreduce minloc i32 1 : 7", fault 3 BadSignature)
+    ∷ []
+
+pairs : HaveFaults (codes "ranks 1" ∷ codes "rank 0" ∷ []) pairs_rows
+unfolding line ranks comm section command post init start startable free signature fields values
+pairs = refl
+
 -- an `init` ends with its signature
 abbrev inits_rows : List Row
 inits_rows =

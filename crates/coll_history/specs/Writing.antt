@@ -1,10 +1,10 @@
 -- How commands are written, and which ones a section may say next. Nothing here reads words: what is written so is read
 -- so.
-use Rattle.std.specs.Prelude.{◌≡◌, ◌⊎◌, ℕ, ◌+◌, ◌/◌, ◌<◌, ◌≤◌, ◌^◌, ℤ, Bool, true, false, not, ◌&&◌, IsTrue}
+use Rattle.std.specs.Prelude.{◌≡◌, ◌⊎◌, ℕ, ◌+◌, ◌/◌, ◌<◌, ◌≤◌, ◌^◌, Bool, true, false, not, ◌&&◌, IsTrue}
 use Rattle.std.specs.Prelude.{MatchBool, if◌then◌else◌, Option, Some, None}
 use Rattle.std.specs.Prelude.{List, [], ◌∷◌, ◌++◌, length, map, flat_map, slice_get, slice_index, codes}
 use Rattle.std.specs.List.{AllByRecursion, list_all, range_with_len}
-use Rattle.std.specs.Fmt.{decimal, signed_decimal}
+use Rattle.std.specs.Fmt.{decimal}
 use Rattle.coll_history.specs.Cutting.{is_blank, is_line_feed}
 use Rattle.coll_kinds.specs.declared.datatype.Datatype.{Datatype}
 use Rattle.coll_kinds.specs.declared.datatype.Datatype.TheVariants.{Byte}
@@ -12,7 +12,8 @@ use Rattle.coll_kinds.specs.declared.kind.Mode.{Mode}
 use Rattle.coll_kinds.specs.declared.kind.Mode.TheVariants.{Once, Persistent}
 use Rattle.coll_kinds.specs.declared.operation.Op.{Op}
 use Rattle.coll_kinds.specs.declared.signature.Signature.{Signature}
-use Rattle.coll_kinds.specs.Elements.{width, element_bytes, IsElement}
+use Rattle.coll_kinds.specs.Elements.{Element, width, element_bytes, IsElement}
+use Rattle.coll_kinds.specs.Texts.{text_of as element_text}
 use Rattle.coll_kinds.specs.Checks.{has_root, has_operation, is_barrier, broken}
 use Rattle.coll_history.specs.declared.command.Command.{Command}
 use Rattle.coll_history.specs.declared.command.Command.TheVariants.{Post, Init, Start, Wait, Test, Free}
@@ -36,18 +37,18 @@ signature_words sig =
     ++ (if is_barrier sig.kind then [] else datatype_word sig.ty ∷ decimal sig.count ∷ [])
 
 -- : v ..
-abbrev pub value_words : List ℤ → List (List ℕ)
-value_words elements = codes ":" ∷ map signed_decimal elements
+abbrev pub value_words : List Element → List (List ℕ)
+value_words elements = codes ":" ∷ map element_text elements
 
 -- the values of a type, so many, whose bytes are these
-abbrev pub AreValues : Datatype → ℕ → List ℤ → List ℕ → Type 0
+abbrev pub AreValues : Datatype → ℕ → List Element → List ℕ → Type 0
 AreValues ty count elements given =
     (length elements ≡ count)
     × AllByRecursion (IsElement ty) elements
     × (given ≡ flat_map (element_bytes ty) elements)
 
 -- what a rank gives on a communicator, as many values of the signature's type as are due
-abbrev pub AreDue : History → ℕ → ℕ → Signature → List ℤ → List ℕ → Type 0
+abbrev pub AreDue : History → ℕ → ℕ → Signature → List Element → List ℕ → Type 0
 AreDue h rank comm sig elements given =
     AreValues sig.ty (due h.groups rank comm sig / width sig.ty) elements given
 
@@ -99,7 +100,7 @@ IsSome (q ∷ qs) = Unit {0}
 abbrev pub Writes : History → ℕ → Command → List (List ℕ) → Type 0
 Writes h rank (Post comm sig given) words =
     MayPost h rank Once comm sig
-    × (elements : List ℤ)
+    × (elements : List Element)
     × AreDue h rank comm sig elements given
     × (words ≡ codes "post" ∷ decimal comm ∷ signature_words sig ++ value_words elements)
 Writes h rank (Init comm sig) words =
@@ -108,7 +109,7 @@ Writes h rank (Init comm sig) words =
 Writes h rank (Start q given) words =
     (p : Posting)
     × MayStart h rank q p
-    × (elements : List ℤ)
+    × (elements : List Element)
     × AreDue h rank p.comm p.sig elements given
     × (words ≡ codes "start" ∷ decimal q ∷ value_words elements)
 Writes h rank (Wait q) words =

@@ -4,9 +4,9 @@ use Rattle.std.proofs.lemmas.Bool.{eqb-true, eq-eqb, and_parts}
 use Rattle.std.specs.Bool.{Decides}
 use Rattle.std.specs.Cmp.Derive.{both_true}
 use Rattle.coll_kinds.specs.declared.datatype.Datatype.{Datatype}
-use Rattle.coll_kinds.specs.declared.datatype.Datatype.TheVariants.{I8, I16, I32, I64, U8, U16, U32, U64, Byte}
+use Rattle.coll_kinds.specs.declared.datatype.Datatype.TheVariants.{I8, I16, I32, I64, U8, U16, U32, U64, Byte, Pair}
 use Rattle.coll_kinds.specs.declared.operation.Op.{Op}
-use Rattle.coll_kinds.specs.declared.operation.Op.TheVariants.{Max, Min, Sum, Prod, Land, Lor, Lxor, Band, Bor, Bxor, LastNz}
+use Rattle.coll_kinds.specs.declared.operation.Op.TheVariants.{Max, Min, Sum, Prod, Land, Lor, Lxor, Band, Bor, Bxor, LastNz, MaxLoc, MinLoc}
 use Rattle.coll_kinds.specs.declared.kind.Kind.{Kind}
 use Rattle.coll_kinds.specs.declared.kind.Kind.TheVariants.{Barrier, Bcast, Gather, Scatter, Allgather, Alltoall, Reduce, Allreduce, Rsblock, Scan, Exscan}
 use Rattle.coll_kinds.specs.declared.kind.Mode.{Mode}
@@ -61,7 +61,9 @@ operation_at (suc (suc (suc (suc (suc (suc (suc zero))))))) = Some Lxor
 operation_at (suc (suc (suc (suc (suc (suc (suc (suc zero)))))))) = Some Band
 operation_at (suc (suc (suc (suc (suc (suc (suc (suc (suc zero))))))))) = Some Bor
 operation_at (suc (suc (suc (suc (suc (suc (suc (suc (suc (suc zero)))))))))) = Some Bxor
-operation_at (suc (suc (suc (suc (suc (suc (suc (suc (suc (suc (suc n))))))))))) = Some LastNz
+operation_at (suc (suc (suc (suc (suc (suc (suc (suc (suc (suc (suc zero))))))))))) = Some LastNz
+operation_at (suc (suc (suc (suc (suc (suc (suc (suc (suc (suc (suc (suc zero)))))))))))) = Some MaxLoc
+operation_at (suc (suc (suc (suc (suc (suc (suc (suc (suc (suc (suc (suc (suc n))))))))))))) = Some MinLoc
 
 operation_at-operation_number : (op : Option Op) → operation_at (operation_number op) ≡ op
 operation_at-operation_number None = refl
@@ -76,6 +78,8 @@ operation_at-operation_number (Some Band) = refl
 operation_at-operation_number (Some Bor) = refl
 operation_at-operation_number (Some Bxor) = refl
 operation_at-operation_number (Some LastNz) = refl
+operation_at-operation_number (Some MaxLoc) = refl
+operation_at-operation_number (Some MinLoc) = refl
 
 abbrev datatype_at : ℕ → Datatype
 datatype_at zero = I8
@@ -86,7 +90,8 @@ datatype_at (suc (suc (suc (suc zero)))) = U8
 datatype_at (suc (suc (suc (suc (suc zero))))) = U16
 datatype_at (suc (suc (suc (suc (suc (suc zero)))))) = U32
 datatype_at (suc (suc (suc (suc (suc (suc (suc zero))))))) = U64
-datatype_at (suc (suc (suc (suc (suc (suc (suc (suc n)))))))) = Byte
+datatype_at (suc (suc (suc (suc (suc (suc (suc (suc zero)))))))) = Byte
+datatype_at (suc (suc (suc (suc (suc (suc (suc (suc (suc n))))))))) = Pair
 
 datatype_at-datatype_number : (ty : Datatype) → datatype_at (datatype_number ty) ≡ ty
 datatype_at-datatype_number I8 = refl
@@ -98,6 +103,7 @@ datatype_at-datatype_number U16 = refl
 datatype_at-datatype_number U32 = refl
 datatype_at-datatype_number U64 = refl
 datatype_at-datatype_number Byte = refl
+datatype_at-datatype_number Pair = refl
 
 -- what has the same number is the same
 by_number : {W : Type 0} (number : W → ℕ) (at : ℕ → W) → ((w : W) → at (number w) ≡ w) → (a b : W) → eqb (number a) (number b) ≡ true → a ≡ b

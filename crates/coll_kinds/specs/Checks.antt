@@ -1,14 +1,14 @@
 -- Which rule a signature breaks for n members: the first, in the order root, operation, count, size.
-use Rattle.std.specs.Prelude.{◌≡◌, ◌<◌, ◌≤◌, ℕ, zero, suc, ◌==◌, Bool, true, false, ◌&&◌, ◌||◌, nat_lt, nat_le, Option, Some, None, is_none, if◌then◌else◌}
+use Rattle.std.specs.Prelude.{◌≡◌, ◌<◌, ◌≤◌, ℕ, zero, suc, ◌==◌, Bool, true, false, not, ◌&&◌, nat_lt, nat_le, Option, Some, None, is_none, if◌then◌else◌}
 use Rattle.coll_kinds.specs.declared.datatype.Datatype.{Datatype}
 use Rattle.coll_kinds.specs.declared.operation.Op.{Op}
-use Rattle.coll_kinds.specs.declared.operation.Op.TheVariants.{Max, Min, Sum, Prod, Land, Lor, Lxor, Band, Bor, Bxor, LastNz}
+use Rattle.coll_kinds.specs.declared.operation.Op.TheVariants.{Max, Min, Sum, Prod, Land, Lor, Lxor, Band, Bor, Bxor, LastNz, MaxLoc, MinLoc}
 use Rattle.coll_kinds.specs.declared.kind.Kind.{Kind}
 use Rattle.coll_kinds.specs.declared.kind.Kind.TheVariants.{Barrier, Bcast, Gather, Scatter, Allgather, Alltoall, Reduce, Allreduce, Rsblock, Scan, Exscan}
 use Rattle.coll_kinds.specs.declared.signature.Signature.{Signature}
 use Rattle.coll_kinds.specs.declared.refusal.SignatureFault.{SignatureFault}
 use Rattle.coll_kinds.specs.declared.refusal.SignatureFault.TheVariants.{Root, Operation, Count, Size}
-use Rattle.coll_kinds.specs.Elements.{is_integer}
+use Rattle.coll_kinds.specs.Elements.{is_integer, is_pair}
 use Rattle.coll_kinds.specs.Limits.{max_count, max_len, max_lent}
 use Rattle.coll_kinds.specs.Lengths.{given_len, got_len, lent}
 
@@ -51,23 +51,22 @@ is_barrier Rsblock = false
 is_barrier Scan = false
 is_barrier Exscan = false
 
--- the operation works on the bits, not on the number
-abbrev pub is_bitwise : Op → Bool
-is_bitwise Max = false
-is_bitwise Min = false
-is_bitwise Sum = false
-is_bitwise Prod = false
-is_bitwise Land = false
-is_bitwise Lor = false
-is_bitwise Lxor = false
-is_bitwise Band = true
-is_bitwise Bor = true
-is_bitwise Bxor = true
-is_bitwise LastNz = false
-
--- the operation may be used on the type: an integer type takes all, bytes take those on bits (MPI 4.1, 6.9.2)
+-- the operation may be used on the type (MPI 4.1, 6.9.2 and 6.9.4): pairs take the two that look for a place, all others
+-- those on bits, and integers all but these two
 abbrev pub allowed : Op → Datatype → Bool
-allowed op ty = is_integer ty || is_bitwise op
+allowed Max ty = is_integer ty
+allowed Min ty = is_integer ty
+allowed Sum ty = is_integer ty
+allowed Prod ty = is_integer ty
+allowed Land ty = is_integer ty
+allowed Lor ty = is_integer ty
+allowed Lxor ty = is_integer ty
+allowed Band ty = not (is_pair ty)
+allowed Bor ty = not (is_pair ty)
+allowed Bxor ty = not (is_pair ty)
+allowed LastNz ty = is_integer ty
+allowed MaxLoc ty = is_pair ty
+allowed MinLoc ty = is_pair ty
 
 -- an operation is there, and may be used on the type
 abbrev pub reduces : Option Op → Datatype → Bool

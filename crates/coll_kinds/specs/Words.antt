@@ -3,9 +3,9 @@ use Rattle.std.specs.Prelude.{ℕ, List, [], ◌∷◌, Option, codes}
 use Rattle.std.specs.List.{find}
 use Rattle.std.specs.Str.{bytes_eq}
 use Rattle.coll_kinds.specs.declared.datatype.Datatype.{Datatype}
-use Rattle.coll_kinds.specs.declared.datatype.Datatype.TheVariants.{I8, I16, I32, I64, U8, U16, U32, U64, Byte}
+use Rattle.coll_kinds.specs.declared.datatype.Datatype.TheVariants.{I8, I16, I32, I64, U8, U16, U32, U64, Byte, Pair}
 use Rattle.coll_kinds.specs.declared.operation.Op.{Op}
-use Rattle.coll_kinds.specs.declared.operation.Op.TheVariants.{Max, Min, Sum, Prod, Land, Lor, Lxor, Band, Bor, Bxor, LastNz}
+use Rattle.coll_kinds.specs.declared.operation.Op.TheVariants.{Max, Min, Sum, Prod, Land, Lor, Lxor, Band, Bor, Bxor, LastNz, MaxLoc, MinLoc}
 use Rattle.coll_kinds.specs.declared.kind.Kind.{Kind}
 use Rattle.coll_kinds.specs.declared.kind.Kind.TheVariants.{Barrier, Bcast, Gather, Scatter, Allgather, Alltoall, Reduce, Allreduce, Rsblock, Scan, Exscan}
 
@@ -34,6 +34,8 @@ operation_word Band = codes "band"
 operation_word Bor = codes "bor"
 operation_word Bxor = codes "bxor"
 operation_word LastNz = codes "lastnz"
+operation_word MaxLoc = codes "maxloc"
+operation_word MinLoc = codes "minloc"
 
 abbrev pub datatype_word : Datatype → List ℕ
 datatype_word I8 = codes "i8"
@@ -45,15 +47,16 @@ datatype_word U16 = codes "u16"
 datatype_word U32 = codes "u32"
 datatype_word U64 = codes "u64"
 datatype_word Byte = codes "byte"
+datatype_word Pair = codes "2int"
 
 abbrev pub kinds : List Kind
 kinds = Barrier ∷ Bcast ∷ Gather ∷ Scatter ∷ Allgather ∷ Alltoall ∷ Reduce ∷ Allreduce ∷ Rsblock ∷ Scan ∷ Exscan ∷ []
 
 abbrev pub operations : List Op
-operations = Max ∷ Min ∷ Sum ∷ Prod ∷ Land ∷ Lor ∷ Lxor ∷ Band ∷ Bor ∷ Bxor ∷ LastNz ∷ []
+operations = Max ∷ Min ∷ Sum ∷ Prod ∷ Land ∷ Lor ∷ Lxor ∷ Band ∷ Bor ∷ Bxor ∷ LastNz ∷ MaxLoc ∷ MinLoc ∷ []
 
 abbrev pub datatypes : List Datatype
-datatypes = I8 ∷ I16 ∷ I32 ∷ I64 ∷ U8 ∷ U16 ∷ U32 ∷ U64 ∷ Byte ∷ []
+datatypes = I8 ∷ I16 ∷ I32 ∷ I64 ∷ U8 ∷ U16 ∷ U32 ∷ U64 ∷ Byte ∷ Pair ∷ []
 
 -- what has that word
 abbrev pub kind_of : List ℕ → Option Kind

@@ -3,7 +3,7 @@ ghost use Rattle.std.specs.Prelude.{◌≡◌};
 use std::fmt;
 
 /// The type of an element: a whole number, kept little-endian in two's complement
-/// (MPI 4.1, 3.2.2).
+/// (MPI 4.1, 3.2.2), or a pair of two.
 #[derive(Clone, Copy, Debug, PartialEq, Eq)]
 pub enum Datatype {
     /// `MPI_INT8_T`, one byte.
@@ -24,14 +24,16 @@ pub enum Datatype {
     U64,
     /// `MPI_BYTE`, eight bits that are no number to MPI; its text is that of `U8`.
     Byte,
+    /// `MPI_2INT`, eight bytes: two `I32`, the value and then its index (MPI 4.1, 6.9.4).
+    Pair,
 }
 
 impl Datatype {
-    ghost use Rattle.coll_kinds.specs.Elements.{width, is_signed, is_integer, limit};
+    ghost use Rattle.coll_kinds.specs.Elements.{width, is_signed, is_integer, is_pair, limit};
     ghost use Rattle.coll_kinds.specs.Words.{datatype_of, datatype_word};
 
     /// All types, in the order of their table.
-    pub const ALL: [Datatype; 9] = [
+    pub const ALL: [Datatype; 10] = [
         Datatype::I8,
         Datatype::I16,
         Datatype::I32,
@@ -41,6 +43,7 @@ impl Datatype {
         Datatype::U32,
         Datatype::U64,
         Datatype::Byte,
+        Datatype::Pair,
     ];
 
     /// The bytes of one element.
@@ -51,11 +54,11 @@ impl Datatype {
             Datatype::I8 | Datatype::U8 | Datatype::Byte => 1,
             Datatype::I16 | Datatype::U16 => 2,
             Datatype::I32 | Datatype::U32 => 4,
-            Datatype::I64 | Datatype::U64 => 8,
+            Datatype::I64 | Datatype::U64 | Datatype::Pair => 8,
         }
     }
 
-    /// Whether the type has negative numbers.
+    /// Whether the type is one of numbers of which some are negative.
     pub fn is_signed(self) -> bool
         ensures { result ≡ is_signed self }
     {
@@ -69,11 +72,18 @@ impl Datatype {
     pub fn is_integer(self) -> bool
         ensures { result ≡ is_integer self }
     {
-        !matches!(self, Datatype::Byte)
+        !matches!(self, Datatype::Byte | Datatype::Pair)
+    }
+
+    /// Whether an element is a value with its index (MPI 4.1, 6.9.4).
+    pub fn is_pair(self) -> bool
+        ensures { result ≡ is_pair self }
+    {
+        matches!(self, Datatype::Pair)
     }
 
     /// The least whole number above the type's range. The numbers go from minus that, or from 0
-    /// where the type has no sign, up to one less.
+    /// where the type has no sign, up to one less. Of a pair it is asked for the number that its bits are.
     pub fn limit(self) -> u128
         ensures { result ≡ limit self }
     {
@@ -85,7 +95,7 @@ impl Datatype {
             Datatype::U8 | Datatype::Byte => 1 << 8,
             Datatype::U16 => 1 << 16,
             Datatype::U32 => 1 << 32,
-            Datatype::U64 => 1 << 64,
+            Datatype::U64 | Datatype::Pair => 1 << 64,
         }
     }
 
@@ -103,6 +113,7 @@ impl Datatype {
             Datatype::U32 => "u32",
             Datatype::U64 => "u64",
             Datatype::Byte => "byte",
+            Datatype::Pair => "2int",
         }
     }
 

@@ -29,6 +29,10 @@ pub enum Op {
     /// The second where it isn't 0, else the first. It stands for the operations that users make
     /// (MPI 4.1, 6.9.5): associative, but not commutative.
     LastNz,
+    /// `MPI_MAXLOC`: the pair with the greater value; of equals, the one with the lesser index (MPI 4.1, 6.9.4).
+    MaxLoc,
+    /// `MPI_MINLOC`: the pair with the lesser value; of equals, the one with the lesser index (MPI 4.1, 6.9.4).
+    MinLoc,
 }
 
 impl Op {
@@ -36,7 +40,7 @@ impl Op {
     ghost use Rattle.coll_kinds.specs.Words.{operation_of, operation_word};
 
     /// All operations, in the order of their table.
-    pub const ALL: [Op; 11] = [
+    pub const ALL: [Op; 13] = [
         Op::Max,
         Op::Min,
         Op::Sum,
@@ -48,13 +52,19 @@ impl Op {
         Op::Bor,
         Op::Bxor,
         Op::LastNz,
+        Op::MaxLoc,
+        Op::MinLoc,
     ];
 
-    /// Whether the operation may be used on elements of that type (MPI 4.1, 6.9.2).
+    /// Whether the operation may be used on elements of that type (MPI 4.1, 6.9.2 and 6.9.4).
     pub fn is_allowed_on(self, ty: Datatype) -> bool
         ensures { result ≡ allowed self ty }
     {
-        ty.is_integer() || matches!(self, Op::Band | Op::Bor | Op::Bxor)
+        match self {
+            Op::MaxLoc | Op::MinLoc => ty.is_pair(),
+            Op::Band | Op::Bor | Op::Bxor => !ty.is_pair(),
+            _ => ty.is_integer(),
+        }
     }
 
     /// Its word in a job text and in messages.
@@ -73,6 +83,8 @@ impl Op {
             Op::Bor => "bor",
             Op::Bxor => "bxor",
             Op::LastNz => "lastnz",
+            Op::MaxLoc => "maxloc",
+            Op::MinLoc => "minloc",
         }
     }
 

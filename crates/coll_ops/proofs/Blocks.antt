@@ -1,5 +1,5 @@
 -- A block of a combination is the combination of the blocks.
-use Rattle.std.proofs.Common.{◌≡◌, ℕ, zero, suc, ◌+◌, ◌-◌, ◌*◌, ◌/◌, ◌<◌, ◌≤◌, List, [], ◌∷◌, ◌++◌, ℤ, length, take, drop, refl, arith, ap, sym, ◌∙◌, map, flat_map, length-take, length-drop}
+use Rattle.std.proofs.Common.{◌≡◌, ℕ, zero, suc, ◌+◌, ◌-◌, ◌*◌, ◌/◌, ◌<◌, ◌≤◌, List, [], ◌∷◌, ◌++◌, length, take, drop, refl, arith, ap, sym, ◌∙◌, map, flat_map, length-take, length-drop}
 use Rattle.std.proofs.Math.Nat.{zero-mul, mul-div_left, mul-mod_left}
 use Rattle.std.proofs.lemmas.List.{drop-drop, drop-take, take-append-drop}
 use Rattle.std.proofs.Math.Seq.{drop-nil, take-nil, drop-append-add, take-append-add}
@@ -7,7 +7,7 @@ use Rattle.byteorder.specs.Endian.{little_number}
 use Rattle.byteorder.specs.Numbers.{little_from-append}
 use Rattle.coll_kinds.specs.declared.datatype.Datatype.{Datatype}
 use Rattle.coll_kinds.specs.declared.operation.Op.{Op}
-use Rattle.coll_kinds.specs.Elements.{width, element_of, element_at, element_bytes}
+use Rattle.coll_kinds.specs.Elements.{Element, width, element_of, element_at, element_bytes}
 use Rattle.coll_ops.specs.Operations.{applied}
 use Rattle.coll_ops.specs.Combinations.{elements, zipped, combined, combination}
 use Rattle.coll_ops.specs.Values.{part, row_of}
@@ -49,7 +49,7 @@ elements-front ty (suc k) row within =
     ap (λ z. z ∷ elements ty k (drop (width ty) (take (suc k * width ty) row))) front
     ∙ ap (λ zs. element_at ty row ∷ zs) (ap (elements ty k) behind ∙ rest)
 
-flat_map-drop : (ty : Datatype) (m : ℕ) (zs : List ℤ) → drop (m * width ty) (flat_map (element_bytes ty) zs) ≡ flat_map (element_bytes ty) (drop m zs)
+flat_map-drop : (ty : Datatype) (m : ℕ) (zs : List Element) → drop (m * width ty) (flat_map (element_bytes ty) zs) ≡ flat_map (element_bytes ty) (drop m zs)
 flat_map-drop ty zero zs = rw (zero-mul (width ty)) refl
 flat_map-drop ty (suc m) [] = drop-nil (suc m * width ty)
 flat_map-drop ty (suc m) (z ∷ zs) =
@@ -58,7 +58,7 @@ flat_map-drop ty (suc m) (z ∷ zs) =
     ap (λ n. drop n (element_bytes ty z ++ flat_map (element_bytes ty) zs)) all
     ∙ (drop-append-add (element_bytes ty z) (flat_map (element_bytes ty) zs) (m * width ty) ∙ flat_map-drop ty m zs)
 
-flat_map-take : (ty : Datatype) (k : ℕ) (zs : List ℤ) → take (k * width ty) (flat_map (element_bytes ty) zs) ≡ flat_map (element_bytes ty) (take k zs)
+flat_map-take : (ty : Datatype) (k : ℕ) (zs : List Element) → take (k * width ty) (flat_map (element_bytes ty) zs) ≡ flat_map (element_bytes ty) (take k zs)
 flat_map-take ty zero zs = rw (zero-mul (width ty)) refl
 flat_map-take ty (suc k) [] = take-nil (suc k * width ty)
 flat_map-take ty (suc k) (z ∷ zs) =
@@ -68,14 +68,14 @@ flat_map-take ty (suc k) (z ∷ zs) =
     ∙ (take-append-add (element_bytes ty z) (flat_map (element_bytes ty) zs) (k * width ty)
     ∙ ap (λ rest. element_bytes ty z ++ rest) (flat_map-take ty k zs))
 
-zipped-drop : (op : Op) (ty : Datatype) (m : ℕ) (xs ys : List ℤ) → length xs ≡ length ys → zipped op ty (drop m xs) (drop m ys) ≡ drop m (zipped op ty xs ys)
+zipped-drop : (op : Op) (ty : Datatype) (m : ℕ) (xs ys : List Element) → length xs ≡ length ys → zipped op ty (drop m xs) (drop m ys) ≡ drop m (zipped op ty xs ys)
 zipped-drop op ty zero xs ys same = refl
 zipped-drop op ty (suc m) [] [] same = refl
 zipped-drop op ty (suc m) [] (y ∷ ys) same = absurd (omega arith)
 zipped-drop op ty (suc m) (x ∷ xs) [] same = absurd (omega arith)
 zipped-drop op ty (suc m) (x ∷ xs) (y ∷ ys) same = zipped-drop op ty m xs ys (omega arith)
 
-zipped-take : (op : Op) (ty : Datatype) (k : ℕ) (xs ys : List ℤ) → zipped op ty (take k xs) (take k ys) ≡ take k (zipped op ty xs ys)
+zipped-take : (op : Op) (ty : Datatype) (k : ℕ) (xs ys : List Element) → zipped op ty (take k xs) (take k ys) ≡ take k (zipped op ty xs ys)
 zipped-take op ty zero xs ys = refl
 zipped-take op ty (suc k) [] ys = refl
 zipped-take op ty (suc k) (x ∷ xs) [] = refl
@@ -104,12 +104,12 @@ combined-part op ty m c j x y long same =
     let w : ℕ = width ty in
     let within : m * w + c * w ≤ length x = omega (arith, long) in
     let also : m * w + c * w ≤ length y = omega (arith, long, same) in
-    let write : List ℤ → List ℕ = flat_map (element_bytes ty) in
-    let xs : List ℤ = elements ty n x in
-    let ys : List ℤ = elements ty n y in
+    let write : List Element → List ℕ = flat_map (element_bytes ty) in
+    let xs : List Element = elements ty n x in
+    let ys : List Element = elements ty n y in
     let alike : length xs ≡ length ys = length-elements ty n x ∙ sym (length-elements ty n y) in
     let alike_behind : length (drop m xs) ≡ length (drop m ys) = simp length-drop (ap (λ k. k - m) alike) in
-    let zs : List ℤ = zipped op ty xs ys in
+    let zs : List Element = zipped op ty xs ys in
     ap (λ k. write (zipped op ty (elements ty k (part (m * w) (c * w) x)) (elements ty k (part (m * w) (c * w) y)))) (count-of ty c (length (part (m * w) (c * w) x)) (length-part (m * w) (c * w) x within))
     ∙ (ap (λ front. write (zipped op ty front (elements ty c (part (m * w) (c * w) y)))) (elements-part ty m c j x within)
     ∙ (ap (λ front. write (zipped op ty (take c (drop m xs)) front)) (elements-part ty m c j y also)

@@ -1,5 +1,5 @@
 -- Rows of elements, one place after the other.
-use Rattle.std.proofs.Common.{◌≡◌, ℕ, zero, suc, ◌+◌, ◌*◌, ◌/◌, ◌-◌, ◌≤◌, ◌<◌, List, [], ◌++◌, ℤ, length, take, drop, refl, arith, ap, sym, ◌∙◌, flat_map, append_assoc, add-one, length-append}
+use Rattle.std.proofs.Common.{◌≡◌, ℕ, zero, suc, ◌+◌, ◌*◌, ◌/◌, ◌-◌, ◌≤◌, ◌<◌, List, [], ◌++◌, length, take, drop, refl, arith, ap, sym, ◌∙◌, flat_map, append_assoc, add-one, length-append}
 use Rattle.std.proofs.Math.Nat.{zero-mul, div-mul-le_self, mul-le-mul_right}
 use Rattle.std.proofs.Math.ListN.{drop_of_length-le}
 use Rattle.std.proofs.Math.Seq.{drop-append_seam}
@@ -11,7 +11,7 @@ use borrow.Rule.Slice.PartMut.{put_mid}
 use Rattle.byteorder.specs.Numbers.{length-bytes_low_first}
 use Rattle.coll_kinds.specs.declared.datatype.Datatype.{Datatype}
 use Rattle.coll_kinds.specs.declared.operation.Op.{Op}
-use Rattle.coll_kinds.specs.Elements.{width, element_at, element_bytes}
+use Rattle.coll_kinds.specs.Elements.{Element, width, element_at, element_bytes}
 use Rattle.coll_ops.specs.Operations.{applied}
 use Rattle.coll_ops.specs.Combinations.{elements, zipped}
 
@@ -31,7 +31,7 @@ places-suc op ty (suc count) left right =
     ap (λ rest. first ++ rest) (places-suc op ty count (drop (width ty) left) (drop (width ty) right))
     ∙ (rw (at_next left, at_next right) (sym (append_assoc first (places op ty count (drop (width ty) left) (drop (width ty) right)) _)))
 
-pub length-element_bytes : (ty : Datatype) (z : ℤ) → length (element_bytes ty z) ≡ width ty
+pub length-element_bytes : (ty : Datatype) (z : Element) → length (element_bytes ty z) ≡ width ty
 length-element_bytes ty z = length-bytes_low_first 0 (width ty) _
 
 -- the front of a row after a write behind it
@@ -49,8 +49,8 @@ pub take-put_mid-place : (op : Op) (ty : Datatype) (w place k : ℕ) (left right
     take (place * w) row ≡ places op ty place left right →
     take ((place + 1) * w) (put_mid (place * w) k row new) ≡ places op ty (place + 1) left right
 take-put_mid-place op ty w place k left right row new rest w_is within new_is so_far =
-    let a : ℤ = element_at ty (take (length left - place * w) (drop (place * w) left)) in
-    let b : ℤ = element_at ty (take (length right - place * w) (drop (place * w) right)) in
+    let a : Element = element_at ty (take (length left - place * w) (drop (place * w) left)) in
+    let b : Element = element_at ty (take (length right - place * w) (drop (place * w) right)) in
     let e : List ℕ = element_bytes ty (applied op ty a b) in
     let len : length e ≡ width ty = length-element_bytes ty (applied op ty a b) in
     let end : (place + 1) * w ≡ place * w + length e = omega (arith, len, w_is) in
@@ -82,7 +82,7 @@ pub put_mid-place_into : (op : Op) (ty : Datatype) (w place k : ℕ) (left right
     × (drop ((place + 1) * w) (put_mid (place * w) k row new) ≡ drop ((place + 1) * w) left)
 put_mid-place_into op ty w place k left right row new w_is within whole new_is so_far behind =
     let here : List ℕ = take (length row - place * w) (drop (place * w) row) in
-    let b : ℤ = element_at ty (take (length right - place * w) (drop (place * w) right)) in
+    let b : Element = element_at ty (take (length right - place * w) (drop (place * w) right)) in
     let first : List ℕ = element_bytes ty (applied op ty (element_at ty here) b) in
     let as_it_was : here ≡ take (length left - place * w) (drop (place * w) left) =
     take-drop_all (place * w) row ∙ behind ∙ sym (take-drop_all (place * w) left) in

@@ -1,12 +1,12 @@
 -- Rows that were written hold bytes.
-use Rattle.std.proofs.Common.{ℕ, zero, suc, ◌-◌, ◌/◌, ◌%◌, ◌^◌, ◌<◌, ◌≤◌, ◌⊎◌, inl, inr, List, [], ◌∷◌, ◌++◌, ℤ, length, get_or, flat_map, ap, sym, subst, ◌∙◌, arith, mod-lt}
+use Rattle.std.proofs.Common.{ℕ, zero, suc, ◌-◌, ◌/◌, ◌%◌, ◌^◌, ◌<◌, ◌≤◌, ◌⊎◌, inl, inr, List, [], ◌∷◌, ◌++◌, length, get_or, flat_map, ap, sym, subst, ◌∙◌, arith, mod-lt}
 use Rattle.std.specs.Int.{byte_at, bytes_low_first}
 use Rattle.std.proofs.lemmas.Bool.{cases_lt}
 use Rattle.std.proofs.Math.ListN.{get_or-append}
 use Rattle.std.proofs.Math.Seq.{get_or-append_right}
 use Rattle.coll_kinds.specs.declared.operation.Op.{Op}
 use Rattle.coll_kinds.specs.declared.datatype.Datatype.{Datatype}
-use Rattle.coll_kinds.specs.Elements.{AreBytes, width, element_bytes}
+use Rattle.coll_kinds.specs.Elements.{Element, AreBytes, width, element_bytes}
 use Rattle.coll_ops.specs.Combinations.{elements, zipped, combined}
 use Rattle.coll_ops.specs.Laws.{IsRow}
 use Rattle.coll_ops.proofs.RowLists.{length-combined}
@@ -27,7 +27,7 @@ AreBytes-low_first i zero n j = omega arith
 AreBytes-low_first i (suc k) n zero = byte_at-lt i n
 AreBytes-low_first i (suc k) n (suc j) = AreBytes-low_first (suc i) k n j
 
-AreBytes-elements : (ty : Datatype) (zs : List ℤ) → AreBytes (flat_map (element_bytes ty) zs)
+AreBytes-elements : (ty : Datatype) (zs : List Element) → AreBytes (flat_map (element_bytes ty) zs)
 AreBytes-elements ty [] = λ i. omega arith
 AreBytes-elements ty (z ∷ zs) = AreBytes-append (element_bytes ty z) (flat_map (element_bytes ty) zs) (AreBytes-low_first 0 (width ty) _) (AreBytes-elements ty zs)
 

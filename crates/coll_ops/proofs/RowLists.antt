@@ -1,10 +1,10 @@
 -- Lists of rows, and their combination from the end.
-use Rattle.std.proofs.Common.{◌≡◌, ℕ, zero, suc, ◌+◌, ◌*◌, ◌/◌, ◌%◌, ◌<◌, ◌≤◌, List, [], ◌∷◌, ◌++◌, length, drop, get_or, refl, arith, ap, sym, ◌∙◌, flat_map, length-append, Vec, Global, map, ℤ, add-one, take, subst, append_assoc, length-take, length-drop}
+use Rattle.std.proofs.Common.{◌≡◌, ℕ, zero, suc, ◌+◌, ◌*◌, ◌/◌, ◌%◌, ◌<◌, ◌≤◌, List, [], ◌∷◌, ◌++◌, length, drop, get_or, refl, arith, ap, sym, ◌∙◌, flat_map, length-append, Vec, Global, map, add-one, take, subst, append_assoc, length-take, length-drop}
 use Rattle.std.proofs.lemmas.Nat.{div-add-mod'}
 use Rattle.std.proofs.lemmas.List.{append-nil}
 use Rattle.coll_kinds.specs.declared.datatype.Datatype.{Datatype}
 use Rattle.coll_kinds.specs.declared.operation.Op.{Op}
-use Rattle.coll_kinds.specs.Elements.{width, element_bytes}
+use Rattle.coll_kinds.specs.Elements.{Element, width, element_bytes}
 use Rattle.coll_ops.specs.Combinations.{elements, zipped, combined, combination}
 use Rattle.coll_ops.specs.Contributions.{rows_of, HaveParts}
 use Rattle.coll_ops.specs.Values.{row_of, part}
@@ -72,7 +72,7 @@ combination-last op ty (row ∷ []) (suc n) last = absurd (omega arith)
 combination-last op ty (row ∷ next ∷ rows) zero last = absurd (omega arith)
 combination-last op ty (row ∷ next ∷ rows) (suc n) last = combination-last op ty (next ∷ rows) n (omega arith)
 
-length-flat_map : (ty : Datatype) (zs : List ℤ) → length (flat_map (element_bytes ty) zs) ≡ length zs * width ty
+length-flat_map : (ty : Datatype) (zs : List Element) → length (flat_map (element_bytes ty) zs) ≡ length zs * width ty
 length-flat_map ty [] = omega arith
 length-flat_map ty (z ∷ zs) =
     let first : length (element_bytes ty z) ≡ width ty = length-element_bytes ty z in

@@ -1,17 +1,17 @@
 -- The combination of rows of elements, place by place (MPI 4.1, 6.9.1).
-use Rattle.std.specs.Prelude.{ℕ, zero, suc, ◌/◌, ℤ, List, [], ◌∷◌, drop, length, flat_map}
+use Rattle.std.specs.Prelude.{ℕ, zero, suc, ◌/◌, List, [], ◌∷◌, drop, length, flat_map}
 use Rattle.coll_kinds.specs.declared.datatype.Datatype.{Datatype}
 use Rattle.coll_kinds.specs.declared.operation.Op.{Op}
-use Rattle.coll_kinds.specs.Elements.{width, element_at, element_bytes}
+use Rattle.coll_kinds.specs.Elements.{Element, width, element_at, element_bytes}
 use Rattle.coll_ops.specs.Operations.{applied}
 
 -- the first count elements of a row
-abbrev pub elements : Datatype → ℕ → List ℕ → List ℤ
+abbrev pub elements : Datatype → ℕ → List ℕ → List Element
 elements ty zero row = []
 elements ty (suc count) row = element_at ty row ∷ elements ty count (drop (width ty) row)
 
 -- the operation place by place
-abbrev pub zipped : Op → Datatype → List ℤ → List ℤ → List ℤ
+abbrev pub zipped : Op → Datatype → List Element → List Element → List Element
 zipped op ty [] others = []
 zipped op ty (a ∷ rest) [] = []
 zipped op ty (a ∷ rest) (b ∷ others) = applied op ty a b ∷ zipped op ty rest others

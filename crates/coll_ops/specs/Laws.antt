@@ -1,9 +1,9 @@
 -- The laws that schedules rest on.
-use Rattle.std.specs.Prelude.{◌≡◌, ℕ, ◌%◌, ◌<◌, ℤ, List, length, slice_index, None, IsTrue}
+use Rattle.std.specs.Prelude.{◌≡◌, ℕ, ◌%◌, ◌<◌, List, length, slice_index, None, IsTrue}
 use Rattle.coll_kinds.specs.declared.datatype.Datatype.{Datatype}
 use Rattle.coll_kinds.specs.declared.operation.Op.{Op}
 use Rattle.coll_kinds.specs.declared.signature.Signature.{Signature}
-use Rattle.coll_kinds.specs.Elements.{width, IsElement}
+use Rattle.coll_kinds.specs.Elements.{Element, width, IsElement}
 use Rattle.coll_kinds.specs.Checks.{allowed, broken}
 use Rattle.coll_kinds.specs.Needs.{needs}
 use Rattle.coll_ops.specs.Operations.{applied}
@@ -13,12 +13,12 @@ use Rattle.coll_ops.specs.Values.{value, row_of}
 -- every allowed operation is associative on the elements of its type, and its result is one
 abbrev pub OperationsAssociate : Type 0
 OperationsAssociate = (op : Op) (ty : Datatype) → IsTrue (allowed op ty) →
-    (a b c : ℤ) → IsElement ty a → IsElement ty b → IsElement ty c →
+    (a b c : Element) → IsElement ty a → IsElement ty b → IsElement ty c →
     applied op ty (applied op ty a b) c ≡ applied op ty a (applied op ty b c)
 
 abbrev pub OperationsStay : Type 0
 OperationsStay = (op : Op) (ty : Datatype) → IsTrue (allowed op ty) →
-    (a b : ℤ) → IsElement ty a → IsElement ty b → IsElement ty (applied op ty a b)
+    (a b : Element) → IsElement ty a → IsElement ty b → IsElement ty (applied op ty a b)
 
 -- a row of bytes that holds whole elements
 pub record IsRow (ty : Datatype) (row : List ℕ) : Type 0 where

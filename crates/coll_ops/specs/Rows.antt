@@ -1,12 +1,12 @@
 -- Worked rows, computed.
 use Rattle.std.specs.Prelude.{◌≡◌, ℕ, List, [], ◌∷◌, ℤ, pos, negsuc, Some, None, refl}
 use Rattle.std.specs.Int.{int_wrap}
-use Rattle.coll_kinds.specs.declared.datatype.Datatype.TheVariants.{I8, I32, U8}
-use Rattle.coll_kinds.specs.declared.operation.Op.TheVariants.{Sum, Land, Lxor, LastNz}
+use Rattle.coll_kinds.specs.declared.datatype.Datatype.TheVariants.{I8, I32, U8, Pair}
+use Rattle.coll_kinds.specs.declared.operation.Op.TheVariants.{Sum, Land, Lxor, LastNz, MaxLoc, MinLoc}
 use Rattle.coll_kinds.specs.declared.kind.Kind.TheVariants.{Bcast, Alltoall, Allreduce, Reduce, Scan, Exscan}
 use Rattle.coll_kinds.specs.declared.kind.Mode.TheVariants.{Once}
 use Rattle.coll_kinds.specs.declared.signature.Signature.{Signature}
-use Rattle.coll_kinds.specs.Elements.{element_bytes}
+use Rattle.coll_kinds.specs.Elements.{whole, pair, element_bytes}
 use Rattle.coll_ops.specs.Values.{value}
 
 abbrev allreduce_sum_i32 : Signature
@@ -22,7 +22,7 @@ abbrev bcast_i32 : Signature
 bcast_i32 = record { kind = Bcast; mode = Once; root = 1; op = None; ty = I32; count = 1 }
 
 abbrev row : ℤ → List ℕ
-row z = element_bytes I32 z
+row z = element_bytes I32 (whole z)
 
 -- 1, 2 and 3 have the sum 6 at each member
 sum_of_three : value allreduce_sum_i32 (row (pos 1) ∷ row (pos 2) ∷ row (pos 3) ∷ []) 1 ≡ 6 ∷ 0 ∷ 0 ∷ 0 ∷ []
@@ -38,7 +38,7 @@ one_member_keeps_its_value : value allreduce_land_i32 (row (pos 5) ∷ []) 0 ≡
 one_member_keeps_its_value = refl
 
 -- 127 and 1 have the i8 sum -128
-sum_wraps : value allreduce_sum_i8 ((127 ∷ []) ∷ (1 ∷ []) ∷ []) 0 ≡ element_bytes I8 (negsuc 127)
+sum_wraps : value allreduce_sum_i8 ((127 ∷ []) ∷ (1 ∷ []) ∷ []) 0 ≡ element_bytes I8 (whole (negsuc 127))
 unfolding int_wrap
 sum_wraps = refl
 
@@ -80,3 +80,19 @@ exscan_of_three = refl
 
 exscan_of_the_first : value exscan_lastnz_i8 ((3 ∷ []) ∷ (0 ∷ []) ∷ (5 ∷ []) ∷ []) 0 ≡ []
 exscan_of_the_first = refl
+
+abbrev allreduce_maxloc : Signature
+allreduce_maxloc = record { kind = Allreduce; mode = Once; root = 0; op = Some MaxLoc; ty = Pair; count = 1 }
+
+abbrev allreduce_minloc : Signature
+allreduce_minloc = record { kind = Allreduce; mode = Once; root = 0; op = Some MinLoc; ty = Pair; count = 1 }
+
+abbrev located_row : ℤ → ℤ → List ℕ
+located_row z at = element_bytes Pair (pair z at)
+
+-- the greatest value, and the least index of those that have it
+maxloc_of_three : value allreduce_maxloc (located_row (pos 7) (pos 2) ∷ located_row (pos 9) (pos 5) ∷ located_row (pos 9) (pos 1) ∷ []) 0 ≡ located_row (pos 9) (pos 1)
+maxloc_of_three = refl
+
+minloc_of_three : value allreduce_minloc (located_row (negsuc 2) (pos 4) ∷ located_row (negsuc 2) (pos 0) ∷ located_row (pos 8) (pos 1) ∷ []) 0 ≡ located_row (negsuc 2) (pos 0)
+minloc_of_three = refl

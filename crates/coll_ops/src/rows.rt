@@ -3,15 +3,16 @@
 //! The operation and the type are matched once, outside the loop: each arm names them anew, so that the loop, which is
 //! inlined there, is compiled for that operation and that width alone, as vector code.
 
-ghost use Rattle.std.specs.Prelude.{◌≡◌, ◌↔◌, ◌%◌, length, IsTrue};
-ghost use Rattle.coll_kinds.specs.Elements.{width};
+ghost use Rattle.std.specs.Prelude.{◌≡◌, ◌↔◌, ◌%◌, false, length, IsTrue};
+ghost use Rattle.coll_kinds.specs.declared.datatype.Datatype.TheVariants.{Pair};
+ghost use Rattle.coll_kinds.specs.Elements.{width, is_pair};
 ghost use Rattle.coll_kinds.specs.Checks.{allowed};
 ghost use Rattle.coll_ops.specs.Combinations.{combined};
 
 use crate::elements::{combine_elements, combine_elements_into};
 use coll_kinds::{Datatype, Op};
 
-/// Calls a function with each operation by its name.
+/// Calls a function with each operation on whole numbers by its name.
 macro_rules! by_operation {
     ($op:expr, $call:ident($($argument:expr),*)) => {
         match $op {
@@ -26,11 +27,12 @@ macro_rules! by_operation {
             Op::Bor => $call(Op::Bor, $($argument),*),
             Op::Bxor => $call(Op::Bxor, $($argument),*),
             Op::LastNz => $call(Op::LastNz, $($argument),*),
+            Op::MaxLoc | Op::MinLoc => unreachable!(),
         }
     };
 }
 
-/// Calls a function for an operation with each type by its name.
+/// Calls a function for an operation with each type of whole numbers by its name.
 macro_rules! by_type {
     ($op:expr, $ty:expr, $call:ident($($argument:expr),*)) => {
         match $ty {
@@ -43,6 +45,7 @@ macro_rules! by_type {
             Datatype::U32 => $call($op, Datatype::U32, $($argument),*),
             Datatype::U64 => $call($op, Datatype::U64, $($argument),*),
             Datatype::Byte => $call($op, Datatype::Byte, $($argument),*),
+            Datatype::Pair => unreachable!(),
         }
     };
 }
@@ -70,6 +73,9 @@ pub fn combine(op: Op, ty: Datatype, left: &[u8], right: &[u8], out: &mut [u8])
     requires room { length out.old ≡ length left.now }
     ensures { out.new ≡ combined op ty left.now right.now }
 {
+    if ty.is_pair() {
+        return combine_pairs(op, left, right, out);
+    }
     by_operation!(op, combine_by(ty, left, right, out))
 }
 
@@ -80,11 +86,43 @@ pub fn combine_into(op: Op, ty: Datatype, left: &mut [u8], right: &[u8])
     requires same { length right.now ≡ length left.old }
     ensures { left.new ≡ combined op ty left.old right.now }
 {
+    if ty.is_pair() {
+        return combine_pairs_into(op, left, right);
+    }
     by_operation!(op, combine_into_by(ty, left, right))
+}
+
+// Pairs have two operations, so the others need no loop for them.
+fn combine_pairs(op: Op, left: &[u8], right: &[u8], out: &mut [u8])
+    requires allowed { IsTrue (allowed op Pair) }
+    requires whole { length left.now % 8 ≡ 0 }
+    requires same { length right.now ≡ length left.now }
+    requires room { length out.old ≡ length left.now }
+    ensures { out.new ≡ combined op Pair left.now right.now }
+{
+    if op == Op::MinLoc {
+        combine_places(Op::MinLoc, Datatype::Pair, left, right, out);
+    } else {
+        combine_places(Op::MaxLoc, Datatype::Pair, left, right, out);
+    }
+}
+
+fn combine_pairs_into(op: Op, left: &mut [u8], right: &[u8])
+    requires allowed { IsTrue (allowed op Pair) }
+    requires whole { length left.old % 8 ≡ 0 }
+    requires same { length right.now ≡ length left.old }
+    ensures { left.new ≡ combined op Pair left.old right.now }
+{
+    if op == Op::MinLoc {
+        combine_places_into(Op::MinLoc, Datatype::Pair, left, right);
+    } else {
+        combine_places_into(Op::MaxLoc, Datatype::Pair, left, right);
+    }
 }
 
 #[inline(always)]
 fn combine_by(op: Op, ty: Datatype, left: &[u8], right: &[u8], out: &mut [u8])
+    requires numbers { is_pair ty ≡ false }
     requires allowed { IsTrue (allowed op ty) }
     requires whole { length left.now % width ty ≡ 0 }
     requires same { length right.now ≡ length left.now }
@@ -96,6 +134,7 @@ fn combine_by(op: Op, ty: Datatype, left: &[u8], right: &[u8], out: &mut [u8])
 
 #[inline(always)]
 fn combine_into_by(op: Op, ty: Datatype, left: &mut [u8], right: &[u8])
+    requires numbers { is_pair ty ≡ false }
     requires allowed { IsTrue (allowed op ty) }
     requires whole { length left.old % width ty ≡ 0 }
     requires same { length right.now ≡ length left.old }

@@ -6,7 +6,7 @@ use Rattle.coll_kinds.specs.declared.kind.Kind.TheVariants.{Barrier, Bcast, Gath
 use Rattle.coll_kinds.specs.declared.operation.Op.{Op}
 use Rattle.coll_kinds.specs.declared.operation.Op.TheVariants.{Sum}
 use Rattle.coll_kinds.specs.declared.datatype.Datatype.{Datatype}
-use Rattle.coll_kinds.specs.declared.datatype.Datatype.TheVariants.{I8, I16, I32, I64, U8, U16, U32, U64, Byte}
+use Rattle.coll_kinds.specs.declared.datatype.Datatype.TheVariants.{I8, I16, I32, I64, U8, U16, U32, U64, Byte, Pair}
 use Rattle.coll_kinds.specs.Elements.{width}
 use Rattle.coll_kinds.specs.Checks.{broken, is_barrier}
 use Rattle.coll_kinds.specs.declared.signature.Signature.{Signature}
@@ -27,6 +27,7 @@ use Rattle.coll_plans.specs.declared.pattern.Pattern.{Pattern}
 use Rattle.coll_plans.specs.declared.pattern.Pattern.TheVariants.{ToAll, ToRoot, FromRoot}
 use Rattle.coll_plans.specs.Barriers.{meetings}
 use Rattle.coll_plans.specs.Scans.{doubling, join, join_both, receipt, shift}
+use Rattle.coll_plans.specs.Bruck.{bruck_rounds}
 use Rattle.coll_plans.specs.Exchanges.{carries, chosen, exchange, keeps, recvs, sends}
 use Rattle.coll_plans.specs.Directs.{blocks_from, combines_below, one_block}
 use Rattle.coll_plans.specs.Corners.{corner, dimension, extra, mate, pairing}
@@ -60,6 +61,11 @@ doubling-few b n second few k (suc c) r =
 meetings-few : (n k c r : ℕ) → all_in (meetings n k c) r ≤ c + c
 meetings-few n k zero r = omega arith
 meetings-few n k (suc c) r = let rest : all_in (meetings n (suc k) c) r ≤ c + c = meetings-few n (suc k) c r in omega arith
+
+-- of an allgather, two in each round
+bruck_rounds-few : (b n k c r : ℕ) → all_in (bruck_rounds b n k c) r ≤ c + c + 2
+bruck_rounds-few b n k zero r = omega arith
+bruck_rounds-few b n k (suc c) r = let rest : all_in (bruck_rounds b n (suc k) c) r ≤ c + c + 2 = bruck_rounds-few b n (suc k) c r in omega arith
 
 chosen-few : (pick : ℕ → Bool) (act : ℕ → Action) (k c : ℕ) → length (chosen pick act k c) ≤ c
 chosen-few pick act k zero = omega arith
@@ -150,6 +156,7 @@ width-most U16 = omega arith
 width-most U32 = omega arith
 width-most U64 = omega arith
 width-most Byte = omega arith
+width-most Pair = omega arith
 
 count_is-most : (barrier : Bool) (count : ℕ) → cond barrier (eqb count 0) (leb count 65536) ≡ true → count ≤ 65536
 count_is-most true count h = let e : count ≡ 0 = eqb-true count 0 h in omega arith
@@ -167,7 +174,7 @@ short_by Bcast sig n h few d r =
     (λ e. omega (arith, spreading-few (block_len sig) n sig.root 0 (depth n) r))
 short_by Gather sig n h few d r = omega (arith, exchange-few (ToRoot sig.root) (one_block (block_len sig)) (blocks_from (block_len sig) (block_len sig)) n r)
 short_by Scatter sig n h few d r = omega (arith, exchange-few (FromRoot sig.root) (blocks_from (block_len sig) (block_len sig)) (one_block (block_len sig)) n r)
-short_by Allgather sig n h few d r = omega (arith, exchange-few ToAll (one_block (block_len sig)) (blocks_from (block_len sig) (block_len sig)) n r)
+short_by Allgather sig n h few d r = omega (arith, bruck_rounds-few (block_len sig) n 0 (depth n) r)
 short_by Alltoall sig n h few d r = omega (arith, exchange-few ToAll (blocks_from 0 (block_len sig)) (blocks_from (n * block_len sig) (block_len sig)) n r)
 short_by Reduce sig n h few d r =
     omega (

@@ -82,7 +82,7 @@ join_local op ty b true false = (tt, (tt, tt))
 join_local op ty b false v = tt
 
 join_column : (op : Op) (ty : Datatype) (b n : ℕ) → b % width ty ≡ 0 → IsTrue (allowed op ty) → (s : ℕ) → IsColumn n (b + b + b) (join_both op ty b s)
-join_column op ty b n fit may s = local_column n (b + b + b) (join_both op ty b s) (λ r. join_local op ty b (leb s r) (eqb s 1)) (λ r. join_round op ty b (leb s r) (eqb s 1) fit may)
+join_column op ty b n fit may s = local_column n (b + b + b) (join_both op ty b s) (λ r. join_local op ty b (leb s r) (eqb s 1)) (λ r low. join_round op ty b (leb s r) (eqb s 1) fit may)
 
 join-free : (op : Op) (ty : Datatype) (b s : ℕ) → IsLocalColumn (join_both op ty b s)
 join-free op ty b s = is_local_column (join_both op ty b s) (λ r. join_local op ty b (leb s r) (eqb s 1))

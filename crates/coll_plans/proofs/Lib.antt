@@ -1,3 +1,4 @@
+pub mod Around
 pub mod Meetings
 pub mod Choosing
 pub mod Places
@@ -6,13 +7,15 @@ pub mod Arrivals
 pub mod Costs
 pub mod Gathers
 pub mod Scatters
-pub mod Allgathers
 pub mod Alltoalls
 pub mod Combining
 pub mod Rsblocks
 pub mod LocalRounds
 pub mod Ranges
 pub mod Scans
+pub mod BlockRegions
+pub mod BruckRounds
+pub mod Allgathers
 pub mod Exscans
 pub mod Corners
 pub mod Trades

@@ -1,5 +1,5 @@
 -- rounds in which no member sends or receives
-use Rattle.std.proofs.Common.{◌≡◌, ℕ, ◌≤◌, false, List, [], ◌∷◌, None, refl, sym, ap, ◌∙◌, arith, count_by}
+use Rattle.std.proofs.Common.{◌≡◌, ℕ, ◌<◌, ◌≤◌, false, List, [], ◌∷◌, None, refl, sym, ap, ◌∙◌, arith, count_by}
 use Rattle.std.specs.List.{AllByRecursion, list_any}
 use Rattle.coll_sched.specs.declared.action.Action.{Action}
 use Rattle.coll_sched.specs.declared.action.Action.TheVariants.{Send, Copy, Combine, Recv}
@@ -55,9 +55,9 @@ no_recv (Copy from into ∷ xs) h = omega (arith, count_cons is_recv (Copy from 
 no_recv (Combine op ty left right into ∷ xs) h = omega (arith, count_cons is_recv (Combine op ty left right into) xs, no_recv xs h.1)
 no_recv (Recv of into ∷ xs) h = absurd h.0
 
-pub local_column : (n size : ℕ) (column : Column) → ((r : ℕ) → AreLocal (column r)) → ((r : ℕ) → IsRound size (column r)) → IsColumn n size column
+pub local_column : (n size : ℕ) (column : Column) → ((r : ℕ) → AreLocal (column r)) → ((r : ℕ) → r < n → IsRound size (column r)) → IsColumn n size column
 local_column n size column local round = record {
-  is_round = λ r low. round r;
+  is_round = round;
   peers = λ r low. among_local n (column r) (local r);
   aligned = λ r p hr hp. ap len_of (in_link-local (column r) p (local r)) ∙ sym (ap len_of (out_link-local (column p) r (local p)));
   one_send = λ r low. let z : count_by is_send (column r) ≤ 0 = no_send (column r) (local r) in omega arith;

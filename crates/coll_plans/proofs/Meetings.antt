@@ -1,7 +1,6 @@
 -- the barrier's family is lawful and narrow, and each member hears all
-use Rattle.std.proofs.Common.{◌≡◌, ℕ, zero, suc, ◌+◌, ◌-◌, ◌%◌, ◌^◌, ◌<◌, ◌≤◌, ◌⊎◌, inl, inr, true, eqb, ltb, length, Some, None, refl, sym, ap, subst, ◌∙◌, arith, eq-eqb, ne_eqb, mod-eq_of_lt, mod-lt, pow-suc, ltb-true, unwrap_or}
+use Rattle.std.proofs.Common.{◌≡◌, ℕ, zero, suc, ◌+◌, ◌-◌, ◌%◌, ◌^◌, ◌<◌, ◌≤◌, ◌⊎◌, inl, inr, true, eqb, ltb, length, Some, None, refl, sym, ap, subst, ◌∙◌, arith, eq-eqb, ne_eqb, mod-lt, pow-suc, ltb-true, unwrap_or}
 use Rattle.std.proofs.lemmas.Bool.{cases_eq, cases_lt, cond-true, cond-false, and_parts}
-use Rattle.std.proofs.Math.Nat.{add-mod_right}
 use Rattle.std.specs.List.{AllByRecursion}
 use Rattle.coll_kinds.specs.declared.signature.Signature.{Signature}
 use Rattle.coll_kinds.specs.declared.kind.Kind.TheVariants.{Barrier}
@@ -18,42 +17,7 @@ use Rattle.coll_trees.specs.Trees.{IsNarrowFor}
 use Rattle.coll_trees.proofs.Columns.{IsColumn, column_of, round-column, length-rounds, lawful_family, narrow_family, few_exchanges, Costs, free, exchange}
 use Rattle.coll_trees.proofs.Depths.{depth_reaches, depth_short}
 use Rattle.coll_plans.specs.Barriers.{meeting, meetings, barrier_family}
-
--- x modulo n, for x below 2 n
-data Wraps (n x : ℕ) : Type 0 where
-  stays : x < n → x % n ≡ x → Wraps n x
-  wraps : n ≤ x → x % n + n ≡ x → Wraps n x
-
-wraps_at : (n x : ℕ) → x < n + n → Wraps n x
-wraps_at n x h = go (cases_lt x n)
-  where
-    go : (x < n) ⊎ (n ≤ x) → Wraps n x
-    go (inl l) = stays l (mod-eq_of_lt l)
-    go (inr l) =
-        let e : (x - n + n) % n ≡ (x - n) % n = add-mod_right (x - n) n in
-        let d : x - n + n ≡ x = omega arith in
-        let s : (x - n) % n ≡ x - n = mod-eq_of_lt (omega arith) in
-        let t : x % n ≡ x - n = ap (λ y. y % n) (sym d) ∙ (e ∙ s) in
-        wraps l (omega arith)
-
--- r receives at distance s of the member that sends to r at distance s
-meets : (n r p s : ℕ) → r < n → p < n → s < n → (r + (n - s)) % n ≡ p → (p + s) % n ≡ r
-meets n r p s hr hp hs e = go (wraps_at n (r + (n - s)) (omega arith)) (wraps_at n (p + s) (omega arith))
-  where
-    go : Wraps n (r + (n - s)) → Wraps n (p + s) → (p + s) % n ≡ r
-    go (stays l x) (stays m y) = omega arith
-    go (stays l x) (wraps m y) = omega arith
-    go (wraps l x) (stays m y) = omega arith
-    go (wraps l x) (wraps m y) = omega arith
-
-meets_back : (n r p s : ℕ) → r < n → p < n → s < n → (p + s) % n ≡ r → (r + (n - s)) % n ≡ p
-meets_back n r p s hr hp hs e = go (wraps_at n (r + (n - s)) (omega arith)) (wraps_at n (p + s) (omega arith))
-  where
-    go : Wraps n (r + (n - s)) → Wraps n (p + s) → (r + (n - s)) % n ≡ p
-    go (stays l x) (stays m y) = omega arith
-    go (stays l x) (wraps m y) = omega arith
-    go (wraps l x) (stays m y) = omega arith
-    go (wraps l x) (wraps m y) = omega arith
+use Rattle.coll_plans.proofs.Around.{Wraps, stays, wraps, wraps_at, meets, meets_back}
 
 -- no distance of a step reaches n
 pub step_short : (n j : ℕ) → j < depth n → 2 ^ j < n

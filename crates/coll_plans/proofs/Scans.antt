@@ -46,7 +46,7 @@ join_local op ty b true = (tt, tt)
 join_local op ty b false = tt
 
 join_column : (op : Op) (ty : Datatype) (b n : ℕ) → b % width ty ≡ 0 → IsTrue (allowed op ty) → (s : ℕ) → IsColumn n (b + b) (join op ty b s)
-join_column op ty b n fit may s = local_column n (b + b) (join op ty b s) (λ r. join_local op ty b (leb s r)) (λ r. join_round op ty b (leb s r) fit may)
+join_column op ty b n fit may s = local_column n (b + b) (join op ty b s) (λ r. join_local op ty b (leb s r)) (λ r low. join_round op ty b (leb s r) fit may)
 
 join-free : (op : Op) (ty : Datatype) (b s : ℕ) → IsLocalColumn (join op ty b s)
 join-free op ty b s = is_local_column (join op ty b s) (λ r. join_local op ty b (leb s r))

@@ -214,14 +214,14 @@ module _ (op : Op) (ty : Datatype) (b : ℕ) where
       trading_columns k zero h = tt
       trading_columns k (suc c) h = (
         trade_column b n e (omega arith) k d (omega arith) room whole,
-        (local_column n (b + b) (trade_joins op ty b e (2 ^ k)) (λ r. joins_local (corner e r) (2 ^ k) (pairing e r)) (λ r. joins_round (corner e r) (2 ^ k) (pairing e r)), trading_columns (suc k) c (omega arith)),
+        (local_column n (b + b) (trade_joins op ty b e (2 ^ k)) (λ r. joins_local (corner e r) (2 ^ k) (pairing e r)) (λ r low. joins_round (corner e r) (2 ^ k) (pairing e r)), trading_columns (suc k) c (omega arith)),
       )
 
       pub exchanging_columns : AllByRecursion (IsColumn n (b + b)) (exchanging op ty b e d)
       exchanging_columns = (
         give_column b n e (omega arith),
         (
-          local_column n (b + b) (pair_up op ty b e) (λ r. pairs_local (pairing e r)) (λ r. pairs_round (pairing e r)),
+          local_column n (b + b) (pair_up op ty b e) (λ r. pairs_local (pairing e r)) (λ r low. pairs_round (pairing e r)),
           all_append (IsColumn n (b + b)) (trading op ty b e 0 d) (tell b e ∷ []) (trading_columns 0 d (omega arith)) (tell_column b n e (omega arith), tt),
         ),
       )

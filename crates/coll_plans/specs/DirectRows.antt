@@ -7,7 +7,7 @@ use Rattle.coll_sched.specs.declared.action.Action.TheVariants.{Send, Copy, Recv
 use Rattle.coll_sched.specs.Families.{result_at, family_exchanges}
 use Rattle.coll_plans.specs.declared.pattern.Pattern.TheVariants.{ToRoot}
 use Rattle.coll_plans.specs.Exchanges.{exchange}
-use Rattle.coll_plans.specs.Directs.{one_block, blocks_from, gather_by, scatter_by, allgather_by, alltoall_by, rsblock_by}
+use Rattle.coll_plans.specs.Directs.{one_block, blocks_from, gather_by, scatter_by, alltoall_by, rsblock_by}
 
 -- the root of a gather, member 1, copies its own block and receives the others
 root_gathers :
@@ -33,9 +33,6 @@ gathered = refl
 
 scattered : result_at (scatter_by 1 3 1) (λ r. row_of ([] ∷ (4 ∷ 5 ∷ 6 ∷ []) ∷ [] ∷ []) r) 2 ≡ 6 ∷ []
 scattered = refl
-
-gathered_by_all : result_at (allgather_by 3 1) blocks 2 ≡ 7 ∷ 8 ∷ 9 ∷ []
-gathered_by_all = refl
 
 -- member 1 gets the second block of each
 exchanged : result_at (alltoall_by 3 1) rows 1 ≡ 2 ∷ 5 ∷ 0 ∷ []

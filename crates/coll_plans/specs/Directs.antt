@@ -45,12 +45,6 @@ scatter_by root n b =
     family_with (λ r. cond (r == root) (b + n * b) b) (λ r. cond (r == root) (all_blocks b n b) nothing) (λ r. front b)
     (exchange (FromRoot root) (blocks_from b b) (one_block b) n ∷ [])
 
--- each sends its block to each, and has the blocks of all behind its own
-abbrev pub allgather_by : ℕ → ℕ → Family
-allgather_by n b =
-    family_with (λ r. b + n * b) (λ r. front b) (λ r. all_blocks b n b)
-    (exchange ToAll (one_block b) (blocks_from b b) n ∷ [])
-
 -- each sends each its block, and has the n blocks that it gets behind the n that it gives
 abbrev pub alltoall_by : ℕ → ℕ → Family
 alltoall_by n b =
@@ -76,9 +70,6 @@ gather_family sig n = gather_by sig.root n (block_len sig)
 
 abbrev pub scatter_family : Signature → ℕ → Family
 scatter_family sig n = scatter_by sig.root n (block_len sig)
-
-abbrev pub allgather_family : Signature → ℕ → Family
-allgather_family sig n = allgather_by n (block_len sig)
 
 abbrev pub alltoall_family : Signature → ℕ → Family
 alltoall_family sig n = alltoall_by n (block_len sig)

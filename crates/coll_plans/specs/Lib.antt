@@ -5,6 +5,7 @@ pub mod Barriers
 pub mod Exchanges
 pub mod Directs
 pub mod Scans
+pub mod Bruck
 pub mod Corners
 pub mod Trades
 pub mod Relays
@@ -13,3 +14,4 @@ pub mod Rows
 pub mod DirectRows
 pub mod TradeRows
 pub mod RelayRows
+pub mod BruckRows

@@ -15,7 +15,8 @@ use Rattle.coll_plans.specs.Barriers.{barrier_family}
 use Rattle.coll_plans.specs.Scans.{scan_family, exscan_family}
 use Rattle.coll_plans.specs.Trades.{allreduce_family, most_trades}
 use Rattle.coll_plans.specs.Relays.{chain_family, is_long, relay_count}
-use Rattle.coll_plans.specs.Directs.{gather_family, scatter_family, allgather_family, alltoall_family, rsblock_family}
+use Rattle.coll_plans.specs.Bruck.{allgather_family}
+use Rattle.coll_plans.specs.Directs.{gather_family, scatter_family, alltoall_family, rsblock_family}
 
 -- by kind; a bcast also by its length
 abbrev pub family_by : Kind → Signature → ℕ → Family
@@ -41,7 +42,7 @@ is_direct Barrier = false
 is_direct Bcast = false
 is_direct Gather = true
 is_direct Scatter = true
-is_direct Allgather = true
+is_direct Allgather = false
 is_direct Alltoall = true
 is_direct Reduce = false
 is_direct Allreduce = false
@@ -55,7 +56,7 @@ most_exchanges_by Barrier sig n = depth n
 most_exchanges_by Bcast sig n = cond (is_long n (block_len sig)) (relay_count n (block_len sig)) (depth n)
 most_exchanges_by Gather sig n = direct_bound n
 most_exchanges_by Scatter sig n = direct_bound n
-most_exchanges_by Allgather sig n = direct_bound n
+most_exchanges_by Allgather sig n = depth n
 most_exchanges_by Alltoall sig n = direct_bound n
 most_exchanges_by Reduce sig n = depth n + direct_bound n
 most_exchanges_by Allreduce sig n = most_trades n

@@ -1,5 +1,5 @@
 //! Plans of all collectives, for 1 to 64 members and every root, and the builders of schedules of the barrier, of
-//! the allreduce, of long bcasts, of the scans and of the direct collectives.
+//! the allreduce, of the allgather, of long bcasts, of the scans and of the direct collectives.
 //!
 //! | Module | Has |
 //! |---|---|
@@ -8,16 +8,17 @@
 //! | `laws` | what is known of every plan's family, as a contract |
 //! | `barrier_builder` | `barrier`, by dissemination |
 //! | `allreduce_builder` | `allreduce`, by recursive doubling |
+//! | `allgather_builder` | `allgather`, by the algorithm of J. Bruck et al. |
 //! | `chain_builder` | `chain_bcast`, of a long block along a chain |
 //! | `gather_builder` | `gather`, by a direct exchange |
 //! | `scatter_builder` | `scatter`, likewise |
-//! | `allgather_builder` | `allgather`, likewise |
 //! | `alltoall_builder` | `alltoall`, likewise |
 //! | `rsblock_builder` | `rsblock`, likewise, and then the blocks are combined |
 //! | `scan_builder` | `scan`, by doubling of ranges |
 //! | `exscan_builder` | `exscan`, by the same |
 //! | `scanning` | `Scanning`, the rounds of the two |
 //! | `trading` | `Trading`, the rounds of an allreduce |
+//! | `bruck` | `Bruck`, the rounds of an allgather |
 //! | `cube`, `pairing` | which members trade, and which act for two |
 //! | `relay` | `Relay`, the rounds of a chain |
 //! | `exchange` | `Exchange`, the round of a direct exchange |
@@ -31,6 +32,7 @@ mod allreduce_builder;
 mod alltoall_builder;
 mod barrier_builder;
 mod blocks;
+mod bruck;
 mod chain_builder;
 mod cube;
 mod exchange;

@@ -1,6 +1,6 @@
 //! The program `colljob` but for its `main`: from words and streams to an exit status, so that all of it can be tested.
-//! `plain` computes a job's values directly; `run` has it carried out by threads, with the same lines. The text comes from
-//! a file or from standard input.
+//! `plain` computes a job's values directly; `run` has it carried out by threads, with the same lines; `explain` tells
+//! whether its runs stall. The text comes from a file or from standard input.
 //!
 //! | Module | Has |
 //! |---|---|
@@ -16,5 +16,5 @@ mod running;
 mod words;
 
 pub use machine::main_of;
-pub use running::run;
+pub use running::{do_task, run};
 pub use words::{Task, Way};

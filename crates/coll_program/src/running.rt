@@ -1,12 +1,14 @@
-ghost use Rattle.std.specs.Prelude.{◌≡◌, ◌<◌, ◌≤◌, IfErr};
+ghost use Rattle.std.specs.Prelude.{◌≡◌, ◌≢◌, ◌<◌, ◌≤◌, false, IfOk, IfErr};
 ghost use Rattle.std.specs.Io.KnownBytes.{Keeps};
 ghost use Rattle.coll_job.specs.Faults.{status_of};
-ghost use Rattle.coll_program.specs.Tasks.{workers_of};
+ghost use Rattle.coll_diagnosis.specs.Verdicts.{IsStatus};
+ghost use Rattle.coll_program.specs.Tasks.{workers_of, explains};
 
 use crate::opening::open_text;
-use crate::words::{Way, task_of};
+use crate::words::{Task, Way, task_of};
 use clap::Error;
 use clap::error::ErrorKind;
+use coll_diagnosis::explain_job;
 use coll_job::{Counted, JobFault, plain_job};
 use coll_run::threaded_job;
 use std::alloc::Global;
@@ -18,11 +20,14 @@ use std::thread::Threads;
 /// The exit status where a file can't be opened: that of a read fault.
 const UNOPENED: u8 = 1;
 
+/// How standard input is named where a text is shown.
+const STANDARD_INPUT: &str = "<stdin>";
+
 /// Does what the words of a command line ask for, the program's own name first: `colljob plain` writes the lines of a
-/// job text, `colljob run` has the text carried out by threads of `machine` and writes what they got. The text stands in
-/// the file of `machine` that the words name, or comes from `input`. Answers the exit status. At a fault nothing is
-/// written to `output`, but at a write fault, and the fault's line goes to `errors`; where that fails too, nobody is left
-/// to be told.
+/// job text, `colljob run` has the text carried out by threads of `machine` and writes what they got, and `colljob explain`
+/// writes whether its runs stall. The text stands in the file of `machine` that the words name, or comes from `input`.
+/// Answers the exit status. At a fault nothing is written to `output`, but at a write fault, and the fault's line goes to
+/// `errors`; where that fails too, nobody is left to be told.
 pub fn run<M: Threads + Wait + Sync + Files, R: Read, W: Write, E: Write>(
     machine: &M,
     alloc: Global,
@@ -31,18 +36,36 @@ pub fn run<M: Threads + Wait + Sync + Files, R: Read, W: Write, E: Write>(
     output: &mut W,
     errors: &mut E,
 ) -> u8
-    ensures statuses { result ≤ 5 }
-    // Only an answer and a fault of the streams leave anything on standard output.
-    ensures unwritten { 1 < result → Keeps (W.contents output.old) (W.contents output.new) }
+    ensures statuses { result ≤ 6 }
+    // Only an answer, a fault of the streams and an explanation leave anything on standard output.
+    ensures unwritten { 1 < result → result ≢ 3 → result ≢ 6 → Keeps (W.contents output.old) (W.contents output.new) }
 {
-    let task = match task_of(alloc, words) {
-        Ok(task) => task,
-        Err(error) => return help(&error, output, errors),
-    };
+    match task_of(alloc, words) {
+        Ok(task) => do_task(machine, alloc, task, input, output, errors),
+        Err(error) => help(&error, output, errors),
+    }
+}
+
+/// Does a task, as `run` does what its words ask for.
+pub fn do_task<M: Threads + Wait + Sync + Files, R: Read, W: Write, E: Write>(
+    machine: &M,
+    alloc: Global,
+    task: Task<'_>,
+    input: &mut R,
+    output: &mut W,
+    errors: &mut E,
+) -> u8
+    requires workers { workers_of task.way ≤ 8 }
+    ensures statuses { result ≤ 6 }
+    ensures unexplained_status { explains task.entry.way ≡ false → result ≤ 5 }
+    ensures unwritten { 1 < result → result ≢ 3 → result ≢ 6 → Keeps (W.contents output.old) (W.contents output.new) }
+    // Only an explanation writes anything with the statuses of a stall.
+    ensures unexplained { explains task.entry.way ≡ false → 1 < result → Keeps (W.contents output.old) (W.contents output.new) }
+{
     let answer = match task.file {
-        None => write_answer(machine, alloc, task.way, input, output),
+        None => write_answer(machine, alloc, task.way, STANDARD_INPUT, input, output),
         Some(name) => match open_text(machine, name) {
-            Ok(mut file) => write_answer(machine, alloc, task.way, &mut file, output),
+            Ok(mut file) => write_answer(machine, alloc, task.way, name, &mut file, output),
             Err(error) => {
                 let _ = writeln!(errors, "{name}: {error}");
                 return UNOPENED;
@@ -50,28 +73,35 @@ pub fn run<M: Threads + Wait + Sync + Files, R: Read, W: Write, E: Write>(
         },
     };
     match answer {
-        Ok(()) => 0,
+        Ok(status) => status,
         Err(fault) => told(task.file, fault, errors),
     }
 }
 
-/// Reads a job text and writes its lines, found in the way that was asked for.
+/// Reads a job text, which has this name, and writes what was asked for. Answers the exit status.
 fn write_answer<T: Threads + Wait + Sync, R: Read, W: Write>(
     threads: &T,
     alloc: Global,
     way: Way,
+    name: &str,
     text: &mut R,
     output: &mut W,
-) -> Result<(), JobFault>
+) -> Result<u8, JobFault>
     requires workers { workers_of way ≤ 8 }
+    ensures statuses { IfOk result IsStatus }
+    ensures done { explains way ≡ false → IfOk result (λ status. status ≡ 0) }
     ensures unwritten { IfErr result (λ fault. 1 < status_of fault → Keeps (W.contents output.old) (W.contents output.new)) }
 {
     match way {
-        Way::Plain => plain_job(alloc, &mut Counted::new(text), output),
+        Way::Plain => plain_job(alloc, &mut Counted::new(text), output)?,
         Way::Run { workers } => {
-            threaded_job(threads, alloc, workers, &mut Counted::new(text), output)
+            threaded_job(threads, alloc, workers, &mut Counted::new(text), output)?
+        }
+        Way::Explain(options) => {
+            return explain_job(alloc, name, options, &mut Counted::new(text), output);
         }
     }
+    Ok(0)
 }
 
 /// Tells what clap has to say of the words: help on `output` with status 0, a wrong word on `errors` with status 2.

@@ -4,10 +4,11 @@ ghost use Rattle.std.specs.Prelude.{◌≤◌, IfOk};
 ghost use Rattle.coll_program.specs.Tasks.{workers_of};
 
 use clap::builder::ValueParser;
-use clap::{Arg, ArgMatches, Command, Error};
+use clap::{Arg, ArgAction, ArgMatches, Command, Error};
+use coll_diagnosis::{ExplainOptions, Form};
 use std::alloc::{AllocError, Global};
 
-/// What the words of a command line ask for: a job text's lines.
+/// What the words of a command line ask for: something of a job text.
 #[derive(Clone, Copy, Debug, PartialEq, Eq)]
 pub struct Task<'w> {
     pub way: Way,
@@ -15,13 +16,15 @@ pub struct Task<'w> {
     pub file: Option<&'w str>,
 }
 
-/// How the values of a job text are found.
+/// What is done with a job text.
 #[derive(Clone, Copy, Debug, PartialEq, Eq)]
 pub enum Way {
     /// Each value is computed directly.
     Plain,
     /// Threads carry the text out: one for each rank, and `workers` progress threads beside them.
     Run { workers: u8 },
+    /// It is told whether its runs stall, and who then waits for whom.
+    Explain(ExplainOptions),
 }
 
 const MAX_WORKERS: u8 = 8;
@@ -29,6 +32,13 @@ const MAX_WORKERS: u8 = 8;
 const WORKERS: u8 = 2;
 
 const FILE: &str = "file";
+
+const STRICT: &str = "strict";
+
+const FORM: &str = "form";
+
+/// How an explanation can be written.
+static FORMS: [&str; 3] = ["text", "json", "dot"];
 
 const NAME: &str = "colljob";
 
@@ -47,26 +57,12 @@ Its lines are `rank R req Q start S : VALUES`, here with the value 6 three times
   colljob run --workers 2 examples/sum_of_three.job
 
 Exit status: 0 done; 1 a file can't be opened, read fault, write fault; 2 a fault of the text or of the words;
-3 stalled; 4 another refusal of the engine; 5 no memory, no thread, or a report that doesn't agree with the text.
+3 stalled; 4 another refusal of the engine; 5 no memory, no thread, or a report that doesn't agree with the text;
+6 may stall.
 At a fault standard output stays empty, and one line on standard error tells it, behind the name of FILE.";
 
 /// The one command of the program, with its subcommands.
 fn command<'a>(alloc: Global) -> Result<Command<'a>, AllocError> {
-    let plain = Command::new(alloc, "plain")
-        .about("Writes the value of every post and start of a job text, each computed directly")
-        .arg(text_file(alloc))?;
-    let workers = Arg::new(alloc, "workers")
-        .long("workers")
-        .value_name("W")
-        .value_parser(ValueParser::unsigned(0, u64::from(MAX_WORKERS)))
-        .default_value("2")
-        .help("Progress threads beside a thread for each rank, 0 to 8");
-    let run = Command::new(alloc, "run")
-        .about(
-            "Has a job text carried out by threads on one engine, and writes the values that they got",
-        )
-        .arg(workers)?
-        .arg(text_file(alloc))?;
     // The name in usage lines, whatever file the program was started from.
     Command::new(alloc, NAME)
         .bin_name(NAME)?
@@ -76,8 +72,50 @@ fn command<'a>(alloc: Global) -> Result<Command<'a>, AllocError> {
         )
         .after_help(FORMAT)
         .subcommand_required(true)
-        .subcommand(run)?
-        .subcommand(plain)
+        .subcommand(run_command(alloc)?)?
+        .subcommand(plain_command(alloc)?)?
+        .subcommand(explain_command(alloc)?)
+}
+
+fn run_command<'a>(alloc: Global) -> Result<Command<'a>, AllocError> {
+    let workers = Arg::new(alloc, "workers")
+        .long("workers")
+        .value_name("W")
+        .value_parser(ValueParser::unsigned(0, u64::from(MAX_WORKERS)))
+        .default_value("2")
+        .help("Progress threads beside a thread for each rank, 0 to 8");
+    Command::new(alloc, "run")
+        .about(
+            "Has a job text carried out by threads on one engine, and writes the values that they got",
+        )
+        .arg(workers)?
+        .arg(text_file(alloc))
+}
+
+fn plain_command<'a>(alloc: Global) -> Result<Command<'a>, AllocError> {
+    Command::new(alloc, "plain")
+        .about("Writes the value of every post and start of a job text, each computed directly")
+        .arg(text_file(alloc))
+}
+
+fn explain_command<'a>(alloc: Global) -> Result<Command<'a>, AllocError> {
+    let form = Arg::new(alloc, FORM)
+        .long("format")
+        .value_name("FORMAT")
+        .value_parser(ValueParser::Names(&FORMS))
+        .default_value("text")
+        .help("text for a reader, json with an object in each line, or dot for a graph");
+    let strict = Arg::new(alloc, STRICT)
+        .long("strict")
+        .action(ArgAction::SetTrue)
+        .help("Exit status 6 also where only the runs of another MPI library may stall");
+    Command::new(alloc, "explain")
+        .about(
+            "Tells whether the runs of a job text stall, and who then waits in which line for whom",
+        )
+        .arg(form)?
+        .arg(strict)?
+        .arg(text_file(alloc))
 }
 
 /// The word for a file.
@@ -102,6 +140,15 @@ pub fn task_of<'w>(alloc: Global, words: &'w [String]) -> Result<Task<'w>, Error
             file: file_of(run),
         });
     }
+    if let Some(explain) = matches.subcommand_matches("explain") {
+        return Ok(Task {
+            way: Way::Explain(ExplainOptions {
+                form: form_of(explain),
+                is_strict: explain.get_flag(STRICT),
+            }),
+            file: file_of(explain),
+        });
+    }
     let file = match matches.subcommand_matches("plain") {
         Some(plain) => file_of(plain),
         None => None,
@@ -110,6 +157,15 @@ pub fn task_of<'w>(alloc: Global, words: &'w [String]) -> Result<Task<'w>, Error
         way: Way::Plain,
         file,
     })
+}
+
+/// The form that the words behind `explain` name.
+fn form_of(matches: &ArgMatches<'_>) -> Form {
+    match matches.get_str(FORM) {
+        Some("json") => Form::Json,
+        Some("dot") => Form::Dot,
+        _ => Form::Text,
+    }
 }
 
 /// The file that the words behind a subcommand name.

@@ -1,10 +1,11 @@
 -- The meaning of a job text: its output lines, or its fault.
-use Rattle.std.specs.Prelude.{ℕ, ℤ, ◌/◌, Option, Some, None, unwrap_or, Result, Ok}
+use Rattle.std.specs.Prelude.{ℕ, ◌/◌, Option, Some, None, unwrap_or, Result, Ok}
 use Rattle.std.specs.Prelude.{List, [], ◌∷◌, ◌++◌, length, map, flat_map, slice_get, codes}
 use Rattle.std.specs.List.{range_with_len}
-use Rattle.std.specs.Fmt.{decimal, signed_decimal}
+use Rattle.std.specs.Fmt.{decimal}
 use Rattle.coll_kinds.specs.declared.datatype.Datatype.{Datatype}
-use Rattle.coll_kinds.specs.Elements.{width}
+use Rattle.coll_kinds.specs.Elements.{Element, width}
+use Rattle.coll_kinds.specs.Texts.{text_of}
 use Rattle.coll_ops.specs.Combinations.{elements}
 use Rattle.coll_ops.specs.Values.{value}
 use Rattle.coll_history.specs.declared.fault.Fault.{Fault}
@@ -13,9 +14,9 @@ use Rattle.coll_history.specs.Requests.{Request}
 use Rattle.coll_script.specs.Postings.{posted_on, requests_of, postings}
 use Rattle.coll_script.specs.Jobs.{Job, job_of, script_of}
 
--- the decimal text of an element, behind a space
-abbrev pub element_text : ℤ → List ℕ
-element_text element = 32 ∷ signed_decimal element
+-- the text of an element, behind a space
+abbrev pub element_text : Element → List ℕ
+element_text element = 32 ∷ text_of element
 
 -- those of all elements of a row
 abbrev pub elements_text : Datatype → List ℕ → List ℕ

@@ -53,6 +53,21 @@ comments_and_leading_zeros :
 unfolding digits script_of line ranks comm section command post init start startable signature fields values
 comments_and_leading_zeros = refl
 
+abbrev two_places : List (List ℕ)
+two_places =
+    codes "ranks 2"
+    ∷ codes "rank 0"
+    ∷ codes "post 0 allreduce maxloc 2int 2 : 7,0 -3,0"
+    ∷ codes "rank 1"
+    ∷ codes "post 0 allreduce maxloc 2int 2 : 7,1 -2,1"
+    ∷ []
+
+-- a pair is printed as it is written, the value first: of equal values the one with the lesser index
+pairs_printed : meaning (text two_places)
+    ≡ Ok (text (codes "rank 0 req 0 start 0 : 7,0 -2,1" ∷ codes "rank 1 req 0 start 0 : 7,0 -2,1" ∷ []))
+unfolding digits int_wrap script_of line ranks comm section command post init start startable signature fields values
+pairs_printed = refl
+
 abbrev ranks_swapped : List (List ℕ)
 ranks_swapped =
     codes "ranks 2"

@@ -11,11 +11,12 @@ use std::alloc::Global;
 /// How many collectives each communicator has.
 const PLACES: usize = 6;
 
-const OPERATIONS: [(Op, Datatype); 4] = [
+const OPERATIONS: [(Op, Datatype); 5] = [
     (Op::Sum, Datatype::I32),
     (Op::LastNz, Datatype::I16),
     (Op::Prod, Datatype::U8),
     (Op::Bxor, Datatype::Byte),
+    (Op::MaxLoc, Datatype::Pair),
 ];
 
 /// A job under way.
@@ -32,7 +33,7 @@ pub struct Job {
 /// A random signature for that many members.
 fn signature(random: &mut Random, size: u8) -> Signature {
     let kind = Kind::ALL[random.below(11) % 11];
-    let (op, ty) = OPERATIONS[random.below(4) % 4];
+    let (op, ty) = OPERATIONS[random.below(5) % 5];
     Signature {
         kind,
         mode: if random.below(3) == 0 {

@@ -8,8 +8,8 @@ use std::test::Fail;
 /// A kind with its root, operation and type.
 type What = (Kind, u8, Option<Op>, Datatype);
 
-/// What is computed, what each member gives, a member, and what it is to get. Elements have one byte each, and each block
-/// has one element.
+/// What is computed, what each member gives, a member, and what it is to get. Each block has one element, of one byte, or of
+/// eight where it is a pair.
 type Row = (What, &'static [&'static [u8]], u8, &'static [u8]);
 
 const SUM: What = (Kind::Allreduce, 0, Some(Op::Sum), Datatype::I8);
@@ -21,6 +21,17 @@ const LXOR: What = (Kind::Allreduce, 0, Some(Op::Lxor), Datatype::I8);
 const LASTNZ: What = (Kind::Reduce, 2, Some(Op::LastNz), Datatype::I8);
 
 const MAX: What = (Kind::Reduce, 1, Some(Op::Max), Datatype::I8);
+
+const MAXLOC: What = (Kind::Allreduce, 0, Some(Op::MaxLoc), Datatype::Pair);
+
+const MINLOC: What = (Kind::Scan, 0, Some(Op::MinLoc), Datatype::Pair);
+
+/// 7,2 and 9,5 and 9,1.
+const PAIRS: &[&[u8]] = &[
+    &[7, 0, 0, 0, 2, 0, 0, 0],
+    &[9, 0, 0, 0, 5, 0, 0, 0],
+    &[9, 0, 0, 0, 1, 0, 0, 0],
+];
 
 const SCAN: What = (Kind::Scan, 0, Some(Op::Prod), Datatype::U8);
 
@@ -54,6 +65,8 @@ const SMALL_JOBS: &[Row] = &[
     (SCATTER, &[&[], &[1, 2, 3], &[]], 2, &[3]),
     (ALLTOALL, BLOCKS, 1, &[2, 5, 8]),
     (RSBLOCK, BLOCKS, 2, &[12]),
+    (MAXLOC, PAIRS, 0, &[9, 0, 0, 0, 1, 0, 0, 0]),
+    (MINLOC, PAIRS, 1, &[7, 0, 0, 0, 2, 0, 0, 0]),
 ];
 
 fn signature((kind, root, op, ty): What, count: u32) -> Signature {
@@ -122,7 +135,11 @@ fn first_difference(alloc: Global, sig: Signature, n: u8) -> Result<Option<u8>, 
 fn first_misfit(alloc: Global, kind: Kind, n: u8) -> Result<Option<(What, u8)>, Refusal> {
     let count = if kind == Kind::Barrier { 0 } else { 3 };
     for root in 0..if kind.has_root() { n } else { 1 } {
-        for (op, ty) in [(Op::Sum, Datatype::I16), (Op::LastNz, Datatype::U8)] {
+        for (op, ty) in [
+            (Op::Sum, Datatype::I16),
+            (Op::LastNz, Datatype::U8),
+            (Op::MinLoc, Datatype::Pair),
+        ] {
             let op = if kind.has_operation() { Some(op) } else { None };
             let what = (kind, root, op, ty);
             if let Some(member) = first_difference(alloc, signature(what, count), n)? {

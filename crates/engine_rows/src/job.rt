@@ -11,7 +11,7 @@ use std::alloc::Global;
 /// How many elements the few long blocks have.
 const LONG: u32 = 700;
 
-const OPERATIONS: [(Op, Datatype); 8] = [
+const OPERATIONS: [(Op, Datatype); 9] = [
     (Op::Sum, Datatype::I32),
     (Op::LastNz, Datatype::I16),
     (Op::Prod, Datatype::U8),
@@ -20,6 +20,7 @@ const OPERATIONS: [(Op, Datatype); 8] = [
     (Op::Land, Datatype::U16),
     (Op::Min, Datatype::U64),
     (Op::Sum, Datatype::I64),
+    (Op::MinLoc, Datatype::Pair),
 ];
 
 /// What all ranks do on one engine.
@@ -35,7 +36,7 @@ pub struct Job {
 /// The signature of a collective of that many members.
 fn signature(random: &mut Random, number: usize, size: u8) -> Signature {
     let kind = Kind::ALL[number % 11];
-    let (op, ty) = OPERATIONS[random.below(8) % 8];
+    let (op, ty) = OPERATIONS[random.below(9) % 9];
     Signature {
         kind,
         mode: if random.below(4) == 0 {

@@ -1,4 +1,5 @@
 use crate::answer::Answer;
+use crate::stall::explained_as;
 use std::alloc::Global;
 use std::fs::{self, Files};
 use std::io;
@@ -7,6 +8,9 @@ use std::thread::Threads;
 
 /// The words of a command line behind the program's name.
 const PLAIN: &[&str] = &["plain"];
+
+/// How a text is explained that never stalls.
+const NEVER_STALLS: &[u8] = b"never stalls: each wait ends in every run, with any MPI library\n";
 
 const RUNS: [&[&str]; 3] = [
     &["run", "--workers", "0"],
@@ -21,11 +25,13 @@ pub struct Example {
     text: Vec<u8>,
     plain: Answer,
     run: Answer,
+    /// Of the text that is named.
+    explained: Answer,
 }
 
 impl Example {
     /// Reads the example of that name: `NAME.job`, and beside it `NAME.out` or `NAME.fault`. Where its run by threads
-    /// stalls, the line of that stands in `NAME.run`.
+    /// stalls, the line of that stands in `NAME.run`, and in `NAME.explain` why.
     pub fn read(rt: &HostRuntime, name: &str) -> io::Result<Example> {
         let file = format!(in rt.alloc(); "{name}.job")?;
         let text = fs::read(rt, file.as_str())?;
@@ -34,16 +40,22 @@ impl Example {
             Ok(told) => Answer::of_fault(rt.alloc(), 3, told),
             Err(_) => plain_answer(rt, name)?,
         };
+        let explained = match fs::read(rt, format!(in rt.alloc(); "{name}.explain")?) {
+            Ok(lines) => explained_as(rt.alloc(), lines),
+            Err(_) if plain.status != 0 => plain.named(rt.alloc(), file.as_str())?,
+            Err(_) => explained_as(rt.alloc(), Vec::from_slice(rt.alloc(), NEVER_STALLS)?),
+        };
         Ok(Example {
             file,
             text,
             plain,
             run,
+            explained,
         })
     }
 
     /// Whether the text is answered as stored, computed directly and run by threads, from standard input and from its
-    /// file.
+    /// file, and explained from its file.
     pub fn is_answered<M: Threads + Wait + Sync + Files>(
         &self,
         machine: &M,
@@ -57,8 +69,10 @@ impl Example {
                 return Ok(false);
             }
         }
+        let named = ["explain", self.file.as_str()];
         Ok(
-            self.is_answered_by_name(machine, alloc, "plain", &self.plain)?
+            Answer::to(machine, alloc, &named, b"")? == self.explained
+                && self.is_answered_by_name(machine, alloc, "plain", &self.plain)?
                 && self.is_answered_by_name(machine, alloc, "run", &self.run)?,
         )
     }

@@ -1,15 +1,18 @@
 //! Answers the stored examples, directly and by threads: each job text of the folder that this program runs in, against
-//! the lines or the fault that are stored beside it. It prints one line for each text, and then one for each text of
-//! `words/`, which the program prints of its own words. Then it goes on as `colljob` does with its own words and standard
+//! the lines or the fault that are stored beside it, and why it stalls. It prints one line for each text, then one for each
+//! job text of `stalls/`, which is only explained, and then one for each text of `words/`, which the program prints of its
+//! own words. Then it goes on as `colljob` does with its own words and standard
 //! input, which has a text with a fault: so it ends with the status for that, and writes no more.
 #![tactic(auto)]
 
 mod answer;
 mod example;
+mod stall;
 mod words;
 
 use coll_program::main_of;
 use example::Example;
+use stall::is_explained;
 use std::fs::{Files, read_dir};
 use std::io;
 use std::process::ExitCode;
@@ -29,11 +32,12 @@ fn answer_all<M: Threads + Wait + Sync + Files>(
     rt: &HostRuntime,
     machine: &M,
 ) -> anyhow::Result<()> {
-    let mut names = names(rt)?;
-    names.sort()?;
-    for name in &names {
+    for name in &names(rt, ".")? {
         let example = Example::read(rt, name)?;
         print(rt, name, example.is_answered(machine, rt.alloc())?)?;
+    }
+    for name in &names(rt, "stalls")? {
+        print(rt, name, is_explained(rt, machine, name)?)?;
     }
     for (text, words) in TEXTS {
         print(rt, text, are_answered(rt, machine, text, words)?)?;
@@ -46,14 +50,15 @@ fn print(rt: &HostRuntime, name: &str, as_stored: bool) -> io::Result<()> {
     println!(rt; "{name}: {answer}")
 }
 
-/// The names of the job texts, without their ending.
-fn names(rt: &HostRuntime) -> io::Result<Vec<String>> {
+/// The names of the job texts of a folder, without their ending, in their order.
+fn names(rt: &HostRuntime, folder: &str) -> io::Result<Vec<String>> {
     let mut names = Vec::new(rt.alloc());
-    for entry in read_dir(rt, ".")? {
+    for entry in read_dir(rt, folder)? {
         let entry = entry?;
         if let Some(name) = entry.file_name().strip_suffix(".job") {
             names.push(String::from_str(rt.alloc(), name)?)?;
         }
     }
+    names.sort()?;
     Ok(names)
 }

@@ -5,7 +5,7 @@ use std::sync::Wait;
 use std::thread::Threads;
 
 /// Words of a command line, and the stored text of `words/` that they print. The script `colljob` answers them from it.
-pub const TEXTS: [(&str, &[&str]); 12] = [
+pub const TEXTS: [(&str, &[&str]); 15] = [
     ("help", &["--help"]),
     ("help", &["-h"]),
     ("help", &["help"]),
@@ -15,6 +15,9 @@ pub const TEXTS: [(&str, &[&str]); 12] = [
     ("help_run", &["run", "--help"]),
     ("help_run", &["run", "-h"]),
     ("help_run", &["help", "run"]),
+    ("help_explain", &["explain", "--help"]),
+    ("help_explain", &["explain", "-h"]),
+    ("help_explain", &["help", "explain"]),
     ("version", &["--version"]),
     ("version", &["-V"]),
     ("no_words", &[]),

@@ -66,6 +66,16 @@ const TEXTS: &[Row] = &[
          rank 2\npost 0 exscan sum i32 1 : 3\n",
         "rank 0 req 0 start 0 :\nrank 1 req 0 start 0 : 1\nrank 2 req 0 start 0 : 3\n",
     ),
+    (
+        "ranks 3\nrank 0\npost 0 allreduce maxloc 2int 1 : 7,2\nrank 1\npost 0 allreduce maxloc 2int 1 : 9,5\n\
+         rank 2\npost 0 allreduce maxloc 2int 1 : 9,1\n",
+        "rank 0 req 0 start 0 : 9,1\nrank 1 req 0 start 0 : 9,1\nrank 2 req 0 start 0 : 9,1\n",
+    ),
+    (
+        "ranks 3\nrank 0\npost 0 allreduce minloc 2int 1 : -3,4\nrank 1\npost 0 allreduce minloc 2int 1 : -3,0\n\
+         rank 2\npost 0 allreduce minloc 2int 1 : 8,1\n",
+        "rank 0 req 0 start 0 : -3,0\nrank 1 req 0 start 0 : -3,0\nrank 2 req 0 start 0 : -3,0\n",
+    ),
 ];
 
 #[test]

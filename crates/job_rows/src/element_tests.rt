@@ -46,6 +46,24 @@ fn reads_the_boundaries(rt: HostRuntime) {
         ("--1", Datatype::I32, None),
         ("+1", Datatype::I32, None),
         ("1a", Datatype::I32, None),
+        ("7,2", Datatype::Pair, Some([7, 0, 0, 0, 2, 0, 0, 0])),
+        (
+            "-2,-0",
+            Datatype::Pair,
+            Some([254, 255, 255, 255, 0, 0, 0, 0]),
+        ),
+        (
+            "007,2147483647",
+            Datatype::Pair,
+            Some([7, 0, 0, 0, 255, 255, 255, 127]),
+        ),
+        ("7", Datatype::Pair, None),
+        ("7,", Datatype::Pair, None),
+        (",2", Datatype::Pair, None),
+        ("7,2,1", Datatype::Pair, None),
+        ("7,2147483648", Datatype::Pair, None),
+        ("-2147483649,2", Datatype::Pair, None),
+        ("7,2", Datatype::I32, None),
     ] {
         assert_eq!(rt; read_element(word.as_bytes(), ty), want, "at {word:?}");
     }
@@ -64,12 +82,14 @@ fn prints_the_boundaries(rt: HostRuntime) -> Result<(), Fail> {
         ([0, 0, 0, 0, 0, 0, 0, 128], Datatype::I64),
         ([255; 8], Datatype::U64),
         ([0; 8], Datatype::I64),
+        ([7, 0, 0, 0, 2, 0, 0, 0], Datatype::Pair),
+        ([254, 255, 255, 255, 0, 0, 0, 128], Datatype::Pair),
     ] {
         out.push(b' ')?;
         assert_eq!(rt; print_element(&bytes, ty, &mut out), Ok(()));
     }
     let want =
-        "x -128 128 128 -2147483648 2147483647 65535 -9223372036854775808 18446744073709551615 0";
+        "x -128 128 128 -2147483648 2147483647 65535 -9223372036854775808 18446744073709551615 0 7,2 -2,-2147483648";
     assert_eq!(rt; out.as_slice(), want.as_bytes());
     Ok(())
 }

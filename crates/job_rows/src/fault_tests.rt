@@ -79,6 +79,18 @@ const POSTS: &[LineRow] = &[
     ("post 0 allreduce sum i8 2 : x 128", Cause::BadValue),
     ("post 0 allreduce sum u64 1 : -1", Cause::BadValue),
     ("post 0 allreduce sum i8 1 : :", Cause::BadValue),
+    ("post 0 allreduce sum 2int 1 : 7,2", Cause::BadSignature),
+    ("post 0 allreduce maxloc i32 1 : 7", Cause::BadSignature),
+    (
+        "post 0 allreduce maxloc 2int 1 : 7 2",
+        Cause::WrongValueCount,
+    ),
+    ("post 0 allreduce maxloc 2int 1 : 7", Cause::BadValue),
+    ("post 0 allreduce maxloc 2int 1 : 7,", Cause::BadValue),
+    (
+        "post 0 allreduce maxloc 2int 1 : 7,2147483648",
+        Cause::BadValue,
+    ),
     ("init x barrier", Cause::BadNumber),
     ("init 2 barrier", Cause::BadCommunicator),
     ("init 1 barrier", Cause::BadRank),

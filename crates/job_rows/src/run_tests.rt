@@ -59,6 +59,18 @@ const ALLGATHER_OF_FIVE: (&str, &str) = (
      rank 4 req 0 start 0 : 10 20 30 40 50\n",
 );
 
+const MAXLOC_OF_THREE: (&str, &str) = (
+    "ranks 3\nrank 0\npost 0 allreduce maxloc 2int 1 : 7,2\nrank 1\npost 0 allreduce maxloc 2int 1 : 9,5\n\
+     rank 2\npost 0 allreduce maxloc 2int 1 : 9,1\n",
+    "rank 0 req 0 start 0 : 9,1\nrank 1 req 0 start 0 : 9,1\nrank 2 req 0 start 0 : 9,1\n",
+);
+
+const MINLOC_OF_THREE: (&str, &str) = (
+    "ranks 3\nrank 0\npost 0 allreduce minloc 2int 1 : -3,4\nrank 1\npost 0 allreduce minloc 2int 1 : -3,0\n\
+     rank 2\npost 0 allreduce minloc 2int 1 : 8,1\n",
+    "rank 0 req 0 start 0 : -3,0\nrank 1 req 0 start 0 : -3,0\nrank 2 req 0 start 0 : -3,0\n",
+);
+
 const EMPTY_BCAST: (&str, &str) = (
     "ranks 2\nrank 0\npost 0 bcast 1 i32 0\nrank 1\npost 0 bcast 1 i32 0\n",
     "rank 0 req 0 start 0 :\nrank 1 req 0 start 0 :\n",
@@ -127,6 +139,8 @@ fn texts_and_their_lines(rt: HostRuntime) -> Result<(), Fail> {
         ALLTOALL_OF_THREE,
         EXSCAN_OF_THREE,
         ALLGATHER_OF_FIVE,
+        MAXLOC_OF_THREE,
+        MINLOC_OF_THREE,
         EMPTY_BCAST,
         STARTS_OUT_OF_ORDER,
         COMMENTS_AND_LEADING_ZEROS,

@@ -18,6 +18,15 @@ fn allreduce(count: u32) -> Signature {
     }
 }
 
+/// An allreduce of one element.
+fn located(op: Op, ty: Datatype) -> Signature {
+    Signature {
+        op: Some(op),
+        ty,
+        ..allreduce(1)
+    }
+}
+
 #[test]
 fn tells_the_first_broken_rule(rt: HostRuntime) {
     let fine = allreduce(65_536);
@@ -55,6 +64,26 @@ fn tells_the_first_broken_rule(rt: HostRuntime) {
             Err(refused(SignatureFault::Operation)),
         ),
         (allreduce(65_537), Err(refused(SignatureFault::Count))),
+        (located(Op::MaxLoc, Datatype::Pair), Ok(())),
+        (
+            Signature {
+                ty: Datatype::Pair,
+                ..bcast
+            },
+            Ok(()),
+        ),
+        (
+            located(Op::MinLoc, Datatype::I32),
+            Err(refused(SignatureFault::Operation)),
+        ),
+        (
+            located(Op::Sum, Datatype::Pair),
+            Err(refused(SignatureFault::Operation)),
+        ),
+        (
+            located(Op::Band, Datatype::Pair),
+            Err(refused(SignatureFault::Operation)),
+        ),
     ] {
         assert_eq!(rt; sig.check(3), want, "at {sig:?}");
     }
@@ -85,6 +114,10 @@ fn prints_the_words_of_a_job_text(rt: HostRuntime) -> Result<(), Fail> {
         (reduce, "reduce 2 sum i32 3"),
         (bcast, "persistent bcast 2 i32 3"),
         (barrier, "persistent barrier"),
+        (
+            located(Op::MaxLoc, Datatype::Pair),
+            "allreduce maxloc 2int 1",
+        ),
     ] {
         assert_eq!(rt; format!(in rt.alloc(); "{sig}")?.as_str(), words);
     }

@@ -3,17 +3,11 @@
 ghost use Rattle.std.specs.Prelude.{◌<◌, ◌≤◌};
 
 use coll_kinds::{Datatype, Kind, Mode, Op, Refusal, Signature};
-use coll_plans::{allgather, alltoall, gather, rsblock, scatter};
+use coll_plans::{alltoall, gather, rsblock, scatter};
 use coll_sched::{Action, Region, Schedule};
 use std::alloc::Global;
 
-const KINDS: [Kind; 5] = [
-    Kind::Gather,
-    Kind::Scatter,
-    Kind::Allgather,
-    Kind::Alltoall,
-    Kind::Rsblock,
-];
+const KINDS: [Kind; 4] = [Kind::Gather, Kind::Scatter, Kind::Alltoall, Kind::Rsblock];
 
 // Blocks of two bytes.
 fn build(alloc: Global, kind: Kind, root: u8, n: u8, r: u8) -> Result<Schedule, Refusal>
@@ -36,7 +30,6 @@ fn build(alloc: Global, kind: Kind, root: u8, n: u8, r: u8) -> Result<Schedule, 
     match kind {
         Kind::Gather => gather(alloc, sig, n, r),
         Kind::Scatter => scatter(alloc, sig, n, r),
-        Kind::Allgather => allgather(alloc, sig, n, r),
         Kind::Alltoall => alltoall(alloc, sig, n, r),
         Kind::Rsblock => rsblock(alloc, sig, n, r),
         _ => Err(Refusal::Full),

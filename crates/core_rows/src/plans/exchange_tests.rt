@@ -1,9 +1,12 @@
 //! How many rounds have a Send or a Recv, and what long bcasts and allreduces carry.
 
+ghost use Rattle.std.specs.Prelude.{◌<◌, ◌≤◌};
+
 use super::family_tests::{compare, plans_of, schedules_of, signature};
 use super::lock_step::run;
-use coll_kinds::{Datatype, Kind, Op, Refusal, Signature};
-use coll_plans::{Plan, plan};
+use coll_kinds::{Datatype, Kind, Mode, Op, Refusal, Signature};
+use coll_plans::{Plan, allgather, plan};
+use coll_sched::Schedule;
 use std::alloc::Global;
 use std::process::Abort;
 
@@ -51,6 +54,49 @@ const TRADES: [(u8, usize); 12] = [
     (63, 7),
     (64, 6),
 ];
+
+// Blocks of five elements.
+fn allgather_of(alloc: Global, n: u8, r: u8) -> Result<Schedule, Refusal>
+    requires member { r < n }
+    requires few { n ≤ 64 }
+{
+    let sig = Signature {
+        kind: Kind::Allgather,
+        mode: Mode::Once,
+        root: 0,
+        op: None,
+        ty: Datatype::I32,
+        count: 5,
+    };
+    sig.check(n)?;
+    allgather(alloc, sig, n, r)
+}
+
+// A member has a Send and a Recv in each exchange, and two copies behind them.
+#[test]
+fn allgather_exchanges(rt: HostRuntime) {
+    for (n, want) in [
+        (1, 0),
+        (2, 1),
+        (3, 2),
+        (4, 2),
+        (5, 3),
+        (8, 3),
+        (9, 4),
+        (64, 6),
+    ] {
+        let sig = signature(Kind::Allgather, 0, Op::Sum, Datatype::I32, 5);
+        assert_exchanges(&rt, rt.alloc(), sig, n, want);
+        for r in 0..n {
+            let Ok(schedule) = allgather_of(rt.alloc(), n, r) else {
+                return assert!(rt; false);
+            };
+            for round in schedule.rounds() {
+                assert!(rt; round.actions().len() == 2, "{r} of {n}");
+            }
+        }
+    }
+}
 
 #[test]
 fn allreduce_exchanges(rt: HostRuntime) {

@@ -67,11 +67,11 @@ fn dimension(n: u8) -> usize
 fn most_exchanges(kind: Kind, n: u8) -> usize {
     let hop = if n == 1 { 0 } else { 1 };
     match kind {
-        Kind::Barrier | Kind::Bcast | Kind::Scan | Kind::Exscan => doublings(n),
+        Kind::Barrier | Kind::Bcast | Kind::Allgather | Kind::Scan | Kind::Exscan => doublings(n),
         Kind::Reduce => doublings(n) + hop,
         Kind::Allreduce if doublings(n) == dimension(n) => dimension(n),
         Kind::Allreduce => dimension(n) + 2,
-        Kind::Gather | Kind::Scatter | Kind::Allgather | Kind::Alltoall | Kind::Rsblock => hop,
+        Kind::Gather | Kind::Scatter | Kind::Alltoall | Kind::Rsblock => hop,
     }
 }
 
@@ -225,11 +225,11 @@ fn plan_exchanges(rt: HostRuntime) {
         let sig = signature(kind, 0, Op::Sum, Datatype::I32, 1);
         let direct = matches!(
             kind,
-            Kind::Gather | Kind::Scatter | Kind::Allgather | Kind::Alltoall | Kind::Rsblock
+            Kind::Gather | Kind::Scatter | Kind::Alltoall | Kind::Rsblock
         );
         let doubling = matches!(
             kind,
-            Kind::Barrier | Kind::Bcast | Kind::Scan | Kind::Exscan
+            Kind::Barrier | Kind::Bcast | Kind::Allgather | Kind::Scan | Kind::Exscan
         );
         for (n, most) in [(1, 0), (5, 3), (64, 6)] {
             for r in 0..n {
@@ -261,7 +261,8 @@ fn messages_and_rounds(kind: Kind, n: u8, root: u8) -> (usize, usize)
         Kind::Barrier => (many * steps, steps),
         Kind::Bcast => (others, steps),
         Kind::Gather | Kind::Scatter => (others, 1),
-        Kind::Allgather | Kind::Alltoall => (many * others, 1),
+        Kind::Allgather => (many * steps, steps + 1),
+        Kind::Alltoall => (many * others, 1),
         Kind::Reduce if root == 0 => (others, 2 * steps + 1),
         Kind::Reduce => (many, 2 * steps + 1),
         Kind::Allreduce => {
@@ -286,30 +287,41 @@ fn blocks_of_buffer(kind: Kind, n: u8, is_root: bool) -> usize {
         Kind::Bcast | Kind::Gather | Kind::Scatter => 1,
         Kind::Reduce | Kind::Allreduce | Kind::Scan => 2,
         Kind::Exscan => 3,
-        Kind::Allgather => many + 1,
-        Kind::Alltoall | Kind::Rsblock => 2 * many,
+        Kind::Allgather | Kind::Alltoall | Kind::Rsblock => 2 * many,
     }
 }
 
-// The messages of one member's plan; each has the bytes of one block.
-fn sends(rt: &impl Abort, plan: &Plan) -> usize {
+// How many blocks all messages carry together: one each, save where the blocks that a member holds double.
+fn blocks_sent(kind: Kind, n: u8, messages: usize) -> usize
+    requires { n ≤ 64 }
+{
+    match kind {
+        Kind::Allgather => n as usize * (n as usize).saturating_sub(1),
+        _ => messages,
+    }
+}
+
+// The messages of one member's plan, and their bytes.
+fn sends(rt: &impl Abort, plan: &Plan) -> (usize, usize) {
     let mut count: usize = 0;
+    let mut bytes: usize = 0;
     for round in plan.schedule().rounds() {
         for action in round.actions() {
             if let Action::Send { from, .. } = *action {
-                assert_eq!(rt; from.len as usize, plan.sig().block_len());
                 assert!(rt; count < 1000);
                 count += 1;
+                bytes = bytes.wrapping_add(from.len as usize);
             }
         }
     }
-    count
+    (count, bytes)
 }
 
 fn count_messages(rt: &impl Abort, alloc: Global, sig: Signature, n: u8) -> Result<(), Refusal> {
     assert!(rt; 0 < n && n <= 64);
     let (messages, rounds) = messages_and_rounds(sig.kind, n, sig.root);
     let mut count: usize = 0;
+    let mut bytes: usize = 0;
     for r in 0..n {
         let plan = plan(alloc, sig, n, r)?;
         let schedule = plan.schedule();
@@ -320,15 +332,23 @@ fn count_messages(rt: &impl Abort, alloc: Global, sig: Signature, n: u8) -> Resu
             blocks.wrapping_mul(sig.block_len())
         );
         assert!(rt; count < 1000000);
-        let sent = sends(rt, &plan);
+        let (sent, sent_bytes) = sends(rt, &plan);
         assert!(rt; sent < 1000000);
         count += sent;
+        bytes = bytes.wrapping_add(sent_bytes);
     }
     assert_eq!(rt;
         count,
         messages,
         "{:?} of {n} with root {}",
         sig.kind, sig.root
+    );
+    let blocks = blocks_sent(sig.kind, n, messages);
+    assert_eq!(rt;
+        bytes,
+        blocks.wrapping_mul(sig.block_len()),
+        "{:?} of {n}",
+        sig.kind
     );
     Ok(())
 }

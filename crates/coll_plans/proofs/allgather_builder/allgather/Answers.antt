@@ -1,28 +1,24 @@
 -- the family serves the signature, so its schedules are accepted
-use Rattle.std.proofs.Common.{◌≡◌, ◌+◌, List, [], ◌∷◌, sym, ap, subst, ◌∙◌}
-use Rattle.coll_sched.specs.declared.action.Action.{Action}
-use Rattle.coll_sched.specs.Schedules.{Parts, IsSchedule}
-use Rattle.coll_plans.specs.declared.pattern.Pattern.TheVariants.{ToAll}
-use Rattle.coll_plans.specs.Exchanges.{exchange}
-use Rattle.coll_plans.specs.Directs.{allgather_by}
-use Rattle.coll_plans.proofs.Allgathers.{allgather_serves}
+use Rattle.std.proofs.Common.{sym, subst, ◌∙◌}
+use Rattle.coll_sched.specs.Schedules.{IsSchedule}
+use Rattle.coll_plans.proofs.Allgathers.{allgather_serves, allgather_parts}
 use Rattle.coll_plans.proofs.allgather_builder.allgather.Goals as goal
+
+pub returns-in_err-rounds-clause-family : goal.returns-in_err-rounds-clause-family
+returns-in_err-rounds-clause-family c = allgather_serves c.args.sig c.args.n c.requires.kind c.requires.few
 
 pub of_lawful_rounds-requires : goal.of_lawful_rounds-requires
 of_lawful_rounds-requires c =
-    let rounds : c.in_ok-rounds.rounds.items ≡ (allgather_by c.args.n c.block_bytes-len.result c.args.r).rounds =
-    c.in_ok-rounds.ensures.ok
-    ∙ (ap (λ (x : List Action). x ∷ []) c.in_ok-round.ensures.ok ∙ (λ k. exchange (ToAll) (c.one.ensures k) (c.each.ensures k) c.args.n c.args.r ∷ [])) in
-    let parts : ◌≡◌ {A = Parts} (record { size = c.block_bytes-len.result + c.all_bytes.result; input = record { at = 0; len = c.block_bytes-len.result }; output = c.all_blocks-output.result; rounds = c.in_ok-rounds.rounds.items }) (allgather_by c.args.n c.block_bytes-len.result c.args.r) =
-    λ k. record { size = c.block_bytes-len.result + c.all_bytes.ensures.length k; input = record { at = 0; len = c.block_bytes-len.result }; output = c.all_blocks-output.ensures k; rounds = rounds k } in
-    subst IsSchedule (sym (parts ∙ ap (λ b. allgather_by c.args.n b c.args.r) c.block_bytes-len.ensures.length))
-    ((allgather_serves c.args.sig c.args.n c.requires.kind).serves.lawful.schedules c.args.r c.requires.member)
+    subst IsSchedule
+    (sym (allgather_parts c.args.sig c.args.n c.args.r c.block_bytes-len.result c.all_bytes-half.result c.front.result c.blocks-output.result c.in_ok-rounds.rounds.items
+    c.block_bytes-len.ensures.length c.all_bytes-half.ensures.length c.front.ensures c.blocks-output.ensures c.in_ok-rounds.ensures.ok))
+    ((allgather_serves c.args.sig c.args.n c.requires.kind c.requires.few).serves.lawful.schedules c.args.r c.requires.member)
 
-pub returns-in_err-round-clause-family : goal.returns-in_err-round-clause-family
-returns-in_err-round-clause-family c = allgather_serves c.args.sig c.args.n c.requires.kind
-
-pub returns-in_err-rounds-clause-family : goal.returns-in_err-rounds-clause-family
-returns-in_err-rounds-clause-family c = allgather_serves c.args.sig c.args.n c.requires.kind
+pub returns-clause-schedule : goal.returns-clause-schedule
+returns-clause-schedule c =
+    c.of_lawful_rounds.ensures
+    ∙ allgather_parts c.args.sig c.args.n c.args.r c.block_bytes-len.result c.all_bytes-half.result c.front.result c.blocks-output.result c.in_ok-rounds.rounds.items
+    c.block_bytes-len.ensures.length c.all_bytes-half.ensures.length c.front.ensures c.blocks-output.ensures c.in_ok-rounds.ensures.ok
 
 pub returns-clause-family : goal.returns-clause-family
-returns-clause-family c = allgather_serves c.args.sig c.args.n c.requires.kind
+returns-clause-family c = allgather_serves c.args.sig c.args.n c.requires.kind c.requires.few

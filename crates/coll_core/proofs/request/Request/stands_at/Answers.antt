@@ -1,4 +1,4 @@
-use Rattle.std.proofs.Common.{rules, ◌≡◌, ◌∙◌, Some, ap, sym}
+use Rattle.std.proofs.Common.{true, ◌≡◌, ◌∙◌, Some, ap, sym}
 use Rattle.coll_sched.specs.Regions.{read_of}
 use Rattle.coll_core.specs.Requests.{shown}
 use Rattle.coll_core.proofs.Works.{stands_by}
@@ -10,9 +10,9 @@ returns-then-are_same c =
     let next_is = sym c.next.ensures.is ∙ (w.is ∙ ap Some w.field-0-is) in
     let round_is : c.args.self.now.round ≡ c.args.work.now.round = search in
     let index_is : c.args.self.now.index ≡ c.args.work.now.index = search in
-    let op_is : w.op ≡ c.args.work.now.op = search rules in
-    let ty_is : w.ty ≡ c.args.work.now.ty = search rules in
+    let same : c.are_alike.result ≡ true = search in
+    let alike : (w.op ≡ c.args.work.now.op) × (w.ty ≡ c.args.work.now.ty) = c.are_alike.ensures.0 same in
     let left_is = sym (c.read.ensures ∙ ap (λ b. read_of b w.left) c.bytes.ensures) ∙ (c.are_same.ensures.0 c.if-are_same.true ∙ c.left.ensures) in
     let right_is = c.read-then-are_same.ensures ∙ ap (λ b. read_of b w.right) c.bytes-then-are_same.ensures in
-    stands_by (shown c.args.self.now) c.args.work.now w.op w.ty w.left w.right w.field-0-4 c.are_same-then-are_same.result next_is round_is index_is op_is ty_is left_is
+    stands_by (shown c.args.self.now) c.args.work.now w.op w.ty w.left w.right w.field-0-4 c.are_same-then-are_same.result next_is round_is index_is alike.0 alike.1 left_is
     _ _ right_is c.right.ensures c.are_same-then-are_same.ensures

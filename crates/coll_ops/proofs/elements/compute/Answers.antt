@@ -3,7 +3,7 @@ use Rattle.std.specs.Prelude.{bit_or, bit_xor}
 use Rattle.coll_ops.proofs.Bits.{bit_and-mask}
 use Rattle.coll_ops.proofs.ElementBits.{HasBits-word, cast_unsigned-sum, cast_unsigned-product}
 use Rattle.coll_ops.proofs.BitOperations.{bitwise-bits, bit_and-lt, bit_or-lt, bit_xor-lt}
-use Rattle.coll_ops.proofs.elements.apply_to_bits.Goals as goal
+use Rattle.coll_ops.proofs.elements.compute.Goals as goal
 
 pub returns-in-Sum-clause-value : goal.returns-in-Sum-clause-value
 returns-in-Sum-clause-value c =

@@ -2,7 +2,7 @@
 use Rattle.std.proofs.Common.{◌≡◌, ℕ, ◌*◌, ◌/◌, ◌<◌, Bool, true, false, cond, eqb, refl, ap, sym, ◌∙◌, arith}
 use Rattle.std.proofs.Math.Nat.{mul-div_cancel}
 use Rattle.coll_kinds.specs.declared.datatype.Datatype.{Datatype}
-use Rattle.coll_kinds.specs.declared.datatype.Datatype.TheVariants.{I8, I16, I32, I64, U8, U16, U32, U64, Byte}
+use Rattle.coll_kinds.specs.declared.datatype.Datatype.TheVariants.{I8, I16, I32, I64, U8, U16, U32, U64, Byte, Pair}
 use Rattle.coll_kinds.specs.declared.kind.Kind.{Kind}
 use Rattle.coll_kinds.specs.declared.kind.Kind.TheVariants.{Barrier, Bcast, Gather, Scatter, Allgather, Alltoall, Reduce, Allreduce, Rsblock, Scan, Exscan}
 use Rattle.coll_kinds.specs.declared.signature.Signature.{Signature}
@@ -19,6 +19,7 @@ width-positive U16 = omega arith
 width-positive U32 = omega arith
 width-positive U64 = omega arith
 width-positive Byte = omega arith
+width-positive Pair = omega arith
 
 -- a number of elements
 abbrev Whole : ℕ → ℕ → Type 0
