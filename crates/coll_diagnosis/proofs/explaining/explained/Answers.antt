@@ -1,0 +1,11 @@
+use Rattle.coll_diagnosis.proofs.Answering.{HasMeaning-script}
+use Rattle.coll_diagnosis.proofs.explaining.explained.Goals as goal
+
+pub returns-in-Ok-clause-meaning : goal.returns-in-Ok-clause-meaning
+returns-in-Ok-clause-meaning c = HasMeaning-script _ _ c.in_ok-script.ensures.read
+
+pub returns-in-Err-Torn-clause-faults : goal.returns-in-Err-Torn-clause-faults
+returns-in-Err-Torn-clause-faults c = HasMeaning-script _ _ c.in_ok-script.ensures.read
+
+pub returns : goal.returns
+returns c = record { meaning = tt; faults = HasMeaning-script _ _ c.in_ok-script.ensures.read }

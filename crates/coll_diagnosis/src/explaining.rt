@@ -1,0 +1,93 @@
+//! From a reader to a writer: a text explained.
+
+ghost use Rattle.std.specs.Prelude.{◌≡◌, ◌≢◌, IfOk, IfErr, IfSome, OnOk, IsOkUnless};
+ghost use Rattle.std.specs.Io.KnownBytes.{Keeps};
+ghost use Rattle.coll_diagnosis.specs.Explained.{HasMeaning, IsFaultOf, IsExplainFault};
+ghost use Rattle.coll_diagnosis.specs.Verdicts.{IsStatus};
+
+use crate::dot_form::dot_form;
+use crate::explanation::Explanation;
+use crate::json_form::json_form;
+use crate::text_form::text_form;
+use coll_job::{Counted, JobFault, read_text, write_lines};
+use coll_kinds::Refusal;
+use coll_script::Script;
+use std::alloc::Global;
+use std::io::{Read, Write};
+
+/// How a text is explained.
+#[derive(Clone, Copy, Debug, PartialEq, Eq)]
+pub struct ExplainOptions {
+    pub form: Form,
+    /// Whether a stall with another library counts.
+    pub is_strict: bool,
+}
+
+/// What an explanation is written as.
+#[derive(Clone, Copy, Debug, PartialEq, Eq)]
+pub enum Form {
+    /// Lines for a reader.
+    Text,
+    /// JSON, an object in each line.
+    Json,
+    /// A graph of who waits for whom.
+    Dot,
+}
+
+/// Reads the text that has this name, and writes who waits for whom in it. Answers the exit status of its verdict. At a
+/// fault nothing is written, but at a write fault.
+pub fn explain_job<R: Read, W: Write>(
+    alloc: Global,
+    name: &str,
+    options: ExplainOptions,
+    reader: &mut Counted<'_, R>,
+    writer: &mut W,
+) -> Result<u8, JobFault>
+    requires unread { reader.old.reads ≡ 0 }
+    // Only a text that has a meaning is explained.
+    ensures meaning { OnOk result (IfSome (R.remaining reader.old.reader.now) HasMeaning) }
+    ensures status { IfOk result IsStatus }
+    // The fault of a text is the one that its definition gives.
+    ensures faults { IfErr result (IsExplainFault (R.remaining reader.old.reader.now)) }
+    ensures unwritten { IfErr result (λ fault. fault ≢ JobFault.Write → Keeps (W.contents writer.old) (W.contents writer.new)) }
+{
+    let text = read_text(alloc, reader)?;
+    let explanation = explained(alloc, &text)?;
+    let status = explanation.verdict.status(options.is_strict);
+    let lines = written(alloc, name, options.form, &text, &explanation, status)?;
+    write_lines(writer, lines.as_str().as_bytes())?;
+    Ok(status)
+}
+
+/// Who waits for whom in a text.
+fn explained(alloc: Global, text: &[u8]) -> Result<Explanation, JobFault>
+    ensures meaning { OnOk result (HasMeaning text.now) }
+    ensures faults { IfErr result (IsFaultOf text.now) }
+{
+    let script = Script::read(alloc, text)?;
+    match Explanation::of(alloc, text, &script) {
+        Ok(explanation) => Ok(explanation),
+        Err(Refusal::NoMemory) => Err(JobFault::Memory),
+        Err(Refusal::Torn) => Err(JobFault::Torn),
+        Err(why) => Err(JobFault::Refused(why)),
+    }
+}
+
+/// The explanation in that form. Refuses [`JobFault::Memory`] alone.
+fn written(
+    alloc: Global,
+    name: &str,
+    form: Form,
+    text: &[u8],
+    explanation: &Explanation,
+    status: u8,
+) -> Result<String, JobFault>
+    ensures { IsOkUnless result JobFault.Memory }
+{
+    let lines = match form {
+        Form::Text => text_form(alloc, name, text, explanation).ok(),
+        Form::Json => json_form(alloc, text, explanation, status).ok(),
+        Form::Dot => dot_form(alloc, text, explanation).ok(),
+    };
+    lines.ok_or(JobFault::Memory)
+}

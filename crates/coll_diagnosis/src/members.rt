@@ -1,0 +1,38 @@
+use coll_kinds::MAX_RANKS;
+
+/// A set of members of a communicator, or of ranks of a job.
+#[derive(Clone, Copy, Debug, PartialEq, Eq)]
+pub struct Members {
+    is_member: [bool; MAX_RANKS],
+}
+
+impl Members {
+    pub const NONE: Members = Members {
+        is_member: [false; MAX_RANKS],
+    };
+
+    /// This one alone.
+    pub fn one(member: u8) -> Members {
+        let mut members = Members::NONE;
+        members.insert(member);
+        members
+    }
+
+    pub fn contains(&self, member: u8) -> bool {
+        self.is_member.get(usize::from(member)).copied() == Some(true)
+    }
+
+    /// A number from 64 on is no member's.
+    pub fn insert(&mut self, member: u8) {
+        if let Some(is_member) = self.is_member.get_mut(usize::from(member)) {
+            *is_member = true;
+        }
+    }
+
+    /// Takes all members of the other set in.
+    pub fn insert_all(&mut self, other: &Members) {
+        for member in 0..MAX_RANKS {
+            self.is_member[member] = self.is_member[member] || other.is_member[member];
+        }
+    }
+}
