@@ -1,0 +1,158 @@
+#!/usr/bin/env python3
+"""Writes random job texts without faults, whose ranks don't wait for one another in a circle:
+
+    mpi/random_texts.py FOLDER [COUNT [SEED]]    COUNT texts, 1000 where none is said, of numbers from SEED, 1 where none is said
+    mpi/random_texts.py FOLDER COUNT SEED pairs    some of them over the type 2int
+
+All ranks post and start in one common order, so each wait ends: of all requests that ranks wait for, the members of the first one have
+all come to it, or go on. Starts that follow one another without a wait between them change places now and then.
+"""
+
+import os
+import random
+import sys
+
+KINDS = ["barrier", "bcast", "gather", "scatter", "allgather", "alltoall", "reduce", "allreduce", "rsblock", "scan", "exscan"]
+ROOTED = {"bcast", "gather", "scatter", "reduce"}
+COMBINING = {"reduce", "allreduce", "rsblock", "scan", "exscan"}
+INTEGERS = {"i8": (-128, 127), "i16": (-32768, 32767), "i32": (-(1 << 31), (1 << 31) - 1), "i64": (-(1 << 63), (1 << 63) - 1)}
+INTEGERS |= {"u8": (0, 255), "u16": (0, 65535), "u32": (0, (1 << 32) - 1), "u64": (0, (1 << 64) - 1)}
+OPERATIONS = ["max", "min", "sum", "prod", "land", "lor", "lxor", "band", "bor", "bxor", "lastnz"]
+
+# The types on which few operations are allowed.
+NARROW = {"byte": ["band", "bor", "bxor"], "2int": ["maxloc", "minloc"]}
+
+
+class Collective:
+    """A signature on a communicator, and the number of the request at each member."""
+
+    def __init__(self, draw, communicator, members, persistent, pairs):
+        self.communicator, self.members, self.persistent = communicator, members, persistent
+        self.kind = draw.choice(KINDS)
+        self.root = draw.randrange(len(members)) if self.kind in ROOTED else None
+        self.type = draw.choice([*INTEGERS, "byte", *(["2int"] if pairs else [])])
+        self.operation = None
+        if self.kind in COMBINING:
+            self.operation = draw.choice(NARROW.get(self.type, OPERATIONS))
+        self.count = draw.choice([0, 1, 1, 2, 3, 5, 8, 17, 40])
+        self.numbers = {}
+
+    def words(self):
+        words = [self.kind]
+        if self.root is not None:
+            words.append(str(self.root))
+        if self.operation:
+            words.append(self.operation)
+        return words if self.kind == "barrier" else [*words, self.type, str(self.count)]
+
+    def given(self, draw, rank):
+        """The words of what a rank gives."""
+        member, size = self.members.index(rank), len(self.members)
+        count = {"barrier": 0, "bcast": self.count * (member == self.root), "scatter": self.count * size * (member == self.root)}.get(self.kind, self.count)
+        if self.kind in ("alltoall", "rsblock"):
+            count *= size
+        return [":", *(str(self.value(draw)) for _ in range(count))] if count else []
+
+    def value(self, draw):
+        if self.type == "2int":
+            return f"{draw.randint(-3, 3)},{draw.randint(0, 9)}"
+        least, most = INTEGERS.get(self.type, (0, 255))
+        return draw.choice([0, 1, least, most, draw.randint(least, most), draw.randint(max(least, -3), min(most, 9))])
+
+
+class Writer:
+    """The sections of a text under way. ACTIVE has the requests of a rank that may be under way, WAITED what it still has to wait for
+    before a start."""
+
+    def __init__(self, draw, pairs):
+        self.draw, self.pairs = draw, pairs
+        self.ranks = draw.choice([1, 2, 2, 3, 3, 3, 4, 4])
+        self.groups = [list(range(self.ranks))]
+        for _ in range(draw.choice([0, 0, 1, 2])):
+            self.groups.append(draw.sample(range(self.ranks), draw.randint(1, self.ranks)))
+        self.lines = [[] for _ in range(self.ranks)]
+        self.requests = [0] * self.ranks
+        self.active = [set() for _ in range(self.ranks)]
+        self.free = []
+
+    def add(self, rank, *words):
+        self.lines[rank].append(" ".join(map(str, words)))
+
+    def make(self, persistent):
+        group = self.draw.randrange(len(self.groups))
+        it = Collective(self.draw, group, self.groups[group], persistent, self.pairs)
+        for rank in it.members:
+            it.numbers[rank] = self.requests[rank]
+            self.requests[rank] += 1
+            self.add(rank, "init" if persistent else "post", group, *it.words(), *([] if persistent else it.given(self.draw, rank)))
+            if not persistent:
+                self.active[rank].add(it.numbers[rank])
+        if persistent:
+            self.free.append(it)
+
+    def start(self, these):
+        """Starts persistent requests, each rank in an order of its own: a wait for one stands behind the starts of all."""
+        for rank in range(self.ranks):
+            mine = [it for it in these if rank in it.members]
+            for it in mine:
+                if it.numbers[rank] in self.active[rank]:
+                    self.add(rank, "wait", it.numbers[rank])
+                    self.active[rank].discard(it.numbers[rank])
+            self.draw.shuffle(mine)
+            for it in mine:
+                self.add(rank, "start", it.numbers[rank], *it.given(self.draw, rank))
+                self.active[rank].add(it.numbers[rank])
+
+    def complete(self, rank):
+        """One completion of some of what is under way. Only a wait for all that it names ends that for sure."""
+        if not self.active[rank]:
+            return
+        some = self.draw.sample(sorted(self.active[rank]), self.draw.randint(1, min(4, len(self.active[rank]))))
+        word = self.draw.choice(["wait", "test", "waitany", "waitsome", "waitall"])
+        self.add(rank, word, *(some[:1] if word in ("wait", "test") else some))
+        if word in ("wait", "waitall"):
+            self.active[rank] -= set(some[:1] if word == "wait" else some)
+
+    def release(self):
+        """All members free a request that is surely inactive."""
+        ready = [it for it in self.free if all(it.numbers[rank] not in self.active[rank] for rank in it.members)]
+        if ready:
+            it = self.draw.choice(ready)
+            self.free.remove(it)
+            for rank in it.members:
+                self.add(rank, "free", it.numbers[rank])
+
+    def text(self):
+        for _ in range(self.draw.randint(3, 14)):
+            step = self.draw.random()
+            if step < 0.3:
+                self.make(persistent=False)
+            elif step < 0.5 or not self.free:
+                self.make(persistent=True)
+            elif step < 0.95:
+                self.start(self.draw.sample(self.free, self.draw.randint(1, min(3, len(self.free)))))
+            else:
+                self.release()
+            for rank in range(self.ranks):
+                if self.draw.random() < 0.4:
+                    self.complete(rank)
+        head = [f"ranks {self.ranks}", *(" ".join(["comm", *map(str, group)]) for group in self.groups[1:])]
+        for rank, lines in enumerate(self.lines):
+            head += [f"rank {rank}", *lines]
+        return "\n".join(head) + "\n"
+
+
+def main():
+    if len(sys.argv) < 2:
+        sys.exit(__doc__)
+    folder = sys.argv[1]
+    count = int(sys.argv[2]) if len(sys.argv) > 2 else 1000
+    seed = int(sys.argv[3]) if len(sys.argv) > 3 else 1
+    os.makedirs(folder, exist_ok=True)
+    for number in range(seed, seed + count):
+        with open(os.path.join(folder, f"{number:05}.job"), "w") as file:
+            file.write(Writer(random.Random(number), sys.argv[4:] == ["pairs"]).text())
+
+
+if __name__ == "__main__":
+    main()

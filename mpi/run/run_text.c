@@ -1,0 +1,628 @@
+/* Carries out job texts over an MPI library, each process as one rank: mpirun -n 4 run_text TEXT ... A text of fewer ranks than there
+   are processes leaves the others idle. Standard output has the lines of `colljob plain`, behind `text NAME` where more than one was
+   named. What a text may say is in docs/JOB_TEXT.md; run_text trusts that it has no fault, and stops at what it can't carry out. */
+#define _POSIX_C_SOURCE 200809L
+#include <ctype.h>
+#include <errno.h>
+#include <mpi.h>
+#include <stdarg.h>
+#include <stdbool.h>
+#include <stdint.h>
+#include <stdio.h>
+#include <stdlib.h>
+#include <string.h>
+#ifdef OPEN_MPI
+#include <mpi-ext.h>
+#endif
+
+#if MPI_VERSION >= 4
+#define INIT(Name) MPI_##Name##_init
+#elif defined(OMPI_HAVE_MPI_EXT_PCOLLREQ)
+#define INIT(Name) MPIX_##Name##_init
+#else
+#error "this MPI library has no persistent collectives"
+#endif
+
+enum { MOST_COMMUNICATORS = 16, MOST_RANKS = 64, LINES_TAG = 1 };
+
+/* A line of the text, cut into words. */
+struct line {
+    int number, rank; /* the rank of its section, or -1 */
+    int count;
+    char **words;
+};
+
+struct text {
+    const char *name;
+    char *bytes;
+    int ranks, count;
+    struct line *lines;
+};
+
+enum kind { BARRIER, BCAST, GATHER, SCATTER, ALLGATHER, ALLTOALL, REDUCE, ALLREDUCE, RSBLOCK, SCAN, EXSCAN, KINDS };
+
+static const struct {
+    const char *word;
+    bool root, op;
+} kinds[KINDS] = {
+    [BARRIER] = {"barrier", false, false}, [BCAST] = {"bcast", true, false},       [GATHER] = {"gather", true, false},
+    [SCATTER] = {"scatter", true, false},  [ALLGATHER] = {"allgather", false, false}, [ALLTOALL] = {"alltoall", false, false},
+    [REDUCE] = {"reduce", true, true},     [ALLREDUCE] = {"allreduce", false, true}, [RSBLOCK] = {"rsblock", false, true},
+    [SCAN] = {"scan", false, true},        [EXSCAN] = {"exscan", false, true},
+};
+
+struct type {
+    const char *word;
+    MPI_Datatype type;
+    int width;
+    bool has_sign;
+};
+
+/* Bytes that grow. */
+struct output {
+    char *bytes;
+    size_t length, room;
+};
+
+struct request {
+    MPI_Request handle;
+    enum kind kind;
+    int root, count, rank, size; /* the last two within the communicator */
+    const struct type *type;
+    MPI_Op op;
+    MPI_Comm comm;
+    unsigned char *given, *got;
+    int starts, number;
+    bool persistent, active;
+    struct output lines;
+};
+
+/* What a rank has while it plays a text. */
+struct player {
+    const struct text *text;
+    const struct line *line;
+    int rank, communicators, count;
+    MPI_Comm comms[MOST_COMMUNICATORS];
+    struct request *requests;
+};
+
+static MPI_Op last_nonzero;
+static int process;
+static bool reading;
+
+/* Memory and messages */
+
+/* What all processes meet while they read a text is told by the first of them; the others wait for the end that it brings. */
+static void stop(const char *name, int line, const char *format, ...) {
+    char reason[512], where[32] = "";
+    va_list rest;
+    va_start(rest, format);
+    vsnprintf(reason, sizeof reason, format, rest);
+    va_end(rest);
+    if (line > 0)
+        snprintf(where, sizeof where, "line %d: ", line);
+    if (reading && process > 0)
+        MPI_Barrier(MPI_COMM_WORLD);
+    fprintf(stderr, "run_text: %s: %s%s\n", name, where, reason);
+    MPI_Abort(MPI_COMM_WORLD, 2);
+    exit(2);
+}
+
+static void *must(void *memory) {
+    if (!memory)
+        stop("memory", 0, "there isn't enough");
+    return memory;
+}
+
+static void add(struct output *output, const char *format, ...) {
+    va_list rest;
+    char piece[64];
+    va_start(rest, format);
+    size_t length = (size_t)vsnprintf(piece, sizeof piece, format, rest);
+    va_end(rest);
+    if (output->length + length + 1 > output->room) {
+        output->room = 2 * (output->room + length + 1);
+        output->bytes = must(realloc(output->bytes, output->room));
+    }
+    memcpy(output->bytes + output->length, piece, length + 1);
+    output->length += length;
+}
+
+/* Reading a text */
+
+static char *read_file(const char *name) {
+    FILE *file = fopen(name, "rb");
+    size_t room = 1 << 16, length = 0, got;
+    if (!file)
+        stop(name, 0, "%s", strerror(errno));
+    char *bytes = must(malloc(room + 1));
+    while ((got = fread(bytes + length, 1, room - length, file)) > 0) {
+        length += got;
+        if (length == room)
+            bytes = must(realloc(bytes, (room *= 2) + 1));
+    }
+    if (ferror(file))
+        stop(name, 0, "%s", strerror(errno));
+    fclose(file);
+    bytes[length] = '\0';
+    return bytes;
+}
+
+static bool is_space(char byte) { return byte == ' ' || byte == '\t' || byte == '\r'; }
+
+/* Cuts a line into words, in place. */
+static void cut(struct line *line, char *bytes) {
+    int room = 0;
+    while (*bytes) {
+        while (is_space(*bytes))
+            *bytes++ = '\0';
+        if (!*bytes)
+            break;
+        if (line->count == room)
+            line->words = must(realloc(line->words, (size_t)(room = 2 * room + 8) * sizeof *line->words));
+        line->words[line->count++] = bytes;
+        while (*bytes && !is_space(*bytes))
+            bytes++;
+    }
+}
+
+/* The number that a word is, below LIMIT. */
+static int number_of(const struct text *text, const struct line *line, int place, long limit) {
+    char *end;
+    if (place >= line->count)
+        stop(text->name, line->number, "a word is missing");
+    long number = strtol(line->words[place], &end, 10);
+    if (!isdigit((unsigned char)line->words[place][0]) || *end || number >= limit)
+        stop(text->name, line->number, "%s isn't a number below %ld", line->words[place], limit);
+    return (int)number;
+}
+
+static bool is(const struct line *line, const char *word) { return !strcmp(line->words[0], word); }
+
+static struct text read_text(const char *name) {
+    struct text text = {.name = name, .bytes = read_file(name)};
+    int room = 0, number = 0, rank = -1;
+    for (char *next, *bytes = text.bytes; bytes; bytes = next) {
+        next = strchr(bytes, '\n');
+        if (next)
+            *next++ = '\0';
+        struct line line = {.number = ++number};
+        cut(&line, bytes);
+        if (line.count == 0 || line.words[0][0] == '#') {
+            free(line.words);
+            continue;
+        }
+        if (text.ranks == 0) {
+            if (!is(&line, "ranks"))
+                stop(name, number, "the first line doesn't say how many ranks there are");
+            text.ranks = number_of(&text, &line, 1, MOST_RANKS + 1);
+            if (text.ranks == 0)
+                stop(name, number, "there are no ranks");
+        }
+        if (is(&line, "rank"))
+            rank = number_of(&text, &line, 1, text.ranks);
+        line.rank = rank;
+        if (text.count == room)
+            text.lines = must(realloc(text.lines, (size_t)(room = 2 * room + 64) * sizeof *text.lines));
+        text.lines[text.count++] = line;
+    }
+    if (text.ranks == 0)
+        stop(name, number, "the text is empty");
+    return text;
+}
+
+static void free_text(struct text *text) {
+    for (int place = 0; place < text->count; place++)
+        free(text->lines[place].words);
+    free(text->lines);
+    free(text->bytes);
+}
+
+/* Signatures */
+
+static const struct type *find_type(const char *word) {
+    static const struct type types[] = {{"i8", MPI_INT8_T, 1, true},     {"i16", MPI_INT16_T, 2, true},   {"i32", MPI_INT32_T, 4, true},
+                                        {"i64", MPI_INT64_T, 8, true},   {"u8", MPI_UINT8_T, 1, false},   {"u16", MPI_UINT16_T, 2, false},
+                                        {"u32", MPI_UINT32_T, 4, false}, {"u64", MPI_UINT64_T, 8, false}, {"byte", MPI_BYTE, 1, false},
+                                        {"2int", MPI_2INT, 8, true}};
+    for (size_t place = 0; place < sizeof types / sizeof *types; place++)
+        if (!strcmp(word, types[place].word))
+            return &types[place];
+    return NULL;
+}
+
+static MPI_Op find_op(const char *word) {
+    const struct {
+        const char *word;
+        MPI_Op op;
+    } ops[] = {{"max", MPI_MAX},   {"min", MPI_MIN},   {"sum", MPI_SUM}, {"prod", MPI_PROD}, {"land", MPI_LAND},     {"lor", MPI_LOR},
+               {"lxor", MPI_LXOR}, {"band", MPI_BAND}, {"bor", MPI_BOR}, {"bxor", MPI_BXOR}, {"maxloc", MPI_MAXLOC}, {"minloc", MPI_MINLOC}};
+    for (size_t place = 0; place < sizeof ops / sizeof *ops; place++)
+        if (!strcmp(word, ops[place].word))
+            return ops[place].op;
+    return !strcmp(word, "lastnz") ? last_nonzero : MPI_OP_NULL;
+}
+
+/* The operation `lastnz`: the right element where it isn't 0. An element is 0 where all of its bytes are. */
+static void take_last_nonzero(void *left, void *right, int *count, MPI_Datatype *type) {
+    unsigned char *from = left, *to = right;
+    static const unsigned char zero[8];
+    int width;
+    MPI_Type_size(*type, &width);
+    for (int place = 0; place < *count; place++, from += width, to += width)
+        if (!memcmp(to, zero, (size_t)width))
+            memcpy(to, from, (size_t)width);
+}
+
+static enum kind find_kind(const char *word) {
+    enum kind kind = 0;
+    while (kind < KINDS && strcmp(word, kinds[kind].word))
+        kind++;
+    return kind;
+}
+
+/* Reads `C SIG` behind the first word. The place of the word behind it goes to END. */
+static struct request read_request(struct player *player, int *end) {
+    const struct text *text = player->text;
+    const struct line *line = player->line;
+    struct request request = {.handle = MPI_REQUEST_NULL, .op = MPI_OP_NULL, .persistent = is(line, "init")};
+    int next = 3;
+    request.comm = player->comms[number_of(text, line, 1, player->communicators)];
+    if (request.comm == MPI_COMM_NULL)
+        stop(text->name, line->number, "rank %d isn't a member of communicator %s", player->rank, line->words[1]);
+    MPI_Comm_rank(request.comm, &request.rank);
+    MPI_Comm_size(request.comm, &request.size);
+    request.kind = line->count > 2 ? find_kind(line->words[2]) : KINDS;
+    if (request.kind == KINDS)
+        stop(text->name, line->number, "there is no such collective");
+    if (kinds[request.kind].root)
+        request.root = number_of(text, line, next++, request.size);
+    if (kinds[request.kind].op) {
+        request.op = next < line->count ? find_op(line->words[next++]) : MPI_OP_NULL;
+        if (request.op == MPI_OP_NULL)
+            stop(text->name, line->number, "there is no such operation");
+    }
+    if (request.kind != BARRIER) {
+        request.type = next < line->count ? find_type(line->words[next++]) : NULL;
+        if (!request.type)
+            stop(text->name, line->number, "there is no such type");
+        request.count = number_of(text, line, next++, 65537);
+    }
+    *end = next;
+    return request;
+}
+
+/* How many elements the rank gives and gets. */
+static int elements_given(const struct request *it) {
+    bool root = it->rank == it->root;
+    switch (it->kind) {
+    case BARRIER: return 0;
+    case BCAST: return root ? it->count : 0;
+    case SCATTER: return root ? it->count * it->size : 0;
+    case ALLTOALL:
+    case RSBLOCK: return it->count * it->size;
+    default: return it->count;
+    }
+}
+
+static int elements_got(const struct request *it) {
+    bool root = it->rank == it->root;
+    switch (it->kind) {
+    case BARRIER: return 0;
+    case GATHER: return root ? it->count * it->size : 0;
+    case REDUCE: return root ? it->count : 0;
+    case ALLGATHER:
+    case ALLTOALL: return it->count * it->size;
+    case EXSCAN: return it->rank ? it->count : 0;
+    default: return it->count;
+    }
+}
+
+/* Values */
+
+static void put_value(const struct request *it, unsigned char *element, const char *word) {
+    if (!strcmp(it->type->word, "2int")) {
+        const char *comma = strchr(word, ',');
+        int pair[2] = {(int)strtol(word, NULL, 10), comma ? (int)strtol(comma + 1, NULL, 10) : 0};
+        memcpy(element, pair, sizeof pair);
+        return;
+    }
+    /* The lowest bytes of a little-endian number are the number in a narrower type. */
+    uint64_t bits = word[0] == '-' ? (uint64_t)strtoll(word, NULL, 10) : strtoull(word, NULL, 10);
+    memcpy(element, &bits, (size_t)it->type->width);
+}
+
+static void put_values(const struct player *player, struct request *it, int place) {
+    const struct line *line = player->line;
+    int due = elements_given(it), given = line->count > place ? line->count - place - 1 : 0;
+    if (given != due)
+        stop(player->text->name, line->number, "%d values where %d are due", given, due);
+    for (int element = 0; element < due; element++)
+        put_value(it, it->given + (size_t)element * (size_t)it->type->width, line->words[place + 1 + element]);
+}
+
+static void add_value(struct output *output, const struct type *type, const unsigned char *element) {
+    uint64_t bits = 0;
+    if (!strcmp(type->word, "2int")) {
+        int pair[2];
+        memcpy(pair, element, sizeof pair);
+        add(output, " %d,%d", pair[0], pair[1]);
+        return;
+    }
+    memcpy(&bits, element, (size_t)type->width);
+    int unused = 64 - 8 * type->width;
+    if (type->has_sign)
+        add(output, " %lld", (long long)((int64_t)(bits << unused) >> unused));
+    else
+        add(output, " %llu", (unsigned long long)bits);
+}
+
+/* The start that is under way has ended: its line is written, before another start overwrites what came. */
+static void finish(const struct player *player, struct request *it) {
+    if (!it->active)
+        return;
+    it->active = false;
+    add(&it->lines, "rank %d req %d start %d :", player->rank, it->number, it->starts - 1);
+    const unsigned char *got = it->kind == BCAST ? it->given : it->got;
+    for (int element = 0; element < elements_got(it); element++)
+        add_value(&it->lines, it->type, got + (size_t)element * (size_t)it->type->width);
+    add(&it->lines, "\n");
+}
+
+/* Posts, initialisations, starts */
+
+/* Room for what the rank gives and gets; a bcast has one buffer for both. What comes is unlike what came before. */
+static void make_buffers(struct request *it) {
+    size_t width = it->type ? (size_t)it->type->width : 1, most = (size_t)it->count * (size_t)it->size + 1;
+    it->given = must(calloc(most, width));
+    it->got = must(malloc(most * width));
+    memset(it->got, 0x5a, most * width);
+}
+
+#define MOVED it->given, it->count, it->type->type, it->got, it->count, it->type->type
+#define COMBINED it->given, it->got, it->count, it->type->type, it->op
+
+static int post(struct request *it) {
+    switch (it->kind) {
+    case BARRIER: return MPI_Ibarrier(it->comm, &it->handle);
+    case BCAST: return MPI_Ibcast(it->given, it->count, it->type->type, it->root, it->comm, &it->handle);
+    case GATHER: return MPI_Igather(MOVED, it->root, it->comm, &it->handle);
+    case SCATTER: return MPI_Iscatter(MOVED, it->root, it->comm, &it->handle);
+    case ALLGATHER: return MPI_Iallgather(MOVED, it->comm, &it->handle);
+    case ALLTOALL: return MPI_Ialltoall(MOVED, it->comm, &it->handle);
+    case REDUCE: return MPI_Ireduce(COMBINED, it->root, it->comm, &it->handle);
+    case ALLREDUCE: return MPI_Iallreduce(COMBINED, it->comm, &it->handle);
+    case RSBLOCK: return MPI_Ireduce_scatter_block(COMBINED, it->comm, &it->handle);
+    case SCAN: return MPI_Iscan(COMBINED, it->comm, &it->handle);
+    case EXSCAN: return MPI_Iexscan(COMBINED, it->comm, &it->handle);
+    default: return MPI_ERR_ARG;
+    }
+}
+
+static int initialise(struct request *it) {
+    MPI_Info info = MPI_INFO_NULL;
+    switch (it->kind) {
+    case BARRIER: return INIT(Barrier)(it->comm, info, &it->handle);
+    case BCAST: return INIT(Bcast)(it->given, it->count, it->type->type, it->root, it->comm, info, &it->handle);
+    case GATHER: return INIT(Gather)(MOVED, it->root, it->comm, info, &it->handle);
+    case SCATTER: return INIT(Scatter)(MOVED, it->root, it->comm, info, &it->handle);
+    case ALLGATHER: return INIT(Allgather)(MOVED, it->comm, info, &it->handle);
+    case ALLTOALL: return INIT(Alltoall)(MOVED, it->comm, info, &it->handle);
+    case REDUCE: return INIT(Reduce)(COMBINED, it->root, it->comm, info, &it->handle);
+    case ALLREDUCE: return INIT(Allreduce)(COMBINED, it->comm, info, &it->handle);
+    case RSBLOCK: return INIT(Reduce_scatter_block)(COMBINED, it->comm, info, &it->handle);
+    case SCAN: return INIT(Scan)(COMBINED, it->comm, info, &it->handle);
+    case EXSCAN: return INIT(Exscan)(COMBINED, it->comm, info, &it->handle);
+    default: return MPI_ERR_ARG;
+    }
+}
+
+static void make_request(struct player *player) {
+    int end;
+    struct request *it = &player->requests[player->count];
+    *it = read_request(player, &end);
+    it->number = player->count++;
+    make_buffers(it);
+    if (it->persistent) {
+        initialise(it);
+        return;
+    }
+    put_values(player, it, end);
+    post(it);
+    it->starts = 1;
+    it->active = true;
+}
+
+static struct request *named(const struct player *player, int place) {
+    return &player->requests[number_of(player->text, player->line, place, player->count)];
+}
+
+static void start(struct player *player) {
+    struct request *it = named(player, 1);
+    if (it->active || !it->persistent)
+        stop(player->text->name, player->line->number, "request %d can't be started", it->number);
+    put_values(player, it, 2);
+    MPI_Start(&it->handle);
+    it->starts++;
+    it->active = true;
+}
+
+/* Completion */
+
+/* The requests that a line names, all of them where it names none. */
+static int gather_handles(const struct player *player, struct request **requests, MPI_Request *handles) {
+    int count = player->line->count > 1 ? player->line->count - 1 : player->count;
+    for (int place = 0; place < count; place++) {
+        requests[place] = player->line->count > 1 ? named(player, place + 1) : &player->requests[place];
+        handles[place] = requests[place]->handle;
+    }
+    return count;
+}
+
+static void complete(struct player *player) {
+    size_t room = (size_t)(player->line->count + player->count + 1);
+    struct request **requests = must(malloc(room * sizeof *requests));
+    MPI_Request *handles = must(malloc(room * sizeof(MPI_Request)));
+    MPI_Status *statuses = must(malloc(room * sizeof *statuses));
+    int *places = must(malloc(room * sizeof *places)), done = 0, flag;
+    int count = gather_handles(player, requests, handles);
+    if (is(player->line, "wait") || is(player->line, "waitall")) {
+        MPI_Waitall(count, handles, statuses);
+        for (done = 0; done < count; done++)
+            places[done] = done;
+    } else if (is(player->line, "waitany")) {
+        MPI_Waitany(count, handles, places, MPI_STATUS_IGNORE);
+        done = *places != MPI_UNDEFINED;
+    } else if (is(player->line, "waitsome")) {
+        MPI_Waitsome(count, handles, &done, places, statuses);
+    } else {
+        MPI_Test(handles, &flag, MPI_STATUS_IGNORE);
+        places[0] = 0;
+        done = flag;
+    }
+    for (int place = 0; place < count; place++)
+        requests[place]->handle = handles[place];
+    for (int place = 0; done != MPI_UNDEFINED && place < done; place++)
+        finish(player, requests[places[place]]);
+    free(places);
+    free(statuses);
+    free(handles);
+    free(requests);
+}
+
+static void play_line(struct player *player) {
+    const struct line *line = player->line;
+    if (is(line, "post") || is(line, "init"))
+        make_request(player);
+    else if (is(line, "start"))
+        start(player);
+    else if (is(line, "free"))
+        MPI_Request_free(&named(player, 1)->handle);
+    else if (is(line, "wait") || is(line, "waitall") || is(line, "waitany") || is(line, "waitsome") || is(line, "test"))
+        complete(player);
+    else if (!is(line, "rank"))
+        stop(player->text->name, line->number, "there is no command %s", line->words[0]);
+}
+
+/* Texts */
+
+static void make_communicators(struct player *player, MPI_Comm base) {
+    MPI_Group all, members;
+    player->comms[0] = base;
+    player->communicators = 1;
+    MPI_Comm_group(base, &all);
+    for (int place = 0; place < player->text->count; place++) {
+        struct line *line = &player->text->lines[place];
+        if (line->rank >= 0 || !is(line, "comm"))
+            continue;
+        if (player->communicators == MOST_COMMUNICATORS)
+            stop(player->text->name, line->number, "there are more than %d communicators", MOST_COMMUNICATORS);
+        int ranks[MOST_RANKS], count = 0;
+        while (count + 1 < line->count && count < MOST_RANKS) {
+            ranks[count] = number_of(player->text, line, count + 1, player->text->ranks);
+            count++;
+        }
+        MPI_Group_incl(all, count, ranks, &members);
+        MPI_Comm_create(base, members, &player->comms[player->communicators++]);
+        MPI_Group_free(&members);
+    }
+    MPI_Group_free(&all);
+}
+
+/* The unwritten `waitall` names what is under way alone: one library doesn't come back from a wait for what never was started. */
+static void complete_all(struct player *player) {
+    for (int number = 0; number < player->count; number++) {
+        struct request *it = &player->requests[number];
+        if (it->active)
+            MPI_Wait(&it->handle, MPI_STATUS_IGNORE);
+        finish(player, it);
+    }
+}
+
+/* The requests' lines in their order, and what they had is given back. */
+static struct output end_requests(struct player *player) {
+    struct output all = {must(calloc(1, 1)), 0, 1};
+    for (int number = 0; number < player->count; number++) {
+        struct request *it = &player->requests[number];
+        if (it->persistent && it->handle != MPI_REQUEST_NULL)
+            MPI_Request_free(&it->handle);
+        all.bytes = must(realloc(all.bytes, all.room = all.length + it->lines.length + 1));
+        memcpy(all.bytes + all.length, it->lines.bytes ? it->lines.bytes : "", it->lines.length + 1);
+        all.length += it->lines.length;
+        free(it->lines.bytes);
+        free(it->given);
+        free(it->got);
+    }
+    return all;
+}
+
+static void print_lines(struct output *mine, int rank, int ranks, MPI_Comm base) {
+    if (rank > 0) {
+        MPI_Send(mine->bytes, (int)mine->length, MPI_CHAR, 0, LINES_TAG, base);
+        return;
+    }
+    fwrite(mine->bytes, 1, mine->length, stdout);
+    for (int from = 1; from < ranks; from++) {
+        MPI_Status status;
+        int length;
+        MPI_Probe(from, LINES_TAG, base, &status);
+        MPI_Get_count(&status, MPI_CHAR, &length);
+        char *bytes = must(malloc((size_t)length + 1));
+        MPI_Recv(bytes, length, MPI_CHAR, from, LINES_TAG, base, MPI_STATUS_IGNORE);
+        fwrite(bytes, 1, (size_t)length, stdout);
+        free(bytes);
+    }
+    fflush(stdout);
+}
+
+static void play(const struct text *text, int rank, MPI_Comm base) {
+    struct player player = {.text = text, .rank = rank, .requests = must(calloc((size_t)text->count + 1, sizeof(struct request)))};
+    make_communicators(&player, base);
+    for (int place = 0; place < text->count; place++) {
+        player.line = &text->lines[place];
+        if (player.line->rank == rank)
+            play_line(&player);
+    }
+    complete_all(&player);
+    struct output lines = end_requests(&player);
+    print_lines(&lines, rank, text->ranks, base);
+    free(lines.bytes);
+    free(player.requests);
+    for (int place = 1; place < player.communicators; place++)
+        if (player.comms[place] != MPI_COMM_NULL)
+            MPI_Comm_free(&player.comms[place]);
+}
+
+static void play_file(const char *name, int rank, int size, bool alone) {
+    MPI_Comm base;
+    reading = true;
+    struct text text = read_text(name);
+    if (text.ranks > size)
+        stop(name, 0, "a text of %d ranks needs as many processes, and there are %d", text.ranks, size);
+    reading = false;
+    if (rank == 0 && !alone) {
+        printf("text %s\n", name);
+        fflush(stdout);
+    }
+    MPI_Comm_split(MPI_COMM_WORLD, rank < text.ranks, rank, &base);
+    if (rank < text.ranks)
+        play(&text, rank, base);
+    MPI_Comm_free(&base);
+    free_text(&text);
+}
+
+int main(int count, char **names) {
+    int rank, size;
+    MPI_Init(&count, &names);
+    MPI_Comm_rank(MPI_COMM_WORLD, &rank);
+    MPI_Comm_size(MPI_COMM_WORLD, &size);
+    process = rank;
+    if (count < 2 && rank == 0)
+        fprintf(stderr, "usage: mpirun -n RANKS run_text TEXT ...\n");
+    MPI_Op_create(take_last_nonzero, 0, &last_nonzero);
+    for (int place = 1; place < count; place++)
+        play_file(names[place], rank, size, count == 2);
+    MPI_Op_free(&last_nonzero);
+    MPI_Finalize();
+    return count < 2 ? 2 : 0;
+}
