@@ -34,6 +34,13 @@ pub enum Form {
     Dot,
 }
 
+/// An explanation as it is written, and the exit status of its verdict.
+#[derive(Debug, Drop)]
+pub struct ExplainedText {
+    pub lines: String,
+    pub status: u8,
+}
+
 /// Reads the text that has this name, and writes who waits for whom in it. Answers the exit status of its verdict. At a
 /// fault nothing is written, but at a write fault.
 pub fn explain_job<R: Read, W: Write>(
@@ -52,11 +59,26 @@ pub fn explain_job<R: Read, W: Write>(
     ensures unwritten { IfErr result (λ fault. fault ≢ JobFault.Write → Keeps (W.contents writer.old) (W.contents writer.new)) }
 {
     let text = read_text(alloc, reader)?;
-    let explanation = explained(alloc, &text)?;
+    let explained = explain_text(alloc, name, options, &text)?;
+    write_lines(writer, explained.lines.as_str().as_bytes())?;
+    Ok(explained.status)
+}
+
+/// Who waits for whom in the text that has this name, written.
+pub fn explain_text(
+    alloc: Global,
+    name: &str,
+    options: ExplainOptions,
+    text: &[u8],
+) -> Result<ExplainedText, JobFault>
+    ensures meaning { OnOk result (HasMeaning text.now) }
+    ensures status { IfOk result (λ explained. IsStatus explained.status) }
+    ensures faults { IfErr result (IsFaultOf text.now) }
+{
+    let explanation = explained(alloc, text)?;
     let status = explanation.verdict.status(options.is_strict);
-    let lines = written(alloc, name, options.form, &text, &explanation, status)?;
-    write_lines(writer, lines.as_str().as_bytes())?;
-    Ok(status)
+    let lines = written(alloc, name, options.form, text, &explanation, status)?;
+    Ok(ExplainedText { lines, status })
 }
 
 /// Who waits for whom in a text.

@@ -43,7 +43,7 @@ mod waiting;
 
 pub use course::{Choice, Course};
 pub use cure::Move;
-pub use explaining::{ExplainOptions, Form, explain_job};
+pub use explaining::{ExplainOptions, ExplainedText, Form, explain_job, explain_text};
 pub use explanation::{Explanation, Shown};
 pub use job::Job;
 pub use members::Members;

@@ -1,6 +1,7 @@
-use crate::running::{run, told};
+use crate::running::{run_colored, told};
 use coll_job::JobFault;
 use std::fs::Files;
+use std::io::IsTerminal;
 use std::process::ExitCode;
 use std::sync::Wait;
 use std::thread::Threads;
@@ -20,13 +21,23 @@ pub fn main_of<M: Threads + Wait + Sync + Files>(rt: &HostRuntime, machine: &M) 
         return ExitCode::from(told(None, JobFault::Memory, &mut errors));
     };
     let mut input = rt.reader();
-    let status = run(
+    let status = run_colored(
         machine,
         alloc,
+        takes_colors(rt),
         &words,
         &mut input,
         &mut io::writer(rt),
         &mut errors,
     );
     ExitCode::from(status)
+}
+
+/// Whether standard error is a terminal, and nobody asked for no colours (no-color.org).
+fn takes_colors(rt: &HostRuntime) -> bool {
+    let asks_for_none = match env::var(rt, "NO_COLOR") {
+        Ok(value) => !value.is_empty(),
+        Err(_) => false,
+    };
+    !asks_for_none && rt.stderr().is_terminal()
 }

@@ -1,33 +1,43 @@
-ghost use Rattle.std.specs.Prelude.{◌≡◌, ◌≢◌, ◌<◌, ◌≤◌, false, IfOk, IfErr};
+ghost use Rattle.std.specs.Prelude.{◌≡◌, ◌≢◌, ◌<◌, ◌≤◌, false, true, IfOk, IfErr};
 ghost use Rattle.std.specs.Io.KnownBytes.{Keeps};
 ghost use Rattle.coll_job.specs.Faults.{status_of};
-ghost use Rattle.coll_diagnosis.specs.Verdicts.{IsStatus};
-ghost use Rattle.coll_program.specs.Tasks.{workers_of, explains};
+ghost use Rattle.coll_program.specs.Tasks.{workers_of, may_write, IsStatusOf};
 
+use crate::keeping::keep;
 use crate::opening::open_text;
 use crate::words::{Task, Way, task_of};
 use clap::Error;
 use clap::error::ErrorKind;
-use coll_diagnosis::explain_job;
-use coll_job::{Counted, JobFault, plain_job};
+use coll_diagnosis::{ExplainOptions, Form, explain_job, explain_text};
+use coll_faults::check_job;
+use coll_job::{Counted, JobFault, plain_job, read_text};
 use coll_run::threaded_job;
 use std::alloc::Global;
 use std::fs::Files;
-use std::io::{Read, Write};
+use std::io::{Cursor, Read, Write};
 use std::sync::Wait;
 use std::thread::Threads;
 
 /// The exit status where a file can't be opened: that of a read fault.
 const UNOPENED: u8 = 1;
 
+/// The exit status where the explanation of a run can't be written: that of a write fault.
+const UNEXPLAINED: u8 = 1;
+
+/// How the explanation of a run is written.
+const EXPLAINED: ExplainOptions = ExplainOptions {
+    form: Form::Text,
+    is_strict: false,
+};
+
 /// How standard input is named where a text is shown.
 const STANDARD_INPUT: &str = "<stdin>";
 
 /// Does what the words of a command line ask for, the program's own name first: `colljob plain` writes the lines of a
-/// job text, `colljob run` has the text carried out by threads of `machine` and writes what they got, and `colljob explain`
-/// writes whether its runs stall. The text stands in the file of `machine` that the words name, or comes from `input`.
-/// Answers the exit status. At a fault nothing is written to `output`, but at a write fault, and the fault's line goes to
-/// `errors`; where that fails too, nobody is left to be told.
+/// job text, `colljob run` has the text carried out by threads of `machine` and writes what they got, `colljob explain`
+/// writes whether its runs stall, and `colljob check` tells its faults. The text stands in the file of `machine` that the words
+/// name, or comes from `input`. Answers the exit status. At a fault nothing is written to `output`, but at a write fault, and
+/// the fault's line goes to `errors`; where that fails too, nobody is left to be told.
 pub fn run<M: Threads + Wait + Sync + Files, R: Read, W: Write, E: Write>(
     machine: &M,
     alloc: Global,
@@ -37,10 +47,26 @@ pub fn run<M: Threads + Wait + Sync + Files, R: Read, W: Write, E: Write>(
     errors: &mut E,
 ) -> u8
     ensures statuses { result ≤ 6 }
-    // Only an answer, a fault of the streams and an explanation leave anything on standard output.
-    ensures unwritten { 1 < result → result ≢ 3 → result ≢ 6 → Keeps (W.contents output.old) (W.contents output.new) }
+    // Only an answer, a fault of the streams, an explanation and faults as JSON leave anything on standard output.
+    ensures unwritten { 3 < result → result ≢ 6 → Keeps (W.contents output.old) (W.contents output.new) }
 {
-    match task_of(alloc, words) {
+    run_colored(machine, alloc, false, words, input, output, errors)
+}
+
+/// As `run`, where `errors` may take colours.
+pub fn run_colored<M: Threads + Wait + Sync + Files, R: Read, W: Write, E: Write>(
+    machine: &M,
+    alloc: Global,
+    takes_colors: bool,
+    words: &[String],
+    input: &mut R,
+    output: &mut W,
+    errors: &mut E,
+) -> u8
+    ensures statuses { result ≤ 6 }
+    ensures unwritten { 3 < result → result ≢ 6 → Keeps (W.contents output.old) (W.contents output.new) }
+{
+    match task_of(alloc, takes_colors, words) {
         Ok(task) => do_task(machine, alloc, task, input, output, errors),
         Err(error) => help(&error, output, errors),
     }
@@ -56,16 +82,14 @@ pub fn do_task<M: Threads + Wait + Sync + Files, R: Read, W: Write, E: Write>(
     errors: &mut E,
 ) -> u8
     requires workers { workers_of task.way ≤ 8 }
-    ensures statuses { result ≤ 6 }
-    ensures unexplained_status { explains task.entry.way ≡ false → result ≤ 5 }
-    ensures unwritten { 1 < result → result ≢ 3 → result ≢ 6 → Keeps (W.contents output.old) (W.contents output.new) }
-    // Only an explanation writes anything with the statuses of a stall.
-    ensures unexplained { explains task.entry.way ≡ false → 1 < result → Keeps (W.contents output.old) (W.contents output.new) }
+    ensures status { IsStatusOf task.entry.way result }
+    // What may stand on standard output is said for each task and status.
+    ensures unwritten { may_write task.entry.way result ≡ false → Keeps (W.contents output.old) (W.contents output.new) }
 {
     let answer = match task.file {
-        None => write_answer(machine, alloc, task.way, STANDARD_INPUT, input, output),
+        None => write_answer(machine, alloc, task, STANDARD_INPUT, input, output, errors),
         Some(name) => match open_text(machine, name) {
-            Ok(mut file) => write_answer(machine, alloc, task.way, name, &mut file, output),
+            Ok(mut file) => write_answer(machine, alloc, task, name, &mut file, output, errors),
             Err(error) => {
                 let _ = writeln!(errors, "{name}: {error}");
                 return UNOPENED;
@@ -79,29 +103,56 @@ pub fn do_task<M: Threads + Wait + Sync + Files, R: Read, W: Write, E: Write>(
 }
 
 /// Reads a job text, which has this name, and writes what was asked for. Answers the exit status.
-fn write_answer<T: Threads + Wait + Sync, R: Read, W: Write>(
-    threads: &T,
+fn write_answer<M: Threads + Wait + Sync + Files, R: Read, W: Write, E: Write>(
+    machine: &M,
     alloc: Global,
-    way: Way,
+    task: Task<'_>,
     name: &str,
     text: &mut R,
     output: &mut W,
+    errors: &mut E,
 ) -> Result<u8, JobFault>
-    requires workers { workers_of way ≤ 8 }
-    ensures statuses { IfOk result IsStatus }
-    ensures done { explains way ≡ false → IfOk result (λ status. status ≡ 0) }
-    ensures unwritten { IfErr result (λ fault. 1 < status_of fault → Keeps (W.contents output.old) (W.contents output.new)) }
+    requires workers { workers_of task.way ≤ 8 }
+    ensures status { IfOk result (IsStatusOf task.entry.way) }
+    ensures unwritten { IfOk result (λ status. may_write task.entry.way status ≡ false → Keeps (W.contents output.old) (W.contents output.new)) }
+    ensures unwritten_fault { IfErr result (λ fault. may_write task.entry.way (status_of fault) ≡ false → Keeps (W.contents output.old) (W.contents output.new)) }
 {
-    match way {
-        Way::Plain => plain_job(alloc, &mut Counted::new(text), output)?,
-        Way::Run { workers } => {
-            threaded_job(threads, alloc, workers, &mut Counted::new(text), output)?
+    let mut reader = Counted::new(text);
+    match (task.way, task.explanation) {
+        (Way::Plain, _) => plain_job(alloc, &mut reader, output)?,
+        (Way::Run { workers }, None) => threaded_job(machine, alloc, workers, &mut reader, output)?,
+        (Way::Run { workers }, Some(file)) => {
+            let text = read_text(alloc, &mut reader)?;
+            let run = run_text(machine, alloc, workers, &text, output);
+            if run == Err(JobFault::Stalled) {
+                let lines = explain_text(alloc, name, EXPLAINED, &text)?.lines;
+                if let Err(error) = keep(machine, alloc, file, lines.as_str().as_bytes()) {
+                    let _ = told(task.file, JobFault::Stalled, errors);
+                    let _ = writeln!(errors, "{file}: {error}");
+                    return Ok(UNEXPLAINED);
+                }
+            }
+            run?
         }
-        Way::Explain(options) => {
-            return explain_job(alloc, name, options, &mut Counted::new(text), output);
-        }
+        (Way::Explain(options), _) => return explain_job(alloc, name, options, &mut reader, output),
+        (Way::Check(form), _) => return check_job(alloc, name, form, &mut reader, output, errors),
     }
     Ok(0)
+}
+
+/// Has a text that was read carried out.
+fn run_text<M: Threads + Wait + Sync, W: Write>(
+    machine: &M,
+    alloc: Global,
+    workers: u8,
+    text: &[u8],
+    output: &mut W,
+) -> Result<(), JobFault>
+    requires workers { workers ≤ 8 }
+    ensures unwritten { IfErr result (λ fault. fault ≢ JobFault.Write → Keeps (W.contents output.old) (W.contents output.new)) }
+{
+    let mut input = Cursor::new(text);
+    threaded_job(machine, alloc, workers, &mut Counted::new(&mut input), output)
 }
 
 /// Tells what clap has to say of the words: help on `output` with status 0, a wrong word on `errors` with status 2.

@@ -1,11 +1,12 @@
 //! The words of the command line.
 
-ghost use Rattle.std.specs.Prelude.{◌≤◌, IfOk};
+ghost use Rattle.std.specs.Prelude.{◌≡◌, ◌≤◌, IfOk};
 ghost use Rattle.coll_program.specs.Tasks.{workers_of};
 
 use clap::builder::ValueParser;
 use clap::{Arg, ArgAction, ArgMatches, Command, Error};
 use coll_diagnosis::{ExplainOptions, Form};
+use coll_faults::CheckForm;
 use std::alloc::{AllocError, Global};
 
 /// What the words of a command line ask for: something of a job text.
@@ -14,6 +15,8 @@ pub struct Task<'w> {
     pub way: Way,
     /// The file that has the text. Without one the text is read from standard input.
     pub file: Option<&'w str>,
+    /// The file that gets the explanation of a run that stalls, if one is wanted.
+    pub explanation: Option<&'w str>,
 }
 
 /// What is done with a job text.
@@ -25,6 +28,8 @@ pub enum Way {
     Run { workers: u8 },
     /// It is told whether its runs stall, and who then waits for whom.
     Explain(ExplainOptions),
+    /// All its faults are told, and where it has none what an explanation tells.
+    Check(CheckForm),
 }
 
 const MAX_WORKERS: u8 = 8;
@@ -37,8 +42,18 @@ const STRICT: &str = "strict";
 
 const FORM: &str = "form";
 
+const EXPLANATION: &str = "explain";
+
+const COLOR: &str = "color";
+
 /// How an explanation can be written.
 static FORMS: [&str; 3] = ["text", "json", "dot"];
+
+/// How the faults of a text can be written.
+static CHECK_FORMS: [&str; 2] = ["text", "json"];
+
+/// When colours are wanted.
+static COLORS: [&str; 3] = ["auto", "always", "never"];
 
 const NAME: &str = "colljob";
 
@@ -59,7 +74,8 @@ Its lines are `rank R req Q start S : VALUES`, here with the value 6 three times
 Exit status: 0 done; 1 a file can't be opened, read fault, write fault; 2 a fault of the text or of the words;
 3 stalled; 4 another refusal of the engine; 5 no memory, no thread, or a report that doesn't agree with the text;
 6 may stall.
-At a fault standard output stays empty, and one line on standard error tells it, behind the name of FILE.";
+At a fault standard output stays empty, and one line on standard error tells it, behind the name of FILE; `check` tells all
+faults of a text, each with its line.";
 
 /// The one command of the program, with its subcommands.
 fn command<'a>(alloc: Global) -> Result<Command<'a>, AllocError> {
@@ -74,7 +90,8 @@ fn command<'a>(alloc: Global) -> Result<Command<'a>, AllocError> {
         .subcommand_required(true)
         .subcommand(run_command(alloc)?)?
         .subcommand(plain_command(alloc)?)?
-        .subcommand(explain_command(alloc)?)
+        .subcommand(explain_command(alloc)?)?
+        .subcommand(check_command(alloc)?)
 }
 
 fn run_command<'a>(alloc: Global) -> Result<Command<'a>, AllocError> {
@@ -84,11 +101,16 @@ fn run_command<'a>(alloc: Global) -> Result<Command<'a>, AllocError> {
         .value_parser(ValueParser::unsigned(0, u64::from(MAX_WORKERS)))
         .default_value("2")
         .help("Progress threads beside a thread for each rank, 0 to 8");
+    let explanation = Arg::new(alloc, EXPLANATION)
+        .long("explain")
+        .value_name("OUT")
+        .help("Where the run stalls, writes to the file OUT why it does");
     Command::new(alloc, "run")
         .about(
             "Has a job text carried out by threads on one engine, and writes the values that they got",
         )
         .arg(workers)?
+        .arg(explanation)?
         .arg(text_file(alloc))
 }
 
@@ -118,6 +140,32 @@ fn explain_command<'a>(alloc: Global) -> Result<Command<'a>, AllocError> {
         .arg(text_file(alloc))
 }
 
+fn check_command<'a>(alloc: Global) -> Result<Command<'a>, AllocError> {
+    let form = Arg::new(alloc, FORM)
+        .long("format")
+        .value_name("FORMAT")
+        .value_parser(ValueParser::Names(&CHECK_FORMS))
+        .default_value("text")
+        .help(
+            "text for a reader on standard error, or json with an object in each line on standard output",
+        );
+    let color = Arg::new(alloc, COLOR)
+        .long("color")
+        .value_name("WHEN")
+        .value_parser(ValueParser::Names(&COLORS))
+        .default_value("auto")
+        .help(
+            "Whether text has colours; auto where standard error is a terminal and NO_COLOR isn't set",
+        );
+    Command::new(alloc, "check")
+        .about(
+            "Tells all faults of a job text, with their words and what may be meant; where it has none, whether it stalls",
+        )
+        .arg(form)?
+        .arg(color)?
+        .arg(text_file(alloc))
+}
+
 /// The word for a file.
 fn text_file<'a>(alloc: Global) -> Arg<'a> {
     Arg::new(alloc, FILE).value_name("FILE").help(
@@ -125,8 +173,13 @@ fn text_file<'a>(alloc: Global) -> Arg<'a> {
     )
 }
 
-/// The task that the words name. Else the error has what a user is told.
-pub fn task_of<'w>(alloc: Global, words: &'w [String]) -> Result<Task<'w>, Error>
+/// The task that the words name. Else the error has what a user is told. Whether colours are wanted is said by the words, or
+/// left to whether standard error takes them.
+pub fn task_of<'w>(
+    alloc: Global,
+    takes_colors: bool,
+    words: &'w [String],
+) -> Result<Task<'w>, Error>
     ensures { IfOk result (λ task. workers_of task.way ≤ 8) }
 {
     let matches = command(alloc)?.try_get_matches_from(words)?;
@@ -138,25 +191,51 @@ pub fn task_of<'w>(alloc: Global, words: &'w [String]) -> Result<Task<'w>, Error
         return Ok(Task {
             way: Way::Run { workers },
             file: file_of(run),
+            explanation: run.get_str(EXPLANATION),
         });
     }
     if let Some(explain) = matches.subcommand_matches("explain") {
-        return Ok(Task {
-            way: Way::Explain(ExplainOptions {
-                form: form_of(explain),
-                is_strict: explain.get_flag(STRICT),
-            }),
-            file: file_of(explain),
-        });
+        let options = ExplainOptions {
+            form: form_of(explain),
+            is_strict: explain.get_flag(STRICT),
+        };
+        return Ok(task(Way::Explain(options), explain));
     }
-    let file = match matches.subcommand_matches("plain") {
-        Some(plain) => file_of(plain),
-        None => None,
+    if let Some(check) = matches.subcommand_matches("check") {
+        return Ok(task(Way::Check(check_form_of(check, takes_colors)), check));
+    }
+    match matches.subcommand_matches("plain") {
+        Some(plain) => Ok(task(Way::Plain, plain)),
+        None => Ok(Task {
+            way: Way::Plain,
+            file: None,
+            explanation: None,
+        }),
+    }
+}
+
+/// A task on the file that the words behind a subcommand name.
+fn task<'w>(way: Way, matches: &ArgMatches<'w>) -> Task<'w>
+    ensures { result.way ≡ way }
+{
+    Task {
+        way,
+        file: file_of(matches),
+        explanation: None,
+    }
+}
+
+/// The form that the words behind `check` name.
+fn check_form_of(matches: &ArgMatches<'_>, takes_colors: bool) -> CheckForm {
+    if matches.get_str(FORM) == Some("json") {
+        return CheckForm::Json;
+    }
+    let is_colored = match matches.get_str(COLOR) {
+        Some("always") => true,
+        Some("never") => false,
+        _ => takes_colors,
     };
-    Ok(Task {
-        way: Way::Plain,
-        file,
-    })
+    CheckForm::Text { is_colored }
 }
 
 /// The form that the words behind `explain` name.

@@ -1,0 +1,9 @@
+-- Texts whose lines have no fault.
+use Rattle.std.specs.Prelude.{ℕ, Bool, List, is_ok}
+use Rattle.coll_history.specs.Cutting.{lines_of}
+use Rattle.coll_history.specs.Histories.{beginning}
+use Rattle.coll_history.specs.Judging.{judged}
+
+-- no line of the text has a fault; whether the requests of its ranks belong together isn't asked
+abbrev pub is_accepted : List ℕ → Bool
+is_accepted text = is_ok (judged 1 beginning (lines_of text))

@@ -1,0 +1,134 @@
+use crate::patch::Patch;
+use std::alloc::{AllocError, Global};
+
+/// A text whose faulty lines are mended one after another, so that the lines behind them can be judged.
+#[derive(Debug, Drop)]
+pub(crate) struct Draft<'t> {
+    lines: Vec<Line<'t>>,
+}
+
+/// A line of the text, or the lines in its place.
+#[derive(Debug, Drop)]
+enum Line<'t> {
+    Written(&'t [u8]),
+    Mended(Vec<u8>),
+}
+
+impl<'t> Draft<'t> {
+    /// Linear in the text.
+    pub(crate) fn new(alloc: Global, text: &'t [u8]) -> Result<Draft<'t>, AllocError> {
+        let body = match text {
+            [body @ .., b'\n'] => body,
+            _ => text,
+        };
+        let mut lines = Vec::new(alloc);
+        for line in body.split(|b| *b == b'\n') {
+            lines.push(Line::Written(line))?;
+        }
+        Ok(Draft { lines })
+    }
+
+    /// How many lines the text has.
+    pub(crate) fn last(&self) -> u32 {
+        let mut last: u32 = 0;
+        for _ in &self.lines {
+            last = last.saturating_add(1);
+        }
+        last
+    }
+
+    /// What stands in the line of that number, from 1 on.
+    pub(crate) fn line(&self, number: u32) -> &[u8] {
+        let Some(index) = (number as usize).checked_sub(1) else {
+            return b"";
+        };
+        match self.lines.get(index) {
+            Some(line) => line.bytes(),
+            None => b"",
+        }
+    }
+
+    /// All lines.
+    pub(crate) fn text(&self, alloc: Global) -> Result<Vec<u8>, AllocError> {
+        self.front(alloc, self.last(), &[])
+    }
+
+    /// The lines up to that number, with these patches.
+    pub(crate) fn front(
+        &self,
+        alloc: Global,
+        last: u32,
+        patches: &[Patch],
+    ) -> Result<Vec<u8>, AllocError> {
+        let mut lines = Vec::new(alloc);
+        for line in self.lines.iter().take(last as usize) {
+            lines.push(line.bytes())?;
+        }
+        for patch in patches {
+            let index = (patch.line as usize).saturating_sub(1);
+            if let Some(line) = lines.get_mut(index) {
+                *line = patch.block.as_slice();
+            }
+        }
+        joined(alloc, &lines)
+    }
+
+    /// Puts the patches in place of their lines.
+    pub(crate) fn mend(&mut self, patches: Vec<Patch>) {
+        for patch in patches {
+            let index = (patch.line as usize).saturating_sub(1);
+            if let Some(line) = self.lines.get_mut(index) {
+                *line = Line::Mended(patch.block);
+            }
+        }
+    }
+
+    /// In whose place each line of the draft stands. Linear in the text.
+    pub(crate) fn written(&self, alloc: Global) -> Result<Written, AllocError> {
+        let mut numbers = Vec::new(alloc);
+        let mut number: u32 = 0;
+        for line in &self.lines {
+            number = number.saturating_add(1);
+            for _ in line.bytes().split(|b| *b == b'\n') {
+                numbers.push(number)?;
+            }
+        }
+        Ok(Written { numbers })
+    }
+}
+
+/// For each line of a draft the line of the text in whose place it stands.
+#[derive(Debug, Drop)]
+pub(crate) struct Written {
+    numbers: Vec<u32>,
+}
+
+impl Written {
+    /// The line of the text for the line of the draft that has that number, from 1 on.
+    pub(crate) fn of(&self, number: u32) -> u32 {
+        let index = (number as usize).saturating_sub(1);
+        match self.numbers.get(index) {
+            Some(written) => *written,
+            None => number,
+        }
+    }
+}
+
+impl<'t> Line<'t> {
+    fn bytes(&self) -> &[u8] {
+        match self {
+            Line::Written(bytes) => bytes,
+            Line::Mended(bytes) => bytes,
+        }
+    }
+}
+
+/// Lines with a line feed behind each.
+fn joined(alloc: Global, lines: &[&[u8]]) -> Result<Vec<u8>, AllocError> {
+    let mut text = Vec::new(alloc);
+    for line in lines {
+        text.extend_from_slice(line)?;
+        text.push(b'\n')?;
+    }
+    Ok(text)
+}

@@ -1,0 +1,118 @@
+//! A fault of a line, examined: which words are meant, what may be meant, and how lines behind it can be judged.
+
+use crate::draft::Draft;
+use crate::finding::{Detail, Marked};
+use crate::line_faults::remark_of;
+use crate::mending::{Mending, first_accepted, mendings};
+use crate::patch::Patch;
+use crate::remark::{Proposal, Remark};
+use crate::scene::Scene;
+use crate::site::Site;
+use crate::suggestion::Suggestion;
+use coll_kinds::Refusal;
+use coll_script::Cause;
+use std::alloc::{AllocError, Global};
+
+/// What is known of the fault, and by which patches the text can be read past it.
+#[derive(Debug, Drop)]
+pub(crate) struct Examined {
+    pub detail: Detail,
+    pub mending: Option<Mending>,
+}
+
+/// Examines a line of the draft, none before which has a fault.
+pub(crate) fn examined(
+    alloc: Global,
+    draft: &Draft<'_>,
+    line: u32,
+    cause: Cause,
+) -> Result<Examined, Refusal> {
+    let Some(scene) = Scene::before(alloc, draft, line)? else {
+        return Ok(Examined {
+            detail: Detail::Bare,
+            mending: None,
+        });
+    };
+    let site = Site::new(alloc, draft, &scene, line)?;
+    let Some(remark) = remark_of(&site, cause)? else {
+        return Ok(Examined {
+            detail: Detail::Bare,
+            mending: first_accepted(alloc, draft, line, mendings(&site, cause)?)?,
+        });
+    };
+    let (marked, proposals) = marked(&site, remark);
+    let mut marked = marked;
+    let mut mending = None;
+    if let Some((suggestion, is_guess)) = first_tried(alloc, draft, line, proposals)? {
+        mending = Some(Mending {
+            patches: copied(alloc, suggestion.patches())?,
+            is_sure: !is_guess,
+        });
+        marked.suggestion = Some(suggestion);
+    }
+    if mending.is_none() {
+        mending = first_accepted(alloc, draft, line, mendings(&site, cause)?)?;
+    }
+    Ok(Examined {
+        detail: Detail::Words(marked),
+        mending,
+    })
+}
+
+/// The words that a remark speaks of, and what it proposes.
+fn marked(site: &Site<'_>, remark: Remark) -> (Marked, Vec<Proposal>) {
+    let Remark {
+        word,
+        count,
+        label,
+        notes,
+        proposals,
+    } = remark;
+    let last = word.saturating_add(count).saturating_sub(1);
+    let start = match (site.words.get(word), site.words.last()) {
+        (Some(word), _) => word.start,
+        (None, Some(last)) => last.end().saturating_add(1),
+        (None, None) => 0,
+    };
+    let end = match site.words.get(last) {
+        Some(word) => word.end(),
+        None => start.saturating_add(1),
+    };
+    let marked = Marked {
+        word,
+        start,
+        len: end.saturating_sub(start).max(1),
+        label,
+        notes,
+        suggestion: None,
+    };
+    (marked, proposals)
+}
+
+/// The first proposal that is accepted, and whether it is a guess.
+fn first_tried(
+    alloc: Global,
+    draft: &Draft<'_>,
+    line: u32,
+    proposals: Vec<Proposal>,
+) -> Result<Option<(Suggestion, bool)>, Refusal> {
+    for proposal in proposals {
+        let Proposal {
+            help,
+            patches,
+            is_guess,
+        } = proposal;
+        if let Some(suggestion) = Suggestion::tried(alloc, draft, line, help, patches)? {
+            return Ok(Some((suggestion, is_guess)));
+        }
+    }
+    Ok(None)
+}
+
+fn copied(alloc: Global, patches: &[Patch]) -> Result<Vec<Patch>, AllocError> {
+    let mut copies = Vec::new(alloc);
+    for patch in patches {
+        copies.push(patch.copied(alloc)?)?;
+    }
+    Ok(copies)
+}

@@ -1,0 +1,220 @@
+use crate::accepting::accepted;
+use crate::draft::Draft;
+use crate::examining::{Examined, examined};
+use crate::finding::{Detail, Finding};
+use crate::patch::Patch;
+use crate::place_faults::{PlaceFault, place_faults};
+use crate::suggestion::Suggestion;
+use crate::words::{push_word, shown, words_of};
+use coll_kinds::Refusal;
+use coll_script::{Cause, Fault, Script, ScriptFault};
+use std::alloc::Global;
+
+/// All faults of a text that has one.
+#[derive(Debug, Drop)]
+pub struct Faults {
+    /// The fault of the text.
+    pub first: Finding,
+    /// The first fault of the text in which that is mended, and so on; or what else is wrong after the last line.
+    pub further: Vec<Finding>,
+    /// Whether lines behind the last of them weren't judged: there are too many, or its line can't be mended.
+    pub is_cut: bool,
+}
+
+/// The most faults that are told of the lines of a text.
+pub const MOST_FAULTS: u32 = 64;
+
+impl Faults {
+    /// The faults of a text; nothing where it has none. For each fault the text is read again several times.
+    pub fn of(alloc: Global, text: &[u8]) -> Result<Option<Faults>, Refusal> {
+        match Script::read(alloc, text) {
+            Ok(_) => Ok(None),
+            Err(ScriptFault::NoMemory) => Err(Refusal::NoMemory),
+            Err(ScriptFault::Text(fault)) => Ok(Some(Faults::from_first(alloc, text, fault)?)),
+        }
+    }
+
+    /// The faults of a text that has this first one.
+    fn from_first(alloc: Global, text: &[u8], fault: Fault) -> Result<Faults, Refusal> {
+        let mut search = Search {
+            alloc,
+            draft: Draft::new(alloc, text)?,
+            is_sure: true,
+            goes_on: true,
+            is_cut: false,
+            further: Vec::new(alloc),
+        };
+        let detail = search.detail(fault)?;
+        let first = Finding { fault, detail };
+        search.find_further()?;
+        Ok(Faults {
+            first,
+            is_cut: search.is_cut || search.goes_on,
+            further: search.further,
+        })
+    }
+
+    /// How many there are.
+    pub fn count(&self) -> usize {
+        self.further.len().saturating_add(1)
+    }
+}
+
+/// How far a text was judged.
+#[derive(Debug, Drop)]
+struct Search<'t> {
+    alloc: Global,
+    draft: Draft<'t>,
+    /// Whether each mended line still posts and starts what it was meant to.
+    is_sure: bool,
+    /// Whether there may be further faults.
+    goes_on: bool,
+    /// Whether the last line that was judged couldn't be mended, and lines follow it.
+    is_cut: bool,
+    further: Vec<Finding>,
+}
+
+impl<'t> Search<'t> {
+    /// Finds the faults behind the first one.
+    fn find_further(&mut self) -> Result<(), Refusal> {
+        for _ in 1..MOST_FAULTS {
+            if !self.goes_on {
+                break;
+            }
+            self.find_next()?;
+        }
+        Ok(())
+    }
+
+    /// Finds the first fault of the mended text.
+    fn find_next(&mut self) -> Result<(), Refusal> {
+        let text = self.draft.text(self.alloc)?;
+        match Script::read(self.alloc, &text) {
+            Ok(_) => self.goes_on = false,
+            Err(ScriptFault::NoMemory) => return Err(Refusal::NoMemory),
+            Err(ScriptFault::Text(fault)) => {
+                if fault.cause == Cause::TooLong || (is_of_all(fault.cause) && !self.is_sure) {
+                    self.goes_on = false;
+                    return Ok(());
+                }
+                let fault = Fault {
+                    line: self.draft.written(self.alloc)?.of(fault.line),
+                    cause: fault.cause,
+                };
+                let at = self.further.len();
+                let detail = self.detail(fault)?;
+                self.further.insert(at, Finding { fault, detail })?;
+            }
+        }
+        Ok(())
+    }
+
+    /// What is known of a fault of the draft. Its line is mended.
+    fn detail(&mut self, fault: Fault) -> Result<Detail, Refusal> {
+        if is_of_all(fault.cause) {
+            self.goes_on = false;
+            return self.place_detail(fault);
+        }
+        if fault.cause == Cause::TooLong {
+            self.goes_on = false;
+            return Ok(Detail::Bare);
+        }
+        let Examined { detail, mending } = examined(self.alloc, &self.draft, fault.line, fault.cause)?;
+        match mending {
+            Some(mending) => {
+                self.is_sure = self.is_sure && mending.is_sure;
+                self.draft.mend(mending.patches);
+            }
+            None => {
+                self.goes_on = false;
+                self.is_cut = fault.line < self.draft.last();
+            }
+        }
+        Ok(detail)
+    }
+
+    /// What is known of a fault that is judged after the last line. The others are put to the further ones.
+    fn place_detail(&mut self, fault: Fault) -> Result<Detail, Refusal> {
+        let text = self.draft.text(self.alloc)?;
+        let Some(history) = accepted(self.alloc, &text)? else {
+            return Ok(Detail::Bare);
+        };
+        let mut found = Detail::Bare;
+        let mut is_found = false;
+        let written = self.draft.written(self.alloc)?;
+        for place in place_faults(self.alloc, &written, &history)? {
+            let line = place.line().unwrap_or(self.draft.last());
+            let this = Fault {
+                line,
+                cause: place.cause(),
+            };
+            let detail = Detail::Place {
+                suggestion: self.addition(&place)?,
+                fault: place,
+            };
+            if !is_found && this == fault {
+                found = detail;
+                is_found = true;
+            } else {
+                self.further.push(Finding {
+                    fault: this,
+                    detail,
+                })?;
+            }
+        }
+        Ok(found)
+    }
+
+    /// A line that a rank lacks, added behind the last one.
+    fn addition(&self, place: &PlaceFault) -> Result<Option<Suggestion>, Refusal> {
+        let PlaceFault::MissingPlace(missing) = place else {
+            return Ok(None);
+        };
+        let Some((rank, _)) = missing.lacking.first() else {
+            return Ok(None);
+        };
+        let post = self.draft.line(missing.first.line);
+        for has_values in [false, true] {
+            let tried = self.added(*rank, post, has_values)?;
+            if tried.is_some() {
+                return Ok(tried);
+            }
+        }
+        Ok(None)
+    }
+
+    /// The line of another rank's request, added to the section of a rank, with its values or without.
+    fn added(
+        &self,
+        rank: u8,
+        post: &[u8],
+        has_values: bool,
+    ) -> Result<Option<Suggestion>, Refusal> {
+        let mut line = Vec::new(self.alloc);
+        for word in words_of(self.alloc, post)? {
+            if word.bytes == b":".as_slice() && !has_values {
+                break;
+            }
+            push_word(&mut line, word.bytes)?;
+        }
+        let shown = shown(self.alloc, &line)?;
+        let values = if has_values { ", with its own values" } else { "" };
+        let help = format!(in self.alloc; "add `{shown}` to rank {rank}{values}")?;
+        let last = self.draft.last();
+        let section = format!(in self.alloc; "\nrank {rank}\n")?;
+        let mut block = Vec::from_slice(self.alloc, self.draft.line(last))?;
+        block.extend_from_slice(section.as_str().as_bytes())?;
+        block.extend_from_slice(&line)?;
+        let mut patches = Vec::new(self.alloc);
+        patches.push(Patch { line: last, block })?;
+        Suggestion::tried(self.alloc, &self.draft, last, help, patches)
+    }
+}
+
+/// Whether a fault is one of the requests of all ranks.
+fn is_of_all(cause: Cause) -> bool {
+    matches!(
+        cause,
+        Cause::PlaceMismatch | Cause::PlaceMissing | Cause::StartMissing
+    )
+}

@@ -1,0 +1,380 @@
+//! Faults as JSON, an object in each line.
+
+use crate::faults::Faults;
+use crate::finding::{Detail, Finding, Marked};
+use crate::place_faults::{Mismatch, MissingPlace, MissingStart, PlaceFault, Standing};
+use crate::suggestion::Suggestion;
+use crate::words::{shown, shown_as};
+use coll_diagnosis::Source;
+use serde::Serialize;
+use serde_json::Error;
+use std::alloc::{AllocError, Global};
+
+/// A fault of a line, or one of which nothing more is known.
+#[derive(Drop, Serialize)]
+struct OfLine<'e> {
+    reason: &'static str,
+    line: u32,
+    cause: &'e str,
+    word: Option<usize>,
+    column: Option<usize>,
+    length: Option<usize>,
+    found: Option<&'e str>,
+    label: Option<&'e str>,
+    notes: Vec<&'e str>,
+    help: Vec<&'e str>,
+    replace: Vec<Replaced>,
+}
+
+/// Lines in place of one.
+#[derive(Drop, Serialize)]
+struct Replaced {
+    line: u32,
+    by: Vec<String>,
+}
+
+/// A place whose requests differ.
+#[derive(Drop, Serialize)]
+struct OfMismatch<'e> {
+    reason: &'static str,
+    line: u32,
+    cause: &'static str,
+    comm: usize,
+    place: usize,
+    first: Posted<'e>,
+    differs: Differing<'e>,
+    members: Vec<Member>,
+}
+
+/// A place that some members lack.
+#[derive(Drop, Serialize)]
+struct OfMissingPlace<'e> {
+    reason: &'static str,
+    line: u32,
+    cause: &'static str,
+    comm: usize,
+    place: usize,
+    first: Posted<'e>,
+    lacking: Vec<Lacking>,
+    help: Vec<&'e str>,
+    replace: Vec<Replaced>,
+}
+
+/// A place that is started differently often.
+#[derive(Drop, Serialize)]
+struct OfMissingStart<'e> {
+    reason: &'static str,
+    line: u32,
+    cause: &'static str,
+    comm: usize,
+    place: usize,
+    members: Vec<Started<'e>>,
+}
+
+#[derive(Drop, Serialize)]
+struct Posted<'e> {
+    rank: u8,
+    line: u32,
+    text: &'e str,
+}
+
+#[derive(Drop, Serialize)]
+struct Differing<'e> {
+    rank: u8,
+    line: u32,
+    text: &'e str,
+    #[serde(rename = "in")]
+    fields: Vec<&'static str>,
+}
+
+#[derive(Drop, Serialize)]
+struct Member {
+    rank: u8,
+    line: u32,
+    agrees: bool,
+}
+
+#[derive(Drop, Serialize)]
+struct Lacking {
+    rank: u8,
+    has: usize,
+}
+
+#[derive(Drop, Serialize)]
+struct Started<'e> {
+    rank: u8,
+    line: u32,
+    starts: &'e [u32],
+}
+
+/// The last line.
+#[derive(Drop, Serialize)]
+struct Checked {
+    reason: &'static str,
+    faults: usize,
+    cut: bool,
+    status: u8,
+}
+
+/// An object for each fault, and one for their number.
+pub(crate) fn faults_json(
+    alloc: Global,
+    text: &[u8],
+    faults: &Faults,
+    status: u8,
+) -> Result<String, Error> {
+    let source = Source::new(alloc, text)?;
+    let mut out = String::new(alloc);
+    push_finding(alloc, &source, &faults.first, &mut out)?;
+    for finding in &faults.further {
+        push_finding(alloc, &source, finding, &mut out)?;
+    }
+    let checked = Checked {
+        reason: "checked",
+        faults: faults.count(),
+        cut: faults.is_cut,
+        status,
+    };
+    push_line(alloc, &checked, &mut out)?;
+    Ok(out)
+}
+
+/// The object that tells that there is none.
+pub(crate) fn faultless_json(alloc: Global, status: u8) -> Result<String, Error> {
+    let mut out = String::new(alloc);
+    let checked = Checked {
+        reason: "checked",
+        faults: 0,
+        cut: false,
+        status,
+    };
+    push_line(alloc, &checked, &mut out)?;
+    Ok(out)
+}
+
+fn push_finding(
+    alloc: Global,
+    source: &Source<'_>,
+    finding: &Finding,
+    out: &mut String,
+) -> Result<(), Error> {
+    match &finding.detail {
+        Detail::Words(marked) => push_words(alloc, source, finding, marked, out),
+        Detail::Place { fault, suggestion } => match fault {
+            PlaceFault::Mismatch(mismatch) => {
+                push_mismatch(alloc, source, finding.fault.line, mismatch, out)
+            }
+            PlaceFault::MissingPlace(missing) => {
+                push_missing_place(alloc, source, finding.fault.line, missing, suggestion, out)
+            }
+            PlaceFault::MissingStart(missing) => {
+                push_missing_start(alloc, finding.fault.line, missing, out)
+            }
+        },
+        Detail::Bare => push_bare(alloc, finding, out),
+    }
+}
+
+fn push_words(
+    alloc: Global,
+    source: &Source<'_>,
+    finding: &Finding,
+    marked: &Marked,
+    out: &mut String,
+) -> Result<(), Error> {
+    let cause = format!(in alloc; "{}", finding.fault.cause)?;
+    let found = found(alloc, source.line(finding.fault.line), marked)?;
+    let object = OfLine {
+        reason: "fault",
+        line: finding.fault.line,
+        cause: cause.as_str(),
+        word: Some(marked.word),
+        column: Some(marked.start.saturating_add(1)),
+        length: Some(marked.len),
+        found: if found.is_empty() { None } else { Some(found.as_str()) },
+        label: Some(marked.label.as_str()),
+        notes: marked.notes.iter().map(|note| note.as_str()).collect(alloc)?,
+        help: help(alloc, &marked.suggestion)?,
+        replace: replaced(alloc, &marked.suggestion)?,
+    };
+    push_line(alloc, &object, out)
+}
+
+fn push_bare(alloc: Global, finding: &Finding, out: &mut String) -> Result<(), Error> {
+    let cause = format!(in alloc; "{}", finding.fault.cause)?;
+    let object = OfLine {
+        reason: "fault",
+        line: finding.fault.line,
+        cause: cause.as_str(),
+        word: None,
+        column: None,
+        length: None,
+        found: None,
+        label: None,
+        notes: Vec::new(alloc),
+        help: Vec::new(alloc),
+        replace: Vec::new(alloc),
+    };
+    push_line(alloc, &object, out)
+}
+
+/// The words that are marked, as they are shown; none where a word is missing.
+fn found(alloc: Global, line: &[u8], marked: &Marked) -> Result<String, AllocError> {
+    let mut found = String::new(alloc);
+    for byte in line.iter().skip(marked.start).take(marked.len) {
+        found.push(shown_as(*byte))?;
+    }
+    String::from_str(alloc, found.as_str().trim())
+}
+
+/// A list of what a user is told of a suggestion.
+fn help<'e>(
+    alloc: Global,
+    suggestion: &'e Option<Suggestion>,
+) -> Result<Vec<&'e str>, AllocError> {
+    let mut help = Vec::new(alloc);
+    if let Some(suggestion) = suggestion {
+        help.push(suggestion.help())?;
+    }
+    Ok(help)
+}
+
+/// Which lines it replaces by which.
+fn replaced(alloc: Global, suggestion: &Option<Suggestion>) -> Result<Vec<Replaced>, AllocError> {
+    let mut all = Vec::new(alloc);
+    if let Some(suggestion) = suggestion {
+        for patch in suggestion.patches() {
+            let mut by = Vec::new(alloc);
+            for line in patch.block.split(|b| *b == b'\n') {
+                by.push(shown(alloc, line)?)?;
+            }
+            all.push(Replaced {
+                line: patch.line,
+                by,
+            })?;
+        }
+    }
+    Ok(all)
+}
+
+/// A line of the text, as it is shown.
+fn line_of(alloc: Global, source: &Source<'_>, line: u32) -> Result<String, AllocError> {
+    let shown = source.shown(alloc, line)?;
+    String::from_str(alloc, shown.as_str().trim())
+}
+
+fn push_mismatch(
+    alloc: Global,
+    source: &Source<'_>,
+    line: u32,
+    mismatch: &Mismatch,
+    out: &mut String,
+) -> Result<(), Error> {
+    let first = line_of(alloc, source, mismatch.first.line)?;
+    let differs = line_of(alloc, source, mismatch.differs.line)?;
+    let object = OfMismatch {
+        reason: "fault",
+        line,
+        cause: "place mismatch",
+        comm: mismatch.comm,
+        place: mismatch.place,
+        first: Posted {
+            rank: mismatch.first.rank,
+            line: mismatch.first.line,
+            text: first.as_str(),
+        },
+        differs: Differing {
+            rank: mismatch.differs.rank,
+            line: mismatch.differs.line,
+            text: differs.as_str(),
+            fields: mismatch.fields.iter().map(|field| field.field).collect(alloc)?,
+        },
+        members: mismatch.members.iter().map(|standing| member(*standing)).collect(alloc)?,
+    };
+    push_line(alloc, &object, out)
+}
+
+fn member(standing: Standing) -> Member {
+    Member {
+        rank: standing.rank,
+        line: standing.line,
+        agrees: standing.agrees,
+    }
+}
+
+fn push_missing_place(
+    alloc: Global,
+    source: &Source<'_>,
+    line: u32,
+    missing: &MissingPlace,
+    suggestion: &Option<Suggestion>,
+    out: &mut String,
+) -> Result<(), Error> {
+    let first = line_of(alloc, source, missing.first.line)?;
+    let object = OfMissingPlace {
+        reason: "fault",
+        line,
+        cause: "place missing",
+        comm: missing.comm,
+        place: missing.place,
+        first: Posted {
+            rank: missing.first.rank,
+            line: missing.first.line,
+            text: first.as_str(),
+        },
+        lacking: lacking(alloc, missing)?,
+        help: help(alloc, suggestion)?,
+        replace: replaced(alloc, suggestion)?,
+    };
+    push_line(alloc, &object, out)
+}
+
+fn lacking(alloc: Global, missing: &MissingPlace) -> Result<Vec<Lacking>, AllocError> {
+    let mut all = Vec::new(alloc);
+    for (rank, has) in &missing.lacking {
+        all.push(Lacking {
+            rank: *rank,
+            has: *has,
+        })?;
+    }
+    Ok(all)
+}
+
+fn push_missing_start(
+    alloc: Global,
+    line: u32,
+    missing: &MissingStart,
+    out: &mut String,
+) -> Result<(), Error> {
+    let object = OfMissingStart {
+        reason: "fault",
+        line,
+        cause: "start missing",
+        comm: missing.comm,
+        place: missing.place,
+        members: started(alloc, missing)?,
+    };
+    push_line(alloc, &object, out)
+}
+
+fn started<'e>(
+    alloc: Global,
+    missing: &'e MissingStart,
+) -> Result<Vec<Started<'e>>, AllocError> {
+    let mut all = Vec::new(alloc);
+    for (rank, line, starts) in &missing.members {
+        all.push(Started {
+            rank: *rank,
+            line: *line,
+            starts: starts.as_slice(),
+        })?;
+    }
+    Ok(all)
+}
+
+fn push_line<T: Serialize>(alloc: Global, object: &T, out: &mut String) -> Result<(), Error> {
+    let line = serde_json::to_string(alloc, object)?;
+    out.push_str(line.as_str())?;
+    out.push('\n')?;
+    Ok(())
+}

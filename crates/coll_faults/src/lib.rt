@@ -1,0 +1,54 @@
+//! All faults of a job text at once: where each stands, what is known there, and what may be meant.
+//!
+//! The first fault is that of [`coll_script::Script::read`]. Then its line is mended, so that the text can be read past it, and
+//! the next fault is the first one of the mended text. A suggestion is told only where the lines of the changed text were read
+//! and have no fault, up to the one for which it is made.
+//!
+//! | Module | Has |
+//! |---|---|
+//! | `words`, `patch`, `draft` | words of lines; `Patch`, lines in place of one; `Draft`, a text with patches |
+//! | `accepting` | whether lines have a fault |
+//! | `scene`, `site` | what the lines before a faulty one have said; `Site`, the faulty line among them |
+//! | `vocabulary` | the words of the format, and what other words may be meant to be |
+//! | `remark` | `Remark`, what is known of a faulty line |
+//! | `signature_faults`, `value_faults`, `request_faults`, `line_faults` | remarks by the rule that is broken |
+//! | `suggestion` | `Suggestion`, a change that was tried |
+//! | `mending` | what stands in place of a faulty line while those behind it are judged |
+//! | `postings`, `difference`, `place_faults` | requests at one place that don't belong together |
+//! | `finding`, `examining`, `faults` | `Faults`, all that is found in one text |
+//! | `excerpt`, `text_form`, `json_form` | faults as lines for a reader, and as JSON |
+//! | `checking` | `check_job`, from a reader to writers |
+#![tactic(auto)]
+
+mod accepting;
+mod checking;
+mod difference;
+mod draft;
+mod examining;
+mod excerpt;
+mod faults;
+mod finding;
+mod json_form;
+mod line_faults;
+mod mending;
+mod patch;
+mod place_faults;
+mod postings;
+mod remark;
+mod request_faults;
+mod scene;
+mod signature_faults;
+mod site;
+mod suggestion;
+mod text_form;
+mod value_faults;
+mod vocabulary;
+mod words;
+
+pub use checking::{CheckForm, check_job};
+pub use difference::Difference;
+pub use faults::{Faults, MOST_FAULTS};
+pub use finding::{Detail, Finding, Marked};
+pub use patch::Patch;
+pub use place_faults::{Mismatch, MissingPlace, MissingStart, PlaceFault, Standing};
+pub use suggestion::Suggestion;

@@ -1,0 +1,200 @@
+//! How lines behind a faulty one can be judged: what stands in its place.
+
+use crate::accepting::accepted;
+use crate::draft::Draft;
+use crate::line_faults::guessed_ranks;
+use crate::patch::Patch;
+use crate::site::{Site, last_signed};
+use crate::vocabulary::{kind_words, meant};
+use crate::words::{first_word, push_word};
+use coll_kinds::{Datatype, Refusal};
+use coll_script::Cause;
+use std::alloc::Global;
+
+/// Patches by which a text can be read past a faulty line.
+#[derive(Debug, Drop)]
+pub(crate) struct Mending {
+    pub patches: Vec<Patch>,
+    /// Whether the line still posts and starts what it was surely meant to.
+    pub is_sure: bool,
+}
+
+/// The most values that are written in place of wrong ones.
+const MOST_VALUES: usize = 65_536;
+
+/// What may stand in place of the line, the likeliest first. Nothing where no line behind it can be judged.
+pub(crate) fn mendings(site: &Site<'_>, cause: Cause) -> Result<Vec<Mending>, Refusal> {
+    let mut all = Vec::new(site.alloc);
+    match cause {
+        Cause::TooManyRequests => {}
+        Cause::MissingRanks => {
+            if has_ranks_later(site) {
+                push(&mut all, site.dropped()?, true)?;
+            }
+        }
+        Cause::UnknownCommand => {
+            let is_sure = !names_collective(site)?;
+            push_posts(site, "post", &mut all, is_sure)?;
+        }
+        _ => by_command(site, &mut all)?,
+    }
+    Ok(all)
+}
+
+fn push(all: &mut Vec<Mending>, patches: Vec<Patch>, is_sure: bool) -> Result<(), Refusal> {
+    all.push(Mending { patches, is_sure })?;
+    Ok(())
+}
+
+/// What may stand in place of a line with that first word.
+fn by_command(site: &Site<'_>, all: &mut Vec<Mending>) -> Result<(), Refusal> {
+    if site.begins("post") || site.begins("init") {
+        push_same(site, all)?;
+        let verb = if site.begins("post") { "post" } else { "init" };
+        return push_posts(site, verb, all, false);
+    }
+    if site.begins("start") {
+        push_start(site, all)?;
+        return push(all, site.dropped()?, false);
+    }
+    if site.begins("wait") || site.begins("waitany") || site.begins("waitsome") || site.begins("waitall") {
+        return push(all, site.patch(Vec::from_slice(site.alloc, b"waitall")?)?, true);
+    }
+    if site.begins("comm") && site.scene.rank().is_none() {
+        push(all, site.patch(all_ranks(site)?)?, false)?;
+    }
+    if site.begins("rank") {
+        return push(all, section(site)?, false);
+    }
+    if site.begins("ranks") && !site.scene.has_ranks() {
+        let ranks = guessed_ranks(site);
+        let line = format!(in site.alloc; "ranks {ranks}")?;
+        return push(all, site.patch(Vec::from_slice(site.alloc, line.as_str().as_bytes())?)?, false);
+    }
+    let is_sure = site.begins("ranks") || site.begins("test") || site.begins("free");
+    push(all, site.dropped()?, is_sure)
+}
+
+/// Posts that make one request, as the line was meant to; where it is sure that it wasn't, none.
+fn push_posts(
+    site: &Site<'_>,
+    verb: &str,
+    all: &mut Vec<Mending>,
+    is_none: bool,
+) -> Result<(), Refusal> {
+    if !is_none {
+        let comm = site.number(1).unwrap_or(0);
+        for comm in [comm, 0] {
+            let line = format!(in site.alloc; "{verb} {comm} barrier")?;
+            let line = Vec::from_slice(site.alloc, line.as_str().as_bytes())?;
+            push(all, site.patch(line)?, false)?;
+        }
+    }
+    push(all, site.dropped()?, false)
+}
+
+/// The same signature with other values.
+fn push_same(site: &Site<'_>, all: &mut Vec<Mending>) -> Result<(), Refusal> {
+    let Some((end, history)) = site.signed()? else {
+        return Ok(());
+    };
+    let Some((comm, sig)) = last_signed(&history) else {
+        return Ok(());
+    };
+    let mut line = Vec::new(site.alloc);
+    for word in site.words.iter().take(end) {
+        push_word(&mut line, word.bytes)?;
+    }
+    if site.begins("post") {
+        let due = site.due(comm, sig);
+        push_zeros(&mut line, due.values, sig.ty)?;
+    }
+    push(all, site.patch(line)?, true)
+}
+
+/// A start of the same request with other values.
+fn push_start(site: &Site<'_>, all: &mut Vec<Mending>) -> Result<(), Refusal> {
+    let made = site.made()?;
+    let request = site.number(1).and_then(|number| usize::try_from(number).ok());
+    if let Some(request) = request.and_then(|request| made.get(request)) {
+        let mut line = Vec::from_slice(site.alloc, b"start")?;
+        push_word(&mut line, site.word(1))?;
+        let due = site.due(request.comm, request.sig);
+        push_zeros(&mut line, due.values, request.sig.ty)?;
+        push(all, site.patch(line)?, true)?;
+    }
+    Ok(())
+}
+
+/// Puts a colon and values behind a line.
+fn push_zeros(line: &mut Vec<u8>, values: usize, ty: Datatype) -> Result<(), Refusal> {
+    if values > 0 {
+        push_word(line, b":")?;
+    }
+    let zero: &[u8] = if ty.is_pair() { b"0,0" } else { b"0" };
+    for _ in 0..values.min(MOST_VALUES) {
+        push_word(line, zero)?;
+    }
+    Ok(())
+}
+
+/// A communicator of all ranks.
+fn all_ranks(site: &Site<'_>) -> Result<Vec<u8>, Refusal> {
+    let mut line = Vec::from_slice(site.alloc, b"comm")?;
+    for rank in 0..site.scene.ranks() {
+        let word = format!(in site.alloc; "{rank}")?;
+        push_word(&mut line, word.as_str().as_bytes())?;
+    }
+    Ok(line)
+}
+
+/// The section that begins here is left out.
+fn section(site: &Site<'_>) -> Result<Vec<Patch>, Refusal> {
+    let mut patches = site.dropped()?;
+    for number in site.line.saturating_add(1)..=site.draft.last() {
+        if first_word(site.draft.line(number)) == b"rank".as_slice() {
+            break;
+        }
+        patches.push(Patch {
+            line: number,
+            block: Vec::from_slice(site.alloc, b"#")?,
+        })?;
+    }
+    Ok(patches)
+}
+
+/// Whether a later line begins with `ranks`.
+fn has_ranks_later(site: &Site<'_>) -> bool {
+    let mut has = false;
+    for number in site.line.saturating_add(1)..=site.draft.last() {
+        has = has || first_word(site.draft.line(number)) == b"ranks".as_slice();
+    }
+    has
+}
+
+/// Whether some word may be meant to name a collective.
+fn names_collective(site: &Site<'_>) -> Result<bool, Refusal> {
+    let kinds = kind_words(site.alloc)?;
+    for word in &site.words {
+        if meant(site.alloc, word.bytes, &kinds)?.is_some() {
+            return Ok(true);
+        }
+    }
+    Ok(false)
+}
+
+/// The first of these mendings that is accepted.
+pub(crate) fn first_accepted(
+    alloc: Global,
+    draft: &Draft<'_>,
+    line: u32,
+    mendings: Vec<Mending>,
+) -> Result<Option<Mending>, Refusal> {
+    for mending in mendings {
+        let front = draft.front(alloc, line, &mending.patches)?;
+        if accepted(alloc, &front)?.is_some() {
+            return Ok(Some(mending));
+        }
+    }
+    Ok(None)
+}

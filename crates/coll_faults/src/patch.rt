@@ -1,0 +1,20 @@
+use std::alloc::{AllocError, Global};
+
+/// Lines that stand in place of one line of a text.
+#[derive(Debug, Drop)]
+pub struct Patch {
+    /// The line of the text, from 1 on.
+    pub line: u32,
+    /// The lines in its place, with a line feed between two.
+    pub block: Vec<u8>,
+}
+
+impl Patch {
+    /// The same patch once more.
+    pub fn copied(&self, alloc: Global) -> Result<Patch, AllocError> {
+        Ok(Patch {
+            line: self.line,
+            block: Vec::from_slice(alloc, &self.block)?,
+        })
+    }
+}

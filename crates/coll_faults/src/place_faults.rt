@@ -1,0 +1,317 @@
+//! Requests at one place of a communicator that don't belong together.
+
+use crate::difference::{Difference, differences};
+use crate::draft::Written;
+use crate::postings::{List, Posted, all_postings};
+use coll_history::History;
+use coll_kinds::Refusal;
+use coll_script::Cause;
+use std::alloc::{AllocError, Global};
+
+/// A request of a member that stands at a place.
+#[derive(Clone, Copy, Debug)]
+pub struct Standing {
+    pub rank: u8,
+    pub line: u32,
+    /// Whether it has the signature of the earliest one.
+    pub agrees: bool,
+}
+
+/// Requests at one place with different signatures.
+#[derive(Debug, Drop)]
+pub struct Mismatch {
+    pub comm: usize,
+    pub place: usize,
+    /// The earliest at the place.
+    pub first: Standing,
+    /// The one whose line is the fault's.
+    pub differs: Standing,
+    pub fields: Vec<Difference>,
+    /// All at the place, in member order.
+    pub members: Vec<Standing>,
+    /// Where the rank that differs has the signature of the earliest: the place and the line.
+    pub elsewhere: Option<(usize, u32)>,
+}
+
+/// A place that some members of a communicator lack.
+#[derive(Debug, Drop)]
+pub struct MissingPlace {
+    pub comm: usize,
+    pub place: usize,
+    /// The earliest request there.
+    pub first: Standing,
+    /// The ranks that lack it, and how many places each of them has.
+    pub lacking: Vec<(u8, usize)>,
+}
+
+/// A place whose requests are started differently often.
+#[derive(Debug, Drop)]
+pub struct MissingStart {
+    pub comm: usize,
+    pub place: usize,
+    /// Each rank with the line that made its request, and those of its starts.
+    pub members: Vec<(u8, u32, Vec<u32>)>,
+}
+
+/// What is wrong at a place.
+#[derive(Debug, Drop)]
+pub enum PlaceFault {
+    Mismatch(Mismatch),
+    MissingPlace(MissingPlace),
+    MissingStart(MissingStart),
+}
+
+impl PlaceFault {
+    /// The rule that is broken.
+    pub fn cause(&self) -> Cause {
+        match self {
+            PlaceFault::Mismatch(_) => Cause::PlaceMismatch,
+            PlaceFault::MissingPlace(_) => Cause::PlaceMissing,
+            PlaceFault::MissingStart(_) => Cause::StartMissing,
+        }
+    }
+
+    /// The line of the fault; none where that is the text's last one.
+    pub fn line(&self) -> Option<u32> {
+        match self {
+            PlaceFault::Mismatch(mismatch) => Some(mismatch.differs.line),
+            PlaceFault::MissingPlace(_) | PlaceFault::MissingStart(_) => None,
+        }
+    }
+}
+
+/// The faults of the requests of a text, first those of signatures in the order of their lines, then those of places, then
+/// those of starts. Of each communicator one is told: what is behind it may follow from it.
+pub(crate) fn place_faults(
+    alloc: Global,
+    written: &Written,
+    history: &History,
+) -> Result<Vec<PlaceFault>, Refusal> {
+    let all = all_postings(alloc, history)?;
+    let mut mismatches = Vec::new(alloc);
+    let mut places = Vec::new(alloc);
+    let mut starts = Vec::new(alloc);
+    for (comm, lists) in all.iter().enumerate() {
+        if let Some(fault) = mismatch(alloc, written, comm, lists)? {
+            push_by_line(&mut mismatches, fault)?;
+        } else if let Some(fault) = missing_place(alloc, written, comm, lists)? {
+            places.push(PlaceFault::MissingPlace(fault))?;
+        } else if let Some(fault) = missing_start(alloc, written, comm, lists)? {
+            starts.push(PlaceFault::MissingStart(fault))?;
+        }
+    }
+    let mut faults = Vec::new(alloc);
+    for mismatch in mismatches {
+        faults.push(PlaceFault::Mismatch(mismatch))?;
+    }
+    faults.extend(places)?;
+    faults.extend(starts)?;
+    Ok(faults)
+}
+
+/// Puts a mismatch behind those of earlier lines.
+fn push_by_line(mismatches: &mut Vec<Mismatch>, mismatch: Mismatch) -> Result<(), AllocError> {
+    let mut at: usize = 0;
+    for other in mismatches.iter() {
+        if other.differs.line < mismatch.differs.line {
+            at = at.saturating_add(1);
+        }
+    }
+    let at = at.min(mismatches.len());
+    mismatches.insert(at, mismatch)?;
+    Ok(())
+}
+
+/// The request at a place of each member that has one.
+fn at_place<'p, 'h>(
+    alloc: Global,
+    lists: &'p [List<'h>],
+    place: usize,
+) -> Result<Vec<&'p Posted<'h>>, AllocError> {
+    lists.iter().filter_map(|list| list.posted.get(place)).collect(alloc)
+}
+
+/// The one of these in the earliest line.
+fn earliest<'p, 'h>(there: &[&'p Posted<'h>]) -> Option<&'p Posted<'h>> {
+    let mut earliest: Option<&'p Posted<'h>> = None;
+    for posted in there {
+        let is_earlier = match earliest {
+            Some(first) => posted.line < first.line,
+            None => true,
+        };
+        if is_earlier {
+            earliest = Some(*posted);
+        }
+    }
+    earliest
+}
+
+/// How many places some member has.
+fn places(lists: &[List<'_>]) -> usize {
+    let mut places: usize = 0;
+    for list in lists {
+        places = places.max(list.posted.len());
+    }
+    places
+}
+
+fn standing(written: &Written, posted: &Posted<'_>, first: &Posted<'_>) -> Standing {
+    Standing {
+        rank: posted.rank,
+        line: written.of(posted.line),
+        agrees: posted.sig == first.sig,
+    }
+}
+
+/// The request of the least line, of those that differ from the earliest at their places, with its place.
+fn first_to_differ<'p, 'h>(
+    alloc: Global,
+    lists: &'p [List<'h>],
+) -> Result<Option<(usize, &'p Posted<'h>)>, AllocError> {
+    let mut least: Option<(usize, &'p Posted<'h>)> = None;
+    for place in 0..places(lists) {
+        let there = at_place(alloc, lists, place)?;
+        if let Some(first) = earliest(&there) {
+            least = lesser(least, place, first, &there);
+        }
+    }
+    Ok(least)
+}
+
+/// The one of these, and of the requests at a place that differ from the earliest there, whose line is least.
+fn lesser<'p, 'h>(
+    least: Option<(usize, &'p Posted<'h>)>,
+    place: usize,
+    first: &Posted<'h>,
+    there: &[&'p Posted<'h>],
+) -> Option<(usize, &'p Posted<'h>)> {
+    let mut least = least;
+    for posted in there {
+        let is_lesser = match least {
+            Some((_, other)) => posted.line < other.line,
+            None => true,
+        };
+        if is_lesser && posted.sig != first.sig {
+            least = Some((place, *posted));
+        }
+    }
+    least
+}
+
+/// The mismatch of a communicator in the earliest line.
+fn mismatch(
+    alloc: Global,
+    written: &Written,
+    comm: usize,
+    lists: &[List<'_>],
+) -> Result<Option<Mismatch>, Refusal> {
+    let Some((place, differs)) = first_to_differ(alloc, lists)? else {
+        return Ok(None);
+    };
+    let there = at_place(alloc, lists, place)?;
+    let Some(first) = earliest(&there) else {
+        return Ok(None);
+    };
+    let mut members = Vec::new(alloc);
+    for posted in &there {
+        members.push(standing(written, posted, first))?;
+    }
+    Ok(Some(Mismatch {
+        comm,
+        place,
+        first: standing(written, first, first),
+        differs: standing(written, differs, first),
+        fields: differences(alloc, differs.sig, first.sig)?,
+        members,
+        elsewhere: elsewhere(written, lists, differs, first),
+    }))
+}
+
+/// Where the rank of a request has the signature of another.
+fn elsewhere(
+    written: &Written,
+    lists: &[List<'_>],
+    differs: &Posted<'_>,
+    first: &Posted<'_>,
+) -> Option<(usize, u32)> {
+    let list = lists.iter().find(|list| list.rank == differs.rank)?;
+    for (place, posted) in list.posted.iter().enumerate() {
+        if posted.sig == first.sig {
+            return Some((place, written.of(posted.line)));
+        }
+    }
+    None
+}
+
+/// The first place that some member lacks and another has.
+fn missing_place(
+    alloc: Global,
+    written: &Written,
+    comm: usize,
+    lists: &[List<'_>],
+) -> Result<Option<MissingPlace>, Refusal> {
+    let mut least = places(lists);
+    for list in lists {
+        least = least.min(list.posted.len());
+    }
+    let there = at_place(alloc, lists, least)?;
+    let Some(first) = earliest(&there) else {
+        return Ok(None);
+    };
+    let mut lacking = Vec::new(alloc);
+    for list in lists {
+        if list.posted.len() <= least {
+            lacking.push((list.rank, list.posted.len()))?;
+        }
+    }
+    Ok(Some(MissingPlace {
+        comm,
+        place: least,
+        first: standing(written, first, first),
+        lacking,
+    }))
+}
+
+/// The first place whose requests are started differently often.
+fn missing_start(
+    alloc: Global,
+    written: &Written,
+    comm: usize,
+    lists: &[List<'_>],
+) -> Result<Option<MissingStart>, Refusal> {
+    for place in 0..places(lists) {
+        let there = at_place(alloc, lists, place)?;
+        if !are_started_alike(&there) {
+            let mut members = Vec::new(alloc);
+            for posted in &there {
+                members.push(started(alloc, written, posted)?)?;
+            }
+            return Ok(Some(MissingStart {
+                comm,
+                place,
+                members,
+            }));
+        }
+    }
+    Ok(None)
+}
+
+/// The rank of a request, its line, and those of its starts.
+fn started(
+    alloc: Global,
+    written: &Written,
+    posted: &Posted<'_>,
+) -> Result<(u8, u32, Vec<u32>), AllocError> {
+    let mut starts = Vec::new(alloc);
+    for line in &posted.starts {
+        starts.push(written.of(*line))?;
+    }
+    Ok((posted.rank, written.of(posted.line), starts))
+}
+
+fn are_started_alike(there: &[&Posted<'_>]) -> bool {
+    match there.first() {
+        Some(first) => there.iter().all(|posted| posted.starts.len() == first.starts.len()),
+        None => true,
+    }
+}

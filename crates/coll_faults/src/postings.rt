@@ -1,0 +1,110 @@
+//! The posting lists of a text, with the lines of each request's starts.
+
+use coll_history::{Command, History};
+use coll_kinds::{Refusal, Signature};
+use std::alloc::Global;
+
+/// A request, as it is compared with those of other members at its place.
+#[derive(Debug, Drop)]
+pub(crate) struct Posted<'h> {
+    pub rank: u8,
+    /// The line that made it.
+    pub line: u32,
+    comm: u8,
+    pub sig: &'h Signature,
+    /// The lines that started it; that of a post, too.
+    pub starts: Vec<u32>,
+}
+
+/// The posting list of a member.
+#[derive(Debug, Drop)]
+pub(crate) struct List<'h> {
+    pub rank: u8,
+    pub posted: Vec<Posted<'h>>,
+}
+
+/// The requests of all ranks, in the order of their lines.
+fn posted<'h>(alloc: Global, history: &'h History) -> Result<Vec<Vec<Posted<'h>>>, Refusal> {
+    let mut ranks = Vec::new(alloc);
+    for _ in 0..history.ranks() {
+        ranks.push(Vec::new(alloc))?;
+    }
+    for told in history.told() {
+        if let Some(posted) = ranks.get_mut(usize::from(told.rank)) {
+            note(alloc, posted, told.rank, told.line, &told.command)?;
+        }
+    }
+    Ok(ranks)
+}
+
+/// Notes what a line makes or starts.
+fn note<'h>(
+    alloc: Global,
+    posted: &mut Vec<Posted<'h>>,
+    rank: u8,
+    line: u32,
+    command: &'h Command,
+) -> Result<(), Refusal> {
+    let (comm, sig, is_started) = match command {
+        Command::Post { comm, sig, .. } => (*comm, sig, true),
+        Command::Init { comm, sig } => (*comm, sig, false),
+        Command::Start { req, .. } => {
+            if let Some(request) = posted.get_mut(*req as usize) {
+                request.starts.push(line)?;
+            }
+            return Ok(());
+        }
+        _ => return Ok(()),
+    };
+    let mut starts = Vec::new(alloc);
+    if is_started {
+        starts.push(line)?;
+    }
+    posted.push(Posted {
+        rank,
+        line,
+        comm,
+        sig,
+        starts,
+    })?;
+    Ok(())
+}
+
+/// The posting lists of each communicator, in member order. Linear in the commands, and for each communicator in the
+/// requests.
+pub(crate) fn all_postings<'h>(
+    alloc: Global,
+    history: &'h History,
+) -> Result<Vec<Vec<List<'h>>>, Refusal> {
+    let ranks = posted(alloc, history)?;
+    let mut all = Vec::new(alloc);
+    for group in history.groups() {
+        let mut lists = Vec::new(alloc);
+        for rank in group {
+            lists.push(List {
+                rank: *rank,
+                posted: Vec::new(alloc),
+            })?;
+        }
+        all.push(lists)?;
+    }
+    for posted in ranks {
+        lay(&mut all, posted)?;
+    }
+    Ok(all)
+}
+
+/// Lays the requests of a rank into the lists of their communicators.
+fn lay<'h>(all: &mut Vec<Vec<List<'h>>>, posted: Vec<Posted<'h>>) -> Result<(), Refusal> {
+    for request in posted {
+        if let Some(lists) = all.get_mut(usize::from(request.comm)) {
+            for list in lists.iter_mut() {
+                if list.rank == request.rank {
+                    list.posted.push(request)?;
+                    break;
+                }
+            }
+        }
+    }
+    Ok(())
+}

@@ -1,0 +1,74 @@
+use crate::patch::Patch;
+use std::alloc::{AllocError, Global};
+
+/// What is known of a faulty line.
+#[derive(Debug, Drop)]
+pub(crate) struct Remark {
+    /// The index of the first word that is meant; that behind the last word where one is missing.
+    pub word: usize,
+    /// How many words are meant.
+    pub count: usize,
+    pub label: String,
+    pub notes: Vec<String>,
+    /// What the line may be meant to be, the likeliest first.
+    pub proposals: Vec<Proposal>,
+}
+
+/// A change that hasn't been tried.
+#[derive(Debug, Drop)]
+pub(crate) struct Proposal {
+    pub help: String,
+    pub patches: Vec<Patch>,
+    /// Whether it only makes the line one that can be read, and the line may be meant otherwise.
+    pub is_guess: bool,
+}
+
+impl Remark {
+    /// Speaks of one word.
+    pub(crate) fn new(alloc: Global, word: usize, label: String) -> Remark {
+        Remark {
+            word,
+            count: 1,
+            label,
+            notes: Vec::new(alloc),
+            proposals: Vec::new(alloc),
+        }
+    }
+
+    /// The same, with a label that stands fast.
+    pub(crate) fn of(alloc: Global, word: usize, label: &str) -> Result<Remark, AllocError> {
+        Ok(Remark::new(alloc, word, String::from_str(alloc, label)?))
+    }
+
+    pub(crate) fn note(&mut self, note: String) -> Result<(), AllocError> {
+        self.notes.push(note)?;
+        Ok(())
+    }
+
+    pub(crate) fn propose(
+        &mut self,
+        help: String,
+        patches: Vec<Patch>,
+    ) -> Result<(), AllocError> {
+        self.proposals.push(Proposal {
+            help,
+            patches,
+            is_guess: false,
+        })?;
+        Ok(())
+    }
+
+    /// Proposes what only makes the line one that can be read.
+    pub(crate) fn guess(
+        &mut self,
+        help: String,
+        patches: Vec<Patch>,
+    ) -> Result<(), AllocError> {
+        self.proposals.push(Proposal {
+            help,
+            patches,
+            is_guess: true,
+        })?;
+        Ok(())
+    }
+}

@@ -1,0 +1,174 @@
+//! Signatures that can't be used.
+
+use crate::remark::Remark;
+use crate::site::Site;
+use crate::vocabulary::{
+    allowed_words, is_fraction, kind_words, listed, meant, operation_words, type_words,
+};
+use coll_kinds::{Datatype, Kind, MAX_COUNT, MAX_LEN, Op, Refusal};
+
+/// The index of the word that names the collective.
+const KIND: usize = 2;
+
+/// The fields of a signature, word by word.
+#[derive(Clone, Copy, Debug)]
+struct Fields {
+    kind: Kind,
+    root: Option<(usize, u128)>,
+    op: Option<(usize, Op)>,
+    ty: Option<(usize, Datatype)>,
+    /// Where the counts begin.
+    count: usize,
+}
+
+/// The first word of a signature that breaks a rule.
+pub(crate) fn bad_signature(site: &Site<'_>) -> Result<Remark, Refusal> {
+    let Some(kind) = Kind::from_word(site.word(KIND)) else {
+        return unknown_kind(site);
+    };
+    let mut fields = Fields {
+        kind,
+        root: None,
+        op: None,
+        ty: None,
+        count: KIND.saturating_add(1),
+    };
+    if kind.has_root() {
+        match site.number(fields.count) {
+            Some(root) if root < 256 => fields.root = Some((fields.count, root)),
+            _ => return root_due(site, kind, fields.count),
+        }
+        fields.count = fields.count.saturating_add(1);
+    }
+    if kind.has_operation() {
+        match Op::from_word(site.word(fields.count)) {
+            Some(op) => fields.op = Some((fields.count, op)),
+            None => return unknown_operation(site, fields.count),
+        }
+        fields.count = fields.count.saturating_add(1);
+    }
+    match Datatype::from_word(site.word(fields.count)) {
+        Some(ty) => fields.ty = Some((fields.count, ty)),
+        None => return unknown_type(site, fields.count),
+    }
+    fields.count = fields.count.saturating_add(1);
+    checked(site, &fields)
+}
+
+fn unknown_kind(site: &Site<'_>) -> Result<Remark, Refusal> {
+    let words = kind_words(site.alloc)?;
+    let mut remark = Remark::of(site.alloc, KIND, "no collective has this name")?;
+    match meant(site.alloc, site.word(KIND), &words)? {
+        Some(meant) => site.propose(&mut remark, meant.help, KIND, 1, meant.word)?,
+        None => {
+            let list = listed(site.alloc, &words)?;
+            remark.note(format!(in site.alloc; "collectives are {list}")?)?;
+        }
+    }
+    Ok(remark)
+}
+
+fn root_due(site: &Site<'_>, kind: Kind, at: usize) -> Result<Remark, Refusal> {
+    let alloc = site.alloc;
+    let mut remark = Remark::of(alloc, at, "the root stands here, a member number")?;
+    let word = site.word(at);
+    if Op::from_word(word).is_some() || Datatype::from_word(word).is_some() {
+        let next = site.shown(at)?;
+        let help = format!(in alloc; "the root is missing, as in `{kind} 0 {next} ..`")?;
+        remark.guess(help, site.spliced(at, 0, "0")?)?;
+    }
+    Ok(remark)
+}
+
+fn unknown_operation(site: &Site<'_>, at: usize) -> Result<Remark, Refusal> {
+    let alloc = site.alloc;
+    let words = operation_words(alloc)?;
+    let mut remark = Remark::of(alloc, at, "no operation has this name")?;
+    let next = at.saturating_add(1);
+    if let Some(ty) = Datatype::from_word(site.word(at)) {
+        if let Some(op) = Op::from_word(site.word(next)) {
+            let by = format!(in alloc; "{op} {ty}")?;
+            let help = format!(in alloc; "the operation stands before the type: `{by} ..`")?;
+            site.propose(&mut remark, help, at, 2, by.as_str())?;
+        } else {
+            let help = format!(in alloc; "the operation is missing, as in `sum {ty} ..`")?;
+            remark.guess(help, site.spliced(at, 0, "sum")?)?;
+        }
+        return Ok(remark);
+    }
+    match meant(alloc, site.word(at), &words)? {
+        Some(meant) => site.propose(&mut remark, meant.help, at, 1, meant.word)?,
+        None => {
+            let list = listed(alloc, &words)?;
+            remark.note(format!(in alloc; "operations are {list}")?)?;
+        }
+    }
+    Ok(remark)
+}
+
+fn unknown_type(site: &Site<'_>, at: usize) -> Result<Remark, Refusal> {
+    let alloc = site.alloc;
+    let words = type_words(alloc)?;
+    let list = listed(alloc, &words)?;
+    let mut remark = Remark::of(alloc, at, "no type has this name")?;
+    if is_fraction(alloc, site.word(at))? {
+        remark.note(format!(in alloc; "values are whole numbers alone: {list}")?)?;
+        return Ok(remark);
+    }
+    match meant(alloc, site.word(at), &words)? {
+        Some(meant) => site.propose(&mut remark, meant.help, at, 1, meant.word)?,
+        None => remark.note(format!(in alloc; "types are {list}")?)?,
+    }
+    Ok(remark)
+}
+
+/// Of a signature whose words can be read, what is wrong with them.
+fn checked(site: &Site<'_>, fields: &Fields) -> Result<Remark, Refusal> {
+    let alloc = site.alloc;
+    if site.number(fields.count).is_none() {
+        return count_due(site, fields.count);
+    }
+    let members = site.scene.group(site.number(1).unwrap_or(0)).len();
+    if let Some((at, root)) = fields.root {
+        if root >= members as u128 {
+            let comm = site.shown(1)?;
+            let last = members.saturating_sub(1);
+            return Ok(Remark::new(
+                alloc,
+                at,
+                format!(in alloc; "communicator {comm} has {members} members, 0 to {last}")?,
+            ));
+        }
+    }
+    if let (Some((at, op)), Some((_, ty))) = (fields.op, fields.ty) {
+        if !op.is_allowed_on(ty) {
+            let list = listed(alloc, &allowed_words(alloc, ty)?)?;
+            let label = format!(in alloc; "`{op}` isn't defined on `{ty}`")?;
+            let mut remark = Remark::new(alloc, at, label);
+            remark.note(format!(in alloc; "on `{ty}` there are {list}")?)?;
+            return Ok(remark);
+        }
+    }
+    Ok(Remark::new(alloc, fields.count, size(site, fields)?))
+}
+
+/// What a count breaks that is a number.
+fn size(site: &Site<'_>, fields: &Fields) -> Result<String, Refusal> {
+    let alloc = site.alloc;
+    if site.number(fields.count).unwrap_or(0) > u128::from(MAX_COUNT) {
+        return Ok(format!(in alloc; "a count is at most {MAX_COUNT}")?);
+    }
+    Ok(format!(in alloc; "some member would give or get more than {MAX_LEN} bytes")?)
+}
+
+fn count_due(site: &Site<'_>, at: usize) -> Result<Remark, Refusal> {
+    let alloc = site.alloc;
+    let mut remark = Remark::of(alloc, at, "the number of elements of a block stands here")?;
+    if site.word(at) == b":".as_slice() {
+        let values = site.words.len().saturating_sub(at).saturating_sub(1);
+        let by = format!(in alloc; "{values}")?;
+        let help = format!(in alloc; "the count is missing, as `{values}`")?;
+        remark.guess(help, site.spliced(at, 0, by.as_str())?)?;
+    }
+    Ok(remark)
+}

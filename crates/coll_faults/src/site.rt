@@ -1,0 +1,170 @@
+use crate::accepting::accepted;
+use crate::draft::Draft;
+use crate::patch::Patch;
+use crate::remark::Remark;
+use crate::scene::{Made, Scene};
+use crate::words::{Word, push_word, shown, spliced, words_of};
+use coll_history::{Command, History};
+use coll_kinds::{Refusal, Signature, member_of, read_number};
+use std::alloc::{AllocError, Global};
+
+/// A faulty line, and what the lines before it have said.
+#[derive(Debug, Drop)]
+pub(crate) struct Site<'s> {
+    pub alloc: Global,
+    pub line: u32,
+    pub words: Vec<Word<'s>>,
+    pub draft: &'s Draft<'s>,
+    pub scene: &'s Scene,
+}
+
+/// What a signature asks of the rank whose line has it.
+#[derive(Clone, Copy, Debug)]
+pub(crate) struct Due<'h> {
+    pub sig: &'h Signature,
+    /// The rank's number in the communicator.
+    pub member: u8,
+    /// How many values it gives.
+    pub values: usize,
+}
+
+impl<'s> Site<'s> {
+    pub(crate) fn new(
+        alloc: Global,
+        draft: &'s Draft<'s>,
+        scene: &'s Scene,
+        line: u32,
+    ) -> Result<Site<'s>, AllocError> {
+        Ok(Site {
+            alloc,
+            line,
+            words: words_of(alloc, draft.line(line))?,
+            draft,
+            scene,
+        })
+    }
+
+    /// The bytes of a word; none where there is no such word.
+    pub(crate) fn word(&self, index: usize) -> &'s [u8] {
+        match self.words.get(index) {
+            Some(word) => word.bytes,
+            None => b"",
+        }
+    }
+
+    /// A word as it is shown.
+    pub(crate) fn shown(&self, index: usize) -> Result<String, AllocError> {
+        shown(self.alloc, self.word(index))
+    }
+
+    /// The number that a word is.
+    pub(crate) fn number(&self, index: usize) -> Option<u128> {
+        read_number(self.word(index))
+    }
+
+    /// The first word is this one.
+    pub(crate) fn begins(&self, word: &str) -> bool {
+        self.word(0) == word.as_bytes()
+    }
+
+    /// The patch that puts this in place of the line.
+    pub(crate) fn patch(&self, block: Vec<u8>) -> Result<Vec<Patch>, AllocError> {
+        let mut patches = Vec::new(self.alloc);
+        patches.push(Patch {
+            line: self.line,
+            block,
+        })?;
+        Ok(patches)
+    }
+
+    /// The patch that leaves the line out.
+    pub(crate) fn dropped(&self) -> Result<Vec<Patch>, AllocError> {
+        self.patch(Vec::from_slice(self.alloc, b"#")?)
+    }
+
+    /// The patch that puts a line before this one.
+    pub(crate) fn behind(&self, line: &str) -> Result<Vec<Patch>, AllocError> {
+        let mut block = Vec::from_slice(self.alloc, line.as_bytes())?;
+        block.push(b'\n')?;
+        block.extend_from_slice(&spliced(self.alloc, &self.words, 0, 0, b"")?)?;
+        self.patch(block)
+    }
+
+    /// The patch that replaces some words of the line.
+    pub(crate) fn spliced(
+        &self,
+        at: usize,
+        removed: usize,
+        by: &str,
+    ) -> Result<Vec<Patch>, AllocError> {
+        self.patch(spliced(self.alloc, &self.words, at, removed, by.as_bytes())?)
+    }
+
+    /// Proposes a word in place of another one.
+    pub(crate) fn propose(
+        &self,
+        remark: &mut Remark,
+        help: String,
+        at: usize,
+        removed: usize,
+        by: &str,
+    ) -> Result<(), AllocError> {
+        remark.propose(help, self.spliced(at, removed, by)?)
+    }
+
+    /// The requests of the section's rank.
+    pub(crate) fn made(&self) -> Result<Vec<Made<'s>>, Refusal> {
+        self.scene.made(self.alloc)
+    }
+
+    /// What the lines before this one and such a line say, if that has no fault.
+    pub(crate) fn with_line(&self, line: Vec<u8>) -> Result<Option<History>, Refusal> {
+        let front = self.draft.front(self.alloc, self.line, &self.patch(line)?)?;
+        accepted(self.alloc, &front)
+    }
+
+    /// The number of words up to the end of the signature of a `post` or an `init`, with what these lines say that have an
+    /// `init` of that signature here. Of one whose signature can't be read there is none.
+    pub(crate) fn signed(&self) -> Result<Option<(usize, History)>, Refusal> {
+        let mut line = Vec::from_slice(self.alloc, b"init")?;
+        let mut end: usize = 1;
+        for word in self.words.iter().skip(1) {
+            push_word(&mut line, word.bytes)?;
+            end = end.saturating_add(1);
+            if end > 2 {
+                let line = Vec::from_slice(self.alloc, &line)?;
+                if let Some(history) = self.with_line(line)? {
+                    return Ok(Some((end, history)));
+                }
+            }
+            if end > LONGEST {
+                break;
+            }
+        }
+        Ok(None)
+    }
+
+    /// What a signature on a communicator asks of the section's rank.
+    pub(crate) fn due<'h>(&self, comm: u8, sig: &'h Signature) -> Due<'h> {
+        let group = self.scene.group(u128::from(comm));
+        let rank = self.scene.rank().unwrap_or(0);
+        let member = member_of(rank, group).unwrap_or(0).min(255) as u8;
+        let n = group.len().min(255) as u8;
+        Due {
+            sig,
+            member,
+            values: sig.given_len(n, member) / sig.ty.width(),
+        }
+    }
+}
+
+/// The most words up to the end of a signature.
+const LONGEST: usize = 80;
+
+/// What the last command asks, where it is an `init`.
+pub(crate) fn last_signed(history: &History) -> Option<(u8, &Signature)> {
+    match &history.told().last()?.command {
+        Command::Init { comm, sig } => Some((*comm, sig)),
+        _ => None,
+    }
+}

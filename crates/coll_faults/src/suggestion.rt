@@ -1,0 +1,55 @@
+ghost use Rattle.std.specs.Prelude.{◌≡◌, true};
+ghost use Rattle.coll_faults.specs.Accepting.{is_accepted};
+
+use crate::accepting::accepted;
+use crate::draft::Draft;
+use crate::patch::Patch;
+use coll_kinds::Refusal;
+use std::alloc::Global;
+
+/// A change of a text that was tried: the lines of the changed text have no fault, up to the one for which it is made.
+#[derive(Debug, Drop)]
+pub struct Suggestion {
+    help: String,
+    patches: Vec<Patch>,
+    front: Vec<u8>,
+    ghost tried: { is_accepted front.items ≡ true },
+}
+
+impl Suggestion {
+    /// Tries the change for a line of the draft.
+    pub(crate) fn tried(
+        alloc: Global,
+        draft: &Draft<'_>,
+        line: u32,
+        help: String,
+        patches: Vec<Patch>,
+    ) -> Result<Option<Suggestion>, Refusal> {
+        let front = draft.front(alloc, line, &patches)?;
+        if accepted(alloc, &front)?.is_none() {
+            return Ok(None);
+        }
+        Ok(Some(Suggestion {
+            help,
+            patches,
+            front,
+        }))
+    }
+
+    /// What a user is told.
+    pub fn help(&self) -> &str {
+        self.help.as_str()
+    }
+
+    /// What stands in place of which lines.
+    pub fn patches(&self) -> &[Patch] {
+        &self.patches
+    }
+
+    /// The changed text up to the line for which the change is made. Faulty lines before that one are mended in it.
+    pub fn front(&self) -> &[u8]
+        ensures tried { is_accepted result.now ≡ true }
+    {
+        &self.front
+    }
+}

@@ -1,0 +1,183 @@
+//! What stands behind a signature or a request: the colon and the values.
+
+use crate::remark::Remark;
+use crate::site::{Due, Site, last_signed};
+use crate::words::shown;
+use coll_history::History;
+use coll_kinds::{Datatype, Refusal, read_element};
+use std::alloc::{AllocError, Global};
+
+/// Where the values of a line begin, and what is due there.
+#[derive(Clone, Copy, Debug)]
+struct Values<'h> {
+    /// The index of the colon.
+    colon: usize,
+    due: Due<'h>,
+}
+
+/// What is due behind the signature of a `post`, whose words end there.
+fn of_post<'h>(site: &Site<'_>, end: usize, history: &'h History) -> Option<Values<'h>> {
+    let (comm, sig) = last_signed(history)?;
+    Some(Values {
+        colon: end,
+        due: site.due(comm, sig),
+    })
+}
+
+/// Speaks of the values of a `post` or a `start`.
+pub(crate) fn of_values(
+    site: &Site<'_>,
+    speak: ValueFault,
+) -> Result<Option<Remark>, Refusal> {
+    if site.begins("start") {
+        let made = site.made()?;
+        let request = site.number(1).and_then(|number| usize::try_from(number).ok());
+        let Some(request) = request.and_then(|request| made.get(request)) else {
+            return Ok(None);
+        };
+        let values = Values {
+            colon: 2,
+            due: site.due(request.comm, request.sig),
+        };
+        return Ok(Some(speak.remark(site, &values)?));
+    }
+    let Some((end, history)) = site.signed()? else {
+        return Ok(None);
+    };
+    match of_post(site, end, &history) {
+        Some(values) => Ok(Some(speak.remark(site, &values)?)),
+        None => Ok(None),
+    }
+}
+
+/// What is wrong with the values of a line.
+#[derive(Clone, Copy, Debug)]
+pub(crate) enum ValueFault {
+    /// The colon.
+    Colon,
+    /// How many they are.
+    Count,
+    /// One of them.
+    Value,
+}
+
+impl ValueFault {
+    fn remark(self, site: &Site<'_>, values: &Values<'_>) -> Result<Remark, Refusal> {
+        match self {
+            ValueFault::Colon => colon_due(site, values),
+            ValueFault::Count => wrong_count(site, values),
+            ValueFault::Value => bad_value(site, values),
+        }
+    }
+}
+
+/// Values in words, as `2 values of i32`.
+fn counted(alloc: Global, count: usize, ty: Datatype) -> Result<String, AllocError> {
+    let s = if count == 1 { "" } else { "s" };
+    format!(in alloc; "{count} value{s} of {ty}")
+}
+
+fn colon_due(site: &Site<'_>, values: &Values<'_>) -> Result<Remark, Refusal> {
+    let alloc = site.alloc;
+    let at = values.colon;
+    if at >= site.words.len() {
+        let due = counted(alloc, values.due.values, values.due.sig.ty)?;
+        let verb = if values.due.values == 1 { "is" } else { "are" };
+        let label = format!(in alloc; "`:` and {due} {verb} missing here")?;
+        return Ok(Remark::new(alloc, at, label));
+    }
+    let mut remark = Remark::of(alloc, at, "`:` is due here")?;
+    if site.word(at).first() == Some(&b'#') {
+        comment(site, &mut remark, at)?;
+        return Ok(remark);
+    }
+    let help = String::from_str(alloc, "put `:` before the values")?;
+    site.propose(&mut remark, help, at, 0, ":")?;
+    Ok(remark)
+}
+
+/// Proposes that a comment stands on a line of its own.
+pub(crate) fn comment(site: &Site<'_>, remark: &mut Remark, at: usize) -> Result<(), Refusal> {
+    let help = String::from_str(site.alloc, "a comment stands on a line of its own")?;
+    let count = site.words.len().saturating_sub(at);
+    site.propose(remark, help, at, count, "")?;
+    Ok(())
+}
+
+fn wrong_count(site: &Site<'_>, values: &Values<'_>) -> Result<Remark, Refusal> {
+    let alloc = site.alloc;
+    let Due { sig, member, values: due } = values.due;
+    let first = values.colon.saturating_add(1);
+    let got = site.words.len().saturating_sub(first);
+    let wanted = counted(alloc, due, sig.ty)?;
+    let verb = if due == 1 { "is" } else { "are" };
+    let mut label = format!(in alloc; "{wanted} {verb} due, here are {got}")?;
+    let is_idle = due == 0 && sig.kind.has_root() && sig.root != member;
+    if is_idle {
+        let kind = sig.kind;
+        let root = sig.root;
+        write!(label, ": in a {kind} only the root, member {root}, gives; this is member {member}")?;
+    }
+    let mut remark = Remark::new(alloc, first.saturating_add(due).min(site.words.len()), label);
+    remark.count = got.saturating_sub(due).max(1);
+    if is_idle {
+        let help = String::from_str(alloc, "leave the values out")?;
+        site.propose(&mut remark, help, values.colon, got.saturating_add(1), "")?;
+    }
+    Ok(remark)
+}
+
+fn bad_value(site: &Site<'_>, values: &Values<'_>) -> Result<Remark, Refusal> {
+    let alloc = site.alloc;
+    let ty = values.due.sig.ty;
+    let mut at = values.colon.saturating_add(1);
+    for word in site.words.iter().skip(at) {
+        if read_element(word.bytes, ty).is_none() {
+            break;
+        }
+        at = at.saturating_add(1);
+    }
+    let mut remark = Remark::new(alloc, at, range(alloc, ty)?);
+    let word = site.word(at);
+    if let Some(value) = hexadecimal(word) {
+        let by = format!(in alloc; "{value}")?;
+        let help = format!(in alloc; "values are decimal: {value}")?;
+        site.propose(&mut remark, help, at, 1, by.as_str())?;
+    }
+    if let [b'+', digits @ ..] = word {
+        let by = shown(alloc, digits)?;
+        let help = format!(in alloc; "without a sign: {by}")?;
+        site.propose(&mut remark, help, at, 1, by.as_str())?;
+    }
+    Ok(remark)
+}
+
+/// What a value of a type is.
+fn range(alloc: Global, ty: Datatype) -> Result<String, AllocError> {
+    if ty.is_pair() {
+        return format!(in alloc; "a value of {ty} is two values of i32 with a comma between, as 7,2");
+    }
+    let limit = ty.limit();
+    let most = limit.saturating_sub(1);
+    if ty.is_signed() {
+        format!(in alloc; "a value of {ty} is a whole number from -{limit} to {most}")
+    } else {
+        format!(in alloc; "a value of {ty} is a whole number from 0 to {most}")
+    }
+}
+
+/// The number that a word has after `0x`.
+fn hexadecimal(word: &[u8]) -> Option<u64> {
+    let [b'0', b'x' | b'X', digits @ ..] = word else {
+        return None;
+    };
+    if digits.is_empty() {
+        return None;
+    }
+    let mut value: u64 = 0;
+    for digit in digits {
+        let digit = char::from(*digit).to_digit(16)?;
+        value = value.checked_mul(16)?.checked_add(u64::from(digit))?;
+    }
+    Some(value)
+}

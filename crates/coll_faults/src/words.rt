@@ -1,0 +1,88 @@
+//! The words of a line, and lines made of them.
+
+use std::alloc::{AllocError, Global};
+
+/// A word of a line.
+#[derive(Clone, Copy, Debug)]
+pub(crate) struct Word<'l> {
+    /// The bytes before it in its line.
+    pub start: usize,
+    pub bytes: &'l [u8],
+}
+
+impl<'l> Word<'l> {
+    /// The bytes up to its end.
+    pub(crate) fn end(self) -> usize {
+        self.start.saturating_add(self.bytes.len())
+    }
+}
+
+/// The words of a line, which spaces, tabs and carriage returns cut.
+pub(crate) fn words_of<'l>(alloc: Global, line: &'l [u8]) -> Result<Vec<Word<'l>>, AllocError> {
+    let mut words = Vec::new(alloc);
+    let mut start: usize = 0;
+    for bytes in line.split(|b| matches!(*b, b' ' | b'\t' | b'\r')) {
+        if !bytes.is_empty() {
+            words.push(Word { start, bytes })?;
+        }
+        start = start.saturating_add(bytes.len()).saturating_add(1);
+    }
+    Ok(words)
+}
+
+/// The first word of a line; empty where there is none.
+pub(crate) fn first_word(line: &[u8]) -> &[u8] {
+    let mut words = line.split(|b| matches!(*b, b' ' | b'\t' | b'\r'));
+    match words.find(|word| !word.is_empty()) {
+        Some(word) => word,
+        None => b"",
+    }
+}
+
+/// Puts a word behind those of a line.
+pub(crate) fn push_word(line: &mut Vec<u8>, word: &[u8]) -> Result<(), AllocError> {
+    if !line.is_empty() {
+        line.push(b' ')?;
+    }
+    line.extend_from_slice(word)
+}
+
+/// The words of a line, with `removed` words from index `at` on replaced by one, which may be several words long, or
+/// by none where it is empty.
+pub(crate) fn spliced(
+    alloc: Global,
+    words: &[Word<'_>],
+    at: usize,
+    removed: usize,
+    by: &[u8],
+) -> Result<Vec<u8>, AllocError> {
+    let mut line = Vec::new(alloc);
+    for word in words.iter().take(at) {
+        push_word(&mut line, word.bytes)?;
+    }
+    if !by.is_empty() {
+        push_word(&mut line, by)?;
+    }
+    for word in words.iter().skip(at.saturating_add(removed)) {
+        push_word(&mut line, word.bytes)?;
+    }
+    Ok(line)
+}
+
+/// Bytes as they are shown: one column each, what isn't printed so is a question mark.
+pub(crate) fn shown(alloc: Global, bytes: &[u8]) -> Result<String, AllocError> {
+    let mut shown = String::new(alloc);
+    for byte in bytes {
+        shown.push(shown_as(*byte))?;
+    }
+    Ok(shown)
+}
+
+/// How a byte is shown.
+pub(crate) fn shown_as(byte: u8) -> char {
+    match byte {
+        b' '..=b'~' => char::from(byte),
+        b'\t' | b'\r' => ' ',
+        _ => '?',
+    }
+}
