@@ -1,16 +1,19 @@
 -- What checking a text may end in.
-use Rattle.std.specs.Prelude.{◌≡◌, ℕ, List, Option, IfSome, Ok, Err, MatchResult}
+use Rattle.std.specs.Prelude.{◌≡◌, ℕ, List, Option, IfSome, MatchResult}
+use Rattle.std.specs.Io.KnownBytes.{Keeps}
 use Rattle.coll_job.specs.declared.fault.JobFault.{JobFault}
 use Rattle.coll_job.specs.declared.fault.JobFault.TheVariants.{Read, Write, Text, Memory}
 use Rattle.coll_script.specs.Meaning.{meaning}
 use Rattle.coll_diagnosis.specs.Explained.{HasMeaning}
 use Rattle.coll_diagnosis.specs.Verdicts.{IsStatus}
+use Rattle.coll_faults.specs.declared.checking.CheckForm.{CheckForm}
+use Rattle.coll_faults.specs.declared.checking.CheckForm.TheVariants as form
 
 -- the exit status of a text: 2 where it has a fault, and else that of an explanation
 abbrev pub IsCheckStatus : List ℕ → ℕ → Type 0
 IsCheckStatus text status = MatchResult (meaning text) (λ lines. IsStatus status) (λ fault. status ≡ 2)
 
--- the faults of checking a text: none is the text's own, and only one that has a meaning is explained
+-- why a text isn't checked that was read: no fault of its own is among these
 abbrev pub IsFaultOf : List ℕ → JobFault → Type 0
 IsFaultOf text Read = ⊥
 IsFaultOf text Write = ⊥
@@ -18,10 +21,15 @@ IsFaultOf text (Text fault) = ⊥
 IsFaultOf text Memory = Unit {0}
 IsFaultOf text fault = HasMeaning text
 
--- the faults of checking what is read, where the text is known
+-- why what is read isn't checked, where the text is known
 abbrev pub IsCheckFault : Option (List ℕ) → JobFault → Type 0
 IsCheckFault input Read = Unit {0}
 IsCheckFault input Write = Unit {0}
 IsCheckFault input (Text fault) = ⊥
 IsCheckFault input Memory = Unit {0}
-IsCheckFault input fault = IfSome input (λ text. IsFaultOf text fault)
+IsCheckFault input fault = IfSome input HasMeaning
+
+-- lines for a reader leave what standard output has as it was
+abbrev pub KeepsLines : CheckForm → Option (List ℕ) → Option (List ℕ) → Type 0
+KeepsLines (form.Text colored) old new = Keeps old new
+KeepsLines form.Json old new = Unit {0}

@@ -4,11 +4,11 @@ ghost use Rattle.std.specs.Prelude.{◌≡◌, true, IfOk, OnSome};
 ghost use Rattle.coll_faults.specs.Accepting.{is_accepted};
 
 use coll_history::{History, ScriptFault};
-use coll_kinds::{MAX_TEXT, Refusal};
-use std::alloc::Global;
+use coll_kinds::MAX_TEXT;
+use std::alloc::{AllocError, Global};
 
 /// What the lines of a text say, if none of them has a fault. Linear in the text.
-pub(crate) fn accepted(alloc: Global, text: &[u8]) -> Result<Option<History>, Refusal>
+pub(crate) fn accepted(alloc: Global, text: &[u8]) -> Result<Option<History>, AllocError>
     ensures { IfOk result (λ said. OnSome said (is_accepted text.now ≡ true)) }
 {
     if text.len() > MAX_TEXT {
@@ -17,6 +17,6 @@ pub(crate) fn accepted(alloc: Global, text: &[u8]) -> Result<Option<History>, Re
     match History::read(alloc, text) {
         Ok(history) => Ok(Some(history)),
         Err(ScriptFault::Text(_)) => Ok(None),
-        Err(ScriptFault::NoMemory) => Err(Refusal::NoMemory),
+        Err(ScriptFault::NoMemory) => Err(AllocError),
     }
 }

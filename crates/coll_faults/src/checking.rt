@@ -1,11 +1,18 @@
 //! From a reader to writers: a text checked.
 
+ghost use Rattle.std.specs.Prelude.{◌≡◌, ◌≢◌, ◌≤◌, IfOk, IfErr, IfSome, IfNone, IsOkUnless, Err};
+ghost use Rattle.std.specs.Io.KnownBytes.{Keeps};
+ghost use Rattle.coll_script.specs.Meaning.{meaning};
+ghost use Rattle.coll_diagnosis.specs.Explained.{HasMeaning};
+ghost use Rattle.coll_diagnosis.specs.Explained as explained;
+ghost use Rattle.coll_diagnosis.specs.Verdicts.{IsStatus};
+ghost use Rattle.coll_faults.specs.Checked.{IsCheckStatus, IsFaultOf, IsCheckFault, KeepsLines};
+
 use crate::faults::Faults;
 use crate::json_form::{faultless_json, faults_json};
 use crate::text_form::{faultless_text, faults_text};
 use coll_diagnosis::{ExplainOptions, Form, explain_text};
 use coll_job::{Counted, JobFault, read_text, write_lines};
-use coll_kinds::Refusal;
 use std::alloc::Global;
 use std::io::{Read, Write};
 
@@ -13,9 +20,7 @@ use std::io::{Read, Write};
 #[derive(Clone, Copy, Debug, PartialEq, Eq)]
 pub enum CheckForm {
     /// Lines for a reader, painted where that is wanted.
-    Text {
-        is_colored: bool,
-    },
+    Text { is_colored: bool },
     /// JSON, an object in each line.
     Json,
 }
@@ -24,7 +29,8 @@ pub enum CheckForm {
 const FAULTY: u8 = 2;
 
 /// Reads the text that has this name, and tells its faults; of one without a fault it is told whether its runs stall. Lines
-/// for a reader go to `errors`, and JSON to `output`. Answers the exit status.
+/// for a reader go to `errors`, and JSON to `output`. Answers the exit status. At a fault nothing is written, but at a write
+/// fault.
 pub fn check_job<R: Read, W: Write, E: Write>(
     alloc: Global,
     name: &str,
@@ -32,7 +38,15 @@ pub fn check_job<R: Read, W: Write, E: Write>(
     reader: &mut Counted<'_, R>,
     output: &mut W,
     errors: &mut E,
-) -> Result<u8, JobFault> {
+) -> Result<u8, JobFault>
+    requires unread { reader.old.reads ≡ 0 }
+    // The status is 2 exactly where the text has a fault.
+    ensures status { IfOk result (λ status. IfSome (R.remaining reader.old.reader.now) (λ input. IsCheckStatus input status)) }
+    ensures statuses { IfOk result (λ status. status ≤ 6) }
+    ensures faults { IfErr result (IsCheckFault (R.remaining reader.old.reader.now)) }
+    ensures lines { KeepsLines form (W.contents output.old) (W.contents output.new) }
+    ensures unwritten { IfErr result (λ fault. fault ≢ JobFault.Write → Keeps (W.contents output.old) (W.contents output.new)) }
+{
     let text = read_text(alloc, reader)?;
     let (lines, status) = told(alloc, name, form, &text)?;
     match form {
@@ -43,12 +57,10 @@ pub fn check_job<R: Read, W: Write, E: Write>(
 }
 
 /// What is told of a text, and the exit status.
-fn told(
-    alloc: Global,
-    name: &str,
-    form: CheckForm,
-    text: &[u8],
-) -> Result<(String, u8), JobFault> {
+fn told(alloc: Global, name: &str, form: CheckForm, text: &[u8]) -> Result<(String, u8), JobFault>
+    ensures status { IfOk result (λ told. IsCheckStatus text.now told.1) }
+    ensures faults { IfErr result (IsFaultOf text.now) }
+{
     match faults_of(alloc, text)? {
         Some(faults) => Ok((faulty(alloc, name, form, text, &faults)?, FAULTY)),
         None => faultless(alloc, name, form, text),
@@ -56,7 +68,11 @@ fn told(
 }
 
 /// The faults of a text, if it has any.
-fn faults_of(alloc: Global, text: &[u8]) -> Result<Option<Faults>, JobFault> {
+fn faults_of(alloc: Global, text: &[u8]) -> Result<Option<Faults>, JobFault>
+    ensures none { IfOk result (λ found. IfNone found (HasMeaning text.now)) }
+    ensures first { IfOk result (λ found. IfSome found (λ faults. meaning text.now ≡ Err faults.first.fault)) }
+    ensures memory { IsOkUnless result JobFault.Memory }
+{
     match Faults::of(alloc, text) {
         Ok(faults) => Ok(faults),
         Err(_) => Err(JobFault::Memory),
@@ -70,7 +86,9 @@ fn faulty(
     form: CheckForm,
     text: &[u8],
     faults: &Faults,
-) -> Result<String, JobFault> {
+) -> Result<String, JobFault>
+    ensures { IsOkUnless result JobFault.Memory }
+{
     let lines = match form {
         CheckForm::Text { is_colored } => faults_text(alloc, name, is_colored, text, faults).ok(),
         CheckForm::Json => faults_json(alloc, text, faults, FAULTY).ok(),
@@ -84,7 +102,10 @@ fn faultless(
     name: &str,
     form: CheckForm,
     text: &[u8],
-) -> Result<(String, u8), JobFault> {
+) -> Result<(String, u8), JobFault>
+    ensures status { IfOk result (λ told. IsStatus told.1) }
+    ensures faults { IfErr result (explained.IsFaultOf text.now) }
+{
     let options = ExplainOptions {
         form: match form {
             CheckForm::Text { .. } => Form::Text,

@@ -19,23 +19,53 @@ pub(crate) fn differences(
 ) -> Result<Vec<Difference>, AllocError> {
     let mut all = Vec::new(alloc);
     if here.mode != there.mode {
-        push(&mut all, "mode", word(alloc, mode(here))?, word(alloc, mode(there))?)?;
+        push(
+            &mut all,
+            "mode",
+            word(alloc, mode(here))?,
+            word(alloc, mode(there))?,
+        )?;
     }
     if here.kind != there.kind {
-        push(&mut all, "kind", word(alloc, here.kind.word())?, word(alloc, there.kind.word())?)?;
+        push(
+            &mut all,
+            "kind",
+            word(alloc, here.kind.word())?,
+            word(alloc, there.kind.word())?,
+        )?;
         return Ok(all);
     }
     if here.root != there.root {
-        push(&mut all, "root", number(alloc, u32::from(here.root))?, number(alloc, u32::from(there.root))?)?;
+        push(
+            &mut all,
+            "root",
+            number(alloc, u32::from(here.root))?,
+            number(alloc, u32::from(there.root))?,
+        )?;
     }
     if operation(here) != operation(there) {
-        push(&mut all, "operation", word(alloc, operation(here))?, word(alloc, operation(there))?)?;
+        push(
+            &mut all,
+            "operation",
+            word(alloc, operation(here))?,
+            word(alloc, operation(there))?,
+        )?;
     }
     if here.ty != there.ty {
-        push(&mut all, "type", word(alloc, here.ty.word())?, word(alloc, there.ty.word())?)?;
+        push(
+            &mut all,
+            "type",
+            word(alloc, here.ty.word())?,
+            word(alloc, there.ty.word())?,
+        )?;
     }
     if here.count != there.count {
-        push(&mut all, "count", number(alloc, here.count)?, number(alloc, there.count)?)?;
+        push(
+            &mut all,
+            "count",
+            number(alloc, here.count)?,
+            number(alloc, there.count)?,
+        )?;
     }
     Ok(all)
 }

@@ -9,7 +9,6 @@ use crate::remark::{Proposal, Remark};
 use crate::scene::Scene;
 use crate::site::Site;
 use crate::suggestion::Suggestion;
-use coll_kinds::Refusal;
 use coll_script::Cause;
 use std::alloc::{AllocError, Global};
 
@@ -26,7 +25,7 @@ pub(crate) fn examined(
     draft: &Draft<'_>,
     line: u32,
     cause: Cause,
-) -> Result<Examined, Refusal> {
+) -> Result<Examined, AllocError> {
     let Some(scene) = Scene::before(alloc, draft, line)? else {
         return Ok(Examined {
             detail: Detail::Bare,
@@ -95,7 +94,7 @@ fn first_tried(
     draft: &Draft<'_>,
     line: u32,
     proposals: Vec<Proposal>,
-) -> Result<Option<(Suggestion, bool)>, Refusal> {
+) -> Result<Option<(Suggestion, bool)>, AllocError> {
     for proposal in proposals {
         let Proposal {
             help,

@@ -30,7 +30,11 @@ impl Excerpt {
     ) -> Result<Excerpt, AllocError> {
         let line = line.trim_ascii_end();
         let is_near = start.saturating_add(len) <= SHOWN || start < BEFORE;
-        let from = if is_near { 0 } else { start.saturating_sub(BEFORE) };
+        let from = if is_near {
+            0
+        } else {
+            start.saturating_sub(BEFORE)
+        };
         let mut text = String::new(alloc);
         let mut indent = start.saturating_sub(from);
         if from > 0 {

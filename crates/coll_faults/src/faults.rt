@@ -6,9 +6,8 @@ use crate::patch::Patch;
 use crate::place_faults::{PlaceFault, place_faults};
 use crate::suggestion::Suggestion;
 use crate::words::{push_word, shown, words_of};
-use coll_kinds::Refusal;
 use coll_script::{Cause, Fault, Script, ScriptFault};
-use std::alloc::Global;
+use std::alloc::{AllocError, Global};
 
 /// All faults of a text that has one.
 #[derive(Debug, Drop)]
@@ -25,17 +24,26 @@ pub struct Faults {
 pub const MOST_FAULTS: u32 = 64;
 
 impl Faults {
+    ghost use Rattle.std.specs.Prelude.{◌≡◌, Err, IfOk, IfSome, IfNone};
+    ghost use Rattle.coll_diagnosis.specs.Explained.{HasMeaning};
+    ghost use Rattle.coll_script.specs.Meaning.{meaning};
+
     /// The faults of a text; nothing where it has none. For each fault the text is read again several times.
-    pub fn of(alloc: Global, text: &[u8]) -> Result<Option<Faults>, Refusal> {
+    pub fn of(alloc: Global, text: &[u8]) -> Result<Option<Faults>, AllocError>
+        ensures none { IfOk result (λ found. IfNone found (HasMeaning text.now)) }
+        ensures first { IfOk result (λ found. IfSome found (λ faults. meaning text.now ≡ Err faults.first.fault)) }
+    {
         match Script::read(alloc, text) {
             Ok(_) => Ok(None),
-            Err(ScriptFault::NoMemory) => Err(Refusal::NoMemory),
+            Err(ScriptFault::NoMemory) => Err(AllocError),
             Err(ScriptFault::Text(fault)) => Ok(Some(Faults::from_first(alloc, text, fault)?)),
         }
     }
 
     /// The faults of a text that has this first one.
-    fn from_first(alloc: Global, text: &[u8], fault: Fault) -> Result<Faults, Refusal> {
+    fn from_first(alloc: Global, text: &[u8], fault: Fault) -> Result<Faults, AllocError>
+        ensures { IfOk result (λ faults. faults.first.fault ≡ fault) }
+    {
         let mut search = Search {
             alloc,
             draft: Draft::new(alloc, text)?,
@@ -76,7 +84,7 @@ struct Search<'t> {
 
 impl<'t> Search<'t> {
     /// Finds the faults behind the first one.
-    fn find_further(&mut self) -> Result<(), Refusal> {
+    fn find_further(&mut self) -> Result<(), AllocError> {
         for _ in 1..MOST_FAULTS {
             if !self.goes_on {
                 break;
@@ -87,11 +95,11 @@ impl<'t> Search<'t> {
     }
 
     /// Finds the first fault of the mended text.
-    fn find_next(&mut self) -> Result<(), Refusal> {
+    fn find_next(&mut self) -> Result<(), AllocError> {
         let text = self.draft.text(self.alloc)?;
         match Script::read(self.alloc, &text) {
             Ok(_) => self.goes_on = false,
-            Err(ScriptFault::NoMemory) => return Err(Refusal::NoMemory),
+            Err(ScriptFault::NoMemory) => return Err(AllocError),
             Err(ScriptFault::Text(fault)) => {
                 if fault.cause == Cause::TooLong || (is_of_all(fault.cause) && !self.is_sure) {
                     self.goes_on = false;
@@ -110,7 +118,7 @@ impl<'t> Search<'t> {
     }
 
     /// What is known of a fault of the draft. Its line is mended.
-    fn detail(&mut self, fault: Fault) -> Result<Detail, Refusal> {
+    fn detail(&mut self, fault: Fault) -> Result<Detail, AllocError> {
         if is_of_all(fault.cause) {
             self.goes_on = false;
             return self.place_detail(fault);
@@ -119,7 +127,12 @@ impl<'t> Search<'t> {
             self.goes_on = false;
             return Ok(Detail::Bare);
         }
-        let Examined { detail, mending } = examined(self.alloc, &self.draft, fault.line, fault.cause)?;
+        let Examined { detail, mending } = examined(
+            self.alloc,
+            &self.draft,
+            fault.line,
+            fault.cause,
+        )?;
         match mending {
             Some(mending) => {
                 self.is_sure = self.is_sure && mending.is_sure;
@@ -134,7 +147,7 @@ impl<'t> Search<'t> {
     }
 
     /// What is known of a fault that is judged after the last line. The others are put to the further ones.
-    fn place_detail(&mut self, fault: Fault) -> Result<Detail, Refusal> {
+    fn place_detail(&mut self, fault: Fault) -> Result<Detail, AllocError> {
         let text = self.draft.text(self.alloc)?;
         let Some(history) = accepted(self.alloc, &text)? else {
             return Ok(Detail::Bare);
@@ -166,7 +179,7 @@ impl<'t> Search<'t> {
     }
 
     /// A line that a rank lacks, added behind the last one.
-    fn addition(&self, place: &PlaceFault) -> Result<Option<Suggestion>, Refusal> {
+    fn addition(&self, place: &PlaceFault) -> Result<Option<Suggestion>, AllocError> {
         let PlaceFault::MissingPlace(missing) = place else {
             return Ok(None);
         };
@@ -189,7 +202,7 @@ impl<'t> Search<'t> {
         rank: u8,
         post: &[u8],
         has_values: bool,
-    ) -> Result<Option<Suggestion>, Refusal> {
+    ) -> Result<Option<Suggestion>, AllocError> {
         let mut line = Vec::new(self.alloc);
         for word in words_of(self.alloc, post)? {
             if word.bytes == b":".as_slice() && !has_values {
@@ -198,7 +211,11 @@ impl<'t> Search<'t> {
             push_word(&mut line, word.bytes)?;
         }
         let shown = shown(self.alloc, &line)?;
-        let values = if has_values { ", with its own values" } else { "" };
+        let values = if has_values {
+            ", with its own values"
+        } else {
+            ""
+        };
         let help = format!(in self.alloc; "add `{shown}` to rank {rank}{values}")?;
         let last = self.draft.last();
         let section = format!(in self.alloc; "\nrank {rank}\n")?;

@@ -191,9 +191,17 @@ fn push_words(
         word: Some(marked.word),
         column: Some(marked.start.saturating_add(1)),
         length: Some(marked.len),
-        found: if found.is_empty() { None } else { Some(found.as_str()) },
+        found: if found.is_empty() {
+            None
+        } else {
+            Some(found.as_str())
+        },
         label: Some(marked.label.as_str()),
-        notes: marked.notes.iter().map(|note| note.as_str()).collect(alloc)?,
+        notes: marked
+            .notes
+            .iter()
+            .map(|note| note.as_str())
+            .collect(alloc)?,
         help: help(alloc, &marked.suggestion)?,
         replace: replaced(alloc, &marked.suggestion)?,
     };
@@ -228,10 +236,7 @@ fn found(alloc: Global, line: &[u8], marked: &Marked) -> Result<String, AllocErr
 }
 
 /// A list of what a user is told of a suggestion.
-fn help<'e>(
-    alloc: Global,
-    suggestion: &'e Option<Suggestion>,
-) -> Result<Vec<&'e str>, AllocError> {
+fn help<'e>(alloc: Global, suggestion: &'e Option<Suggestion>) -> Result<Vec<&'e str>, AllocError> {
     let mut help = Vec::new(alloc);
     if let Some(suggestion) = suggestion {
         help.push(suggestion.help())?;
@@ -287,9 +292,17 @@ fn push_mismatch(
             rank: mismatch.differs.rank,
             line: mismatch.differs.line,
             text: differs.as_str(),
-            fields: mismatch.fields.iter().map(|field| field.field).collect(alloc)?,
+            fields: mismatch
+                .fields
+                .iter()
+                .map(|field| field.field)
+                .collect(alloc)?,
         },
-        members: mismatch.members.iter().map(|standing| member(*standing)).collect(alloc)?,
+        members: mismatch
+            .members
+            .iter()
+            .map(|standing| member(*standing))
+            .collect(alloc)?,
     };
     push_line(alloc, &object, out)
 }
@@ -357,10 +370,7 @@ fn push_missing_start(
     push_line(alloc, &object, out)
 }
 
-fn started<'e>(
-    alloc: Global,
-    missing: &'e MissingStart,
-) -> Result<Vec<Started<'e>>, AllocError> {
+fn started<'e>(alloc: Global, missing: &'e MissingStart) -> Result<Vec<Started<'e>>, AllocError> {
     let mut all = Vec::new(alloc);
     for (rank, line, starts) in &missing.members {
         all.push(Started {

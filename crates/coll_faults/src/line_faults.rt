@@ -8,11 +8,12 @@ use crate::site::Site;
 use crate::value_faults::{ValueFault, comment, of_values};
 use crate::vocabulary::{VERBS, kind_words, meant};
 use crate::words::{first_word, shown, spliced};
-use coll_kinds::{MAX_COMMUNICATORS, MAX_RANKS, Refusal, read_number};
+use coll_kinds::{MAX_COMMUNICATORS, MAX_RANKS, read_number};
 use coll_script::Cause;
+use std::alloc::AllocError;
 
 /// What is known of the line, which breaks that rule.
-pub(crate) fn remark_of(site: &Site<'_>, cause: Cause) -> Result<Option<Remark>, Refusal> {
+pub(crate) fn remark_of(site: &Site<'_>, cause: Cause) -> Result<Option<Remark>, AllocError> {
     let remark = match cause {
         Cause::MissingRanks => missing_ranks(site)?,
         Cause::UnknownCommand => unknown_command(site)?,
@@ -50,16 +51,23 @@ pub(crate) fn guessed_ranks(site: &Site<'_>) -> u128 {
     ranks.min(MAX_RANKS as u128)
 }
 
-fn missing_ranks(site: &Site<'_>) -> Result<Remark, Refusal> {
+fn missing_ranks(site: &Site<'_>) -> Result<Remark, AllocError> {
     let alloc = site.alloc;
     if site.words.is_empty() {
         return Ok(Remark::of(alloc, 0, "no line says how many ranks there are")?);
     }
     let mut remark = Remark::of(alloc, 0, "the first line that says anything is `ranks N`")?;
     if let [0xef, 0xbb, 0xbf, word @ ..] = site.word(0) {
-        let text = "the text begins with a byte order mark (ef bb bf); save it as UTF-8 without one";
+        let text =
+            "the text begins with a byte order mark (ef bb bf); save it as UTF-8 without one";
         let by = shown(alloc, word)?;
-        site.propose(&mut remark, String::from_str(alloc, text)?, 0, 1, by.as_str())?;
+        site.propose(
+            &mut remark,
+            String::from_str(alloc, text)?,
+            0,
+            1,
+            by.as_str(),
+        )?;
         return Ok(remark);
     }
     if let Some(meant) = meant(alloc, site.word(0), &["ranks"])? {
@@ -72,7 +80,7 @@ fn missing_ranks(site: &Site<'_>) -> Result<Remark, Refusal> {
     Ok(remark)
 }
 
-fn unknown_command(site: &Site<'_>) -> Result<Remark, Refusal> {
+fn unknown_command(site: &Site<'_>) -> Result<Remark, AllocError> {
     let alloc = site.alloc;
     let mut remark = Remark::of(alloc, 0, "no line begins so")?;
     let kinds = kind_words(alloc)?;
@@ -92,10 +100,14 @@ fn unknown_command(site: &Site<'_>) -> Result<Remark, Refusal> {
     Ok(remark)
 }
 
-fn out_of_place(site: &Site<'_>) -> Result<Remark, Refusal> {
+fn out_of_place(site: &Site<'_>) -> Result<Remark, AllocError> {
     let alloc = site.alloc;
     if site.begins("ranks") {
-        return Ok(Remark::of(alloc, 0, "the number of ranks is said once, in the first line")?);
+        return Ok(Remark::of(
+            alloc,
+            0,
+            "the number of ranks is said once, in the first line",
+        )?);
     }
     if site.begins("comm") {
         return late_communicator(site);
@@ -107,7 +119,7 @@ fn out_of_place(site: &Site<'_>) -> Result<Remark, Refusal> {
 }
 
 /// A communicator behind the first `rank` line, which can be moved up.
-fn late_communicator(site: &Site<'_>) -> Result<Remark, Refusal> {
+fn late_communicator(site: &Site<'_>) -> Result<Remark, AllocError> {
     let alloc = site.alloc;
     let text = "communicators stand before the first `rank` line";
     let mut remark = Remark::of(alloc, 0, text)?;
@@ -145,7 +157,7 @@ fn missing(site: &Site<'_>) -> &'static str {
     }
 }
 
-fn bad_words(site: &Site<'_>) -> Result<Option<Remark>, Refusal> {
+fn bad_words(site: &Site<'_>) -> Result<Option<Remark>, AllocError> {
     let alloc = site.alloc;
     if site.words.len() < 2 {
         return Ok(Some(Remark::of(alloc, 1, missing(site))?));
@@ -164,23 +176,31 @@ fn bad_words(site: &Site<'_>) -> Result<Option<Remark>, Refusal> {
 }
 
 /// Words behind the end of what a line says.
-fn too_many(site: &Site<'_>, at: usize) -> Result<Remark, Refusal> {
+fn too_many(site: &Site<'_>, at: usize) -> Result<Remark, AllocError> {
     let alloc = site.alloc;
     let count = site.words.len().saturating_sub(at);
-    let label = if count == 1 { "a word too many" } else { "words too many" };
+    let label = if count == 1 {
+        "a word too many"
+    } else {
+        "words too many"
+    };
     let mut remark = Remark::of(alloc, at, label)?;
     remark.count = count.max(1);
     if site.word(at).first() == Some(&b'#') {
         comment(site, &mut remark, at)?;
     } else {
-        let help = if count == 1 { "leave it out" } else { "leave them out" };
+        let help = if count == 1 {
+            "leave it out"
+        } else {
+            "leave them out"
+        };
         let help = String::from_str(alloc, help)?;
         site.propose(&mut remark, help, at, count, "")?;
     }
     Ok(remark)
 }
 
-fn bad_number(site: &Site<'_>) -> Result<Remark, Refusal> {
+fn bad_number(site: &Site<'_>) -> Result<Remark, AllocError> {
     let alloc = site.alloc;
     if site.begins("ranks") {
         let label = format!(in alloc; "a job has 1 to {MAX_RANKS} ranks")?;
@@ -206,7 +226,7 @@ fn bad_number(site: &Site<'_>) -> Result<Remark, Refusal> {
     Ok(Remark::of(alloc, at, "requests are numbers")?)
 }
 
-fn bad_rank(site: &Site<'_>) -> Result<Remark, Refusal> {
+fn bad_rank(site: &Site<'_>) -> Result<Remark, AllocError> {
     let alloc = site.alloc;
     if site.begins("post") || site.begins("init") {
         return stranger(site);
@@ -220,7 +240,10 @@ fn bad_rank(site: &Site<'_>) -> Result<Remark, Refusal> {
             break;
         }
         let before = site.words.iter().take(at).skip(1);
-        if before.map(|word| read_number(word.bytes)).any(|other| other == number) {
+        if before
+            .map(|word| read_number(word.bytes))
+            .any(|other| other == number)
+        {
             let rank = number.unwrap_or(0);
             let label = format!(in alloc; "rank {rank} stands twice")?;
             return Ok(Remark::new(alloc, at, label));
@@ -232,12 +255,13 @@ fn bad_rank(site: &Site<'_>) -> Result<Remark, Refusal> {
 }
 
 /// A rank that isn't a member of its communicator.
-fn stranger(site: &Site<'_>) -> Result<Remark, Refusal> {
+fn stranger(site: &Site<'_>) -> Result<Remark, AllocError> {
     let alloc = site.alloc;
     let comm = site.number(1).unwrap_or(0);
     let rank = site.scene.rank().unwrap_or(0);
-    let mut label =
-        format!(in alloc; "rank {rank} is no member of communicator {comm}, which has")?;
+    let mut label = format!(in alloc;
+        "rank {rank} is no member of communicator {comm}, which has"
+    )?;
     let mut comma = "";
     for member in site.scene.group(comm) {
         write!(label, "{comma} {member}")?;
@@ -246,13 +270,14 @@ fn stranger(site: &Site<'_>) -> Result<Remark, Refusal> {
     Ok(Remark::new(alloc, 1, label))
 }
 
-fn bad_communicator(site: &Site<'_>) -> Result<Remark, Refusal> {
+fn bad_communicator(site: &Site<'_>) -> Result<Remark, AllocError> {
     let alloc = site.alloc;
     let known = site.scene.groups().len();
     if site.begins("comm") {
         let most = MAX_COMMUNICATORS.saturating_sub(1);
-        let label =
-            format!(in alloc; "a job has at most {most} communicators beside that of all ranks")?;
+        let label = format!(in alloc;
+            "a job has at most {most} communicators beside that of all ranks"
+        )?;
         return Ok(Remark::new(alloc, 0, label));
     }
     let label = match known.checked_sub(1) {

@@ -7,9 +7,9 @@ use crate::patch::Patch;
 use crate::site::{Site, last_signed};
 use crate::vocabulary::{kind_words, meant};
 use crate::words::{first_word, push_word};
-use coll_kinds::{Datatype, Refusal};
+use coll_kinds::Datatype;
 use coll_script::Cause;
-use std::alloc::Global;
+use std::alloc::{AllocError, Global};
 
 /// Patches by which a text can be read past a faulty line.
 #[derive(Debug, Drop)]
@@ -23,7 +23,7 @@ pub(crate) struct Mending {
 const MOST_VALUES: usize = 65_536;
 
 /// What may stand in place of the line, the likeliest first. Nothing where no line behind it can be judged.
-pub(crate) fn mendings(site: &Site<'_>, cause: Cause) -> Result<Vec<Mending>, Refusal> {
+pub(crate) fn mendings(site: &Site<'_>, cause: Cause) -> Result<Vec<Mending>, AllocError> {
     let mut all = Vec::new(site.alloc);
     match cause {
         Cause::TooManyRequests => {}
@@ -41,13 +41,13 @@ pub(crate) fn mendings(site: &Site<'_>, cause: Cause) -> Result<Vec<Mending>, Re
     Ok(all)
 }
 
-fn push(all: &mut Vec<Mending>, patches: Vec<Patch>, is_sure: bool) -> Result<(), Refusal> {
+fn push(all: &mut Vec<Mending>, patches: Vec<Patch>, is_sure: bool) -> Result<(), AllocError> {
     all.push(Mending { patches, is_sure })?;
     Ok(())
 }
 
 /// What may stand in place of a line with that first word.
-fn by_command(site: &Site<'_>, all: &mut Vec<Mending>) -> Result<(), Refusal> {
+fn by_command(site: &Site<'_>, all: &mut Vec<Mending>) -> Result<(), AllocError> {
     if site.begins("post") || site.begins("init") {
         push_same(site, all)?;
         let verb = if site.begins("post") { "post" } else { "init" };
@@ -57,8 +57,16 @@ fn by_command(site: &Site<'_>, all: &mut Vec<Mending>) -> Result<(), Refusal> {
         push_start(site, all)?;
         return push(all, site.dropped()?, false);
     }
-    if site.begins("wait") || site.begins("waitany") || site.begins("waitsome") || site.begins("waitall") {
-        return push(all, site.patch(Vec::from_slice(site.alloc, b"waitall")?)?, true);
+    if site.begins("wait")
+        || site.begins("waitany")
+        || site.begins("waitsome")
+        || site.begins("waitall")
+    {
+        return push(
+            all,
+            site.patch(Vec::from_slice(site.alloc, b"waitall")?)?,
+            true,
+        );
     }
     if site.begins("comm") && site.scene.rank().is_none() {
         push(all, site.patch(all_ranks(site)?)?, false)?;
@@ -69,7 +77,11 @@ fn by_command(site: &Site<'_>, all: &mut Vec<Mending>) -> Result<(), Refusal> {
     if site.begins("ranks") && !site.scene.has_ranks() {
         let ranks = guessed_ranks(site);
         let line = format!(in site.alloc; "ranks {ranks}")?;
-        return push(all, site.patch(Vec::from_slice(site.alloc, line.as_str().as_bytes())?)?, false);
+        return push(
+            all,
+            site.patch(Vec::from_slice(site.alloc, line.as_str().as_bytes())?)?,
+            false,
+        );
     }
     let is_sure = site.begins("ranks") || site.begins("test") || site.begins("free");
     push(all, site.dropped()?, is_sure)
@@ -81,7 +93,7 @@ fn push_posts(
     verb: &str,
     all: &mut Vec<Mending>,
     is_none: bool,
-) -> Result<(), Refusal> {
+) -> Result<(), AllocError> {
     if !is_none {
         let comm = site.number(1).unwrap_or(0);
         for comm in [comm, 0] {
@@ -94,7 +106,7 @@ fn push_posts(
 }
 
 /// The same signature with other values.
-fn push_same(site: &Site<'_>, all: &mut Vec<Mending>) -> Result<(), Refusal> {
+fn push_same(site: &Site<'_>, all: &mut Vec<Mending>) -> Result<(), AllocError> {
     let Some((end, history)) = site.signed()? else {
         return Ok(());
     };
@@ -113,9 +125,11 @@ fn push_same(site: &Site<'_>, all: &mut Vec<Mending>) -> Result<(), Refusal> {
 }
 
 /// A start of the same request with other values.
-fn push_start(site: &Site<'_>, all: &mut Vec<Mending>) -> Result<(), Refusal> {
+fn push_start(site: &Site<'_>, all: &mut Vec<Mending>) -> Result<(), AllocError> {
     let made = site.made()?;
-    let request = site.number(1).and_then(|number| usize::try_from(number).ok());
+    let request = site
+        .number(1)
+        .and_then(|number| usize::try_from(number).ok());
     if let Some(request) = request.and_then(|request| made.get(request)) {
         let mut line = Vec::from_slice(site.alloc, b"start")?;
         push_word(&mut line, site.word(1))?;
@@ -127,7 +141,7 @@ fn push_start(site: &Site<'_>, all: &mut Vec<Mending>) -> Result<(), Refusal> {
 }
 
 /// Puts a colon and values behind a line.
-fn push_zeros(line: &mut Vec<u8>, values: usize, ty: Datatype) -> Result<(), Refusal> {
+fn push_zeros(line: &mut Vec<u8>, values: usize, ty: Datatype) -> Result<(), AllocError> {
     if values > 0 {
         push_word(line, b":")?;
     }
@@ -139,7 +153,7 @@ fn push_zeros(line: &mut Vec<u8>, values: usize, ty: Datatype) -> Result<(), Ref
 }
 
 /// A communicator of all ranks.
-fn all_ranks(site: &Site<'_>) -> Result<Vec<u8>, Refusal> {
+fn all_ranks(site: &Site<'_>) -> Result<Vec<u8>, AllocError> {
     let mut line = Vec::from_slice(site.alloc, b"comm")?;
     for rank in 0..site.scene.ranks() {
         let word = format!(in site.alloc; "{rank}")?;
@@ -149,7 +163,7 @@ fn all_ranks(site: &Site<'_>) -> Result<Vec<u8>, Refusal> {
 }
 
 /// The section that begins here is left out.
-fn section(site: &Site<'_>) -> Result<Vec<Patch>, Refusal> {
+fn section(site: &Site<'_>) -> Result<Vec<Patch>, AllocError> {
     let mut patches = site.dropped()?;
     for number in site.line.saturating_add(1)..=site.draft.last() {
         if first_word(site.draft.line(number)) == b"rank".as_slice() {
@@ -173,7 +187,7 @@ fn has_ranks_later(site: &Site<'_>) -> bool {
 }
 
 /// Whether some word may be meant to name a collective.
-fn names_collective(site: &Site<'_>) -> Result<bool, Refusal> {
+fn names_collective(site: &Site<'_>) -> Result<bool, AllocError> {
     let kinds = kind_words(site.alloc)?;
     for word in &site.words {
         if meant(site.alloc, word.bytes, &kinds)?.is_some() {
@@ -189,7 +203,7 @@ pub(crate) fn first_accepted(
     draft: &Draft<'_>,
     line: u32,
     mendings: Vec<Mending>,
-) -> Result<Option<Mending>, Refusal> {
+) -> Result<Option<Mending>, AllocError> {
     for mending in mendings {
         let front = draft.front(alloc, line, &mending.patches)?;
         if accepted(alloc, &front)?.is_some() {

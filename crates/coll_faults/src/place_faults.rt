@@ -4,7 +4,6 @@ use crate::difference::{Difference, differences};
 use crate::draft::Written;
 use crate::postings::{List, Posted, all_postings};
 use coll_history::History;
-use coll_kinds::Refusal;
 use coll_script::Cause;
 use std::alloc::{AllocError, Global};
 
@@ -86,7 +85,7 @@ pub(crate) fn place_faults(
     alloc: Global,
     written: &Written,
     history: &History,
-) -> Result<Vec<PlaceFault>, Refusal> {
+) -> Result<Vec<PlaceFault>, AllocError> {
     let all = all_postings(alloc, history)?;
     let mut mismatches = Vec::new(alloc);
     let mut places = Vec::new(alloc);
@@ -128,7 +127,10 @@ fn at_place<'p, 'h>(
     lists: &'p [List<'h>],
     place: usize,
 ) -> Result<Vec<&'p Posted<'h>>, AllocError> {
-    lists.iter().filter_map(|list| list.posted.get(place)).collect(alloc)
+    lists
+        .iter()
+        .filter_map(|list| list.posted.get(place))
+        .collect(alloc)
 }
 
 /// The one of these in the earliest line.
@@ -204,7 +206,7 @@ fn mismatch(
     written: &Written,
     comm: usize,
     lists: &[List<'_>],
-) -> Result<Option<Mismatch>, Refusal> {
+) -> Result<Option<Mismatch>, AllocError> {
     let Some((place, differs)) = first_to_differ(alloc, lists)? else {
         return Ok(None);
     };
@@ -249,7 +251,7 @@ fn missing_place(
     written: &Written,
     comm: usize,
     lists: &[List<'_>],
-) -> Result<Option<MissingPlace>, Refusal> {
+) -> Result<Option<MissingPlace>, AllocError> {
     let mut least = places(lists);
     for list in lists {
         least = least.min(list.posted.len());
@@ -278,7 +280,7 @@ fn missing_start(
     written: &Written,
     comm: usize,
     lists: &[List<'_>],
-) -> Result<Option<MissingStart>, Refusal> {
+) -> Result<Option<MissingStart>, AllocError> {
     for place in 0..places(lists) {
         let there = at_place(alloc, lists, place)?;
         if !are_started_alike(&there) {
@@ -311,7 +313,9 @@ fn started(
 
 fn are_started_alike(there: &[&Posted<'_>]) -> bool {
     match there.first() {
-        Some(first) => there.iter().all(|posted| posted.starts.len() == first.starts.len()),
+        Some(first) => there
+            .iter()
+            .all(|posted| posted.starts.len() == first.starts.len()),
         None => true,
     }
 }

@@ -1,8 +1,8 @@
 //! The posting lists of a text, with the lines of each request's starts.
 
 use coll_history::{Command, History};
-use coll_kinds::{Refusal, Signature};
-use std::alloc::Global;
+use coll_kinds::Signature;
+use std::alloc::{AllocError, Global};
 
 /// A request, as it is compared with those of other members at its place.
 #[derive(Debug, Drop)]
@@ -24,7 +24,7 @@ pub(crate) struct List<'h> {
 }
 
 /// The requests of all ranks, in the order of their lines.
-fn posted<'h>(alloc: Global, history: &'h History) -> Result<Vec<Vec<Posted<'h>>>, Refusal> {
+fn posted<'h>(alloc: Global, history: &'h History) -> Result<Vec<Vec<Posted<'h>>>, AllocError> {
     let mut ranks = Vec::new(alloc);
     for _ in 0..history.ranks() {
         ranks.push(Vec::new(alloc))?;
@@ -44,7 +44,7 @@ fn note<'h>(
     rank: u8,
     line: u32,
     command: &'h Command,
-) -> Result<(), Refusal> {
+) -> Result<(), AllocError> {
     let (comm, sig, is_started) = match command {
         Command::Post { comm, sig, .. } => (*comm, sig, true),
         Command::Init { comm, sig } => (*comm, sig, false),
@@ -75,7 +75,7 @@ fn note<'h>(
 pub(crate) fn all_postings<'h>(
     alloc: Global,
     history: &'h History,
-) -> Result<Vec<Vec<List<'h>>>, Refusal> {
+) -> Result<Vec<Vec<List<'h>>>, AllocError> {
     let ranks = posted(alloc, history)?;
     let mut all = Vec::new(alloc);
     for group in history.groups() {
@@ -95,7 +95,7 @@ pub(crate) fn all_postings<'h>(
 }
 
 /// Lays the requests of a rank into the lists of their communicators.
-fn lay<'h>(all: &mut Vec<Vec<List<'h>>>, posted: Vec<Posted<'h>>) -> Result<(), Refusal> {
+fn lay<'h>(all: &mut Vec<Vec<List<'h>>>, posted: Vec<Posted<'h>>) -> Result<(), AllocError> {
     for request in posted {
         if let Some(lists) = all.get_mut(usize::from(request.comm)) {
             for list in lists.iter_mut() {

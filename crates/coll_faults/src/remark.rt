@@ -45,11 +45,7 @@ impl Remark {
         Ok(())
     }
 
-    pub(crate) fn propose(
-        &mut self,
-        help: String,
-        patches: Vec<Patch>,
-    ) -> Result<(), AllocError> {
+    pub(crate) fn propose(&mut self, help: String, patches: Vec<Patch>) -> Result<(), AllocError> {
         self.proposals.push(Proposal {
             help,
             patches,
@@ -59,11 +55,7 @@ impl Remark {
     }
 
     /// Proposes what only makes the line one that can be read.
-    pub(crate) fn guess(
-        &mut self,
-        help: String,
-        patches: Vec<Patch>,
-    ) -> Result<(), AllocError> {
+    pub(crate) fn guess(&mut self, help: String, patches: Vec<Patch>) -> Result<(), AllocError> {
         self.proposals.push(Proposal {
             help,
             patches,

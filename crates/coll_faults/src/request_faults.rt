@@ -2,11 +2,11 @@
 
 use crate::remark::Remark;
 use crate::site::Site;
-use coll_kinds::{MAX_REQUESTS, Refusal, read_number};
+use coll_kinds::{MAX_REQUESTS, read_number};
 use std::alloc::AllocError;
 
 /// The first request that the section hasn't made.
-pub(crate) fn unknown_request(site: &Site<'_>) -> Result<Remark, Refusal> {
+pub(crate) fn unknown_request(site: &Site<'_>) -> Result<Remark, AllocError> {
     let alloc = site.alloc;
     let count = site.made()?.len();
     let mut at: usize = 1;
@@ -26,7 +26,7 @@ pub(crate) fn unknown_request(site: &Site<'_>) -> Result<Remark, Refusal> {
 }
 
 /// The first request that stands a second time on its line.
-pub(crate) fn named_twice(site: &Site<'_>) -> Result<Remark, Refusal> {
+pub(crate) fn named_twice(site: &Site<'_>) -> Result<Remark, AllocError> {
     let alloc = site.alloc;
     let mut at: usize = 1;
     for _ in site.words.iter().skip(1) {
@@ -47,11 +47,13 @@ pub(crate) fn named_twice(site: &Site<'_>) -> Result<Remark, Refusal> {
 fn stands_before(site: &Site<'_>, at: usize) -> bool {
     let number = site.number(at);
     let before = site.words.iter().take(at).skip(1);
-    before.map(|word| read_number(word.bytes)).any(|other| other == number)
+    before
+        .map(|word| read_number(word.bytes))
+        .any(|other| other == number)
 }
 
 /// Why a request can't be started or freed.
-pub(crate) fn not_startable(site: &Site<'_>) -> Result<Remark, Refusal> {
+pub(crate) fn not_startable(site: &Site<'_>) -> Result<Remark, AllocError> {
     let alloc = site.alloc;
     let made = site.made()?;
     let number = site.number(1).unwrap_or(0);
@@ -62,7 +64,8 @@ pub(crate) fn not_startable(site: &Site<'_>) -> Result<Remark, Refusal> {
     let made_in = written.of(request.line);
     if !request.is_persistent() {
         let label = format!(in alloc;
-            "request {number} was posted in line {made_in}, so it starts and ends by itself")?;
+            "request {number} was posted in line {made_in}, so it starts and ends by itself"
+        )?;
         let mut remark = Remark::new(alloc, 1, label);
         remark.note(String::from_str(alloc, "only requests of `init` are started and freed")?)?;
         return Ok(remark);
@@ -73,8 +76,9 @@ pub(crate) fn not_startable(site: &Site<'_>) -> Result<Remark, Refusal> {
         return Ok(Remark::new(alloc, 1, label));
     }
     let started = written.of(request.active.unwrap_or(0));
-    let label =
-        format!(in alloc; "request {number} was started in line {started} and may be active still")?;
+    let label = format!(in alloc;
+        "request {number} was started in line {started} and may be active still"
+    )?;
     let mut remark = Remark::new(alloc, 1, label);
     let text = "a `test`, `waitany` or `waitsome` may leave a request active";
     remark.note(String::from_str(alloc, text)?)?;

@@ -2,8 +2,8 @@ use crate::accepting::accepted;
 use crate::draft::Draft;
 use crate::words::{first_word, words_of};
 use coll_history::{Command, History};
-use coll_kinds::{Mode, Refusal, Signature, read_number};
-use std::alloc::Global;
+use coll_kinds::{Mode, Signature, read_number};
+use std::alloc::{AllocError, Global};
 
 /// What the lines before a faulty one have said.
 #[derive(Debug, Drop)]
@@ -32,7 +32,7 @@ impl Scene {
         alloc: Global,
         draft: &Draft<'_>,
         line: u32,
-    ) -> Result<Option<Scene>, Refusal> {
+    ) -> Result<Option<Scene>, AllocError> {
         let front = draft.front(alloc, line.saturating_sub(1), &[])?;
         let Some(history) = accepted(alloc, &front)? else {
             return Ok(None);
@@ -61,7 +61,10 @@ impl Scene {
 
     /// The members of a communicator; none of one that isn't known.
     pub(crate) fn group(&self, comm: u128) -> &[u8] {
-        match usize::try_from(comm).ok().and_then(|comm| self.groups().get(comm)) {
+        match usize::try_from(comm)
+            .ok()
+            .and_then(|comm| self.groups().get(comm))
+        {
             Some(group) => group,
             None => &[],
         }
@@ -69,7 +72,7 @@ impl Scene {
 
     /// The requests of the rank whose section stands open. Linear in the commands, and for each wait for several in the
     /// requests that it names.
-    pub(crate) fn made(&self, alloc: Global) -> Result<Vec<Made<'_>>, Refusal> {
+    pub(crate) fn made(&self, alloc: Global) -> Result<Vec<Made<'_>>, AllocError> {
         let mut made = Vec::new(alloc);
         for told in self.history.told() {
             if self.rank == Some(told.rank) {
@@ -87,11 +90,7 @@ impl<'s> Made<'s> {
 }
 
 /// Notes what a line says of the requests of its rank.
-fn note<'s>(
-    made: &mut Vec<Made<'s>>,
-    line: u32,
-    command: &'s Command,
-) -> Result<(), Refusal> {
+fn note<'s>(made: &mut Vec<Made<'s>>, line: u32, command: &'s Command) -> Result<(), AllocError> {
     match command {
         Command::Post { comm, sig, .. } | Command::Init { comm, sig } => made.push(Made {
             line,
@@ -129,7 +128,7 @@ fn rest(made: &mut [Made<'_>], request: usize) {
 }
 
 /// The rank whose section stands open behind these lines, none of which has a fault.
-fn opened(alloc: Global, front: &[u8]) -> Result<Option<u8>, Refusal> {
+fn opened(alloc: Global, front: &[u8]) -> Result<Option<u8>, AllocError> {
     let mut rank = None;
     for line in front.split(|b| *b == b'\n') {
         if first_word(line) == b"rank".as_slice() {

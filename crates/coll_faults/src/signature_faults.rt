@@ -5,7 +5,8 @@ use crate::site::Site;
 use crate::vocabulary::{
     allowed_words, is_fraction, kind_words, listed, meant, operation_words, type_words,
 };
-use coll_kinds::{Datatype, Kind, MAX_COUNT, MAX_LEN, Op, Refusal};
+use coll_kinds::{Datatype, Kind, MAX_COUNT, MAX_LEN, Op};
+use std::alloc::AllocError;
 
 /// The index of the word that names the collective.
 const KIND: usize = 2;
@@ -22,7 +23,7 @@ struct Fields {
 }
 
 /// The first word of a signature that breaks a rule.
-pub(crate) fn bad_signature(site: &Site<'_>) -> Result<Remark, Refusal> {
+pub(crate) fn bad_signature(site: &Site<'_>) -> Result<Remark, AllocError> {
     let Some(kind) = Kind::from_word(site.word(KIND)) else {
         return unknown_kind(site);
     };
@@ -55,7 +56,7 @@ pub(crate) fn bad_signature(site: &Site<'_>) -> Result<Remark, Refusal> {
     checked(site, &fields)
 }
 
-fn unknown_kind(site: &Site<'_>) -> Result<Remark, Refusal> {
+fn unknown_kind(site: &Site<'_>) -> Result<Remark, AllocError> {
     let words = kind_words(site.alloc)?;
     let mut remark = Remark::of(site.alloc, KIND, "no collective has this name")?;
     match meant(site.alloc, site.word(KIND), &words)? {
@@ -68,7 +69,7 @@ fn unknown_kind(site: &Site<'_>) -> Result<Remark, Refusal> {
     Ok(remark)
 }
 
-fn root_due(site: &Site<'_>, kind: Kind, at: usize) -> Result<Remark, Refusal> {
+fn root_due(site: &Site<'_>, kind: Kind, at: usize) -> Result<Remark, AllocError> {
     let alloc = site.alloc;
     let mut remark = Remark::of(alloc, at, "the root stands here, a member number")?;
     let word = site.word(at);
@@ -80,7 +81,7 @@ fn root_due(site: &Site<'_>, kind: Kind, at: usize) -> Result<Remark, Refusal> {
     Ok(remark)
 }
 
-fn unknown_operation(site: &Site<'_>, at: usize) -> Result<Remark, Refusal> {
+fn unknown_operation(site: &Site<'_>, at: usize) -> Result<Remark, AllocError> {
     let alloc = site.alloc;
     let words = operation_words(alloc)?;
     let mut remark = Remark::of(alloc, at, "no operation has this name")?;
@@ -106,7 +107,7 @@ fn unknown_operation(site: &Site<'_>, at: usize) -> Result<Remark, Refusal> {
     Ok(remark)
 }
 
-fn unknown_type(site: &Site<'_>, at: usize) -> Result<Remark, Refusal> {
+fn unknown_type(site: &Site<'_>, at: usize) -> Result<Remark, AllocError> {
     let alloc = site.alloc;
     let words = type_words(alloc)?;
     let list = listed(alloc, &words)?;
@@ -123,7 +124,7 @@ fn unknown_type(site: &Site<'_>, at: usize) -> Result<Remark, Refusal> {
 }
 
 /// Of a signature whose words can be read, what is wrong with them.
-fn checked(site: &Site<'_>, fields: &Fields) -> Result<Remark, Refusal> {
+fn checked(site: &Site<'_>, fields: &Fields) -> Result<Remark, AllocError> {
     let alloc = site.alloc;
     if site.number(fields.count).is_none() {
         return count_due(site, fields.count);
@@ -153,7 +154,7 @@ fn checked(site: &Site<'_>, fields: &Fields) -> Result<Remark, Refusal> {
 }
 
 /// What a count breaks that is a number.
-fn size(site: &Site<'_>, fields: &Fields) -> Result<String, Refusal> {
+fn size(site: &Site<'_>, fields: &Fields) -> Result<String, AllocError> {
     let alloc = site.alloc;
     if site.number(fields.count).unwrap_or(0) > u128::from(MAX_COUNT) {
         return Ok(format!(in alloc; "a count is at most {MAX_COUNT}")?);
@@ -161,7 +162,7 @@ fn size(site: &Site<'_>, fields: &Fields) -> Result<String, Refusal> {
     Ok(format!(in alloc; "some member would give or get more than {MAX_LEN} bytes")?)
 }
 
-fn count_due(site: &Site<'_>, at: usize) -> Result<Remark, Refusal> {
+fn count_due(site: &Site<'_>, at: usize) -> Result<Remark, AllocError> {
     let alloc = site.alloc;
     let mut remark = Remark::of(alloc, at, "the number of elements of a block stands here")?;
     if site.word(at) == b":".as_slice() {

@@ -5,7 +5,7 @@ use crate::remark::Remark;
 use crate::scene::{Made, Scene};
 use crate::words::{Word, push_word, shown, spliced, words_of};
 use coll_history::{Command, History};
-use coll_kinds::{Refusal, Signature, member_of, read_number};
+use coll_kinds::{Signature, member_of, read_number};
 use std::alloc::{AllocError, Global};
 
 /// A faulty line, and what the lines before it have said.
@@ -113,19 +113,19 @@ impl<'s> Site<'s> {
     }
 
     /// The requests of the section's rank.
-    pub(crate) fn made(&self) -> Result<Vec<Made<'s>>, Refusal> {
+    pub(crate) fn made(&self) -> Result<Vec<Made<'s>>, AllocError> {
         self.scene.made(self.alloc)
     }
 
     /// What the lines before this one and such a line say, if that has no fault.
-    pub(crate) fn with_line(&self, line: Vec<u8>) -> Result<Option<History>, Refusal> {
+    pub(crate) fn with_line(&self, line: Vec<u8>) -> Result<Option<History>, AllocError> {
         let front = self.draft.front(self.alloc, self.line, &self.patch(line)?)?;
         accepted(self.alloc, &front)
     }
 
     /// The number of words up to the end of the signature of a `post` or an `init`, with what these lines say that have an
     /// `init` of that signature here. Of one whose signature can't be read there is none.
-    pub(crate) fn signed(&self) -> Result<Option<(usize, History)>, Refusal> {
+    pub(crate) fn signed(&self) -> Result<Option<(usize, History)>, AllocError> {
         let mut line = Vec::from_slice(self.alloc, b"init")?;
         let mut end: usize = 1;
         for word in self.words.iter().skip(1) {

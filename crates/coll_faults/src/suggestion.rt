@@ -4,8 +4,7 @@ ghost use Rattle.coll_faults.specs.Accepting.{is_accepted};
 use crate::accepting::accepted;
 use crate::draft::Draft;
 use crate::patch::Patch;
-use coll_kinds::Refusal;
-use std::alloc::Global;
+use std::alloc::{AllocError, Global};
 
 /// A change of a text that was tried: the lines of the changed text have no fault, up to the one for which it is made.
 #[derive(Debug, Drop)]
@@ -24,7 +23,7 @@ impl Suggestion {
         line: u32,
         help: String,
         patches: Vec<Patch>,
-    ) -> Result<Option<Suggestion>, Refusal> {
+    ) -> Result<Option<Suggestion>, AllocError> {
         let front = draft.front(alloc, line, &patches)?;
         if accepted(alloc, &front)?.is_none() {
             return Ok(None);

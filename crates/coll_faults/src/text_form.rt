@@ -102,7 +102,10 @@ impl<'e> TextForm<'e> {
         self.out.push('\n')?;
         match &finding.detail {
             Detail::Words(marked) => self.tell_words(fault.line, marked)?,
-            Detail::Place { fault: place, suggestion } => {
+            Detail::Place {
+                fault: place,
+                suggestion,
+            } => {
                 self.tell_place(place)?;
                 self.tell_suggestion(suggestion)?;
             }
@@ -136,10 +139,18 @@ impl<'e> TextForm<'e> {
     }
 
     fn tell_mismatch(&mut self, mismatch: &Mismatch) -> Result<(), AllocError> {
-        let Mismatch { comm, place, first, differs, .. } = mismatch;
+        let Mismatch {
+            comm,
+            place,
+            first,
+            differs,
+            ..
+        } = mismatch;
         self.arrow_to(differs.line)?;
         let label = format!(in self.alloc;
-            "rank {}: the earliest at communicator {comm}, place {place}", first.rank)?;
+            "rank {}: the earliest at communicator {comm}, place {place}",
+            first.rank
+        )?;
         self.tell_standing(*first, Paint::Other, '-', label.as_str())?;
         if differs.line > first.line.saturating_add(1) {
             self.painted(Paint::Frame, "...")?;
@@ -148,7 +159,13 @@ impl<'e> TextForm<'e> {
         let mut label = format!(in self.alloc; "rank {}: ", differs.rank)?;
         let mut comma = "";
         for field in &mismatch.fields {
-            write!(label, "{comma}{} {} here, {} there", field.field, field.here.as_str(), field.there.as_str())?;
+            write!(
+                label,
+                "{comma}{} {} here, {} there",
+                field.field,
+                field.here.as_str(),
+                field.there.as_str()
+            )?;
             comma = "; ";
         }
         if mismatch.fields.is_empty() {
@@ -160,7 +177,8 @@ impl<'e> TextForm<'e> {
         if let Some((at, line)) = mismatch.elsewhere {
             let note = format!(in self.alloc;
                 "rank {} has that signature at place {at}, in line {line}: members call a communicator's collectives in one order (MPI 4.1, 6.14)",
-                differs.rank)?;
+                differs.rank
+            )?;
             self.note("note", note.as_str())?;
         }
         Ok(())
@@ -194,14 +212,26 @@ impl<'e> TextForm<'e> {
     }
 
     fn tell_missing_place(&mut self, missing: &MissingPlace) -> Result<(), AllocError> {
-        let MissingPlace { comm, place, first, lacking } = missing;
+        let MissingPlace {
+            comm,
+            place,
+            first,
+            lacking,
+        } = missing;
         self.arrow_to(first.line)?;
-        let label = format!(in self.alloc; "rank {}: communicator {comm}, place {place}", first.rank)?;
+        let label = format!(in self.alloc;
+            "rank {}: communicator {comm}, place {place}",
+            first.rank
+        )?;
         self.tell_standing(*first, Paint::Fault, '^', label.as_str())?;
         let mut list = String::new(self.alloc);
         let mut comma = "";
         for (rank, has) in lacking.iter().take(LISTED) {
-            write!(list, "{comma}rank {rank} (has {has} of {})", place.saturating_add(1))?;
+            write!(
+                list,
+                "{comma}rank {rank} (has {has} of {})",
+                place.saturating_add(1)
+            )?;
             comma = ", ";
         }
         let others = lacking.len().saturating_sub(LISTED);
@@ -212,7 +242,11 @@ impl<'e> TextForm<'e> {
     }
 
     fn tell_missing_start(&mut self, missing: &MissingStart) -> Result<(), AllocError> {
-        let MissingStart { comm, place, members } = missing;
+        let MissingStart {
+            comm,
+            place,
+            members,
+        } = missing;
         if let Some((_, line, _)) = members.first() {
             self.arrow()?;
             writeln!(self.out, "{}:{line}", self.name)?;
@@ -220,8 +254,9 @@ impl<'e> TextForm<'e> {
         for (rank, _, starts) in members {
             let count = starts.len();
             let noun = if count == 1 { "start" } else { "starts" };
-            let mut note =
-                format!(in self.alloc; "{count} {noun} of communicator {comm}, place {place}")?;
+            let mut note = format!(in self.alloc;
+                "{count} {noun} of communicator {comm}, place {place}"
+            )?;
             push_lines(&mut note, starts)?;
             let word = format!(in self.alloc; "rank {rank}")?;
             self.note(word.as_str(), note.as_str())?;
@@ -269,7 +304,10 @@ impl<'e> TextForm<'e> {
         let noun = if count == 1 { "fault" } else { "faults" };
         let name = self.name;
         if faults.is_cut {
-            writeln!(self.out, "{name}: {count} {noun}; the lines that follow weren't judged")
+            writeln!(
+                self.out,
+                "{name}: {count} {noun}; the lines that follow weren't judged"
+            )
         } else {
             writeln!(self.out, "{name}: {count} {noun}")
         }
@@ -365,7 +403,11 @@ impl<'e> TextForm<'e> {
 
 /// Names the lines of starts.
 fn push_lines(note: &mut String, starts: &[u32]) -> Result<(), AllocError> {
-    let mut before = if starts.len() == 1 { ": line " } else { ": lines " };
+    let mut before = if starts.len() == 1 {
+        ": line "
+    } else {
+        ": lines "
+    };
     for line in starts.iter().take(LISTED) {
         write!(note, "{before}{line}")?;
         before = ", ";

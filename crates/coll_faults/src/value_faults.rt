@@ -4,7 +4,7 @@ use crate::remark::Remark;
 use crate::site::{Due, Site, last_signed};
 use crate::words::shown;
 use coll_history::History;
-use coll_kinds::{Datatype, Refusal, read_element};
+use coll_kinds::{Datatype, read_element};
 use std::alloc::{AllocError, Global};
 
 /// Where the values of a line begin, and what is due there.
@@ -25,13 +25,12 @@ fn of_post<'h>(site: &Site<'_>, end: usize, history: &'h History) -> Option<Valu
 }
 
 /// Speaks of the values of a `post` or a `start`.
-pub(crate) fn of_values(
-    site: &Site<'_>,
-    speak: ValueFault,
-) -> Result<Option<Remark>, Refusal> {
+pub(crate) fn of_values(site: &Site<'_>, speak: ValueFault) -> Result<Option<Remark>, AllocError> {
     if site.begins("start") {
         let made = site.made()?;
-        let request = site.number(1).and_then(|number| usize::try_from(number).ok());
+        let request = site
+            .number(1)
+            .and_then(|number| usize::try_from(number).ok());
         let Some(request) = request.and_then(|request| made.get(request)) else {
             return Ok(None);
         };
@@ -62,7 +61,7 @@ pub(crate) enum ValueFault {
 }
 
 impl ValueFault {
-    fn remark(self, site: &Site<'_>, values: &Values<'_>) -> Result<Remark, Refusal> {
+    fn remark(self, site: &Site<'_>, values: &Values<'_>) -> Result<Remark, AllocError> {
         match self {
             ValueFault::Colon => colon_due(site, values),
             ValueFault::Count => wrong_count(site, values),
@@ -77,7 +76,7 @@ fn counted(alloc: Global, count: usize, ty: Datatype) -> Result<String, AllocErr
     format!(in alloc; "{count} value{s} of {ty}")
 }
 
-fn colon_due(site: &Site<'_>, values: &Values<'_>) -> Result<Remark, Refusal> {
+fn colon_due(site: &Site<'_>, values: &Values<'_>) -> Result<Remark, AllocError> {
     let alloc = site.alloc;
     let at = values.colon;
     if at >= site.words.len() {
@@ -97,16 +96,20 @@ fn colon_due(site: &Site<'_>, values: &Values<'_>) -> Result<Remark, Refusal> {
 }
 
 /// Proposes that a comment stands on a line of its own.
-pub(crate) fn comment(site: &Site<'_>, remark: &mut Remark, at: usize) -> Result<(), Refusal> {
+pub(crate) fn comment(site: &Site<'_>, remark: &mut Remark, at: usize) -> Result<(), AllocError> {
     let help = String::from_str(site.alloc, "a comment stands on a line of its own")?;
     let count = site.words.len().saturating_sub(at);
     site.propose(remark, help, at, count, "")?;
     Ok(())
 }
 
-fn wrong_count(site: &Site<'_>, values: &Values<'_>) -> Result<Remark, Refusal> {
+fn wrong_count(site: &Site<'_>, values: &Values<'_>) -> Result<Remark, AllocError> {
     let alloc = site.alloc;
-    let Due { sig, member, values: due } = values.due;
+    let Due {
+        sig,
+        member,
+        values: due,
+    } = values.due;
     let first = values.colon.saturating_add(1);
     let got = site.words.len().saturating_sub(first);
     let wanted = counted(alloc, due, sig.ty)?;
@@ -116,9 +119,16 @@ fn wrong_count(site: &Site<'_>, values: &Values<'_>) -> Result<Remark, Refusal> 
     if is_idle {
         let kind = sig.kind;
         let root = sig.root;
-        write!(label, ": in a {kind} only the root, member {root}, gives; this is member {member}")?;
+        write!(
+            label,
+            ": in a {kind} only the root, member {root}, gives; this is member {member}"
+        )?;
     }
-    let mut remark = Remark::new(alloc, first.saturating_add(due).min(site.words.len()), label);
+    let mut remark = Remark::new(
+        alloc,
+        first.saturating_add(due).min(site.words.len()),
+        label,
+    );
     remark.count = got.saturating_sub(due).max(1);
     if is_idle {
         let help = String::from_str(alloc, "leave the values out")?;
@@ -127,7 +137,7 @@ fn wrong_count(site: &Site<'_>, values: &Values<'_>) -> Result<Remark, Refusal> 
     Ok(remark)
 }
 
-fn bad_value(site: &Site<'_>, values: &Values<'_>) -> Result<Remark, Refusal> {
+fn bad_value(site: &Site<'_>, values: &Values<'_>) -> Result<Remark, AllocError> {
     let alloc = site.alloc;
     let ty = values.due.sig.ty;
     let mut at = values.colon.saturating_add(1);
@@ -155,7 +165,9 @@ fn bad_value(site: &Site<'_>, values: &Values<'_>) -> Result<Remark, Refusal> {
 /// What a value of a type is.
 fn range(alloc: Global, ty: Datatype) -> Result<String, AllocError> {
     if ty.is_pair() {
-        return format!(in alloc; "a value of {ty} is two values of i32 with a comma between, as 7,2");
+        return format!(in alloc;
+            "a value of {ty} is two values of i32 with a comma between, as 7,2"
+        );
     }
     let limit = ty.limit();
     let most = limit.saturating_sub(1);

@@ -7,8 +7,8 @@ use strsim::damerau_levenshtein;
 
 /// The first words of lines.
 pub(crate) static VERBS: [&str; 12] = [
-    "ranks", "comm", "rank", "post", "init", "start", "wait", "test", "free", "waitany", "waitsome",
-    "waitall",
+    "ranks", "comm", "rank", "post", "init", "start", "wait", "test", "free", "waitany",
+    "waitsome", "waitall",
 ];
 
 /// MPI's and C's names of types, without `MPI_`.
@@ -41,7 +41,14 @@ static TYPES: [(&str, &str); 24] = [
 
 /// Names of types of numbers with a fraction.
 static FRACTIONS: [&str; 8] = [
-    "f32", "f64", "float", "double", "real", "double_precision", "long_double", "real8",
+    "f32",
+    "f64",
+    "float",
+    "double",
+    "real",
+    "double_precision",
+    "long_double",
+    "real8",
 ];
 
 /// The most bytes of a word that others are compared with.
@@ -59,7 +66,11 @@ fn lowered(alloc: Global, word: &[u8]) -> Result<String, AllocError> {
     let mut lowered = String::new(alloc);
     for byte in word {
         let byte = byte.to_ascii_lowercase();
-        lowered.push(if byte.is_ascii_graphic() { char::from(byte) } else { '?' })?;
+        lowered.push(if byte.is_ascii_graphic() {
+            char::from(byte)
+        } else {
+            '?'
+        })?;
     }
     Ok(lowered)
 }
@@ -74,12 +85,16 @@ fn bare(name: &str) -> &str {
 fn of_mpi(name: &str, words: &[&'static str]) -> Option<&'static str> {
     let name = bare(name);
     let without = name.strip_prefix("i").unwrap_or(name);
-    let block = if without == "reduce_scatter_block" { "rsblock" } else { without };
-    let ty = TYPES.iter().find(|(mpi, _)| *mpi == name).map(|(_, word)| *word);
-    words
+    let block = if without == "reduce_scatter_block" {
+        "rsblock"
+    } else {
+        without
+    };
+    let ty = TYPES
         .iter()
-        .copied()
-        .find(|word| *word == name || *word == block || Some(*word) == ty)
+        .find(|(mpi, _)| *mpi == name)
+        .map(|(_, word)| *word);
+    words.iter().copied().find(|word| *word == name || *word == block || Some(*word) == ty)
 }
 
 /// The one of these words that is nearest to a word, if one is near enough.

@@ -72,9 +72,26 @@ impl Example {
         let named = ["explain", self.file.as_str()];
         Ok(
             Answer::to(machine, alloc, &named, b"")? == self.explained
+                && self.is_checked(machine, alloc)?
                 && self.is_answered_by_name(machine, alloc, "plain", &self.plain)?
                 && self.is_answered_by_name(machine, alloc, "run", &self.run)?,
         )
+    }
+
+    /// Whether a check tells of a text without a fault what explains it, and of another one the fault first.
+    fn is_checked<M: Threads + Wait + Sync + Files>(
+        &self,
+        machine: &M,
+        alloc: Global,
+    ) -> io::Result<bool> {
+        let answer = Answer::to(machine, alloc, &["check", self.file.as_str()], b"")?;
+        if self.plain.status != 0 {
+            return Ok(answer.status == 2 && answer.told.starts_with(&self.plain.told));
+        }
+        let mut told = Vec::from_slice(alloc, self.file.as_bytes())?;
+        told.extend_from_slice(b": no fault\n")?;
+        told.extend_from_slice(&self.explained.lines)?;
+        Ok(answer.status == self.explained.status && answer.told == told && answer.lines.is_empty())
     }
 
     /// Whether the word with the text's file behind it has that answer.

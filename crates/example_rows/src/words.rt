@@ -5,7 +5,7 @@ use std::sync::Wait;
 use std::thread::Threads;
 
 /// Words of a command line, and the stored text of `words/` that they print. The script `colljob` answers them from it.
-pub const TEXTS: [(&str, &[&str]); 15] = [
+pub const TEXTS: [(&str, &[&str]); 18] = [
     ("help", &["--help"]),
     ("help", &["-h"]),
     ("help", &["help"]),
@@ -18,6 +18,9 @@ pub const TEXTS: [(&str, &[&str]); 15] = [
     ("help_explain", &["explain", "--help"]),
     ("help_explain", &["explain", "-h"]),
     ("help_explain", &["help", "explain"]),
+    ("help_check", &["check", "--help"]),
+    ("help_check", &["check", "-h"]),
+    ("help_check", &["help", "check"]),
     ("version", &["--version"]),
     ("version", &["-V"]),
     ("no_words", &[]),

@@ -1,0 +1,158 @@
+#!/usr/bin/env python3
+"""Verdicts of `colljob explain` beside runs of the same texts: explain.py PROGRAM [TEXTS [SEED]]
+
+Each text has 2 to 6 ranks, some communicators, and collectives that are posted or started in an order of each rank's own among
+communicators, with waits, waits for any and some, and tests in between. It is explained once and run with 0 to 8 progress threads, three
+times. A text that never stalls must end in each run, one that stalls in every run must stall in each. Ends with 1 where one doesn't, and
+shows the text. Told is also how many of the texts that may stall did so in some run, and in each.
+"""
+import collections
+import json
+import random
+import subprocess
+import sys
+
+KINDS = ["barrier", "bcast", "gather", "scatter", "allgather", "alltoall", "reduce", "allreduce", "rsblock", "scan", "exscan"]
+ROOTED = {"bcast", "gather", "scatter", "reduce"}
+REDUCING = {"reduce", "allreduce", "rsblock", "scan", "exscan"}
+OF_ROOT = {"bcast": 1, "scatter": 0}
+RUNS = 3
+SECONDS = 60
+
+
+class Collective:
+    """One collective of a communicator, or one persistent one that is started a few times."""
+
+    def __init__(self, rng, comm, group, turn):
+        self.comm = comm
+        self.group = group
+        self.kind = rng.choice(KINDS)
+        self.root = rng.randrange(len(group))
+        self.starts = rng.choice([0, 0, 0, 1, 2])
+        self.turn = turn
+        words = [self.kind]
+        if self.kind in ROOTED:
+            words.append(str(self.root))
+        if self.kind in REDUCING:
+            words.append("sum")
+        if self.kind != "barrier":
+            words += ["i32", "1"]
+        self.words = " ".join(words)
+
+    def values(self, rank):
+        """What a rank gives, behind a colon."""
+        member = self.group.index(rank)
+        count = len(self.group) if self.kind in ("alltoall", "rsblock", "scatter") else 1
+        if self.kind == "barrier" or self.kind in OF_ROOT and member != self.root:
+            return ""
+        return " : " + " ".join(str(rank * 10 + it) for it in range(count))
+
+
+def completion(rng, live):
+    """A line that waits for or tests some of these requests, and those that are surely inactive behind it."""
+    some = rng.sample(live, rng.randint(1, len(live)))
+    names = " ".join(map(str, some))
+    match rng.randrange(6):
+        case 0:
+            return f"waitany {names}", []
+        case 1:
+            return f"waitsome {names}", []
+        case 2:
+            return f"test {some[0]}", []
+        case 3:
+            return f"waitall {names}", some
+        case _:
+            return f"wait {some[0]}", some[:1]
+
+
+def section(rng, rank, lists):
+    """The lines of a rank, which takes the collectives of each communicator in order."""
+    lines = [f"rank {rank}"]
+    left = [list(it) for it in lists if it and rank in it[0].group]
+    made = 0
+    live = []
+    again = []
+    while left or again:
+        if live and rng.random() < 0.45:
+            line, over = completion(rng, live)
+            lines.append(line)
+            live = [it for it in live if it not in over]
+            continue
+        if again and (not left or rng.random() < 0.5):
+            request, collective, count = again.pop(rng.randrange(len(again)))
+            if request in live:
+                lines.append(f"wait {request}")
+                live.remove(request)
+            lines.append(f"start {request}{collective.values(rank)}")
+            live.append(request)
+            if count > 1:
+                again.append((request, collective, count - 1))
+            continue
+        # Mostly ranks keep to one order of all collectives.
+        mine = min(left, key=lambda it: it[0].turn) if rng.random() < 0.8 else rng.choice(left)
+        collective = mine.pop(0)
+        if collective.starts:
+            lines.append(f"init {collective.comm} {collective.words}")
+            again.append((made, collective, collective.starts))
+        else:
+            lines.append(f"post {collective.comm} {collective.words}{collective.values(rank)}")
+            live.append(made)
+        made += 1
+        left = [it for it in left if it]
+    return lines
+
+
+def random_text(rng):
+    ranks = rng.randint(2, 6)
+    groups = [list(range(ranks))]
+    for _ in range(rng.randint(1, 3)):
+        groups.append(rng.sample(range(ranks), rng.randint(2, ranks)))
+    lists = [[] for _ in groups]
+    for turn in range(rng.randint(2, 8)):
+        comm = rng.randrange(len(groups))
+        lists[comm].append(Collective(rng, comm, groups[comm], turn))
+    lines = [f"ranks {ranks}"] + ["comm " + " ".join(map(str, it)) for it in groups[1:]]
+    for rank in range(ranks):
+        lines += section(rng, rank, lists)
+    return "\n".join(lines) + "\n"
+
+
+def verdict(program, text):
+    ended = subprocess.run([program, "explain", "--format", "json"], input=text.encode(), capture_output=True, timeout=SECONDS)
+    if ended.returncode not in (0, 3, 6):
+        return f"{ended.returncode} {ended.stderr.decode()}"
+    return json.loads(ended.stdout.decode().splitlines()[-1])["verdict"]
+
+
+def stalls(program, text, workers):
+    """Whether a run stalls; any other end is an error."""
+    ended = subprocess.run([program, "run", "--workers", str(workers)], input=text.encode(), capture_output=True, timeout=SECONDS)
+    if ended.returncode not in (0, 3):
+        raise ValueError(f"{ended.returncode} {ended.stderr.decode()}")
+    return ended.returncode == 3
+
+
+def main():
+    program = sys.argv[1]
+    texts = int(sys.argv[2]) if len(sys.argv) > 2 else 2000
+    rng = random.Random(int(sys.argv[3]) if len(sys.argv) > 3 else 1)
+    verdicts = collections.Counter()
+    some = each = 0
+    for number in range(texts):
+        text = random_text(rng)
+        told = verdict(program, text)
+        runs = [stalls(program, text, (number + 3 * it) % 9) for it in range(RUNS)]
+        wanted = {"never": [False], "never here": [False], "perhaps": [False, True], "always here": [True], "always": [True]}
+        if told not in wanted or any(it not in wanted[told] for it in runs):
+            print(f"{told}, but runs stall so: {runs}\n--\n{text}")
+            return 1
+        verdicts[told] += 1
+        if told == "perhaps":
+            some += any(runs)
+            each += all(runs)
+    print(f"{texts} texts, each run {RUNS} times:", ", ".join(f"{it} {verdicts[it]}" for it in verdicts))
+    print(f"of those that may stall {some} did in some run, {each} in each")
+    return 0
+
+
+sys.exit(main())

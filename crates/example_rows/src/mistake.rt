@@ -1,0 +1,55 @@
+use crate::answer::Answer;
+use std::alloc::Global;
+use std::fs::{self, Files};
+use std::io;
+use std::sync::Wait;
+use std::thread::Threads;
+
+/// Whether the faults of the text `mistakes/NAME.job` are told as stored: for a reader in `NAME.text`, as JSON in `NAME.json`,
+/// and if it is there painted in `NAME.color`.
+pub fn is_checked<M: Threads + Wait + Sync + Files>(
+    rt: &HostRuntime,
+    machine: &M,
+    name: &str,
+) -> io::Result<bool> {
+    let alloc = rt.alloc();
+    let file = format!(in alloc; "mistakes/{name}.job")?;
+    let told = fs::read(rt, format!(in alloc; "mistakes/{name}.text")?)?;
+    let lines = fs::read(rt, format!(in alloc; "mistakes/{name}.json")?)?;
+    let status = status_of(&told);
+    if let Ok(painted) = fs::read(rt, format!(in alloc; "mistakes/{name}.color")?) {
+        let words = ["check", "--color", "always", file.as_str()];
+        if Answer::to(machine, alloc, &words, b"")? != as_text(alloc, status, painted) {
+            return Ok(false);
+        }
+    }
+    let json = ["check", "--format", "json", file.as_str()];
+    let wanted = Answer {
+        status,
+        lines,
+        told: Vec::new(alloc),
+    };
+    Ok(
+        Answer::to(machine, alloc, &["check", file.as_str()], b"")? == as_text(alloc, status, told)
+            && Answer::to(machine, alloc, &json, b"")? == wanted,
+    )
+}
+
+/// An answer for a reader.
+fn as_text(alloc: Global, status: u8, told: Vec<u8>) -> Answer {
+    Answer {
+        status,
+        lines: Vec::new(alloc),
+        told,
+    }
+}
+
+/// The exit status of a text of which this is told: those of `mistakes/` without a fault never stall.
+fn status_of(told: &[u8]) -> u8 {
+    let stored = b": no fault\nnever stalls";
+    if told.windows(stored.len()).any(|part| part == stored.as_slice()) {
+        0
+    } else {
+        2
+    }
+}
