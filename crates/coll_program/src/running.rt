@@ -152,7 +152,13 @@ fn run_text<M: Threads + Wait + Sync, W: Write>(
     ensures unwritten { IfErr result (λ fault. fault ≢ JobFault.Write → Keeps (W.contents output.old) (W.contents output.new)) }
 {
     let mut input = Cursor::new(text);
-    threaded_job(machine, alloc, workers, &mut Counted::new(&mut input), output)
+    threaded_job(
+        machine,
+        alloc,
+        workers,
+        &mut Counted::new(&mut input),
+        output,
+    )
 }
 
 /// Tells what clap has to say of the words: help on `output` with status 0, a wrong word on `errors` with status 2.

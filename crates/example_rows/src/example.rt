@@ -1,13 +1,17 @@
 use crate::answer::Answer;
 use crate::stall::explained_as;
 use std::alloc::Global;
-use std::fs::{self, Files};
+use std::fs::{self, File, Files, remove_file};
 use std::io;
+use std::io::Read;
 use std::sync::Wait;
 use std::thread::Threads;
 
 /// The words of a command line behind the program's name.
 const PLAIN: &[&str] = &["plain"];
+
+/// The file that a run which stalls writes.
+const WHY: &str = "why.text";
 
 /// How a text is explained that never stalls.
 const NEVER_STALLS: &[u8] = b"never stalls: each wait ends in every run, with any MPI library\n";
@@ -73,6 +77,7 @@ impl Example {
         Ok(
             Answer::to(machine, alloc, &named, b"")? == self.explained
                 && self.is_checked(machine, alloc)?
+                && self.is_run_explained(machine, alloc)?
                 && self.is_answered_by_name(machine, alloc, "plain", &self.plain)?
                 && self.is_answered_by_name(machine, alloc, "run", &self.run)?,
         )
@@ -92,6 +97,26 @@ impl Example {
         told.extend_from_slice(b": no fault\n")?;
         told.extend_from_slice(&self.explained.lines)?;
         Ok(answer.status == self.explained.status && answer.told == told && answer.lines.is_empty())
+    }
+
+    /// Whether a run that stalls writes why to the file that is named, and another run writes none; each answers as ever.
+    fn is_run_explained<M: Threads + Wait + Sync + Files>(
+        &self,
+        machine: &M,
+        alloc: Global,
+    ) -> io::Result<bool> {
+        let file = self.file.as_str();
+        let words = ["run", "--explain", WHY, file];
+        if Answer::to(machine, alloc, &words, b"")? != self.run.named(alloc, file)? {
+            return Ok(false);
+        }
+        let mut why = Vec::new(alloc);
+        let Ok(mut written) = File::open(machine, WHY) else {
+            return Ok(self.run.status != 3);
+        };
+        written.read_to_end(&mut why)?;
+        remove_file(machine, WHY)?;
+        Ok(self.run.status == 3 && why == self.explained.lines)
     }
 
     /// Whether the word with the text's file behind it has that answer.

@@ -47,7 +47,10 @@ fn as_text(alloc: Global, status: u8, told: Vec<u8>) -> Answer {
 /// The exit status of a text of which this is told: those of `mistakes/` without a fault never stall.
 fn status_of(told: &[u8]) -> u8 {
     let stored = b": no fault\nnever stalls";
-    if told.windows(stored.len()).any(|part| part == stored.as_slice()) {
+    if told
+        .windows(stored.len())
+        .any(|part| part == stored.as_slice())
+    {
         0
     } else {
         2
