@@ -1,5 +1,5 @@
 -- What checking a text may end in.
-use Rattle.std.specs.Prelude.{◌≡◌, ℕ, List, Option, IfSome, MatchResult}
+use Rattle.std.specs.Prelude.{◌≡◌, ◌⊎◌, ℕ, List, Option, IfSome, MatchResult}
 use Rattle.std.specs.Io.KnownBytes.{Keeps}
 use Rattle.coll_job.specs.declared.fault.JobFault.{JobFault}
 use Rattle.coll_job.specs.declared.fault.JobFault.TheVariants.{Read, Write, Text, Memory}
@@ -12,6 +12,10 @@ use Rattle.coll_faults.specs.declared.checking.CheckForm.TheVariants as form
 -- the exit status of a text: 2 where it has a fault, and else that of an explanation
 abbrev pub IsCheckStatus : List ℕ → ℕ → Type 0
 IsCheckStatus text status = MatchResult (meaning text) (λ lines. IsStatus status) (λ fault. status ≡ 2)
+
+-- the exit status of some text
+abbrev pub IsSomeStatus : ℕ → Type 0
+IsSomeStatus status = (status ≡ 2) ⊎ IsStatus status
 
 -- why a text isn't checked that was read: no fault of its own is among these
 abbrev pub IsFaultOf : List ℕ → JobFault → Type 0

@@ -1,12 +1,12 @@
 //! From a reader to writers: a text checked.
 
-ghost use Rattle.std.specs.Prelude.{◌≡◌, ◌≢◌, ◌≤◌, IfOk, IfErr, IfSome, IfNone, IsOkUnless, Err};
+ghost use Rattle.std.specs.Prelude.{◌≡◌, ◌≢◌, IfOk, IfErr, IfSome, IfNone, IsOkUnless, Err};
 ghost use Rattle.std.specs.Io.KnownBytes.{Keeps};
 ghost use Rattle.coll_script.specs.Meaning.{meaning};
 ghost use Rattle.coll_diagnosis.specs.Explained.{HasMeaning};
 ghost use Rattle.coll_diagnosis.specs.Explained as explained;
 ghost use Rattle.coll_diagnosis.specs.Verdicts.{IsStatus};
-ghost use Rattle.coll_faults.specs.Checked.{IsCheckStatus, IsFaultOf, IsCheckFault, KeepsLines};
+ghost use Rattle.coll_faults.specs.Checked.{IsCheckStatus, IsFaultOf, IsCheckFault, IsSomeStatus, KeepsLines};
 
 use crate::faults::Faults;
 use crate::json_form::{faultless_json, faults_json};
@@ -42,7 +42,7 @@ pub fn check_job<R: Read, W: Write, E: Write>(
     requires unread { reader.old.reads ≡ 0 }
     // The status is 2 exactly where the text has a fault.
     ensures status { IfOk result (λ status. IfSome (R.remaining reader.old.reader.now) (λ input. IsCheckStatus input status)) }
-    ensures statuses { IfOk result (λ status. status ≤ 6) }
+    ensures statuses { IfOk result IsSomeStatus }
     ensures faults { IfErr result (IsCheckFault (R.remaining reader.old.reader.now)) }
     ensures lines { KeepsLines form (W.contents output.old) (W.contents output.new) }
     ensures unwritten { IfErr result (λ fault. fault ≢ JobFault.Write → Keeps (W.contents output.old) (W.contents output.new)) }
@@ -59,12 +59,14 @@ pub fn check_job<R: Read, W: Write, E: Write>(
 /// What is told of a text, and the exit status.
 fn told(alloc: Global, name: &str, form: CheckForm, text: &[u8]) -> Result<(String, u8), JobFault>
     ensures status { IfOk result (λ told. IsCheckStatus text.now told.1) }
+    ensures statuses { IfOk result (λ told. IsSomeStatus told.1) }
     ensures faults { IfErr result (IsFaultOf text.now) }
 {
-    match faults_of(alloc, text)? {
-        Some(faults) => Ok((faulty(alloc, name, form, text, &faults)?, FAULTY)),
-        None => faultless(alloc, name, form, text),
-    }
+    let Some(faults) = faults_of(alloc, text)? else {
+        return faultless(alloc, name, form, text);
+    };
+    let lines = faulty(alloc, name, form, text, &faults)?;
+    Ok((lines, FAULTY))
 }
 
 /// The faults of a text, if it has any.

@@ -20,7 +20,7 @@ pub(crate) struct Examined {
 }
 
 /// Examines a line of the draft, none before which has a fault.
-pub(crate) fn examined(
+pub(crate) fn examine(
     alloc: Global,
     draft: &Draft<'_>,
     line: u32,

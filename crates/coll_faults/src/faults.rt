@@ -1,6 +1,6 @@
 use crate::accepting::accepted;
 use crate::draft::Draft;
-use crate::examining::{Examined, examined};
+use crate::examining::{Examined, examine};
 use crate::finding::{Detail, Finding};
 use crate::patch::Patch;
 use crate::place_faults::{PlaceFault, place_faults};
@@ -33,11 +33,12 @@ impl Faults {
         ensures none { IfOk result (λ found. IfNone found (HasMeaning text.now)) }
         ensures first { IfOk result (λ found. IfSome found (λ faults. meaning text.now ≡ Err faults.first.fault)) }
     {
-        match Script::read(alloc, text) {
-            Ok(_) => Ok(None),
-            Err(ScriptFault::NoMemory) => Err(AllocError),
-            Err(ScriptFault::Text(fault)) => Ok(Some(Faults::from_first(alloc, text, fault)?)),
-        }
+        let fault = match Script::read(alloc, text) {
+            Ok(_script) => return Ok(None),
+            Err(ScriptFault::NoMemory) => return Err(AllocError),
+            Err(ScriptFault::Text(fault)) => fault,
+        };
+        Ok(Some(Faults::from_first(alloc, text, fault)?))
     }
 
     /// The faults of a text that has this first one.
@@ -111,6 +112,8 @@ impl<'t> Search<'t> {
                 };
                 let at = self.further.len();
                 let detail = self.detail(fault)?;
+                // Those that were found with it stand behind it.
+                let at = at.min(self.further.len());
                 self.further.insert(at, Finding { fault, detail })?;
             }
         }
@@ -127,7 +130,7 @@ impl<'t> Search<'t> {
             self.goes_on = false;
             return Ok(Detail::Bare);
         }
-        let Examined { detail, mending } = examined(
+        let Examined { detail, mending } = examine(
             self.alloc,
             &self.draft,
             fault.line,

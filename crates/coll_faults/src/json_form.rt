@@ -184,6 +184,9 @@ fn push_words(
 ) -> Result<(), Error> {
     let cause = format!(in alloc; "{}", finding.fault.cause)?;
     let found = found(alloc, source.line(finding.fault.line), marked)?;
+    let notes = notes(alloc, marked)?;
+    let help = help(alloc, &marked.suggestion)?;
+    let replace = all_replaced(alloc, &marked.suggestion)?;
     let object = OfLine {
         reason: "fault",
         line: finding.fault.line,
@@ -191,21 +194,21 @@ fn push_words(
         word: Some(marked.word),
         column: Some(marked.start.saturating_add(1)),
         length: Some(marked.len),
-        found: if found.is_empty() {
-            None
-        } else {
-            Some(found.as_str())
-        },
+        found: Some(found.as_str()).filter(|found| !found.is_empty()),
         label: Some(marked.label.as_str()),
-        notes: marked
-            .notes
-            .iter()
-            .map(|note| note.as_str())
-            .collect(alloc)?,
-        help: help(alloc, &marked.suggestion)?,
-        replace: replaced(alloc, &marked.suggestion)?,
+        notes,
+        help,
+        replace,
     };
     push_line(alloc, &object, out)
+}
+
+fn notes<'e>(alloc: Global, marked: &'e Marked) -> Result<Vec<&'e str>, AllocError> {
+    let mut notes = Vec::new(alloc);
+    for note in &marked.notes {
+        notes.push(note.as_str())?;
+    }
+    Ok(notes)
 }
 
 fn push_bare(alloc: Global, finding: &Finding, out: &mut String) -> Result<(), Error> {
@@ -245,7 +248,10 @@ fn help<'e>(alloc: Global, suggestion: &'e Option<Suggestion>) -> Result<Vec<&'e
 }
 
 /// Which lines it replaces by which.
-fn replaced(alloc: Global, suggestion: &Option<Suggestion>) -> Result<Vec<Replaced>, AllocError> {
+fn all_replaced(
+    alloc: Global,
+    suggestion: &Option<Suggestion>,
+) -> Result<Vec<Replaced>, AllocError> {
     let mut all = Vec::new(alloc);
     if let Some(suggestion) = suggestion {
         for patch in suggestion.patches() {
@@ -301,13 +307,13 @@ fn push_mismatch(
         members: mismatch
             .members
             .iter()
-            .map(|standing| member(*standing))
+            .map(|standing| as_member(*standing))
             .collect(alloc)?,
     };
     push_line(alloc, &object, out)
 }
 
-fn member(standing: Standing) -> Member {
+fn as_member(standing: Standing) -> Member {
     Member {
         rank: standing.rank,
         line: standing.line,
@@ -324,6 +330,9 @@ fn push_missing_place(
     out: &mut String,
 ) -> Result<(), Error> {
     let first = line_of(alloc, source, missing.first.line)?;
+    let lacking = all_lacking(alloc, missing)?;
+    let help = help(alloc, suggestion)?;
+    let replace = all_replaced(alloc, suggestion)?;
     let object = OfMissingPlace {
         reason: "fault",
         line,
@@ -335,14 +344,14 @@ fn push_missing_place(
             line: missing.first.line,
             text: first.as_str(),
         },
-        lacking: lacking(alloc, missing)?,
-        help: help(alloc, suggestion)?,
-        replace: replaced(alloc, suggestion)?,
+        lacking,
+        help,
+        replace,
     };
     push_line(alloc, &object, out)
 }
 
-fn lacking(alloc: Global, missing: &MissingPlace) -> Result<Vec<Lacking>, AllocError> {
+fn all_lacking(alloc: Global, missing: &MissingPlace) -> Result<Vec<Lacking>, AllocError> {
     let mut all = Vec::new(alloc);
     for (rank, has) in &missing.lacking {
         all.push(Lacking {
@@ -365,12 +374,15 @@ fn push_missing_start(
         cause: "start missing",
         comm: missing.comm,
         place: missing.place,
-        members: started(alloc, missing)?,
+        members: all_started(alloc, missing)?,
     };
     push_line(alloc, &object, out)
 }
 
-fn started<'e>(alloc: Global, missing: &'e MissingStart) -> Result<Vec<Started<'e>>, AllocError> {
+fn all_started<'e>(
+    alloc: Global,
+    missing: &'e MissingStart,
+) -> Result<Vec<Started<'e>>, AllocError> {
     let mut all = Vec::new(alloc);
     for (rank, line, starts) in &missing.members {
         all.push(Started {

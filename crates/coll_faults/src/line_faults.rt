@@ -6,7 +6,7 @@ use crate::request_faults::{named_twice, not_startable, too_many_requests, unkno
 use crate::signature_faults::bad_signature;
 use crate::site::Site;
 use crate::value_faults::{ValueFault, comment, of_values};
-use crate::vocabulary::{VERBS, kind_words, meant};
+use crate::vocabulary::{VERBS, kind_words, word_meant};
 use crate::words::{first_word, shown, spliced};
 use coll_kinds::{MAX_COMMUNICATORS, MAX_RANKS, read_number};
 use coll_script::Cause;
@@ -70,7 +70,7 @@ fn missing_ranks(site: &Site<'_>) -> Result<Remark, AllocError> {
         )?;
         return Ok(remark);
     }
-    if let Some(meant) = meant(alloc, site.word(0), &["ranks"])? {
+    if let Some(meant) = word_meant(alloc, site.word(0), &["ranks"])? {
         site.propose(&mut remark, meant.help, 0, 1, meant.word)?;
     }
     let ranks = guessed_ranks(site);
@@ -84,13 +84,13 @@ fn unknown_command(site: &Site<'_>) -> Result<Remark, AllocError> {
     let alloc = site.alloc;
     let mut remark = Remark::of(alloc, 0, "no line begins so")?;
     let kinds = kind_words(alloc)?;
-    if let Some(kind) = meant(alloc, site.word(0), &kinds)? {
+    if let Some(kind) = word_meant(alloc, site.word(0), &kinds)? {
         let word = kind.word;
         let by = format!(in alloc; "post 0 {word}")?;
         let help = format!(in alloc; "a collective is posted: `post 0 {word} ..`")?;
         remark.guess(help, site.spliced(0, 1, by.as_str())?)?;
     }
-    if let Some(verb) = meant(alloc, site.word(0), &VERBS)? {
+    if let Some(verb) = word_meant(alloc, site.word(0), &VERBS)? {
         site.propose(&mut remark, verb.help, 0, 1, verb.word)?;
     }
     if !site.word(0).is_ascii() {
@@ -262,10 +262,13 @@ fn stranger(site: &Site<'_>) -> Result<Remark, AllocError> {
     let mut label = format!(in alloc;
         "rank {rank} is no member of communicator {comm}, which has"
     )?;
-    let mut comma = "";
+    let mut is_first = true;
     for member in site.scene.group(comm) {
-        write!(label, "{comma} {member}")?;
-        comma = ",";
+        if !is_first {
+            label.push(',')?;
+        }
+        is_first = false;
+        write!(label, " {member}")?;
     }
     Ok(Remark::new(alloc, 1, label))
 }

@@ -5,7 +5,7 @@ use crate::draft::Draft;
 use crate::line_faults::guessed_ranks;
 use crate::patch::Patch;
 use crate::site::{Site, last_signed};
-use crate::vocabulary::{kind_words, meant};
+use crate::vocabulary::{kind_words, word_meant};
 use crate::words::{first_word, push_word};
 use coll_kinds::Datatype;
 use coll_script::Cause;
@@ -190,7 +190,7 @@ fn has_ranks_later(site: &Site<'_>) -> bool {
 fn names_collective(site: &Site<'_>) -> Result<bool, AllocError> {
     let kinds = kind_words(site.alloc)?;
     for word in &site.words {
-        if meant(site.alloc, word.bytes, &kinds)?.is_some() {
+        if word_meant(site.alloc, word.bytes, &kinds)?.is_some() {
             return Ok(true);
         }
     }

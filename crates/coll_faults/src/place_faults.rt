@@ -4,6 +4,7 @@ use crate::difference::{Difference, differences};
 use crate::draft::Written;
 use crate::postings::{List, Posted, all_postings};
 use coll_history::History;
+use coll_kinds::Signature;
 use coll_script::Cause;
 use std::alloc::{AllocError, Global};
 
@@ -91,7 +92,7 @@ pub(crate) fn place_faults(
     let mut places = Vec::new(alloc);
     let mut starts = Vec::new(alloc);
     for (comm, lists) in all.iter().enumerate() {
-        if let Some(fault) = mismatch(alloc, written, comm, lists)? {
+        if let Some(fault) = mismatch_on(alloc, written, comm, lists)? {
             push_by_line(&mut mismatches, fault)?;
         } else if let Some(fault) = missing_place(alloc, written, comm, lists)? {
             places.push(PlaceFault::MissingPlace(fault))?;
@@ -121,35 +122,48 @@ fn push_by_line(mismatches: &mut Vec<Mismatch>, mismatch: Mismatch) -> Result<()
     Ok(())
 }
 
+/// A request at a place, as far as it is compared with the others there.
+#[derive(Clone, Copy, Debug)]
+struct Seat {
+    rank: u8,
+    line: u32,
+    sig: Signature,
+    starts: usize,
+}
+
 /// The request at a place of each member that has one.
-fn at_place<'p, 'h>(
-    alloc: Global,
-    lists: &'p [List<'h>],
-    place: usize,
-) -> Result<Vec<&'p Posted<'h>>, AllocError> {
-    lists
-        .iter()
-        .filter_map(|list| list.posted.get(place))
-        .collect(alloc)
+fn at_place(alloc: Global, lists: &[List], place: usize) -> Result<Vec<Seat>, AllocError> {
+    let mut seats = Vec::new(alloc);
+    for list in lists {
+        if let Some(posted) = list.posted.get(place) {
+            seats.push(Seat {
+                rank: posted.rank,
+                line: posted.line,
+                sig: posted.sig,
+                starts: posted.starts.len(),
+            })?;
+        }
+    }
+    Ok(seats)
 }
 
 /// The one of these in the earliest line.
-fn earliest<'p, 'h>(there: &[&'p Posted<'h>]) -> Option<&'p Posted<'h>> {
-    let mut earliest: Option<&'p Posted<'h>> = None;
-    for posted in there {
+fn earliest(seats: &[Seat]) -> Option<Seat> {
+    let mut earliest: Option<Seat> = None;
+    for seat in seats {
         let is_earlier = match earliest {
-            Some(first) => posted.line < first.line,
+            Some(first) => seat.line < first.line,
             None => true,
         };
         if is_earlier {
-            earliest = Some(*posted);
+            earliest = Some(*seat);
         }
     }
     earliest
 }
 
 /// How many places some member has.
-fn places(lists: &[List<'_>]) -> usize {
+fn places(lists: &[List]) -> usize {
     let mut places: usize = 0;
     for list in lists {
         places = places.max(list.posted.len());
@@ -157,73 +171,70 @@ fn places(lists: &[List<'_>]) -> usize {
     places
 }
 
-fn standing(written: &Written, posted: &Posted<'_>, first: &Posted<'_>) -> Standing {
+fn standing_of(written: &Written, seat: Seat, first: Seat) -> Standing {
     Standing {
-        rank: posted.rank,
-        line: written.of(posted.line),
-        agrees: posted.sig == first.sig,
+        rank: seat.rank,
+        line: written.of(seat.line),
+        agrees: seat.sig == first.sig,
     }
 }
 
 /// The request of the least line, of those that differ from the earliest at their places, with its place.
-fn first_to_differ<'p, 'h>(
-    alloc: Global,
-    lists: &'p [List<'h>],
-) -> Result<Option<(usize, &'p Posted<'h>)>, AllocError> {
-    let mut least: Option<(usize, &'p Posted<'h>)> = None;
+fn first_to_differ(alloc: Global, lists: &[List]) -> Result<Option<(usize, Seat)>, AllocError> {
+    let mut least: Option<(usize, Seat)> = None;
     for place in 0..places(lists) {
-        let there = at_place(alloc, lists, place)?;
-        if let Some(first) = earliest(&there) {
-            least = lesser(least, place, first, &there);
+        let seats = at_place(alloc, lists, place)?;
+        if let Some(first) = earliest(&seats) {
+            least = lesser(least, place, first, &seats);
         }
     }
     Ok(least)
 }
 
 /// The one of these, and of the requests at a place that differ from the earliest there, whose line is least.
-fn lesser<'p, 'h>(
-    least: Option<(usize, &'p Posted<'h>)>,
+fn lesser(
+    least: Option<(usize, Seat)>,
     place: usize,
-    first: &Posted<'h>,
-    there: &[&'p Posted<'h>],
-) -> Option<(usize, &'p Posted<'h>)> {
+    first: Seat,
+    seats: &[Seat],
+) -> Option<(usize, Seat)> {
     let mut least = least;
-    for posted in there {
+    for seat in seats {
         let is_lesser = match least {
-            Some((_, other)) => posted.line < other.line,
+            Some((_, other)) => seat.line < other.line,
             None => true,
         };
-        if is_lesser && posted.sig != first.sig {
-            least = Some((place, *posted));
+        if is_lesser && seat.sig != first.sig {
+            least = Some((place, *seat));
         }
     }
     least
 }
 
 /// The mismatch of a communicator in the earliest line.
-fn mismatch(
+fn mismatch_on(
     alloc: Global,
     written: &Written,
     comm: usize,
-    lists: &[List<'_>],
+    lists: &[List],
 ) -> Result<Option<Mismatch>, AllocError> {
     let Some((place, differs)) = first_to_differ(alloc, lists)? else {
         return Ok(None);
     };
-    let there = at_place(alloc, lists, place)?;
-    let Some(first) = earliest(&there) else {
+    let seats = at_place(alloc, lists, place)?;
+    let Some(first) = earliest(&seats) else {
         return Ok(None);
     };
     let mut members = Vec::new(alloc);
-    for posted in &there {
-        members.push(standing(written, posted, first))?;
+    for seat in &seats {
+        members.push(standing_of(written, *seat, first))?;
     }
     Ok(Some(Mismatch {
         comm,
         place,
-        first: standing(written, first, first),
-        differs: standing(written, differs, first),
-        fields: differences(alloc, differs.sig, first.sig)?,
+        first: standing_of(written, first, first),
+        differs: standing_of(written, differs, first),
+        fields: differences(alloc, &differs.sig, &first.sig)?,
         members,
         elsewhere: elsewhere(written, lists, differs, first),
     }))
@@ -232,9 +243,9 @@ fn mismatch(
 /// Where the rank of a request has the signature of another.
 fn elsewhere(
     written: &Written,
-    lists: &[List<'_>],
-    differs: &Posted<'_>,
-    first: &Posted<'_>,
+    lists: &[List],
+    differs: Seat,
+    first: Seat,
 ) -> Option<(usize, u32)> {
     let list = lists.iter().find(|list| list.rank == differs.rank)?;
     for (place, posted) in list.posted.iter().enumerate() {
@@ -250,14 +261,14 @@ fn missing_place(
     alloc: Global,
     written: &Written,
     comm: usize,
-    lists: &[List<'_>],
+    lists: &[List],
 ) -> Result<Option<MissingPlace>, AllocError> {
     let mut least = places(lists);
     for list in lists {
         least = least.min(list.posted.len());
     }
-    let there = at_place(alloc, lists, least)?;
-    let Some(first) = earliest(&there) else {
+    let seats = at_place(alloc, lists, least)?;
+    let Some(first) = earliest(&seats) else {
         return Ok(None);
     };
     let mut lacking = Vec::new(alloc);
@@ -269,7 +280,7 @@ fn missing_place(
     Ok(Some(MissingPlace {
         comm,
         place: least,
-        first: standing(written, first, first),
+        first: standing_of(written, first, first),
         lacking,
     }))
 }
@@ -279,30 +290,42 @@ fn missing_start(
     alloc: Global,
     written: &Written,
     comm: usize,
-    lists: &[List<'_>],
+    lists: &[List],
 ) -> Result<Option<MissingStart>, AllocError> {
     for place in 0..places(lists) {
-        let there = at_place(alloc, lists, place)?;
-        if !are_started_alike(&there) {
-            let mut members = Vec::new(alloc);
-            for posted in &there {
-                members.push(started(alloc, written, posted)?)?;
-            }
+        let seats = at_place(alloc, lists, place)?;
+        if !are_started_alike(&seats) {
             return Ok(Some(MissingStart {
                 comm,
                 place,
-                members,
+                members: all_started(alloc, written, lists, place)?,
             }));
         }
     }
     Ok(None)
 }
 
+/// The request of each member at a place, with the lines of its starts.
+fn all_started(
+    alloc: Global,
+    written: &Written,
+    lists: &[List],
+    place: usize,
+) -> Result<Vec<(u8, u32, Vec<u32>)>, AllocError> {
+    let mut members = Vec::new(alloc);
+    for list in lists {
+        if let Some(posted) = list.posted.get(place) {
+            members.push(started(alloc, written, posted)?)?;
+        }
+    }
+    Ok(members)
+}
+
 /// The rank of a request, its line, and those of its starts.
 fn started(
     alloc: Global,
     written: &Written,
-    posted: &Posted<'_>,
+    posted: &Posted,
 ) -> Result<(u8, u32, Vec<u32>), AllocError> {
     let mut starts = Vec::new(alloc);
     for line in &posted.starts {
@@ -311,11 +334,9 @@ fn started(
     Ok((posted.rank, written.of(posted.line), starts))
 }
 
-fn are_started_alike(there: &[&Posted<'_>]) -> bool {
-    match there.first() {
-        Some(first) => there
-            .iter()
-            .all(|posted| posted.starts.len() == first.starts.len()),
+fn are_started_alike(seats: &[Seat]) -> bool {
+    match seats.first() {
+        Some(first) => seats.iter().all(|seat| seat.starts == first.starts),
         None => true,
     }
 }

@@ -6,25 +6,25 @@ use std::alloc::{AllocError, Global};
 
 /// A request, as it is compared with those of other members at its place.
 #[derive(Debug, Drop)]
-pub(crate) struct Posted<'h> {
+pub(crate) struct Posted {
     pub rank: u8,
     /// The line that made it.
     pub line: u32,
     comm: u8,
-    pub sig: &'h Signature,
+    pub sig: Signature,
     /// The lines that started it; that of a post, too.
     pub starts: Vec<u32>,
 }
 
 /// The posting list of a member.
 #[derive(Debug, Drop)]
-pub(crate) struct List<'h> {
+pub(crate) struct List {
     pub rank: u8,
-    pub posted: Vec<Posted<'h>>,
+    pub posted: Vec<Posted>,
 }
 
 /// The requests of all ranks, in the order of their lines.
-fn posted<'h>(alloc: Global, history: &'h History) -> Result<Vec<Vec<Posted<'h>>>, AllocError> {
+fn all_posted(alloc: Global, history: &History) -> Result<Vec<Vec<Posted>>, AllocError> {
     let mut ranks = Vec::new(alloc);
     for _ in 0..history.ranks() {
         ranks.push(Vec::new(alloc))?;
@@ -38,16 +38,16 @@ fn posted<'h>(alloc: Global, history: &'h History) -> Result<Vec<Vec<Posted<'h>>
 }
 
 /// Notes what a line makes or starts.
-fn note<'h>(
+fn note(
     alloc: Global,
-    posted: &mut Vec<Posted<'h>>,
+    posted: &mut Vec<Posted>,
     rank: u8,
     line: u32,
-    command: &'h Command,
+    command: &Command,
 ) -> Result<(), AllocError> {
     let (comm, sig, is_started) = match command {
-        Command::Post { comm, sig, .. } => (*comm, sig, true),
-        Command::Init { comm, sig } => (*comm, sig, false),
+        Command::Post { comm, sig, .. } => (*comm, *sig, true),
+        Command::Init { comm, sig } => (*comm, *sig, false),
         Command::Start { req, .. } => {
             if let Some(request) = posted.get_mut(*req as usize) {
                 request.starts.push(line)?;
@@ -72,11 +72,8 @@ fn note<'h>(
 
 /// The posting lists of each communicator, in member order. Linear in the commands, and for each communicator in the
 /// requests.
-pub(crate) fn all_postings<'h>(
-    alloc: Global,
-    history: &'h History,
-) -> Result<Vec<Vec<List<'h>>>, AllocError> {
-    let ranks = posted(alloc, history)?;
+pub(crate) fn all_postings(alloc: Global, history: &History) -> Result<Vec<Vec<List>>, AllocError> {
+    let ranks = all_posted(alloc, history)?;
     let mut all = Vec::new(alloc);
     for group in history.groups() {
         let mut lists = Vec::new(alloc);
@@ -95,7 +92,7 @@ pub(crate) fn all_postings<'h>(
 }
 
 /// Lays the requests of a rank into the lists of their communicators.
-fn lay<'h>(all: &mut Vec<Vec<List<'h>>>, posted: Vec<Posted<'h>>) -> Result<(), AllocError> {
+fn lay(all: &mut Vec<Vec<List>>, posted: Vec<Posted>) -> Result<(), AllocError> {
     for request in posted {
         if let Some(lists) = all.get_mut(usize::from(request.comm)) {
             for list in lists.iter_mut() {

@@ -3,7 +3,7 @@
 use crate::remark::Remark;
 use crate::site::Site;
 use crate::vocabulary::{
-    allowed_words, is_fraction, kind_words, listed, meant, operation_words, type_words,
+    allowed_words, is_fraction, kind_words, listed, operation_words, type_words, word_meant,
 };
 use coll_kinds::{Datatype, Kind, MAX_COUNT, MAX_LEN, Op};
 use std::alloc::AllocError;
@@ -59,7 +59,7 @@ pub(crate) fn bad_signature(site: &Site<'_>) -> Result<Remark, AllocError> {
 fn unknown_kind(site: &Site<'_>) -> Result<Remark, AllocError> {
     let words = kind_words(site.alloc)?;
     let mut remark = Remark::of(site.alloc, KIND, "no collective has this name")?;
-    match meant(site.alloc, site.word(KIND), &words)? {
+    match word_meant(site.alloc, site.word(KIND), &words)? {
         Some(meant) => site.propose(&mut remark, meant.help, KIND, 1, meant.word)?,
         None => {
             let list = listed(site.alloc, &words)?;
@@ -97,7 +97,7 @@ fn unknown_operation(site: &Site<'_>, at: usize) -> Result<Remark, AllocError> {
         }
         return Ok(remark);
     }
-    match meant(alloc, site.word(at), &words)? {
+    match word_meant(alloc, site.word(at), &words)? {
         Some(meant) => site.propose(&mut remark, meant.help, at, 1, meant.word)?,
         None => {
             let list = listed(alloc, &words)?;
@@ -116,7 +116,7 @@ fn unknown_type(site: &Site<'_>, at: usize) -> Result<Remark, AllocError> {
         remark.note(format!(in alloc; "values are whole numbers alone: {list}")?)?;
         return Ok(remark);
     }
-    match meant(alloc, site.word(at), &words)? {
+    match word_meant(alloc, site.word(at), &words)? {
         Some(meant) => site.propose(&mut remark, meant.help, at, 1, meant.word)?,
         None => remark.note(format!(in alloc; "types are {list}")?)?,
     }

@@ -157,16 +157,19 @@ impl<'e> TextForm<'e> {
             self.out.push('\n')?;
         }
         let mut label = format!(in self.alloc; "rank {}: ", differs.rank)?;
-        let mut comma = "";
+        let mut is_first = true;
         for field in &mismatch.fields {
+            if !is_first {
+                label.push_str("; ")?;
+            }
+            is_first = false;
             write!(
                 label,
-                "{comma}{} {} here, {} there",
+                "{} {} here, {} there",
                 field.field,
                 field.here.as_str(),
                 field.there.as_str()
             )?;
-            comma = "; ";
         }
         if mismatch.fields.is_empty() {
             label.push_str("other counts here")?;
@@ -195,8 +198,10 @@ impl<'e> TextForm<'e> {
         let mut count: usize = 0;
         for member in members.iter().filter(|member| member.agrees == agree) {
             if count < LISTED {
-                let comma = if count == 0 { "" } else { ", " };
-                write!(list, "{comma}rank {} line {}", member.rank, member.line)?;
+                if count > 0 {
+                    list.push_str(", ")?;
+                }
+                write!(list, "rank {} line {}", member.rank, member.line)?;
             }
             count = count.saturating_add(1);
         }
@@ -225,14 +230,17 @@ impl<'e> TextForm<'e> {
         )?;
         self.tell_standing(*first, Paint::Fault, '^', label.as_str())?;
         let mut list = String::new(self.alloc);
-        let mut comma = "";
+        let mut is_first = true;
         for (rank, has) in lacking.iter().take(LISTED) {
+            if !is_first {
+                list.push_str(", ")?;
+            }
+            is_first = false;
             write!(
                 list,
-                "{comma}rank {rank} (has {has} of {})",
+                "rank {rank} (has {has} of {})",
                 place.saturating_add(1)
             )?;
-            comma = ", ";
         }
         let others = lacking.len().saturating_sub(LISTED);
         if others > 0 {
@@ -257,7 +265,9 @@ impl<'e> TextForm<'e> {
             let mut note = format!(in self.alloc;
                 "{count} {noun} of communicator {comm}, place {place}"
             )?;
-            push_lines(&mut note, starts)?;
+            if count > 0 {
+                push_lines(&mut note, starts)?;
+            }
             let word = format!(in self.alloc; "rank {rank}")?;
             self.note(word.as_str(), note.as_str())?;
         }
@@ -403,14 +413,18 @@ impl<'e> TextForm<'e> {
 
 /// Names the lines of starts.
 fn push_lines(note: &mut String, starts: &[u32]) -> Result<(), AllocError> {
-    let mut before = if starts.len() == 1 {
-        ": line "
+    note.push_str(if starts.len() == 1 {
+        ": line"
     } else {
-        ": lines "
-    };
+        ": lines"
+    })?;
+    let mut is_first = true;
     for line in starts.iter().take(LISTED) {
-        write!(note, "{before}{line}")?;
-        before = ", ";
+        if !is_first {
+            note.push(',')?;
+        }
+        is_first = false;
+        write!(note, " {line}")?;
     }
     if starts.len() > LISTED {
         note.push_str(", ..")?;

@@ -119,7 +119,7 @@ fn nearest(
 }
 
 /// The one of these words that a word may be meant to be.
-pub(crate) fn meant(
+pub(crate) fn word_meant(
     alloc: Global,
     word: &[u8],
     words: &[&'static str],

@@ -1,5 +1,5 @@
 -- What is read decides how it is checked.
-use Rattle.std.proofs.Common.{◌≡◌, ℕ, List, take, Option, Some, None, refl, sym, subst, ◌∙◌}
+use Rattle.std.proofs.Common.{◌≡◌, ℕ, List, take, Option, Some, None, sym, subst, ◌∙◌}
 use Rattle.std.specs.Prelude.{IfSome, MatchResult, Result, Ok, Err}
 use Rattle.coll_history.specs.declared.fault.Fault.{Fault}
 use Rattle.coll_job.specs.declared.fault.JobFault.{JobFault}
@@ -13,9 +13,9 @@ use Rattle.coll_diagnosis.proofs.Answering.{HasMeaning-read}
 use Rattle.coll_faults.specs.Checked.{IsCheckStatus, IsFaultOf, IsCheckFault}
 
 -- a text with a fault is told with status 2
-pub IsCheckStatus-fault : (text : List ℕ) (fault : Fault) → meaning text ≡ Err fault → IsCheckStatus text 2
-IsCheckStatus-fault text fault is =
-    subst (λ (m : Result (List ℕ) Fault). MatchResult m (λ lines. IsStatus 2) (λ fault. 2 ≡ 2)) (sym is) refl
+pub IsCheckStatus-fault : (text : List ℕ) (fault : Fault) (status : ℕ) → status ≡ 2 → meaning text ≡ Err fault → IsCheckStatus text status
+IsCheckStatus-fault text fault status two is =
+    subst (λ (m : Result (List ℕ) Fault). MatchResult m (λ lines. IsStatus status) (λ fault. status ≡ 2)) (sym is) two
 
 -- one that has a meaning with the status of an explanation
 pub IsCheckStatus-meaning : (text : List ℕ) (status : ℕ) → HasMeaning text → IsStatus status → IsCheckStatus text status

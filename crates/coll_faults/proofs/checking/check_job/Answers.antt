@@ -1,0 +1,18 @@
+use Rattle.std.proofs.Common.{◌≡◌, ℕ, List, take, subst, sym}
+use Rattle.std.specs.Prelude.{IfSome}
+use Rattle.std.proofs.lemmas.Result.{err_from_is_err_and}
+use Rattle.coll_faults.proofs.Answering.{IsCheckStatus-read, IsCheckFault-read}
+use Rattle.coll_faults.proofs.checking.check_job.Goals as goal
+
+pub returns-in_err-lines-clause-faults : goal.returns-in_err-lines-clause-faults
+returns-in_err-lines-clause-faults g c =
+    let p = err_from_is_err_and c.from_residual-in_err-lines.result c.from_residual-in_err-lines.ensures.1 in
+    let start = g.R.Read.remaining c.args.reader.now.reader.now in
+    let read = subst (λ (text : List ℕ). IfSome start (λ input. text ≡ take 1048577 input)) (sym c.deref.ensures.value) c.in_ok-text.ensures.text in
+    rw (p.1, p.2) (IsCheckFault-read c.in_err-lines.field-0.0 start c.deref.result.now read c.in_err-lines.ensures.faults)
+
+pub returns-clause-status : goal.returns-clause-status
+returns-clause-status g c =
+    let start = g.R.Read.remaining c.args.reader.now.reader.now in
+    let read = subst (λ (text : List ℕ). IfSome start (λ input. text ≡ take 1048577 input)) (sym c.deref.ensures.value) c.in_ok-text.ensures.text in
+    IsCheckStatus-read start c.deref.result.now c.in_ok-lines.status read c.in_ok-lines.ensures.status
