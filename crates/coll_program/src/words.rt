@@ -199,13 +199,13 @@ pub fn task_of<'w>(
             form: form_of(explain),
             is_strict: explain.get_flag(STRICT),
         };
-        return Ok(task(Way::Explain(options), explain));
+        return Ok(task_on(Way::Explain(options), explain));
     }
     if let Some(check) = matches.subcommand_matches("check") {
-        return Ok(task(Way::Check(check_form_of(check, takes_colors)), check));
+        return Ok(task_on(Way::Check(check_form_of(check, takes_colors)), check));
     }
     match matches.subcommand_matches("plain") {
-        Some(plain) => Ok(task(Way::Plain, plain)),
+        Some(plain) => Ok(task_on(Way::Plain, plain)),
         None => Ok(Task {
             way: Way::Plain,
             file: None,
@@ -215,7 +215,7 @@ pub fn task_of<'w>(
 }
 
 /// A task on the file that the words behind a subcommand name.
-fn task<'w>(way: Way, matches: &ArgMatches<'w>) -> Task<'w>
+fn task_on<'w>(way: Way, matches: &ArgMatches<'w>) -> Task<'w>
     ensures { result.way ≡ way }
 {
     Task {
