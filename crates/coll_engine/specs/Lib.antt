@@ -1,0 +1,4 @@
+pub mod Communicators
+pub mod Calls
+pub mod Progress
+pub mod Tests

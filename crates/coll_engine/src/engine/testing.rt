@@ -1,0 +1,77 @@
+//! The test of one request, whose outcome goes into the caller's memory.
+
+ghost use Rattle.std.specs.Prelude.{◌≡◌, ◌≤◌, IfErr, IfOk, OnErr, OnOk, false, length};
+ghost use Rattle.coll_core.specs.Cores.{seen, setting};
+ghost use Rattle.coll_complete.specs.Requests.{is_done, is_pending, left_of};
+ghost use Rattle.coll_engine.specs.Calls.{Completes, DeniesTest, Fills};
+ghost use Rattle.coll_engine.specs.Tests.{IfCompleted, is_completed, is_unfinished};
+
+use crate::engine::Engine;
+use crate::test::Test;
+use coll_complete::{Request, test};
+use coll_core::{Outcome, Phase};
+use coll_kinds::Refusal;
+
+impl Engine {
+    /// Completes a request if it is Done (`MPI_Test`; MPI 4.1, 3.7.3): its outcome stands at the front of `out` then, and a
+    /// once request is null. It takes no memory.
+    ///
+    /// # Errors
+    ///
+    /// In this order, with nothing changed: Stale where the request names none that is live; NotYours where it is another
+    /// rank's; BadLength where it is Done and its outcome has more bytes than `out`.
+    pub fn test(
+        &mut self,
+        rank: u8,
+        request: &mut Request,
+        out: &mut [u8],
+    ) -> Result<Test, Refusal>
+        ensures setting { setting self.new ≡ setting self.old }
+        ensures refused { IfErr result (DeniesTest (setting self.old) (seen self.old) rank request.old (length out.old)) }
+        ensures err { OnErr result ((self.new ≡ self.old) × (request.new ≡ request.old) × (out.new ≡ out.old)) }
+        ensures pending { IfOk result (λ test. is_unfinished test ≡ is_pending (seen self.old) request.old) }
+        ensures completed { IfOk result (λ test. is_completed test ≡ is_done (seen self.old) request.old) }
+        ensures none { IfOk result (λ test. is_completed test ≡ false → (self.new ≡ self.old) × (out.new ≡ out.old)) }
+        ensures completes { IfOk result (IfCompleted (λ count. Completes (setting self.old) (seen self.old) rank request.old out.old count out.new (seen self.new))) }
+        ensures request { OnOk result (request.new ≡ left_of (seen self.old) request.old) }
+    {
+        self.check_room(rank, request, out.len())?;
+        let tested = match test(&mut self.core, rank, request) {
+            Ok(tested) => tested,
+            Err(why) => return Err(why),
+        };
+        match tested.outcome {
+            Some(outcome) => Ok(Test::Completed(lay_out(&outcome, out))),
+            None if tested.flag => Ok(Test::Inactive),
+            None => Ok(Test::Pending),
+        }
+    }
+
+    /// Refuses memory that is too short for the outcome of a request that is Done.
+    fn check_room(&self, rank: u8, request: &Request, room: usize) -> Result<(), Refusal>
+        ensures refused { IfErr result (DeniesTest (setting self.now) (seen self.now) rank request.now room) }
+    {
+        let Some(ticket) = request.ticket() else {
+            return Ok(());
+        };
+        let Phase::Done = self.core.phase(rank, ticket)? else {
+            return Ok(());
+        };
+        match self.outcome_lengths.get(ticket.slot as usize).copied() {
+            Some(want) if room < want as usize => Err(Refusal::BadLength { want, got: room }),
+            _ => Ok(()),
+        }
+    }
+}
+
+/// Copies an outcome to the front of memory that has room for it, and answers its length.
+fn lay_out(outcome: &Outcome, out: &mut [u8]) -> usize
+    ensures count { result ≡ length outcome.now.bytes.items }
+    ensures fills { result ≤ length out.old → Fills out.old out.new outcome.now.bytes.items }
+{
+    let count = outcome.bytes.len();
+    if count <= out.len() {
+        out[..count].copy_from_slice(&outcome.bytes);
+    }
+    count
+}
