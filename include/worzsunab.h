@@ -256,6 +256,10 @@ int32_t wz_test(wz_engine *engine, uint8_t rank, wz_request *request, void *out,
 enum { WZ_IDLE = 0, WZ_IS_PENDING = 1, WZ_IS_DONE = 2 };
 int32_t wz_phase(wz_engine *engine, uint8_t rank, const wz_request *request, uint8_t *phase);
 
+/* The bytes of the outcome that a live request will have, or has.
+   WZ_CLOSED, WZ_STALE, WZ_NOT_YOURS. */
+int32_t wz_outcome_length(wz_engine *engine, uint8_t rank, const wz_request *request, size_t *bytes);
+
 /* Makes at most budget actions of any rank's collectives: each copies a message or combines two rows. *actions tells how many;
    they are fewer only where none is left.
    WZ_CLOSED; WZ_NO_MEMORY, after which the actions that were made stay made. */
@@ -268,6 +272,104 @@ int32_t wz_settle(wz_engine *engine);
 /* The bytes that active requests lend to the engine, given and got together.
    WZ_CLOSED. */
 int32_t wz_lent(wz_engine *engine, uint64_t *bytes);
+
+/* ---- lists of requests of one rank, in which none stands twice (MPI 4.1, 3.7.5 and 3.9). outs[i] has room for rooms[i] bytes,
+        and counts[i] is set for each request that is completed. All requests are looked at before anything changes. They are
+        made of the functions above, and compiled as part of the program. */
+
+/* No position: no request of the list is active (MPI_UNDEFINED). */
+#define WZ_UNDEFINED SIZE_MAX
+
+/* What a list has. */
+typedef struct wz_survey_ {
+    size_t first_done;
+    bool active, pending;
+} wz_survey_;
+
+static inline int32_t wz_survey_list_(wz_engine *engine, uint8_t rank, const wz_request *requests, size_t many,
+                                      const size_t *rooms, bool all, wz_survey_ *survey) {
+    survey->first_done = WZ_UNDEFINED;
+    survey->active = survey->pending = false;
+    for (size_t i = 0; i < many; i++) {
+        uint8_t phase = WZ_IDLE;
+        size_t bytes = 0;
+        if (requests[i].generation == 0) continue;
+        int32_t code = wz_phase(engine, rank, &requests[i], &phase);
+        if (code != WZ_DONE) return code;
+        survey->active = survey->active || phase != WZ_IDLE;
+        survey->pending = survey->pending || phase == WZ_IS_PENDING;
+        if (phase != WZ_IS_DONE || (!all && survey->first_done != WZ_UNDEFINED)) continue;
+        code = wz_outcome_length(engine, rank, &requests[i], &bytes);
+        if (code != WZ_DONE) return code;
+        if (bytes > rooms[i]) return WZ_BAD_LENGTH;
+        if (survey->first_done == WZ_UNDEFINED) survey->first_done = i;
+    }
+    return WZ_DONE;
+}
+
+/* Completes the lowest request that is done (MPI_Testany): *index is its position, or WZ_UNDEFINED where none is active.
+   WZ_PENDING where some are active and none is done.
+   WZ_CLOSED, WZ_STALE, WZ_NOT_YOURS, WZ_BAD_LENGTH. */
+static inline int32_t wz_test_any(wz_engine *engine, uint8_t rank, wz_request *requests, size_t many, void *const *outs,
+                                  const size_t *rooms, size_t *counts, size_t *index) {
+    wz_survey_ survey;
+    int32_t code = wz_survey_list_(engine, rank, requests, many, rooms, false, &survey);
+    if (code != WZ_DONE) return code;
+    size_t at = survey.first_done;
+    if (at == WZ_UNDEFINED && survey.active) return WZ_PENDING;
+    *index = at;
+    return at == WZ_UNDEFINED ? WZ_DONE : wz_test(engine, rank, &requests[at], outs[at], rooms[at], &counts[at]);
+}
+
+/* Completes each request that is done, in rising position (MPI_Testsome): *completed tells how many, and done[i] whether that
+   was request i; *completed is WZ_UNDEFINED where none is active.
+   WZ_CLOSED, WZ_STALE, WZ_NOT_YOURS, WZ_BAD_LENGTH. */
+static inline int32_t wz_test_some(wz_engine *engine, uint8_t rank, wz_request *requests, size_t many, void *const *outs,
+                                   const size_t *rooms, size_t *counts, bool *done, size_t *completed) {
+    wz_survey_ survey;
+    int32_t code = wz_survey_list_(engine, rank, requests, many, rooms, true, &survey);
+    if (code != WZ_DONE) return code;
+    size_t found = 0;
+    for (size_t i = 0; i < many; i++) {
+        uint8_t phase = WZ_IDLE;
+        done[i] = false;
+        if (requests[i].generation == 0) continue;
+        code = wz_phase(engine, rank, &requests[i], &phase);
+        if (code == WZ_DONE && phase == WZ_IS_DONE) {
+            code = wz_test(engine, rank, &requests[i], outs[i], rooms[i], &counts[i]);
+            done[i] = code == WZ_DONE;
+            found++;
+        }
+        if (code != WZ_DONE) return code;
+    }
+    *completed = survey.active ? found : WZ_UNDEFINED;
+    return WZ_DONE;
+}
+
+/* Completes all requests if none is pending (MPI_Testall), else WZ_PENDING; counts[i] is 0 for one that wasn't active.
+   WZ_CLOSED, WZ_STALE, WZ_NOT_YOURS, WZ_BAD_LENGTH. */
+static inline int32_t wz_test_all(wz_engine *engine, uint8_t rank, wz_request *requests, size_t many, void *const *outs,
+                                  const size_t *rooms, size_t *counts) {
+    wz_survey_ survey;
+    int32_t code = wz_survey_list_(engine, rank, requests, many, rooms, true, &survey);
+    if (code != WZ_DONE) return code;
+    if (survey.pending) return WZ_PENDING;
+    for (size_t i = 0; i < many && code == WZ_DONE; i++)
+        code = wz_test(engine, rank, &requests[i], outs[i], rooms[i], &counts[i]);
+    return code;
+}
+
+/* Starts requests in rising position (MPI_Startall), with lengths[i] bytes at given[i]. *started tells how many were: those before
+   the first whose start is refused, with that refusal, as wz_start answers it. */
+static inline int32_t wz_start_all(wz_engine *engine, uint8_t rank, const wz_request *requests, size_t many,
+                                   const void *const *given, const size_t *lengths, size_t *started) {
+    for (*started = 0; *started < many; ++*started) {
+        size_t i = *started;
+        int32_t code = wz_start(engine, rank, &requests[i], given[i], lengths[i]);
+        if (code != WZ_DONE) return code;
+    }
+    return WZ_DONE;
+}
 
 #ifdef __cplusplus
 }

@@ -53,6 +53,7 @@ static void closed(void) {
         WANT(WZ_CLOSED, wz_free(&engine, 0, &request));
         WANT(WZ_CLOSED, wz_test(&engine, 0, &request, &number, 4, &count));
         WANT(WZ_CLOSED, wz_phase(&engine, 0, &request, &phase));
+        WANT(WZ_CLOSED, wz_outcome_length(&engine, 0, &request, &count));
         WANT(WZ_CLOSED, wz_step(&engine, 1, &actions));
         WANT(WZ_CLOSED, wz_settle(&engine));
         WANT(WZ_CLOSED, wz_lent(&engine, &bytes));
@@ -172,7 +173,11 @@ static void requests(void) {
     WANT(WZ_PENDING, wz_test(&engine, 0, &mine, out, 4, &count));
     WANT(WZ_DONE, wz_phase(&engine, 0, &mine, &phase));
     WANT(WZ_DONE, wz_lent(&engine, &lent));
-    HOLDS(phase == WZ_IS_PENDING && lent == 8 && out[0] == -1);
+    WANT(WZ_DONE, wz_outcome_length(&engine, 0, &mine, &count));
+    HOLDS(phase == WZ_IS_PENDING && lent == 8 && out[0] == -1 && count == 4);
+    WANT(WZ_NOT_YOURS, wz_outcome_length(&engine, 0, &yours, &count));
+    WANT(WZ_STALE, wz_outcome_length(&engine, 0, &null, &count));
+    count = 0;
     WANT(WZ_DONE, wz_start(&engine, 1, &yours, &three, 4));
     WANT(WZ_DONE, wz_settle(&engine));
     WANT(WZ_DONE, wz_phase(&engine, 0, &mine, &phase));
@@ -228,6 +233,57 @@ static void budgets(void) {
     WANT(WZ_DONE, wz_close(&engine));
 }
 
+static void lists(void) {
+    wz_engine engine = opened(8, 16, 4);
+    enum { MANY = 3 };
+    wz_request mine[MANY + 1] = { WZ_NULL_REQUEST }, yours[MANY];
+    int32_t out[MANY + 1] = { 0 }, given[MANY] = { 1, 2, 3 };
+    void *outs[MANY + 1];
+    const void *gives[MANY];
+    size_t rooms[MANY + 1], counts[MANY + 1], lengths[MANY], index = 7, some = 7, started = 7;
+    bool done[MANY + 1];
+    for (int i = 0; i <= MANY; i++) {
+        outs[i] = &out[i];
+        rooms[i] = sizeof out[i];
+        counts[i] = 9;
+    }
+    WANT(WZ_DONE, wz_test_any(&engine, 0, mine, MANY + 1, outs, rooms, counts, &index)); /* only null requests */
+    WANT(WZ_DONE, wz_test_some(&engine, 0, mine, MANY + 1, outs, rooms, counts, done, &some));
+    HOLDS(index == WZ_UNDEFINED && some == WZ_UNDEFINED);
+    WANT(WZ_DONE, wz_test_all(&engine, 0, mine, MANY + 1, outs, rooms, counts));
+    for (int i = 0; i < MANY; i++) {
+        gives[i] = &given[i];
+        lengths[i] = 4;
+        WANT(WZ_DONE, wz_init(&engine, 0, 0, &sum, &mine[i]));
+        WANT(WZ_DONE, wz_init(&engine, 1, 0, &sum, &yours[i]));
+    }
+    lengths[2] = 3;
+    WANT(WZ_BAD_LENGTH, wz_start_all(&engine, 0, mine, MANY, gives, lengths, &started));
+    HOLDS(started == 2);
+    WANT(WZ_DONE, wz_start(&engine, 0, &mine[2], &given[2], 4));
+    WANT(WZ_PENDING, wz_test_any(&engine, 0, mine, MANY + 1, outs, rooms, counts, &index));
+    WANT(WZ_DONE, wz_test_some(&engine, 0, mine, MANY + 1, outs, rooms, counts, done, &some));
+    HOLDS(some == 0);
+    WANT(WZ_DONE, wz_start(&engine, 1, &yours[1], &given[0], 4));
+    WANT(WZ_DONE, wz_start(&engine, 1, &yours[2], &given[0], 4));
+    WANT(WZ_DONE, wz_settle(&engine));
+    WANT(WZ_PENDING, wz_test_all(&engine, 0, mine, MANY + 1, outs, rooms, counts));
+    WANT(WZ_NOT_YOURS, wz_test_all(&engine, 1, mine, MANY + 1, outs, rooms, counts));
+    rooms[2] = 3;
+    WANT(WZ_BAD_LENGTH, wz_test_some(&engine, 0, mine, MANY + 1, outs, rooms, counts, done, &some)); /* none is completed */
+    HOLDS(out[1] == 0);
+    WANT(WZ_DONE, wz_test_any(&engine, 0, mine, MANY + 1, outs, rooms, counts, &index));
+    HOLDS(index == 1 && out[1] == 3 && counts[1] == 4);
+    rooms[2] = 4;
+    WANT(WZ_DONE, wz_test_some(&engine, 0, mine, MANY + 1, outs, rooms, counts, done, &some));
+    HOLDS(some == 1 && done[2] && !done[0] && !done[1] && out[2] == 4 && out[0] == 0);
+    WANT(WZ_DONE, wz_start(&engine, 1, &yours[0], &given[0], 4));
+    WANT(WZ_DONE, wz_settle(&engine));
+    WANT(WZ_DONE, wz_test_all(&engine, 0, mine, MANY + 1, outs, rooms, counts));
+    HOLDS(out[0] == 2 && counts[0] == 4 && counts[1] == 0 && mine[0].generation != 0);
+    WANT(WZ_DONE, wz_close(&engine));
+}
+
 int main(int argc, char **argv) {
     if (argc > 1 && strcmp(argv[1], "table") == 0) {
         for (int32_t code = 1; code <= WZ_BAD_CONFIG; code++) printf("%d %s\n", (int)code, wz_name(code));
@@ -241,6 +297,7 @@ int main(int argc, char **argv) {
     posts();
     requests();
     budgets();
+    lists();
     puts("refusals: all as it should be");
     return 0;
 }

@@ -4,19 +4,20 @@ mod posting;
 mod progress;
 mod testing;
 
-ghost use Rattle.std.specs.Prelude.{◌≡◌, ◌↔◌, IfErr, IfOk, IsTrue};
+ghost use Rattle.std.specs.Prelude.{◌≡◌, ◌↔◌, Some, IfErr, IfOk, IsTrue};
 ghost use Rattle.std.specs.Result.{result_err};
-ghost use Rattle.coll_machine.specs.Calls.{Retire};
 ghost use Rattle.coll_machine.specs.Lents.{lent_bytes};
-ghost use Rattle.coll_machine.specs.Refusals.{refusal};
 ghost use Rattle.coll_core.specs.Configs.{IsUnopened, idle, setting_by};
 ghost use Rattle.coll_core.specs.Cores.{seen, setting};
-ghost use Rattle.coll_core.specs.Phases.{IsQuiet, about_in, phase_in};
-ghost use Rattle.coll_core.specs.Steps.{ready};
+ghost use Rattle.coll_core.specs.Phases.{IsQuiet};
+ghost use Rattle.coll_complete.specs.Requests.{phase_at};
+ghost use Rattle.coll_engine.specs.Calls.{about_at, naming_refusal};
+ghost use Rattle.coll_engine.specs.Lengths.{IsOutcomeLengthAt};
 
 use crate::communicators::Communicators;
+use coll_complete::Request;
 use coll_core::{About, Config, Core, Phase};
-use coll_kinds::{Refusal, Ticket};
+use coll_kinds::Refusal;
 use std::alloc::Global;
 use std::marker::Model;
 
@@ -32,14 +33,14 @@ pub struct Engine {
 }
 
 impl Model for Engine {
-    ghost use Rattle.std.specs.Prelude.{◌≡◌};
-    ghost use Rattle.coll_core.specs.Cores.{Parts, setting};
+    ghost use Rattle.coll_core.specs.Cores.{Parts};
+    ghost use Rattle.coll_engine.specs.Engines.{IsEngine};
 
     ghost Value = { Parts };
 
     ghost view = { λ e. e.core };
 
-    ghost invariant = { λ e. e.communicators ≡ (setting e.core).groups };
+    ghost invariant = { λ e. IsEngine e.core e.communicators e.outcome_lengths.items };
 }
 
 impl Engine {
@@ -69,19 +70,40 @@ impl Engine {
     ///
     /// # Errors
     ///
-    /// Stale where the ticket names no live request, then NotYours where it is another rank's.
-    pub fn phase(&self, rank: u8, ticket: Ticket) -> Result<Phase, Refusal>
-        ensures refused { result_err result ≡ refusal (setting self.now) (seen self.now).state (Retire rank ticket) }
-        ensures phase { IfOk result (λ phase. phase_in (seen self.now) ticket ≡ Some phase) }
+    /// Stale where the request names none that is live, then NotYours where it is another rank's.
+    pub fn phase(&self, rank: u8, request: &Request) -> Result<Phase, Refusal>
+        ensures refused { result_err result ≡ naming_refusal (setting self.now) (seen self.now).state rank request.now }
+        ensures phase { IfOk result (λ phase. phase_at (seen self.now) request.now ≡ Some phase) }
     {
-        self.core.phase(rank, ticket)
+        match request.ticket() {
+            Some(ticket) => self.core.phase(rank, ticket),
+            None => Err(Refusal::Stale),
+        }
     }
 
-    /// What a ticket names; none where that is no live request.
-    pub fn about(&self, ticket: Ticket) -> Option<About>
-        ensures { result ≡ about_in (seen self.now) ticket }
+    /// The bytes of the outcome that a request will have, or has. It takes constant time.
+    ///
+    /// # Errors
+    ///
+    /// Stale where the request names none that is live, then NotYours where it is another rank's.
+    pub fn outcome_len(&self, rank: u8, request: &Request) -> Result<usize, Refusal>
+        ensures refused { result_err result ≡ naming_refusal (setting self.now) (seen self.now).state rank request.now }
+        ensures len { IfOk result (IsOutcomeLengthAt (setting self.now) (seen self.now).state request.now) }
     {
-        self.core.about(ticket)
+        let Some(ticket) = request.ticket() else {
+            return Err(Refusal::Stale);
+        };
+        match self.core.phase(rank, ticket) {
+            Ok(_) => Ok(self.outcome_lengths[ticket.slot as usize] as usize),
+            Err(why) => Err(why),
+        }
+    }
+
+    /// What a request is; none where it names none that is live.
+    pub fn about(&self, request: &Request) -> Option<About>
+        ensures { result ≡ about_at (seen self.now) request.now }
+    {
+        self.core.about(request.ticket()?)
     }
 
     /// The bytes that active requests lend to the engine, given and got together.

@@ -199,7 +199,7 @@ pub extern "C" fn wz_phase(
     let Some(engine) = handle.take(alloc) else {
         return CLOSED;
     };
-    let answer = engine.phase(rank, request.ticket());
+    let answer = engine.phase(rank, &request.held());
     handle.put(engine);
     match answer {
         Ok(found) => {
@@ -215,6 +215,28 @@ fn phase_number(phase: Phase) -> u8 {
         Phase::Idle => 0,
         Phase::Pending => 1,
         Phase::Done => 2,
+    }
+}
+
+#[unsafe(no_mangle)]
+pub extern "C" fn wz_outcome_length(
+    alloc: Global,
+    handle: &mut Handle,
+    rank: u8,
+    request: &Request,
+    bytes: &mut usize,
+) -> i32 {
+    let Some(engine) = handle.take(alloc) else {
+        return CLOSED;
+    };
+    let answer = engine.outcome_len(rank, &request.held());
+    handle.put(engine);
+    match answer {
+        Ok(len) => {
+            *bytes = len;
+            DONE
+        }
+        Err(why) => code(why),
     }
 }
 

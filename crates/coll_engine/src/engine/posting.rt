@@ -8,6 +8,7 @@ ghost use Rattle.coll_core.specs.Posts.{planned};
 ghost use Rattle.coll_complete.specs.Completing.{freeing};
 ghost use Rattle.coll_complete.specs.Requests.{free_refusal};
 ghost use Rattle.coll_complete.specs.Starting.{StartsAt};
+ghost use Rattle.coll_engine.specs.Lengths.{IsLength};
 ghost use Rattle.coll_engine.specs.Calls.{Denies, DeniesStart, InitsTo, PostsTo, early_refusal, init_by, planned_for, post_by};
 
 use crate::engine::Engine;
@@ -15,6 +16,14 @@ use coll_complete::{Request, request_free};
 use coll_core::Offer;
 use coll_kinds::{Refusal, Signature, Ticket};
 use coll_plans::{Plan, plan};
+
+/// The bytes that a plan's member gets.
+fn outcome_len(plan: &Plan) -> u32
+    ensures { IsLength (planned plan.now) result }
+{
+    let _low = plan.member();
+    plan.schedule().output().len
+}
 
 impl Engine {
     /// The rank's plan of a collective.
@@ -27,15 +36,6 @@ impl Engine {
             Err(why) => return Err(why),
         };
         plan(self.alloc, sig, size, member)
-    }
-
-    /// Notes how long the outcome of a new request is.
-    fn note(&mut self, ticket: Ticket, outcome_len: u32)
-        ensures { self.new ≡ self.old }
-    {
-        if let Some(len) = self.outcome_lengths.get_mut(ticket.slot as usize) {
-            *len = outcome_len;
-        }
     }
 
     /// Starts a collective (`MPI_Ibcast` and its like; MPI 4.1, 6.12) with the contribution of the rank, which is copied.
@@ -57,11 +57,11 @@ impl Engine {
         ensures err { OnErr result (seen self.new ≡ seen self.old) }
     {
         let plan = self.plan(rank, comm, sig)?;
-        let outcome_len = plan.got_len() as u32;
+        let outcome_len = outcome_len(&plan);
         let bytes = bytes.to_vec(self.alloc)?;
         match self.core.post(rank, comm, Offer { plan, bytes }) {
             Ok(ticket) => {
-                self.note(ticket, outcome_len);
+                self.outcome_lengths[ticket.slot as usize] = outcome_len;
                 Ok(Request::of(ticket))
             }
             Err(refused) => Err(refused.why),
@@ -81,10 +81,10 @@ impl Engine {
         ensures err { OnErr result (seen self.new ≡ seen self.old) }
     {
         let plan = self.plan(rank, comm, sig)?;
-        let outcome_len = plan.got_len() as u32;
+        let outcome_len = outcome_len(&plan);
         match self.core.init(rank, comm, plan) {
             Ok(ticket) => {
-                self.note(ticket, outcome_len);
+                self.outcome_lengths[ticket.slot as usize] = outcome_len;
                 Ok(Request::of(ticket))
             }
             Err(refused) => Err(refused.why),

@@ -4,12 +4,14 @@ ghost use Rattle.std.specs.Prelude.{◌≡◌, ◌≤◌, IfErr, IfOk, OnErr, On
 ghost use Rattle.coll_core.specs.Cores.{seen, setting};
 ghost use Rattle.coll_complete.specs.Requests.{is_done, is_pending, left_of};
 ghost use Rattle.coll_engine.specs.Calls.{Completes, DeniesTest, Fills};
+ghost use Rattle.coll_engine.specs.Lengths.{RoomFor};
 ghost use Rattle.coll_engine.specs.Tests.{IfCompleted, is_completed, is_unfinished};
 
 use crate::engine::Engine;
 use crate::test::Test;
 use coll_complete::{Request, test};
-use coll_core::{Outcome, Phase};
+use coll_core::Phase;
+use coll_core::laws::lock_is_free;
 use coll_kinds::Refusal;
 
 impl Engine {
@@ -36,12 +38,16 @@ impl Engine {
         ensures request { OnOk result (request.new ≡ left_of (seen self.old) request.old) }
     {
         self.check_room(rank, request, out.len())?;
+        lock_is_free(&self.core);
         let tested = match test(&mut self.core, rank, request) {
             Ok(tested) => tested,
             Err(why) => return Err(why),
         };
         match tested.outcome {
-            Some(outcome) => Ok(Test::Completed(lay_out(&outcome, out))),
+            Some(outcome) => {
+                lay_out(&outcome.bytes, out);
+                Ok(Test::Completed(outcome.bytes.len()))
+            }
             None if tested.flag => Ok(Test::Inactive),
             None => Ok(Test::Pending),
         }
@@ -50,6 +56,7 @@ impl Engine {
     /// Refuses memory that is too short for the outcome of a request that is Done.
     fn check_room(&self, rank: u8, request: &Request, room: usize) -> Result<(), Refusal>
         ensures refused { IfErr result (DeniesTest (setting self.now) (seen self.now) rank request.now room) }
+        ensures room { OnOk result (RoomFor (setting self.now) (seen self.now) request.now room) }
     {
         let Some(ticket) = request.ticket() else {
             return Ok(());
@@ -57,21 +64,18 @@ impl Engine {
         let Phase::Done = self.core.phase(rank, ticket)? else {
             return Ok(());
         };
-        match self.outcome_lengths.get(ticket.slot as usize).copied() {
-            Some(want) if room < want as usize => Err(Refusal::BadLength { want, got: room }),
-            _ => Ok(()),
+        let want = self.outcome_lengths[ticket.slot as usize];
+        if room < want as usize {
+            return Err(Refusal::BadLength { want, got: room });
         }
+        Ok(())
     }
 }
 
-/// Copies an outcome to the front of memory that has room for it, and answers its length.
-fn lay_out(outcome: &Outcome, out: &mut [u8]) -> usize
-    ensures count { result ≡ length outcome.now.bytes.items }
-    ensures fills { result ≤ length out.old → Fills out.old out.new outcome.now.bytes.items }
+/// Copies an outcome to the front of memory.
+fn lay_out(outcome: &[u8], out: &mut [u8])
+    requires { length outcome.now ≤ length out.old }
+    ensures { Fills out.old out.new outcome.now }
 {
-    let count = outcome.bytes.len();
-    if count <= out.len() {
-        out[..count].copy_from_slice(&outcome.bytes);
-    }
-    count
+    out[..outcome.len()].copy_from_slice(outcome);
 }

@@ -1,0 +1,6 @@
+pub mod Sets
+pub mod Measuring
+pub mod Outcomes
+pub mod Seats
+pub mod Refused
+pub mod Advancing
