@@ -1,11 +1,12 @@
 -- Actions, one after the other.
 use Rattle.std.proofs.Common.{◌≡◌, ◌∙◌, ℕ, suc, ◌+◌, Bool, true, false, refl, sym, subst, arith}
+use Rattle.std.specs.Prelude.{if◌then◌else◌}
 use Rattle.coll_machine.specs.Settings.{Setting}
 use Rattle.coll_machine.specs.States.{Machine}
 use Rattle.coll_core.specs.declared.stepped.Stepped.{Stepped}
 use Rattle.coll_core.specs.declared.stepped.Stepped.TheVariants.{Quiet, Moved, Finished, Out}
 use Rattle.coll_core.specs.Cores.{Parts, seen, setting}
-use Rattle.coll_core.specs.Steps.{CommitSteps, Finishings, none, more, Goes, HandsOut, StepsBy, Stays, left}
+use Rattle.coll_core.specs.Steps.{Acts, CommitSteps, Finishings, none, more, Goes, HandsOut, Steps, StepsBy, Stays, left}
 use Rattle.coll_core.specs.Works.{Made, Piece}
 use Rattle.coll_engine.specs.Progress.{Advances}
 
@@ -58,3 +59,29 @@ advances_commit p r d Quiet h = absurd h
 advances_commit p r d Moved h = advances_one p r false h.goes
 advances_commit p r d Finished h = advances_one p r true h.goes
 advances_commit p r d (Out w) h = absurd h
+
+-- what a step did, from the engine's view on
+pub quiet : (p v r : Parts) → p ≡ v → (s : Stepped) → s ≡ Quiet → Steps p r s → Advances v r 0
+quiet p v r same s is h =
+    let stays : r ≡ p = subst (λ (s : Stepped). Steps p r s) is h in
+    subst (λ (k : Parts). Advances v k 0) (sym (stays ∙ same)) (advances_none v)
+
+moved_in : (p r : Parts) (s : Stepped) → s ≡ Moved → Steps p r s → Advances p r 1
+moved_in p r s is h =
+    let acts : Acts p r false = subst (λ (s : Stepped). Steps p r s) is h in
+    advances_one p r false acts.goes
+
+finished_in : (p r : Parts) (s : Stepped) → s ≡ Finished → Steps p r s → Advances p r 1
+finished_in p r s is h =
+    let acts : Acts p r true = subst (λ (s : Stepped). Steps p r s) is h in
+    advances_one p r true acts.goes
+
+pub moved : (p v r : Parts) → p ≡ v → (s : Stepped) → s ≡ Moved → Steps p r s → Advances v r 1
+moved p v r same s is h = subst (λ (k : Parts). Advances k r 1) same (moved_in p r s is h)
+
+pub finished : (p v r : Parts) → p ≡ v → (s : Stepped) → s ≡ Finished → Steps p r s → Advances v r 1
+finished p v r same s is h = subst (λ (k : Parts). Advances k r 1) same (finished_in p r s is h)
+
+-- where one acted
+pub acted : (p r : Parts) (b : Bool) → b ≡ true → Advances p r (if b then 1 else 0) → Advances p r 1
+acted p r b is a = subst (λ (c : Bool). Advances p r (if c then 1 else 0)) is a

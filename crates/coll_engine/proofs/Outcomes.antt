@@ -1,6 +1,6 @@
 -- An outcome isn't longer than the room that was tested for it.
-use Rattle.std.proofs.Common.{◌≡◌, ℕ, ◌≤◌, ◌<◌, true, false, List, length, Option, Some, None, refl, sym, ap, ◌∙◌, arith, length-take}
-use Rattle.std.specs.Prelude.{slice_get}
+use Rattle.std.proofs.Common.{◌≡◌, ℕ, ◌≤◌, ◌<◌, true, false, List, length, Option, Some, None, inr, refl, sym, ap, subst, ◌∙◌, arith, length-take}
+use Rattle.std.specs.Prelude.{slice_get, is_some}
 use Rattle.std.proofs.lemmas.Bool.{false≢true}
 use Rattle.std.proofs.lemmas.Option.{none-some, same_Some, slice_get_within}
 use Rattle.coll_kinds.specs.declared.signature.Signature.{Signature}
@@ -25,10 +25,10 @@ use Rattle.coll_core.specs.declared.phase.Phase.{Phase}
 use Rattle.coll_core.specs.declared.phase.Phase.TheVariants.{Done}
 use Rattle.coll_core.specs.Cores.{Parts, seen, setting, tables}
 use Rattle.coll_core.specs.Phases.{phase_in, phase_of}
-use Rattle.coll_complete.specs.Completing.{completion}
+use Rattle.coll_complete.specs.Completing.{completion, completion_if}
 use Rattle.coll_complete.specs.Requests.{done_by, is_done}
-use Rattle.coll_engine.specs.Calls.{IsShort}
-use Rattle.coll_engine.specs.Lengths.{AreMeasured, HasRoom, IsOutcomeLength, RoomFor}
+use Rattle.coll_engine.specs.Calls.{Completes, DeniesTest, Fills, IsShort}
+use Rattle.coll_engine.specs.Lengths.{AreMeasured, HasRoom, IsOutcomeLength, IsOutcomeLengthAt, RoomFor}
 use Rattle.coll_kinds.specs.declared.refusal.Refusal.TheVariants.{BadLength}
 
 live : (o : Option Live) (r : Request) → asked o ≡ Some r → (q : Live) × (o ≡ Some q) × (as_request q ≡ r)
@@ -70,15 +70,15 @@ record Retired (g : Setting) (m : Machine) (rank : ℕ) (t : Ticket) (comm place
   retires : Retires g m.state rank t comm place start bytes after
   done : m.done t.slot ≡ true
 
-retired : (g : Setting) (m n : Machine) (rank who : ℕ) (t : Ticket) (comm place start : ℕ) (bytes : List ℕ)
+retired : (g : Setting) (rank who : ℕ) (t : Ticket) (comm place start : ℕ) (bytes : List ℕ) (m n : Machine)
     → MachineStep g m (calls.Retire rank t) (calls.Outcome who comm place start bytes) n → Retired g m rank t comm place start bytes
-retired g _ _ rank who t comm place start bytes (retire {s} {u} {done} _ _ _ _ _ _ h is) = record { after = u; retires = h; done = is }
+retired g rank who t comm place start bytes _ _ (retire {s} {u} {done} _ _ _ _ _ _ h is) = record { after = u; retires = h; done = is }
 
 pub outcome_fits : (p : Parts) (n : Machine) (rank : ℕ) (r : Option Ticket) (o : Outcome) (room : ℕ) → FreeLock (tables p) → is_done (seen p) r ≡ true
     → Runs (setting p) (seen p) (completion rank r o) n → RoomFor (setting p) (seen p) r room → length o.bytes.items ≤ room
 outcome_fits p n rank None o room lock done runs has = absurd (false≢true done)
 outcome_fits p n rank (Some t) o room lock done runs has =
-    let h = retired (setting p) (seen p) runs.0 rank o.rank t o.comm o.place o.start o.bytes.items runs.1 in
+    let h = retired (setting p) rank o.rank t o.comm o.place o.start o.bytes.items (seen p) runs.0 runs.1 in
     fits_in (tables p) rank t o.comm o.place o.start o.bytes.items h.after room lock h.retires h.done (has done)
 
 -- ---- the test of room
@@ -125,3 +125,36 @@ is_short g m t lengths want room a is phase lt =
 -- where the request isn't Done, no room is wanted
 pub no_room : (g : Setting) (m : Machine) (t : Ticket) (phase : Phase) (room : ℕ) → phase_in m t ≡ Some phase → done_by (Some phase) ≡ false → RoomFor g m (Some t) room
 no_room g m t phase room e not done = absurd (false≢true (sym not ∙ (sym (ap done_by e) ∙ done)))
+
+-- in an engine's words: of what it shows, and of the caller's request
+pub denies_short : (p v : Parts) → p ≡ v → (rank : ℕ) (r : Option Ticket) (t : Ticket) → r ≡ Some t → (lengths : List ℕ) (want room : ℕ) → AreMeasured (setting p) (seen p).state lengths → slice_get lengths t.slot ≡ Some want
+    → phase_in (seen p) t ≡ Some Done → room < want → DeniesTest (setting v) (seen v) rank r room (BadLength want room)
+denies_short p v same rank r t is lengths want room a want_is phase lt =
+    let at : DeniesTest (setting p) (seen p) rank (Some t) room (BadLength want room) = inr (is_short (setting p) (seen p) t lengths want room a want_is phase lt) in
+    subst (λ (k : Parts). DeniesTest (setting k) (seen k) rank r room (BadLength want room)) same (subst (λ (q : Option Ticket). DeniesTest (setting p) (seen p) rank q room (BadLength want room)) (sym is) at)
+
+pub room_for : (p v : Parts) → p ≡ v → (r : Option Ticket) (t : Ticket) → r ≡ Some t → (lengths : List ℕ) (want room : ℕ) → AreMeasured (setting p) (seen p).state lengths → slice_get lengths t.slot ≡ Some want → want ≤ room
+    → RoomFor (setting v) (seen v) r room
+room_for p v same r t is lengths want room a want_is le =
+    subst (λ (k : Parts). RoomFor (setting k) (seen k) r room) same (subst (λ (q : Option Ticket). RoomFor (setting p) (seen p) q room) (sym is) (has_room (setting p) (seen p) t lengths want room a want_is le))
+
+pub length_for : (p v : Parts) → p ≡ v → (r : Option Ticket) (t : Ticket) → r ≡ Some t → (lengths : List ℕ) (phase : Phase) (len : ℕ) → AreMeasured (setting p) (seen p).state lengths → phase_in (seen p) t ≡ Some phase
+    → slice_get lengths t.slot ≡ Some len → IsOutcomeLengthAt (setting v) (seen v).state r len
+length_for p v same r t is lengths phase len a e len_is =
+    subst (λ (k : Parts). IsOutcomeLengthAt (setting k) (seen k).state r len) same (subst (λ (q : Option Ticket). IsOutcomeLengthAt (setting p) (seen p).state q len) (sym is) (outcome_length (setting p) (seen p) t phase lengths len a e len_is))
+
+-- the outcome of a test
+pub tested_fits : (p v : Parts) → p ≡ v → (n : Machine) (rank : ℕ) (r : Option Ticket) (tested : Option Outcome) (o : Outcome) → tested ≡ Some o → (room : ℕ) → FreeLock (tables p) → is_some tested ≡ is_done (seen p) r
+    → Runs (setting p) (seen p) (completion_if rank r tested) n → RoomFor (setting v) (seen v) r room → length o.bytes.items ≤ room
+tested_fits p v same n rank r tested o is room lock some runs has =
+    outcome_fits p n rank r o room lock (sym some ∙ ap is_some is) (subst (λ (x : Option Outcome). Runs (setting p) (seen p) (completion_if rank r x) n) is runs) (subst (λ (k : Parts). RoomFor (setting k) (seen k) r room) (sym same) has)
+
+pub completed : (p v : Parts) → p ≡ v → (n : Machine) (rank : ℕ) (r : Option Ticket) (tested : Option Outcome) (o : Outcome) → tested ≡ Some o → Runs (setting p) (seen p) (completion_if rank r tested) n
+    → (count : ℕ) (old new laid : List ℕ) → count ≡ length o.bytes.items → length o.bytes.items ≤ length old → laid ≡ o.bytes.items → Fills old new laid → Completes (setting v) (seen v) rank r old count new n
+completed p v same n rank r tested o is runs count old new laid count_is room laid_is fills = record {
+  outcome = o;
+  runs = subst (λ (k : Parts). Runs (setting k) (seen k) (completion rank r o) n) same (subst (λ (x : Option Outcome). Runs (setting p) (seen p) (completion_if rank r x) n) is runs);
+  count_is = count_is;
+  room = omega (arith, count_is, room);
+  fills = subst (λ (xs : List ℕ). Fills old new xs) laid_is fills;
+}

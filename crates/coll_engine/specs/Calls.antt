@@ -34,14 +34,15 @@ abbrev pub init_by : Setting → ℕ → ℕ → Signature → Call
 init_by g rank comm sig = Init rank comm (planned_for g rank comm sig)
 
 -- why no plan is made: what a post and an initialisation are refused with before all else
-abbrev pub early_refusal : Setting → ℕ → ℕ → Signature → Option Refusal
-early_refusal g rank comm sig =
-    first_of (
+abbrev pub early_refusals : Setting → ℕ → ℕ → Signature → List (Option Refusal)
+early_refusals g rank comm sig =
     unless (nat_lt comm (length g.groups)) (BadComm comm)
     ∷ unless (is_some (member_of rank (group g comm))) (NotMember rank)
     ∷ option_map BadSignature (broken sig (size g comm))
     ∷ []
-    )
+
+abbrev pub early_refusal : Setting → ℕ → ℕ → Signature → Option Refusal
+early_refusal g rank comm sig = first_of (early_refusals g rank comm sig)
 
 -- the call makes this request, which may be Done at once,
 abbrev pub PostsTo : Setting → Machine → Call → Machine → Option Ticket → Type 0

@@ -8,3 +8,7 @@ pub record Advances (p r : Parts) (actions : ℕ) : Type 0 where
   pub set : setting r ≡ setting p
   pub finishes : Finishings (setting p) (seen p) (seen r)
   pub lowers : left r + actions ≡ left p
+
+-- some actions were done
+abbrev pub Progresses : Parts → Parts → Type 0
+Progresses p r = (actions : ℕ) × Advances p r actions

@@ -1,10 +1,10 @@
 //! The members of each communicator.
 
-ghost use Rattle.std.specs.Prelude.{◌≡◌, ◌<◌, Some, length, IfErr, IfOk};
+ghost use Rattle.std.specs.Prelude.{◌≡◌, ◌<◌, ◌≤◌, Some, length, IfErr, IfOk};
 ghost use Rattle.std.specs.Result.{result_err};
 ghost use Rattle.coll_kinds.specs.Groups.{member_of};
 ghost use Rattle.coll_core.specs.Configs.{IsConfig, setting_by};
-ghost use Rattle.coll_engine.specs.Communicators.{members, unseated};
+ghost use Rattle.coll_engine.specs.Communicators.{lists, members, unseated};
 
 use coll_core::Config;
 use coll_kinds::{Refusal, member_of};

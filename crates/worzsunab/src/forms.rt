@@ -1,6 +1,7 @@
 //! Calls, requests and configurations as C gives them.
 
 ghost use Rattle.std.specs.Prelude.{◌≡◌};
+ghost use Rattle.worzsunab.specs.Forms.{named_by, request_of};
 
 use coll_complete::Request as Held;
 use coll_core::Config;
@@ -67,7 +68,9 @@ impl Call {
 
 impl Request {
     /// A null one is all 0.
-    pub fn of(held: &Held) -> Request {
+    pub fn of(held: &Held) -> Request
+        ensures { result ≡ request_of held.now }
+    {
         match held.ticket() {
             Some(ticket) => Request {
                 slot: ticket.slot,
@@ -80,20 +83,17 @@ impl Request {
         }
     }
 
-    pub fn ticket(&self) -> Ticket {
-        Ticket {
+    /// No request has generation 0.
+    pub fn held(&self) -> Held
+        ensures { result ≡ named_by self.now }
+    {
+        if self.generation == 0 {
+            return Held::null();
+        }
+        Held::of(Ticket {
             slot: self.slot,
             generation: self.generation,
-        }
-    }
-
-    /// No request has generation 0.
-    pub fn held(&self) -> Held {
-        if self.generation == 0 {
-            Held::null()
-        } else {
-            Held::of(self.ticket())
-        }
+        })
     }
 }
 

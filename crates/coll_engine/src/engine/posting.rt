@@ -56,9 +56,12 @@ impl Engine {
         ensures refused { IfErr result (Denies (setting self.old) (seen self.old) (post_by (setting self.old) rank comm sig bytes.now)) }
         ensures err { OnErr result (seen self.new ≡ seen self.old) }
     {
-        let plan = self.plan(rank, comm, sig)?;
+        let plan = match self.plan(rank, comm, sig) {
+            Ok(plan) => plan,
+            Err(why) => return Err(why),
+        };
         let outcome_len = outcome_len(&plan);
-        let bytes = bytes.to_vec(self.alloc)?;
+        let bytes = Vec::from_slice(self.alloc, bytes)?;
         match self.core.post(rank, comm, Offer { plan, bytes }) {
             Ok(ticket) => {
                 self.outcome_lengths[ticket.slot as usize] = outcome_len;
@@ -80,7 +83,10 @@ impl Engine {
         ensures refused { IfErr result (Denies (setting self.old) (seen self.old) (init_by (setting self.old) rank comm sig)) }
         ensures err { OnErr result (seen self.new ≡ seen self.old) }
     {
-        let plan = self.plan(rank, comm, sig)?;
+        let plan = match self.plan(rank, comm, sig) {
+            Ok(plan) => plan,
+            Err(why) => return Err(why),
+        };
         let outcome_len = outcome_len(&plan);
         match self.core.init(rank, comm, plan) {
             Ok(ticket) => {
@@ -106,11 +112,11 @@ impl Engine {
         let Some(ticket) = request.ticket() else {
             return Err(Refusal::Stale);
         };
-        let bytes = bytes.to_vec(self.alloc)?;
-        match self.core.start(rank, ticket, bytes) {
-            Ok(()) => Ok(()),
-            Err(refused) => Err(refused.why),
+        let bytes = Vec::from_slice(self.alloc, bytes)?;
+        if let Err(refused) = self.core.start(rank, ticket, bytes) {
+            return Err(refused.why);
         }
+        Ok(())
     }
 
     /// Gives up a persistent request that isn't active, and leaves null (`MPI_Request_free`; MPI 4.1, 3.7.3). Its place in the
@@ -126,6 +132,9 @@ impl Engine {
         ensures frees { OnOk result (Runs (setting self.old) (seen self.old) (freeing rank request.old) (seen self.new)) }
         ensures null { OnOk result (request.new ≡ None) }
     {
-        request_free(&mut self.core, rank, request)
+        if let Err(why) = request_free(&mut self.core, rank, request) {
+            return Err(why);
+        }
+        Ok(())
     }
 }

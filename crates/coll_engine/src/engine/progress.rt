@@ -1,6 +1,7 @@
 //! Progress: the actions of schedules.
 
-ghost use Rattle.std.specs.Prelude.{◌≡◌, ◌≤◌, ◌<◌, [], if◌then◌else◌, IfOk, IsOkUnless, OnErr, OnFalse, OnOk};
+ghost use Rattle.std.specs.Prelude.{◌≡◌, ◌≤◌, ◌<◌, [], if◌then◌else◌, IfOk, IsOkUnless, OnErr, OnOk};
+ghost use Rattle.std.specs.Bool.{OnFalse};
 ghost use Rattle.coll_core.specs.Cores.{seen, setting};
 ghost use Rattle.coll_core.specs.Steps.{Finishings, IsOut, ready};
 ghost use Rattle.coll_engine.specs.Progress.{Advances};
@@ -56,7 +57,8 @@ impl Engine {
     {
         match self.core.step()? {
             Stepped::Quiet => Ok(false),
-            Stepped::Moved | Stepped::Finished => Ok(true),
+            Stepped::Moved => Ok(true),
+            Stepped::Finished => Ok(true),
             Stepped::Out(work) => {
                 self.combine(work)?;
                 Ok(true)

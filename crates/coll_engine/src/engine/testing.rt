@@ -9,7 +9,7 @@ ghost use Rattle.coll_engine.specs.Tests.{IfCompleted, is_completed, is_unfinish
 
 use crate::engine::Engine;
 use crate::test::Test;
-use coll_complete::{Request, test};
+use coll_complete::{Request, Tested, test};
 use coll_core::Phase;
 use coll_core::laws::lock_is_free;
 use coll_kinds::Refusal;
@@ -39,18 +39,15 @@ impl Engine {
     {
         self.check_room(rank, request, out.len())?;
         lock_is_free(&self.core);
-        let tested = match test(&mut self.core, rank, request) {
+        let Tested { flag, outcome } = match test(&mut self.core, rank, request) {
             Ok(tested) => tested,
             Err(why) => return Err(why),
         };
-        match tested.outcome {
-            Some(outcome) => {
-                lay_out(&outcome.bytes, out);
-                Ok(Test::Completed(outcome.bytes.len()))
-            }
-            None if tested.flag => Ok(Test::Inactive),
-            None => Ok(Test::Pending),
-        }
+        let Some(outcome) = outcome else {
+            return Ok(Test::without_outcome(flag));
+        };
+        lay_out(&outcome.bytes, out);
+        Ok(Test::Completed(outcome.bytes.len()))
     }
 
     /// Refuses memory that is too short for the outcome of a request that is Done.
