@@ -89,7 +89,7 @@ typedef struct wz_request {
 /* An engine. All zeros is closed: wz_engine engine = WZ_CLOSED_ENGINE; */
 typedef struct wz_engine {
     void *at;
-    bool open;
+    bool opened;
 } wz_engine;
 
 #define WZ_CLOSED_ENGINE { NULL, false }

@@ -76,7 +76,7 @@ static void configurations(void) {
         bad = good;                                                                                                \
         bad.field = (value);                                                                                       \
         WANT(WZ_BAD_CONFIG, wz_open(&engine, &bad, &two, 1, all_of_two, 2));                                       \
-        HOLDS(!engine.open);                                                                                       \
+        HOLDS(!engine.opened);                                                                                       \
     } while (0)
     BAD(ranks, 0);
     BAD(ranks, 65);

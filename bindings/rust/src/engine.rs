@@ -95,7 +95,7 @@ impl Engine {
             sizes.push(u8::try_from(members.len()).map_err(|_| Refusal::BadConfig)?);
         }
         let members = communicators.concat();
-        let mut raw = RawEngine { at: std::ptr::null_mut(), open: false };
+        let mut raw = RawEngine { at: std::ptr::null_mut(), opened: false };
         let limits = RawLimits {
             ranks: u32::from(ranks),
             slots: limits.slots,

@@ -12,7 +12,7 @@ pub struct RawRequest {
 #[repr(C)]
 pub struct RawEngine {
     pub at: *mut u8,
-    pub open: bool,
+    pub opened: bool,
 }
 
 #[repr(C)]

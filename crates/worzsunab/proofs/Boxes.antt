@@ -4,6 +4,7 @@ use mathlib.Core.List.{[]}
 use Rattle.std.proofs.Common.{◌≡◌, Option, Some, None, true, is_some, refl}
 use Rattle.std.proofs.lemmas.Bool.{false≢true}
 use denote.Signature.{Slot, plain}
+use denote.RawPtr.{RawPtr}
 use Rattle.std_alloc.proofs.BoxSteps.Form.{Bx}
 use Rattle.std_heap.specs.contracts.Global as heap
 use Rattle.std_heap.specs.contracts.GlobalAllocator.TheImpl.{ghosts, dict}
@@ -23,5 +24,11 @@ abbrev pub OfHeld : Slot 0
 OfHeld = plain (λ _. held.the_row)
 
 pub some_of : {X : Type 0} (o : Option X) → is_some o ≡ true → (x : X) × (o ≡ Some x)
-some_of None open = absurd (false≢true open)
-some_of (Some x) open = (x, refl)
+some_of None live = absurd (false≢true live)
+some_of (Some x) live = (x, refl)
+
+abbrev pub OfAlloc : Slot 0
+OfAlloc = plain (λ _. heap.the_row)
+
+abbrev pub OfPointer : Slot 0
+OfPointer = plain (λ _. RawPtr)

@@ -22,12 +22,7 @@ impl Engine {
     ///
     /// In this order, with nothing changed: Stale where the request names none that is live; NotYours where it is another
     /// rank's; BadLength where it is Done and its outcome has more bytes than `out`.
-    pub fn test(
-        &mut self,
-        rank: u8,
-        request: &mut Request,
-        out: &mut [u8],
-    ) -> Result<Test, Refusal>
+    pub fn test(&mut self, rank: u8, request: &mut Request, out: &mut [u8]) -> Result<Test, Refusal>
         ensures setting { setting self.new ≡ setting self.old }
         ensures refused { IfErr result (DeniesTest (setting self.old) (seen self.old) rank request.old (length out.old)) }
         ensures err { OnErr result ((self.new ≡ self.old) × (request.new ≡ request.old) × (out.new ≡ out.old)) }
