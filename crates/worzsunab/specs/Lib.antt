@@ -1,3 +1,3 @@
 pub mod Owning
-pub mod Answers
 pub mod Forms
+pub mod Answers

@@ -1,7 +1,7 @@
 //! Calls, requests and configurations as C gives them.
 
-ghost use Rattle.std.specs.Prelude.{◌≡◌};
-ghost use Rattle.worzsunab.specs.Forms.{named_by, request_of};
+ghost use Rattle.std.specs.Prelude.{◌≡◌, IfSome};
+ghost use Rattle.worzsunab.specs.Forms.{IsCall, named_by, request_of};
 
 use coll_complete::Request as Held;
 use coll_core::Config;
@@ -50,7 +50,9 @@ const NO_OPERATION: u8 = 255;
 
 impl Call {
     /// The signature; none where a number names nothing.
-    pub fn signature(&self, mode: Mode) -> Option<Signature> {
+    pub fn signature(&self, mode: Mode) -> Option<Signature>
+        ensures { IfSome result (IsCall self.now mode) }
+    {
         let op = match self.op {
             NO_OPERATION => None,
             number => Some(*Op::ALL.get(usize::from(number))?),

@@ -10,6 +10,22 @@
 //! | `lib` | the functions |
 #![tactic(auto)]
 
+ghost use Rattle.std.specs.Prelude.{◌≡◌, ◌⊎◌, None, Some, IfOk, IfSome, IsSome, pos};
+ghost use Rattle.coll_kinds.specs.declared.kind.Mode.TheVariants.{Once, Persistent};
+ghost use Rattle.coll_kinds.specs.declared.signature.Signature.{Signature};
+ghost use Rattle.coll_machine.specs.Lents.{lent_bytes};
+ghost use Rattle.coll_machine.specs.Runs.{Runs};
+ghost use Rattle.coll_core.specs.Configs.{idle};
+ghost use Rattle.coll_core.specs.Cores.{seen, setting};
+ghost use Rattle.coll_core.specs.Steps.{Finishings};
+ghost use Rattle.coll_complete.specs.Completing.{freeing};
+ghost use Rattle.coll_complete.specs.Requests.{free_refusal, phase_at};
+ghost use Rattle.coll_complete.specs.Starting.{StartsAt};
+ghost use Rattle.coll_engine.specs.Calls.{Denies, DeniesStart, InitsTo, PostsTo, init_by, naming_refusal, post_by};
+ghost use Rattle.coll_engine.specs.Lengths.{IsOutcomeLengthAt};
+ghost use Rattle.worzsunab.specs.Answers.{Answers, IsPhase, Tests, phase_number};
+ghost use Rattle.worzsunab.specs.Forms.{IsCall, IsMade, named_by, request_of};
+
 mod codes;
 mod forms;
 mod handle;
@@ -29,7 +45,11 @@ pub extern "C" fn wz_open(
     limits: &Limits,
     sizes: &[u8],
     members: &[u8],
-) -> i32 {
+) -> i32
+    ensures open { IsSome handle.old.held.engine → (result ≡ pos 21) × (handle.new ≡ handle.old) }
+    ensures done { result ≡ pos 0 → IfSome handle.new.held.engine (λ p. seen p ≡ idle) × IsSome handle.new.held.engine }
+    ensures refused { (result ≡ pos 0) ⊎ (handle.new.held.engine ≡ handle.old.held.engine) }
+{
     if handle.is_open() {
         return OPEN;
     }
@@ -47,14 +67,18 @@ fn open_engine(
     limits: Limits,
     sizes: &[u8],
     members: &[u8],
-) -> Result<Box<Engine>, Refusal> {
+) -> Result<Box<Engine>, Refusal>
+    ensures idle { IfOk result (λ engine. seen engine.value ≡ idle) }
+{
     let groups = groups_of(alloc, sizes, members)?;
     let engine = Engine::open(alloc, limits.config(groups))?;
     Ok(Box::new(alloc, engine)?)
 }
 
 #[unsafe(no_mangle)]
-pub extern "C" fn wz_close(alloc: Global, handle: &mut Handle) -> i32 {
+pub extern "C" fn wz_close(alloc: Global, handle: &mut Handle) -> i32
+    ensures closed { handle.new.held.engine ≡ None }
+{
     match handle.take(alloc) {
         Some(engine) => {
             drop(engine);
@@ -73,7 +97,10 @@ pub extern "C" fn wz_post(
     call: &Call,
     bytes: &[u8],
     request: &mut Request,
-) -> i32 {
+) -> i32
+    ensures answers { (result ≡ pos 19) ⊎ (sig : Signature) × IsCall call.now Once sig × Answers handle.old.held.engine handle.new.held.engine result (request.new ≡ request.old) (λ p. Denies (setting p) (seen p) (post_by (setting p) rank comm sig bytes.now)) (λ p r. IsMade (PostsTo (setting p) (seen p) (post_by (setting p) rank comm sig bytes.now) (seen r)) request.new) }
+    ensures unnamed { result ≡ pos 19 → (handle.new ≡ handle.old) × (request.new ≡ request.old) }
+{
     let Some(sig) = call.signature(Mode::Once) else {
         return BAD_NUMBER;
     };
@@ -99,7 +126,10 @@ pub extern "C" fn wz_init(
     comm: u32,
     call: &Call,
     request: &mut Request,
-) -> i32 {
+) -> i32
+    ensures answers { (result ≡ pos 19) ⊎ (sig : Signature) × IsCall call.now Persistent sig × Answers handle.old.held.engine handle.new.held.engine result (request.new ≡ request.old) (λ p. Denies (setting p) (seen p) (init_by (setting p) rank comm sig)) (λ p r. IsMade (InitsTo (setting p) (seen p) (init_by (setting p) rank comm sig) (seen r)) request.new) }
+    ensures unnamed { result ≡ pos 19 → (handle.new ≡ handle.old) × (request.new ≡ request.old) }
+{
     let Some(sig) = call.signature(Mode::Persistent) else {
         return BAD_NUMBER;
     };
@@ -124,7 +154,9 @@ pub extern "C" fn wz_start(
     rank: u8,
     request: &Request,
     bytes: &[u8],
-) -> i32 {
+) -> i32
+    ensures answers { Answers handle.old.held.engine handle.new.held.engine result (Unit {0}) (λ p. DeniesStart (setting p) rank (seen p) (named_by request.now, bytes.now)) (λ p r. StartsAt (setting p) rank (seen p) (named_by request.now, bytes.now) (seen r)) }
+{
     let Some(mut engine) = handle.take(alloc) else {
         return CLOSED;
     };
@@ -142,7 +174,9 @@ pub extern "C" fn wz_free(
     handle: &mut Handle,
     rank: u8,
     request: &mut Request,
-) -> i32 {
+) -> i32
+    ensures answers { Answers handle.old.held.engine handle.new.held.engine result (request.new ≡ request.old) (λ p why. free_refusal (setting p) (seen p).state rank (named_by request.old) ≡ Some why) (λ p r. Runs (setting p) (seen p) (freeing rank (named_by request.old)) (seen r) × (request.new ≡ request_of None)) }
+{
     let Some(mut engine) = handle.take(alloc) else {
         return CLOSED;
     };
@@ -166,7 +200,9 @@ pub extern "C" fn wz_test(
     request: &mut Request,
     out: &mut [u8],
     count: &mut usize,
-) -> i32 {
+) -> i32
+    ensures tests { Tests handle.old.held.engine handle.new.held.engine result rank request.old request.new out.old out.new count.old count.new }
+{
     let Some(mut engine) = handle.take(alloc) else {
         return CLOSED;
     };
@@ -195,7 +231,9 @@ pub extern "C" fn wz_phase(
     rank: u8,
     request: &Request,
     phase: &mut u8,
-) -> i32 {
+) -> i32
+    ensures answers { Answers handle.old.held.engine handle.new.held.engine result (phase.new ≡ phase.old) (λ p why. naming_refusal (setting p) (seen p).state rank (named_by request.now) ≡ Some why) (λ p r. (r ≡ p) × IsPhase (phase_at (seen p) (named_by request.now)) phase.new) }
+{
     let Some(engine) = handle.take(alloc) else {
         return CLOSED;
     };
@@ -210,7 +248,9 @@ pub extern "C" fn wz_phase(
     }
 }
 
-fn phase_number(phase: Phase) -> u8 {
+fn phase_number(phase: Phase) -> u8
+    ensures { result ≡ phase_number phase }
+{
     match phase {
         Phase::Idle => 0,
         Phase::Pending => 1,
@@ -225,7 +265,9 @@ pub extern "C" fn wz_outcome_length(
     rank: u8,
     request: &Request,
     bytes: &mut usize,
-) -> i32 {
+) -> i32
+    ensures answers { Answers handle.old.held.engine handle.new.held.engine result (bytes.new ≡ bytes.old) (λ p why. naming_refusal (setting p) (seen p).state rank (named_by request.now) ≡ Some why) (λ p r. (r ≡ p) × IsOutcomeLengthAt (setting p) (seen p).state (named_by request.now) bytes.new) }
+{
     let Some(engine) = handle.take(alloc) else {
         return CLOSED;
     };
@@ -246,7 +288,10 @@ pub extern "C" fn wz_step(
     handle: &mut Handle,
     budget: u32,
     actions: &mut u32,
-) -> i32 {
+) -> i32
+    ensures closed { handle.old.held.engine ≡ None → (handle.new.held.engine ≡ None) × (result ≡ pos 20) }
+    ensures steps { IfSome handle.old.held.engine (λ p. IfSome handle.new.held.engine (λ r. (setting r ≡ setting p) × Finishings (setting p) (seen p) (seen r))) }
+{
     let Some(mut engine) = handle.take(alloc) else {
         return CLOSED;
     };
@@ -262,7 +307,10 @@ pub extern "C" fn wz_step(
 }
 
 #[unsafe(no_mangle)]
-pub extern "C" fn wz_settle(alloc: Global, handle: &mut Handle) -> i32 {
+pub extern "C" fn wz_settle(alloc: Global, handle: &mut Handle) -> i32
+    ensures closed { handle.old.held.engine ≡ None → (handle.new.held.engine ≡ None) × (result ≡ pos 20) }
+    ensures settles { IfSome handle.old.held.engine (λ p. IfSome handle.new.held.engine (λ r. (setting r ≡ setting p) × Finishings (setting p) (seen p) (seen r))) }
+{
     let Some(mut engine) = handle.take(alloc) else {
         return CLOSED;
     };
@@ -275,7 +323,9 @@ pub extern "C" fn wz_settle(alloc: Global, handle: &mut Handle) -> i32 {
 }
 
 #[unsafe(no_mangle)]
-pub extern "C" fn wz_lent(alloc: Global, handle: &mut Handle, bytes: &mut u64) -> i32 {
+pub extern "C" fn wz_lent(alloc: Global, handle: &mut Handle, bytes: &mut u64) -> i32
+    ensures answers { Answers handle.old.held.engine handle.new.held.engine result (bytes.new ≡ bytes.old) (λ p why. ⊥) (λ p r. (r ≡ p) × (bytes.new ≡ lent_bytes (setting p) (seen p).state)) }
+{
     let Some(engine) = handle.take(alloc) else {
         return CLOSED;
     };
