@@ -209,18 +209,21 @@ pub extern "C" fn wz_test(
     let mut held = request.held();
     let answer = engine.test(rank, &mut held, out);
     handle.put(engine);
-    match answer {
-        Ok(Test::Completed(bytes)) => {
+    let test = match answer {
+        Ok(test) => test,
+        Err(why) => return code(why),
+    };
+    match test {
+        Test::Completed(bytes) => {
             *request = Request::of(&held);
             *count = bytes;
             DONE
         }
-        Ok(Test::Inactive) => {
+        Test::Inactive => {
             *count = 0;
             DONE
         }
-        Ok(Test::Pending) => PENDING,
-        Err(why) => code(why),
+        Test::Pending => PENDING,
     }
 }
 
@@ -283,12 +286,7 @@ pub extern "C" fn wz_outcome_length(
 }
 
 #[unsafe(no_mangle)]
-pub extern "C" fn wz_step(
-    alloc: Global,
-    handle: &mut Handle,
-    budget: u32,
-    actions: &mut u32,
-) -> i32
+pub extern "C" fn wz_step(alloc: Global, handle: &mut Handle, budget: u32, actions: &mut u32) -> i32
     ensures closed { handle.old.held.engine ≡ None → (handle.new.held.engine ≡ None) × (result ≡ pos 20) }
     ensures steps { IfSome handle.old.held.engine (λ p. IfSome handle.new.held.engine (λ r. (setting r ≡ setting p) × Finishings (setting p) (seen p) (seen r))) }
 {

@@ -15,5 +15,5 @@ returns-in-Err c =
     let p = c.in-Some.engine.value in
     record {
       answers = refused p p c.in-Err.why c.in-Some.ensures.found c.put.ensures (same_as p p refl) refl
-      (not_named c.deref.result.now p c.deref.ensures c.args.rank c.held.result (named_by c.args.request.now) c.in-Err.why c.held.ensures c.in-Err.ensures.refused) (coded c.in-Err.why c.code.result c.code.ensures);
+          (not_named c.deref.result.now p c.deref.ensures c.args.rank c.held.result (named_by c.args.request.now) c.in-Err.why c.held.ensures c.in-Err.ensures.refused) (coded c.in-Err.why c.code.result c.code.ensures);
     }
