@@ -10,19 +10,20 @@
 //! | `lib` | the functions |
 #![tactic(auto)]
 
-ghost use Rattle.std.specs.Prelude.{◌≡◌, ◌⊎◌, None, Some, IfOk, IfSome, IsSome, pos};
+ghost use Rattle.std.specs.Prelude.{◌≡◌, ◌<◌, ◌≤◌, ◌⊎◌, [], None, Some, IfOk, IfSome, IsSome, pos};
 ghost use Rattle.coll_kinds.specs.declared.kind.Mode.TheVariants.{Once, Persistent};
 ghost use Rattle.coll_kinds.specs.declared.signature.Signature.{Signature};
 ghost use Rattle.coll_machine.specs.Lents.{lent_bytes};
 ghost use Rattle.coll_machine.specs.Runs.{Runs};
 ghost use Rattle.coll_core.specs.Configs.{idle};
 ghost use Rattle.coll_core.specs.Cores.{seen, setting};
-ghost use Rattle.coll_core.specs.Steps.{Finishings};
+ghost use Rattle.coll_core.specs.Steps.{Finishings, ready};
 ghost use Rattle.coll_complete.specs.Completing.{freeing};
 ghost use Rattle.coll_complete.specs.Requests.{free_refusal, phase_at};
 ghost use Rattle.coll_complete.specs.Starting.{StartsAt};
 ghost use Rattle.coll_engine.specs.Calls.{Denies, DeniesStart, InitsTo, PostsTo, init_by, naming_refusal, post_by};
 ghost use Rattle.coll_engine.specs.Lengths.{IsOutcomeLengthAt};
+ghost use Rattle.coll_engine.specs.Progress.{Advances};
 ghost use Rattle.worzsunab.specs.Answers.{Answers, IsPhase, Tests, phase_number};
 ghost use Rattle.worzsunab.specs.Forms.{IsCall, IsMade, named_by, request_of};
 
@@ -288,7 +289,9 @@ pub extern "C" fn wz_outcome_length(
 #[unsafe(no_mangle)]
 pub extern "C" fn wz_step(alloc: Global, handle: &mut Handle, budget: u32, actions: &mut u32) -> i32
     ensures closed { handle.old.held.engine ≡ None → (handle.new.held.engine ≡ None) × (result ≡ pos 20) }
-    ensures steps { IfSome handle.old.held.engine (λ p. IfSome handle.new.held.engine (λ r. (setting r ≡ setting p) × Finishings (setting p) (seen p) (seen r))) }
+    ensures quiet { (result ≡ pos 17) ⊎ IfSome handle.new.held.engine (λ r. actions.new < budget → ready r ≡ []) }
+    ensures steps { (result ≡ pos 17) ⊎ IfSome handle.old.held.engine (λ p. IfSome handle.new.held.engine (λ r. Advances p r actions.new × (actions.new ≤ budget))) }
+    ensures finishes { IfSome handle.old.held.engine (λ p. IfSome handle.new.held.engine (λ r. (setting r ≡ setting p) × Finishings (setting p) (seen p) (seen r))) }
 {
     let Some(mut engine) = handle.take(alloc) else {
         return CLOSED;
@@ -307,6 +310,7 @@ pub extern "C" fn wz_step(alloc: Global, handle: &mut Handle, budget: u32, actio
 #[unsafe(no_mangle)]
 pub extern "C" fn wz_settle(alloc: Global, handle: &mut Handle) -> i32
     ensures closed { handle.old.held.engine ≡ None → (handle.new.held.engine ≡ None) × (result ≡ pos 20) }
+    ensures quiet { (result ≡ pos 17) ⊎ IfSome handle.new.held.engine (λ r. ready r ≡ []) }
     ensures settles { IfSome handle.old.held.engine (λ p. IfSome handle.new.held.engine (λ r. (setting r ≡ setting p) × Finishings (setting p) (seen p) (seen r))) }
 {
     let Some(mut engine) = handle.take(alloc) else {
