@@ -30,7 +30,7 @@ echo "refusals: the table is that of coll_kinds"
 
 run() {
     echo "== $*"
-    "$@"
+    timeout 300 "$@"
 }
 run "$work/sum"
 for kind in "" .shared .tsan; do
