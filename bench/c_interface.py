@@ -20,6 +20,8 @@ import mpi
 
 LIBRARY = os.path.join(mpi.HERE, "..", "out", "lib", "libworzsunab.a")
 RANKS = [1, 2, 4, 8]
+# A library that isn't through by then is left out.
+SECONDS = 15
 # What a row is called in mpi.c.
 NAMES = ["barrier", "allreduce of one i32", "persistent allreduce of one i32"]
 
@@ -40,6 +42,7 @@ def main():
         sys.exit(f"{library} isn't built: call `make -C bindings` first")
     runs = int(sys.argv[1]) if len(sys.argv) > 1 else 3
     mpi.RANKS = RANKS
+    mpi.SECONDS = SECONDS
     with tempfile.TemporaryDirectory() as folder:
         program = os.path.join(folder, "ours")
         source = os.path.join(mpi.HERE, "c_interface.c")

@@ -12,7 +12,7 @@ warnings="-Wall -Wextra -Wpedantic -Werror -O2 -g"
 c="${CC:-cc} -std=c11 -D_GNU_SOURCE $warnings $header"
 cxx="${CXX:-c++} -std=c++17 $warnings $header"
 
-for client in sum threads refusals; do
+for client in sum threads refusals cases; do
     $c "$here/c/$client.c" "$lib/libworzsunab.a" -pthread -o "$work/$client"
     $c "$here/c/$client.c" -L"$lib" -lworzsunab -pthread -Wl,-rpath,"$lib" -o "$work/$client.shared"
     $c -fsanitize=thread "$here/c/$client.c" "$lib/libworzsunab.a" -pthread -o "$work/$client.tsan"
@@ -35,6 +35,7 @@ run() {
 run "$work/sum"
 for kind in "" .shared .tsan; do
     run "$work/refusals$kind"
+    run "$work/cases$kind"
     for ranks in 1 2 4 7; do run "$work/threads$kind" $ranks 200 quiet; done
 done
 run "$work/cpp"
@@ -42,6 +43,7 @@ run "$work/cpp.tsan"
 if command -v valgrind > /dev/null; then
     grind="valgrind -q --error-exitcode=9 --leak-check=full --errors-for-leak-kinds=all"
     run $grind "$work/refusals"
+    run $grind "$work/cases"
     run $grind "$work/sum"
     run $grind --fair-sched=yes "$work/threads" 4 20 quiet
     run $grind --fair-sched=yes "$work/cpp"

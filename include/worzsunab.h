@@ -215,11 +215,12 @@ static inline const char *wz_mpi_class(int32_t code) {
 
 /* Opens an engine (MPI_Init, as far as it goes). Its communicators lie one after the other: sizes has the number of members of each,
    members their ranks, in the order of their member numbers; there are 1 to 16, each of one rank or more, none twice.
-   WZ_OPEN, WZ_BAD_CONFIG (a limit, then a size or a rank, is out of its range), WZ_NO_MEMORY. */
+   WZ_OPEN, WZ_BAD_CONFIG (a limit, a size or a rank is out of its range, or there are more or fewer members than the sizes tell);
+   WZ_NO_MEMORY may come in place of the latter. */
 int32_t wz_open(wz_engine *engine, const wz_limits *limits, const uint8_t *sizes, size_t communicators,
                 const uint8_t *members, size_t member_count);
 
-/* Gives up an engine with all its requests, also active ones (MPI_Finalize). It is all zeros then, but its pointer.
+/* Gives up an engine with all its requests, also active ones (MPI_Finalize). It is all zeros then.
    WZ_CLOSED. */
 int32_t wz_close(wz_engine *engine);
 
