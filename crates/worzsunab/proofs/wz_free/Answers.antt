@@ -1,4 +1,4 @@
-use Rattle.std.proofs.Common.{◌≡◌, ◌∙◌, ap, refl}
+use Rattle.std.proofs.Common.{◌∙◌, ap, refl}
 use Rattle.worzsunab.specs.Answers.{done, refused}
 use Rattle.worzsunab.specs.Forms.{named_by, request_of}
 use Rattle.worzsunab.proofs.Answering.{freed, not_freed, same_as, was_open}

@@ -1,4 +1,4 @@
-use Rattle.std.proofs.Common.{◌≡◌, inr, refl}
+use Rattle.std.proofs.Common.{inr, refl}
 use Rattle.worzsunab.specs.Answers.{done, refused}
 use Rattle.worzsunab.proofs.Answering.{was_open}
 use Rattle.worzsunab.proofs.Coding.{coded}

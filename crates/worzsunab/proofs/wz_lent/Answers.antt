@@ -1,4 +1,4 @@
-use Rattle.std.proofs.Common.{◌≡◌, ◌∙◌, ap, refl}
+use Rattle.std.proofs.Common.{◌∙◌, ap, refl}
 use Rattle.coll_machine.specs.Lents.{lent_bytes}
 use Rattle.coll_core.specs.Cores.{Parts, seen, setting}
 use Rattle.worzsunab.specs.Answers.{done}

@@ -1,4 +1,4 @@
-use Rattle.std.proofs.Common.{◌≡◌, refl}
+use Rattle.std.proofs.Common.{refl}
 use Rattle.worzsunab.specs.Answers.{done, refused}
 use Rattle.worzsunab.specs.Forms.{named_by}
 use Rattle.worzsunab.proofs.Answering.{long, not_named, same_as}

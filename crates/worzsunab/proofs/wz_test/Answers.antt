@@ -4,7 +4,7 @@ use Rattle.coll_engine.specs.declared.test.Test.TheVariants.{Completed, Inactive
 use Rattle.coll_engine.specs.Calls.{Completes}
 use Rattle.coll_engine.specs.Tests.{IfCompleted, is_completed, is_unfinished}
 use Rattle.coll_core.specs.Cores.{seen, setting}
-use Rattle.coll_complete.specs.Requests.{is_done, is_pending, left_of}
+use Rattle.coll_complete.specs.Requests.{is_done, is_pending}
 use Rattle.worzsunab.specs.Answers.{done, inactive, pending, refused}
 use Rattle.worzsunab.specs.Forms.{named_by}
 use Rattle.worzsunab.proofs.Answering.{completing, is_waiting, not_active, not_tested, ok_at, was_open}

@@ -1,5 +1,5 @@
 -- A closed pointer owns nothing.
-use Rattle.worzsunab.proofs.Words.{◌≡◌, List, [], ◌∷◌, ◌++◌, None, true, refl, sym, subst, T, Val, vstruct, of_list, SProp, ent, emp, id⊢, ftrue, fsep, WpFn, Item, ‵, raw, ◌⊛◌, ◌$◌, ◌∵◌, !, qed, move, drop, split, join, fsplit, fjoin, fpack, suffices, use1, feq_i, feq_l, done, and_then, no_more, returns, enter, alloc_all, pass_all, free_all, look_at, get, sets, agg, tables, yes, Valss, RawPtr, ptr_val, type_at, nothing, says, Stays, stay_dropped, walk_of, ends_at, Goes-dropped, handle_tells, proved_at}
+use Rattle.worzsunab.proofs.Words.{List, [], ◌∷◌, ◌++◌, None, true, refl, sym, subst, T, Val, vstruct, of_list, SProp, ent, emp, id⊢, ftrue, fsep, WpFn, ‵, raw, ◌⊛◌, ◌$◌, ◌∵◌, !, qed, move, drop, split, join, fsplit, fjoin, fpack, suffices, use1, feq_i, feq_l, done, and_then, no_more, returns, enter, alloc_all, pass_all, free_all, look_at, get, sets, agg, tables, yes, Valss, RawPtr, ptr_val, type_at, nothing, says, Stays, stay_dropped, walk_of, ends_at, Goes-dropped, handle_tells, proved_at}
 use mathlib.Core.Bool.{Bool, ◌&&◌, false}
 use denote.RawPtr.{rawptr_Lawful}
 use denote.Struct.Struct.{within}

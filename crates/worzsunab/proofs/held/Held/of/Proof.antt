@@ -1,5 +1,5 @@
 -- The parts of a box are what an open pointer owns.
-use Rattle.worzsunab.proofs.Words.{◌≡◌, List, [], ◌∷◌, ◌++◌, Option, Some, refl, sym, subst, Val, SProp, ent, emp, id⊢, ftrue, fsep, WpFn, Item, ‵, raw, ◌⊛◌, ◌$◌, ◌∵◌, !, qed, move, drop, split, join, fsplit, fjoin, suffices, use1, done, stop, fld, of_opd, no_more, and_then, returns, enter, alloc_all, pass_all, free_all, look_at, get, get_in, sets, agg, sub, whole, tables, yes, type_at, nothing, says, Stays, stay_dropped, walk_of, ends_at, Goes-dropped, D, B, word, box_typed, box_out, box_in, proved_at}
+use Rattle.worzsunab.proofs.Words.{List, [], ◌∷◌, ◌++◌, Some, refl, sym, subst, Val, SProp, ent, emp, id⊢, ftrue, fsep, WpFn, ‵, raw, ◌⊛◌, ◌$◌, ◌∵◌, !, qed, move, drop, split, join, fsplit, fjoin, suffices, use1, done, stop, fld, of_opd, no_more, and_then, returns, enter, alloc_all, pass_all, free_all, look_at, get, get_in, sets, agg, sub, whole, tables, yes, type_at, nothing, says, Stays, stay_dropped, walk_of, ends_at, Goes-dropped, D, B, word, box_typed, box_out, box_in, proved_at}
 use Rattle.worzsunab.proofs.Boxes.{Boxed, OfParts}
 use Rattle.worzsunab.specs.contracts.held.Held.of as f
 use Rattle.worzsunab.proofs.held.Held.of.Statement.{statement}

@@ -1,5 +1,5 @@
 -- What the parts own is what `from_raw` asks for.
-use Rattle.worzsunab.proofs.Words.{◌≡◌, List, [], ◌∷◌, ◌++◌, refl, sym, ap, subst, T, a_type, dcons, dnil, Val, vptr, has_ty, WT, inst_fn, SProp, ent, id⊢, ftrue, fsep, flft, WpFn, Item, ‵, raw, ◌⊛◌, some, later, at_ret, ◌$◌, ◌∵◌, !, qed, by, move, drop, split, split3, join, fsplit, fjoin, pick, suffices, use1, await, rewrite, feq_i, done, stop, fld, of_opd, no_more, and_then, first, blocks, exec, returns, enter, alloc_all, pass_all, free_all, look_at, get, get_in, sets, lands_last, env, sub, whole, ◌⊑◌, fact, tables, no, RattleType, block_ptr, plain, heard, nothing, only, calls_at_last, triple_of, says, Stays, stay_dropped, walk_of, ends_at, token, Goes-blank, fm, box_owns, Bx, D, B, P, R, word, box_ty, box_typed, box_out, box_in, proved_at}
+use Rattle.worzsunab.proofs.Words.{◌≡◌, List, [], ◌∷◌, ◌++◌, refl, sym, ap, subst, T, Val, vptr, has_ty, WT, inst_fn, SProp, ent, id⊢, ftrue, fsep, flft, WpFn, Item, ‵, raw, ◌⊛◌, some, later, at_ret, ◌$◌, ◌∵◌, !, qed, move, drop, split, split3, join, fsplit, fjoin, pick, suffices, use1, await, rewrite, feq_i, done, stop, fld, of_opd, no_more, and_then, first, blocks, exec, returns, enter, alloc_all, pass_all, free_all, look_at, get, get_in, sets, lands_last, env, sub, whole, ◌⊑◌, fact, tables, no, RattleType, block_ptr, plain, heard, nothing, only, calls_at_last, triple_of, says, Stays, stay_dropped, walk_of, ends_at, Goes-blank, fm, Bx, D, B, P, R, word, box_ty, box_typed, box_out, box_in, proved_at}
 use Rattle.std_alloc.proofs.BoxSteps.Form.{args}
 use Rattle.core.proofs.alloc.Shapes.{after}
 use Rattle.std_alloc.specs.contracts.boxed.Box.from_raw as shut

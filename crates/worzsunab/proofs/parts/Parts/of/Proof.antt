@@ -1,5 +1,5 @@
 -- A box is taken apart, and its parts own what it owned.
-use Rattle.worzsunab.proofs.Words.{◌≡◌, List, [], ◌∷◌, ◌++◌, refl, sym, ap, ◌∙◌, subst, a_type, dcons, dnil, bare, Val, vstruct, of_list, inst_fn, SProp, ent, never, id⊢, fst∗, ftrue, fsep, flft, WpFn, sem, Item, ‵, raw, ◌⊛◌, some, later, ◌$◌, ◌∵◌, !, qed, by, move, drop, split, split3, join, fsplit, fjoin, fpick, pick, suffices, use1, await, rewrite, feq_l, done, stop, fld, of_opd, no_more, and_then, returns, enter, alloc_all, pass_all, free_all, look_at, get, get_in, sets, lands_as, agg, sub, whole, ◌⊑◌, fact, tables, no, bounded, RattleType, Ptr, RawPtr, block_ptr, null_ptr, ptr_val, in_a_block, plain, heard, nothing, only, Tuple, calls_at, triple_of, says, Stays, stay_dropped, walk_of, ends_at, token, handle_tells, Goes-blank, fm, box_owns, Bx, D, B, P, R, τ, word, box_typed, box_out, box_in, proved_at}
+use Rattle.worzsunab.proofs.Words.{◌≡◌, List, [], ◌∷◌, ◌++◌, refl, sym, ap, ◌∙◌, subst, a_type, dcons, dnil, bare, Val, vstruct, of_list, inst_fn, SProp, ent, never, id⊢, fst∗, ftrue, fsep, flft, WpFn, sem, Item, ‵, raw, ◌⊛◌, some, later, ◌$◌, ◌∵◌, !, qed, move, drop, split, split3, join, fsplit, fjoin, fpick, pick, suffices, use1, await, rewrite, feq_l, done, stop, fld, of_opd, no_more, and_then, returns, enter, alloc_all, pass_all, free_all, look_at, get, get_in, sets, lands_as, agg, sub, whole, ◌⊑◌, fact, tables, no, bounded, RattleType, Ptr, RawPtr, block_ptr, null_ptr, ptr_val, in_a_block, plain, heard, nothing, only, Tuple, calls_at, triple_of, says, Stays, stay_dropped, walk_of, ends_at, token, handle_tells, Goes-blank, fm, box_owns, Bx, D, B, P, R, τ, word, box_typed, box_out, box_in, proved_at}
 use mir.Syntax.{Args}
 use Rattle.std_alloc.specs.contracts.boxed.Box.into_raw_with_allocator as open_box
 use Rattle.std_alloc.proofs.boxed.Box.into_raw_with_allocator.Met.{met}
