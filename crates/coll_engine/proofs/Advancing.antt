@@ -6,8 +6,8 @@ use Rattle.coll_machine.specs.States.{Machine}
 use Rattle.coll_core.specs.declared.stepped.Stepped.{Stepped}
 use Rattle.coll_core.specs.declared.stepped.Stepped.TheVariants.{Quiet, Moved, Finished, Out}
 use Rattle.coll_core.specs.Cores.{Parts, seen, setting}
-use Rattle.coll_core.specs.Steps.{Acts, CommitSteps, Finishings, none, more, Goes, HandsOut, Steps, StepsBy, Stays, left}
-use Rattle.coll_core.specs.Works.{Made, Piece}
+use Rattle.coll_core.specs.Steps.{Acts, CommitSteps, Finishings, none, more, Goes, Steps, StepsBy, Stays, left}
+use Rattle.coll_core.specs.Works.{Made}
 use Rattle.coll_engine.specs.Progress.{Advances}
 
 pub advances_none : (p : Parts) → Advances p p 0

@@ -15,12 +15,11 @@ use Rattle.coll_kinds.specs.Puts.{put}
 use Rattle.coll_kinds.proofs.Puts.{put_same, put_other}
 use Rattle.coll_plans.specs.Plans.{family}
 use Rattle.coll_machine.specs.Settings.{Setting, group, size}
-use Rattle.coll_machine.specs.States.{Machine, State, Request, found, signature_of, key_of}
+use Rattle.coll_machine.specs.States.{Machine, State, Request, signature_of, key_of}
 use Rattle.coll_machine.specs.Calls.{Call, Planned, Post, Init, Reply, Ticketed, Outcome, Nothing, Refused}
 use Rattle.coll_machine.specs.Changes.{new_request, created, started, once_more, rested, rested_by, holding}
 use Rattle.coll_machine.specs.Machines.{MachineStep, post, init, start, finish, retire, wait, free, refuse, short}
 use Rattle.coll_machine.specs.Refusals.{refusal, refusals}
-use Rattle.coll_machine.specs.Runs.{Event, Runs}
 use Rattle.coll_machine.specs.Steps.{Posts, Inits, Starts, Frees, Retires, Clears}
 use Rattle.coll_machine.proofs.Puts.{put2_same}
 use Rattle.coll_machine.proofs.Pushed.{get_pushed}

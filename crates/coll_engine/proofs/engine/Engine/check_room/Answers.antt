@@ -1,4 +1,4 @@
-use Rattle.std.proofs.Common.{◌≡◌, ◌<◌, ◌∙◌, Some, length, sym, ap, arith}
+use Rattle.std.proofs.Common.{◌<◌, ◌∙◌, Some, length, sym, ap, arith}
 use Rattle.coll_core.specs.Cores.{seen, setting}
 use Rattle.coll_engine.proofs.Keeping.{looked_up}
 use Rattle.coll_engine.proofs.Outcomes.{denies_short, named_low, room_for}

@@ -1,4 +1,4 @@
-use Rattle.std.proofs.Common.{◌≡◌, ◌<◌, ◌∙◌, length, sym, arith}
+use Rattle.std.proofs.Common.{◌<◌, ◌∙◌, length, sym, arith}
 use Rattle.coll_core.specs.Cores.{seen, setting}
 use Rattle.coll_engine.proofs.Outcomes.{length_for, named_low}
 use Rattle.coll_engine.proofs.Keeping.{looked_up}

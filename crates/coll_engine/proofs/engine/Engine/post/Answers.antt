@@ -1,4 +1,4 @@
-use Rattle.std.proofs.Common.{◌≡◌, ◌<◌, length, arith}
+use Rattle.std.proofs.Common.{◌<◌, length, arith}
 use Rattle.coll_core.specs.Cores.{seen, setting}
 use Rattle.coll_core.specs.Posts.{planned}
 use Rattle.coll_engine.proofs.Keeping.{kept_posted}
