@@ -1,0 +1,119 @@
+/* The time of a small collective through include/worzsunab.h: one thread plays all ranks, or a thread for each; see c_interface.py. */
+#include <stdio.h>
+#include <stdlib.h>
+#include <time.h>
+
+#include "../include/worzsunab_threads.h"
+
+enum { MOST = 8, TURNS = 20000 };
+
+static void must(int32_t code) {
+    if (code == WZ_DONE) return;
+    fprintf(stderr, "%s\n", wz_message(code));
+    exit(1);
+}
+
+static double now(void) {
+    struct timespec t;
+    clock_gettime(CLOCK_MONOTONIC, &t);
+    return (double)t.tv_sec * 1e9 + (double)t.tv_nsec;
+}
+
+/* measure: nanoseconds an operation of all ranks. Each measure has an engine of its own, whose places suffice for it. */
+static void tell(const char *measure, double from) { printf("%s: %.0f\n", measure, (now() - from) / TURNS); }
+
+static const wz_call allreduce = { WZ_ALLREDUCE, WZ_SUM, WZ_INT32, 0, 1 };
+static const wz_call barrier = { WZ_BARRIER, WZ_NO_OPERATION, WZ_BYTE, 0, 0 };
+static int ranks;
+
+static wz_engine opened(void) {
+    wz_engine engine = WZ_CLOSED_ENGINE;
+    uint8_t members[MOST] = { 0, 1, 2, 3, 4, 5, 6, 7 }, size = (uint8_t)ranks;
+    wz_limits limits = wz_greatest_limits((uint32_t)ranks);
+    must(wz_open(&engine, &limits, &size, 1, members, size));
+    return engine;
+}
+
+static void complete(wz_engine *engine, wz_request *requests, int32_t want) {
+    must(wz_settle(engine));
+    for (int rank = 0; rank < ranks; rank++) {
+        int32_t sum = 0;
+        size_t count;
+        must(wz_test(engine, (uint8_t)rank, &requests[rank], &sum, sizeof sum, &count));
+        if (sum != want) exit(1);
+    }
+}
+
+static void one_thread(void) {
+    wz_request requests[MOST];
+    int32_t one = 1;
+    wz_engine engine = opened();
+    double from = now();
+    for (int turn = 0; turn < TURNS; turn++) {
+        for (int rank = 0; rank < ranks; rank++)
+            must(wz_post(&engine, (uint8_t)rank, 0, &allreduce, &one, sizeof one, &requests[rank]));
+        complete(&engine, requests, ranks);
+    }
+    tell("allreduce of one i32, one thread", from);
+    for (int rank = 0; rank < ranks; rank++) must(wz_init(&engine, (uint8_t)rank, 0, &allreduce, &requests[rank]));
+    from = now();
+    for (int turn = 0; turn < TURNS; turn++) {
+        for (int rank = 0; rank < ranks; rank++)
+            must(wz_start(&engine, (uint8_t)rank, &requests[rank], &one, sizeof one));
+        complete(&engine, requests, ranks);
+    }
+    tell("persistent allreduce of one i32, one thread", from);
+    must(wz_close(&engine));
+    engine = opened();
+    from = now();
+    for (int turn = 0; turn < TURNS; turn++) {
+        for (int rank = 0; rank < ranks; rank++)
+            must(wz_post(&engine, (uint8_t)rank, 0, &barrier, NULL, 0, &requests[rank]));
+        complete(&engine, requests, 0);
+    }
+    tell("barrier, one thread", from);
+    must(wz_close(&engine));
+}
+
+static wz_shared shared;
+
+static void *rank_of(void *number) {
+    uint8_t me = (uint8_t)(size_t)number;
+    wz_request request;
+    int32_t one = 1, sum = 0;
+    size_t count;
+    double from = now();
+    for (int turn = 0; turn < TURNS; turn++) {
+        must(wz_shared_post(&shared, me, 0, &allreduce, &one, sizeof one, &request));
+        must(wz_shared_wait(&shared, me, &request, &sum, sizeof sum, &count));
+        if (sum != ranks) exit(1);
+    }
+    if (me == 0) tell("allreduce of one i32", from);
+    must(wz_shared_init(&shared, me, 0, &allreduce, &request));
+    from = now();
+    for (int turn = 0; turn < TURNS; turn++) {
+        must(wz_shared_start(&shared, me, &request, &one, sizeof one));
+        must(wz_shared_wait(&shared, me, &request, &sum, sizeof sum, &count));
+    }
+    if (me == 0) tell("persistent allreduce of one i32", from);
+    must(wz_shared_free(&shared, me, &request));
+    from = now();
+    for (int turn = 0; turn < TURNS; turn++) {
+        must(wz_shared_post(&shared, me, 0, &barrier, NULL, 0, &request));
+        must(wz_shared_wait(&shared, me, &request, NULL, 0, &count));
+    }
+    if (me == 0) tell("barrier", from);
+    return NULL;
+}
+
+int main(int argc, char **argv) {
+    pthread_t threads[MOST];
+    ranks = argc > 1 ? atoi(argv[1]) : 2;
+    if (ranks < 1 || ranks > MOST) return 1;
+    one_thread();
+    must(wz_shared_open_world(&shared, (uint8_t)ranks));
+    for (size_t i = 0; i < (size_t)ranks; i++) pthread_create(&threads[i], NULL, rank_of, (void *)i);
+    for (int i = 0; i < ranks; i++) pthread_join(threads[i], NULL);
+    must(wz_shared_close(&shared));
+    return 0;
+}

@@ -1,0 +1,70 @@
+#!/usr/bin/env python3
+"""Compares small collectives through include/worzsunab.h with MPI libraries, in one run: medians of RUNS runs in turn, in
+microseconds an operation of all ranks, for 1, 2, 4 and 8 ranks. Ours are one thread that plays all ranks, and a thread for each;
+theirs are processes.
+
+    bench/c_interface.py [RUNS]    (3 where no number is said)
+
+Run it at the top of the repository after `make -C bindings` has built out/lib/libworzsunab.a, with nothing beside it. Each library
+is measured whose compiler is found, mpicc.openmpi or mpicc.mpich (Debian's libopenmpi-dev and libmpich-dev).
+"""
+
+import os
+import shutil
+import statistics
+import subprocess
+import sys
+import tempfile
+
+import mpi
+
+LIBRARY = os.path.join(mpi.HERE, "..", "out", "lib", "libworzsunab.a")
+RANKS = [1, 2, 4, 8]
+# A library that isn't through by then is left out.
+SECONDS = 15
+# What a row is called in mpi.c.
+NAMES = ["barrier", "allreduce of one i32", "persistent allreduce of one i32"]
+
+
+def ours(program):
+    """(measure, ranks) -> nanoseconds."""
+    found = {}
+    for ranks in RANKS:
+        for line in subprocess.run([program, str(ranks)], check=True, capture_output=True, text=True).stdout.splitlines():
+            measure, time = line.split(": ")
+            found[measure, ranks] = int(time)
+    return found
+
+
+def main():
+    library = os.environ.get("WORZSUNAB_LIB", LIBRARY)
+    if not os.path.exists(library):
+        sys.exit(f"{library} isn't built: call `make -C bindings` first")
+    runs = int(sys.argv[1]) if len(sys.argv) > 1 else 3
+    mpi.RANKS = RANKS
+    mpi.SECONDS = SECONDS
+    with tempfile.TemporaryDirectory() as folder:
+        program = os.path.join(folder, "ours")
+        source = os.path.join(mpi.HERE, "c_interface.c")
+        subprocess.run(["cc", "-O2", "-D_GNU_SOURCE", source, library, "-pthread", "-o", program], check=True)
+        measured = {"ours": lambda: ours(program)}
+        for name in mpi.LIBRARIES:
+            if shutil.which(f"mpicc.{name}"):
+                theirs = os.path.join(folder, name)
+                subprocess.run([f"mpicc.{name}", "-O2", os.path.join(mpi.HERE, "mpi.c"), "-o", theirs], check=True)
+                measured[name] = lambda name=name, theirs=theirs: mpi.theirs(name, theirs)
+        times = {}
+        for _ in range(runs):
+            for name, measure in measured.items():
+                for key, time in measure().items():
+                    times.setdefault((name, *key), []).append(time)
+    for name in measured:
+        print(name)
+        for measure in dict.fromkeys(key[1] for key in times if key[0] == name):
+            if name == "ours" or measure in NAMES:
+                row = [times.get((name, measure, ranks)) for ranks in RANKS]
+                print(f"  {measure}:", *(f"{statistics.median(column) / 1000:.1f}" if column else "-" for column in row))
+
+
+if __name__ == "__main__":
+    main()

@@ -1,0 +1,150 @@
+/* Ranks as threads: many posts, a persistent loop, overlap, communicators of some ranks, and a stall that is told.
+   threads RANKS TIMES [quiet]: without `quiet` it prints the microseconds of an allreduce. */
+#include <stdio.h>
+#include <stdlib.h>
+#include <time.h>
+
+#include "worzsunab_threads.h"
+
+static wz_shared shared;
+static int ranks = 4, times = 1000, quiet;
+static pthread_barrier_t together;
+
+#define MUST(call)                                                                         \
+    do {                                                                                   \
+        int32_t code_ = (call);                                                            \
+        if (code_ != WZ_DONE) {                                                            \
+            fprintf(stderr, "%s:%d: %s\n", __FILE__, __LINE__, wz_message(code_));         \
+            abort();                                                                       \
+        }                                                                                  \
+    } while (0)
+
+#define HOLDS(fact)                                                                        \
+    do {                                                                                   \
+        if (!(fact)) {                                                                     \
+            fprintf(stderr, "%s:%d: not so: %s\n", __FILE__, __LINE__, #fact);             \
+            abort();                                                                       \
+        }                                                                                  \
+    } while (0)
+
+static double now(void) {
+    struct timespec t;
+    clock_gettime(CLOCK_MONOTONIC, &t);
+    return (double)t.tv_sec * 1e6 + (double)t.tv_nsec / 1e3;
+}
+
+static const wz_call allreduce = { WZ_ALLREDUCE, WZ_SUM, WZ_INT32, 0, 1 };
+
+/* The sum of all ranks, for one that gives its number plus i. */
+static int32_t sum_at(int32_t i) { return ranks * (ranks - 1) / 2 + ranks * i; }
+
+static void once(uint8_t me) {
+    double from = now();
+    for (int32_t i = 0; i < times; i++) {
+        int32_t mine = me + i, sum = -1;
+        size_t count = 0;
+        wz_request request;
+        MUST(wz_shared_post(&shared, me, 0, &allreduce, &mine, sizeof mine, &request));
+        MUST(wz_shared_wait(&shared, me, &request, &sum, sizeof sum, &count));
+        HOLDS(count == sizeof sum && sum == sum_at(i) && request.generation == 0);
+    }
+    if (me == 0 && !quiet) printf("allreduce of 1 int32, %d ranks: %.2f us\n", ranks, (now() - from) / times);
+}
+
+static void persistent(uint8_t me) {
+    wz_request request;
+    MUST(wz_shared_init(&shared, me, 0, &allreduce, &request));
+    double from = now();
+    for (int32_t i = 0; i < times; i++) {
+        int32_t mine = me + i, sum = -1;
+        size_t count = 0;
+        MUST(wz_shared_start(&shared, me, &request, &mine, sizeof mine));
+        MUST(wz_shared_wait(&shared, me, &request, &sum, sizeof sum, &count));
+        HOLDS(sum == sum_at(i) && request.generation != 0);
+    }
+    if (me == 0 && !quiet) printf("persistent: %.2f us\n", (now() - from) / times);
+    MUST(wz_shared_free(&shared, me, &request));
+    HOLDS(request.generation == 0);
+}
+
+/* Eight collectives are under way at once, and are completed in the other order. */
+static void overlap(uint8_t me) {
+    enum { MANY = 8 };
+    wz_request requests[MANY];
+    for (int32_t i = 0; i < MANY; i++) {
+        int32_t mine = me + i;
+        MUST(wz_shared_post(&shared, me, 0, &allreduce, &mine, sizeof mine, &requests[i]));
+    }
+    for (int32_t i = MANY; i-- > 0;) {
+        int32_t sum = -1;
+        size_t count = 0;
+        int32_t code = wz_shared_test(&shared, me, &requests[i], &sum, sizeof sum, &count);
+        if (code == WZ_PENDING) code = wz_shared_wait(&shared, me, &requests[i], &sum, sizeof sum, &count);
+        MUST(code);
+        HOLDS(sum == sum_at(i));
+    }
+}
+
+/* Communicator 1 has the ranks from the last to the first: member 0 is the last rank. */
+static void reversed(uint8_t me) {
+    wz_call bcast = { WZ_BCAST, WZ_NO_OPERATION, WZ_INT32, 0, 1 };
+    wz_call gather = { WZ_GATHER, WZ_NO_OPERATION, WZ_INT32, 0, 1 };
+    int32_t mine = me, got = -1, all[64];
+    size_t count = 0;
+    wz_request request;
+    int is_root = me == ranks - 1;
+    MUST(wz_shared_post(&shared, me, 1, &bcast, &mine, is_root ? sizeof mine : 0, &request));
+    MUST(wz_shared_wait(&shared, me, &request, &got, sizeof got, &count));
+    HOLDS(got == ranks - 1);
+    MUST(wz_shared_post(&shared, me, 1, &gather, &mine, sizeof mine, &request));
+    MUST(wz_shared_wait(&shared, me, &request, all, sizeof all, &count));
+    HOLDS(count == (is_root ? (size_t)ranks * sizeof mine : 0));
+    for (int i = 0; is_root && i < ranks; i++) HOLDS(all[i] == ranks - 1 - i);
+}
+
+/* Every rank waits for a barrier of its own, which the others never post: all are told. */
+static void stall(uint8_t me) {
+    wz_call barrier = { WZ_BARRIER, WZ_NO_OPERATION, WZ_BYTE, 0, 0 };
+    size_t count = 0;
+    wz_request request;
+    pthread_barrier_wait(&together);
+    if (me == 0) {
+        wz_shared_leave(&shared, me);
+        return;
+    }
+    MUST(wz_shared_post(&shared, me, 0, &barrier, NULL, 0, &request));
+    HOLDS(wz_shared_wait(&shared, me, &request, NULL, 0, &count) == WZ_STALLED);
+}
+
+static void *rank(void *number) {
+    uint8_t me = (uint8_t)(size_t)number;
+    once(me);
+    persistent(me);
+    overlap(me);
+    reversed(me);
+    stall(me);
+    return NULL;
+}
+
+int main(int argc, char **argv) {
+    pthread_t threads[64];
+    uint8_t members[128], sizes[2];
+    if (argc > 1) ranks = atoi(argv[1]);
+    if (argc > 2) times = atoi(argv[2]);
+    quiet = argc > 3;
+    HOLDS(ranks >= 1 && ranks <= 64);
+    for (int i = 0; i < ranks; i++) {
+        members[i] = (uint8_t)i;
+        members[ranks + i] = (uint8_t)(ranks - 1 - i);
+    }
+    sizes[0] = sizes[1] = (uint8_t)ranks;
+    wz_limits limits = wz_greatest_limits((uint32_t)ranks);
+    MUST(wz_shared_open(&shared, &limits, sizes, 2, members, 2 * (size_t)ranks));
+    pthread_barrier_init(&together, NULL, (unsigned)ranks);
+    for (size_t i = 0; i < (size_t)ranks; i++) pthread_create(&threads[i], NULL, rank, (void *)i);
+    for (int i = 0; i < ranks; i++) pthread_join(threads[i], NULL);
+    pthread_barrier_destroy(&together);
+    MUST(wz_shared_close(&shared));
+    puts("threads: all as it should be");
+    return 0;
+}

@@ -1,0 +1,165 @@
+/// A collective (MPI 4.1, 6.12).
+#[derive(Clone, Copy, Debug, PartialEq, Eq, Hash)]
+#[repr(u8)]
+pub enum Kind {
+    /// `MPI_Ibarrier`
+    Barrier,
+    /// `MPI_Ibcast`
+    Bcast,
+    /// `MPI_Igather`
+    Gather,
+    /// `MPI_Iscatter`
+    Scatter,
+    /// `MPI_Iallgather`
+    Allgather,
+    /// `MPI_Ialltoall`
+    Alltoall,
+    /// `MPI_Ireduce`
+    Reduce,
+    /// `MPI_Iallreduce`
+    Allreduce,
+    /// `MPI_Ireduce_scatter_block`
+    ReduceScatterBlock,
+    /// `MPI_Iscan`
+    Scan,
+    /// `MPI_Iexscan`
+    Exscan,
+}
+
+/// An operation (MPI 4.1, 6.9.2 and 6.9.4).
+#[derive(Clone, Copy, Debug, PartialEq, Eq, Hash)]
+#[repr(u8)]
+pub enum Op {
+    /// `MPI_MAX`
+    Max,
+    /// `MPI_MIN`
+    Min,
+    /// `MPI_SUM`, wrapped to the type's bits
+    Sum,
+    /// `MPI_PROD`, wrapped to the type's bits
+    Prod,
+    /// `MPI_LAND`
+    Land,
+    /// `MPI_LOR`
+    Lor,
+    /// `MPI_LXOR`
+    Lxor,
+    /// `MPI_BAND`
+    Band,
+    /// `MPI_BOR`
+    Bor,
+    /// `MPI_BXOR`
+    Bxor,
+    /// The second element where it isn't 0, else the first: like an operation of a user, not commutative.
+    LastNz,
+    /// `MPI_MAXLOC`
+    MaxLoc,
+    /// `MPI_MINLOC`
+    MinLoc,
+}
+
+/// The type of an element; numbers are little-endian.
+#[derive(Clone, Copy, Debug, PartialEq, Eq, Hash)]
+#[repr(u8)]
+pub enum Type {
+    /// `MPI_INT8_T`
+    I8,
+    /// `MPI_INT16_T`
+    I16,
+    /// `MPI_INT32_T`
+    I32,
+    /// `MPI_INT64_T`
+    I64,
+    /// `MPI_UINT8_T`
+    U8,
+    /// `MPI_UINT16_T`
+    U16,
+    /// `MPI_UINT32_T`
+    U32,
+    /// `MPI_UINT64_T`
+    U64,
+    /// `MPI_BYTE`
+    Byte,
+    /// `MPI_2INT`: a value and its index, each an `i32`
+    Pair,
+}
+
+const NO_OPERATION: u8 = 255;
+
+/// What all members of a communicator have to agree on at one place of their posting lists.
+#[repr(C)]
+#[derive(Clone, Copy, Debug, PartialEq, Eq, Hash)]
+pub struct Call {
+    kind: Kind,
+    op: u8,
+    ty: Type,
+    root: u8,
+    count: u32,
+}
+
+impl Call {
+    /// A collective of blocks of `count` elements.
+    fn new(kind: Kind, op: u8, ty: Type, root: u8, count: u32) -> Call {
+        Call { kind, op, ty, root, count }
+    }
+
+    /// A barrier.
+    pub fn barrier() -> Call {
+        Call::new(Kind::Barrier, NO_OPERATION, Type::Byte, 0, 0)
+    }
+
+    /// Every member gets member `root`'s block.
+    pub fn bcast(root: u8, ty: Type, count: u32) -> Call {
+        Call::new(Kind::Bcast, NO_OPERATION, ty, root, count)
+    }
+
+    /// Member `root` gets all blocks.
+    pub fn gather(root: u8, ty: Type, count: u32) -> Call {
+        Call::new(Kind::Gather, NO_OPERATION, ty, root, count)
+    }
+
+    /// Each member gets its block of those that member `root` gives.
+    pub fn scatter(root: u8, ty: Type, count: u32) -> Call {
+        Call::new(Kind::Scatter, NO_OPERATION, ty, root, count)
+    }
+
+    /// Every member gets all blocks.
+    pub fn allgather(ty: Type, count: u32) -> Call {
+        Call::new(Kind::Allgather, NO_OPERATION, ty, 0, count)
+    }
+
+    /// Each member gets its block of those that each gives.
+    pub fn alltoall(ty: Type, count: u32) -> Call {
+        Call::new(Kind::Alltoall, NO_OPERATION, ty, 0, count)
+    }
+
+    /// Member `root` gets the combination of all blocks.
+    pub fn reduce(root: u8, op: Op, ty: Type, count: u32) -> Call {
+        Call::new(Kind::Reduce, op as u8, ty, root, count)
+    }
+
+    /// Every member gets the combination of all blocks.
+    pub fn allreduce(op: Op, ty: Type, count: u32) -> Call {
+        Call::new(Kind::Allreduce, op as u8, ty, 0, count)
+    }
+
+    /// Each member gets its block of the combination of what all give.
+    pub fn reduce_scatter_block(op: Op, ty: Type, count: u32) -> Call {
+        Call::new(Kind::ReduceScatterBlock, op as u8, ty, 0, count)
+    }
+
+    /// Each member gets the combination of the blocks up to its own.
+    pub fn scan(op: Op, ty: Type, count: u32) -> Call {
+        Call::new(Kind::Scan, op as u8, ty, 0, count)
+    }
+
+    /// Each member gets the combination of the blocks before its own, and member 0 nothing.
+    pub fn exscan(op: Op, ty: Type, count: u32) -> Call {
+        Call::new(Kind::Exscan, op as u8, ty, 0, count)
+    }
+
+    /// Which collective it is.
+    pub fn kind(&self) -> Kind {
+        self.kind
+    }
+}

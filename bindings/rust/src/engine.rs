@@ -1,0 +1,316 @@
+use std::sync::{Condvar, Mutex, MutexGuard};
+
+use crate::call::Call;
+use crate::raw::{self, RawEngine, RawLimits, RawRequest};
+use crate::refusal::Refusal;
+
+/// What an engine is opened with. `Limits::default()` has the greatest numbers.
+#[derive(Clone, Copy, Debug, PartialEq, Eq)]
+pub struct Limits {
+    /// The most live requests at one time: 1 to 4,096.
+    pub slots: u32,
+    /// The most posts and initialisations of one member on one communicator: 1 to 65,536.
+    pub places: u32,
+    /// How many requests one slot is given to, one after the other: 1 or more.
+    pub wear: u32,
+    /// The most starts of one request: 1 to 1,048,576.
+    pub starts: u32,
+}
+
+impl Default for Limits {
+    fn default() -> Limits {
+        Limits { slots: 4_096, places: 65_536, wear: u32::MAX, starts: 1_048_576 }
+    }
+}
+
+/// How far a request is (MPI 4.1, 3.7.3 and 3.9).
+#[derive(Clone, Copy, Debug, PartialEq, Eq)]
+pub enum Phase {
+    /// Persistent, and not started since it was made or completed.
+    Idle,
+    /// Started, and not done.
+    Pending,
+    /// It can be completed.
+    Done,
+}
+
+/// A rank's request. It is null once it was completed, if it isn't persistent, or freed. A request of one engine that is used
+/// with another is refused, or names a request of the same rank there.
+#[derive(Debug, PartialEq, Eq)]
+pub struct Request {
+    rank: u8,
+    raw: RawRequest,
+}
+
+impl Request {
+    /// The rank that posted or made it.
+    pub fn rank(&self) -> u8 {
+        self.rank
+    }
+
+    /// Whether it names nothing any longer.
+    pub fn is_null(&self) -> bool {
+        self.raw.generation == 0
+    }
+}
+
+/// The engine's state under the lock.
+struct Held {
+    raw: RawEngine,
+    /// By rank, what its thread waits for.
+    awaited: Vec<Option<RawRequest>>,
+    left: Vec<bool>,
+    stalled: bool,
+}
+
+// The engine behind the pointer is plain data in memory of malloc, and goes to one call at a time, under the lock.
+unsafe impl Send for Held {}
+
+/// An engine that the threads of a process share: each rank is played by one thread at a time.
+pub struct Engine {
+    held: Mutex<Held>,
+    /// By rank.
+    woken: Vec<Condvar>,
+}
+
+impl Engine {
+    /// An engine whose communicator 0 has all ranks.
+    ///
+    /// # Errors
+    ///
+    /// BadConfig unless there are 1 to 64 ranks, and NoMemory.
+    pub fn of_ranks(ranks: u8) -> Result<Engine, Refusal> {
+        let all: Vec<u8> = (0..ranks).collect();
+        Engine::open(ranks, &[&all], Limits::default())
+    }
+
+    /// An engine with these communicators: the ranks of each, in the order of their member numbers.
+    ///
+    /// # Errors
+    ///
+    /// BadConfig where a limit, a size or a rank is out of its range, and NoMemory.
+    pub fn open(ranks: u8, communicators: &[&[u8]], limits: Limits) -> Result<Engine, Refusal> {
+        let mut sizes = Vec::new();
+        for members in communicators {
+            sizes.push(u8::try_from(members.len()).map_err(|_| Refusal::BadConfig)?);
+        }
+        let members = communicators.concat();
+        let mut raw = RawEngine { at: std::ptr::null_mut(), opened: false };
+        let limits = RawLimits {
+            ranks: u32::from(ranks),
+            slots: limits.slots,
+            places: limits.places,
+            wear: limits.wear,
+            starts: limits.starts,
+        };
+        // SAFETY: the engine is closed, and both lists are as long as is said.
+        answer(unsafe {
+            raw::wz_open(&mut raw, &limits, sizes.as_ptr(), sizes.len(), members.as_ptr(), members.len())
+        })?;
+        let ranks = usize::from(ranks);
+        Ok(Engine {
+            held: Mutex::new(Held { raw, awaited: vec![None; ranks], left: vec![false; ranks], stalled: false }),
+            woken: (0..ranks).map(|_| Condvar::new()).collect(),
+        })
+    }
+
+    /// Starts a collective of a communicator for a rank, with the bytes that it gives (`MPI_Ibcast` and so on).
+    ///
+    /// # Errors
+    ///
+    /// BadComm, NotMember, BadSignature, Mismatch, PlacesUsed, BadLength, Full, NoMemory; nothing has changed.
+    pub fn post(&self, rank: u8, comm: u32, call: Call, bytes: &[u8]) -> Result<Request, Refusal> {
+        let mut held = self.lock();
+        let mut raw = RawRequest::default();
+        // SAFETY: the engine is open and this thread has the lock; the bytes are as many as is said.
+        answer(unsafe {
+            raw::wz_post(&mut held.raw, rank, comm, &call, bytes.as_ptr(), bytes.len(), &mut raw)
+        })?;
+        held.stalled = false;
+        self.progress(&mut held).ok();
+        Ok(Request { rank, raw })
+    }
+
+    /// Makes a persistent request, which isn't started (`MPI_Bcast_init` and so on).
+    ///
+    /// # Errors
+    ///
+    /// BadComm, NotMember, BadSignature, Mismatch, PlacesUsed, Full, NoMemory; nothing has changed.
+    pub fn init(&self, rank: u8, comm: u32, call: Call) -> Result<Request, Refusal> {
+        let mut held = self.lock();
+        let mut raw = RawRequest::default();
+        // SAFETY: the engine is open, and this thread has the lock.
+        answer(unsafe { raw::wz_init(&mut held.raw, rank, comm, &call, &mut raw) })?;
+        Ok(Request { rank, raw })
+    }
+
+    /// Starts a persistent request with the bytes that its rank gives (`MPI_Start`).
+    ///
+    /// # Errors
+    ///
+    /// Stale, NotPersistent, Active, BadLength, StartsUsed, NoMemory; nothing has changed.
+    pub fn start(&self, request: &Request, bytes: &[u8]) -> Result<(), Refusal> {
+        let mut held = self.lock();
+        // SAFETY: the engine is open and this thread has the lock; the bytes are as many as is said.
+        answer(unsafe {
+            raw::wz_start(&mut held.raw, request.rank, &request.raw, bytes.as_ptr(), bytes.len())
+        })?;
+        held.stalled = false;
+        self.progress(&mut held).ok();
+        Ok(())
+    }
+
+    /// Gives up a persistent request that isn't active, and makes it null (`MPI_Request_free`).
+    ///
+    /// # Errors
+    ///
+    /// Stale, NotPersistent, Active; nothing has changed.
+    pub fn free(&self, request: &mut Request) -> Result<(), Refusal> {
+        let mut held = self.lock();
+        // SAFETY: the engine is open, and this thread has the lock.
+        answer(unsafe { raw::wz_free(&mut held.raw, request.rank, &mut request.raw) })
+    }
+
+    /// How far a request is.
+    ///
+    /// # Errors
+    ///
+    /// Stale.
+    pub fn phase(&self, request: &Request) -> Result<Phase, Refusal> {
+        phase(&mut self.lock(), request.rank, &request.raw)
+    }
+
+    /// Completes a request if it is done (`MPI_Test`): its outcome stands at the front of `out`, and the answer is the outcome's
+    /// bytes, 0 for a request that is null or not active. None where it is pending.
+    ///
+    /// # Errors
+    ///
+    /// Stale, BadLength where `out` is shorter than the outcome, and NoMemory; the request can still be completed.
+    pub fn test(&self, request: &mut Request, out: &mut [u8]) -> Result<Option<usize>, Refusal> {
+        self.test_held(&mut self.lock(), request, out)
+    }
+
+    /// Completes a request as `test` does, and waits for it (`MPI_Wait`).
+    ///
+    /// # Errors
+    ///
+    /// Those of `test`, and Stalled where each rank waits or has left; the request can still be completed.
+    pub fn wait(&self, request: &mut Request, out: &mut [u8]) -> Result<usize, Refusal> {
+        let rank = usize::from(request.rank);
+        let mut held = self.lock();
+        loop {
+            if let Some(count) = self.test_held(&mut held, request, out)? {
+                return Ok(count);
+            }
+            if held.stalled {
+                return Err(Refusal::Stalled);
+            }
+            held.awaited[rank] = Some(request.raw);
+            self.judge(&mut held);
+            while held.awaited[rank].is_some() {
+                held = self.woken[rank].wait(held).unwrap_or_else(|poisoned| poisoned.into_inner());
+            }
+        }
+    }
+
+    /// Says that a rank makes no further call, so that a wait which nobody can end is told.
+    pub fn leave(&self, rank: u8) {
+        let mut held = self.lock();
+        if let Some(left) = held.left.get_mut(usize::from(rank)) {
+            *left = true;
+            self.judge(&mut held);
+        }
+    }
+
+    /// The bytes that active requests lend to the engine, given and got together.
+    pub fn lent(&self) -> u64 {
+        let mut held = self.lock();
+        let mut bytes = 0;
+        // SAFETY: the engine is open, and this thread has the lock.
+        let code = unsafe { raw::wz_lent(&mut held.raw, &mut bytes) };
+        debug_assert_eq!(code, 0);
+        bytes
+    }
+
+    /// The lock; a thread that panicked left the engine between two calls.
+    fn lock(&self) -> MutexGuard<'_, Held> {
+        self.held.lock().unwrap_or_else(|poisoned| poisoned.into_inner())
+    }
+
+    fn test_held(&self, held: &mut Held, request: &mut Request, out: &mut [u8]) -> Result<Option<usize>, Refusal> {
+        if let Some(count) = test_once(held, request, out)? {
+            return Ok(Some(count));
+        }
+        self.progress(held)?;
+        test_once(held, request, out)
+    }
+
+    /// Makes all progress, and wakes each rank whose awaited request isn't pending any longer.
+    fn progress(&self, held: &mut Held) -> Result<(), Refusal> {
+        // SAFETY: the engine is open, and this thread has the lock.
+        let settled = answer(unsafe { raw::wz_settle(&mut held.raw) });
+        for rank in 0..self.woken.len() {
+            let Some(awaited) = held.awaited[rank] else {
+                continue;
+            };
+            if settled.is_err() || phase(held, rank as u8, &awaited) != Ok(Phase::Pending) {
+                held.awaited[rank] = None;
+                self.woken[rank].notify_one();
+            }
+        }
+        settled
+    }
+
+    /// Where each rank waits or has left, wakes all.
+    fn judge(&self, held: &mut Held) {
+        if !(0..self.woken.len()).all(|rank| held.left[rank] || held.awaited[rank].is_some()) {
+            return;
+        }
+        held.stalled = true;
+        for rank in 0..self.woken.len() {
+            held.awaited[rank] = None;
+            self.woken[rank].notify_one();
+        }
+    }
+}
+
+impl Drop for Engine {
+    fn drop(&mut self) {
+        let held = self.held.get_mut().unwrap_or_else(|poisoned| poisoned.into_inner());
+        // SAFETY: the engine is open, and nobody else has it.
+        let code = unsafe { raw::wz_close(&mut held.raw) };
+        debug_assert_eq!(code, 0);
+    }
+}
+
+fn answer(code: i32) -> Result<(), Refusal> {
+    match code {
+        0 => Ok(()),
+        code => Err(Refusal::of(code)),
+    }
+}
+
+fn test_once(held: &mut Held, request: &mut Request, out: &mut [u8]) -> Result<Option<usize>, Refusal> {
+    const PENDING: i32 = -1;
+    let mut count = 0;
+    // SAFETY: the engine is open and this thread has the lock; the memory is as long as is said.
+    let code = unsafe {
+        raw::wz_test(&mut held.raw, request.rank, &mut request.raw, out.as_mut_ptr(), out.len(), &mut count)
+    };
+    if code == PENDING {
+        return Ok(None);
+    }
+    answer(code)?;
+    Ok(Some(count))
+}
+
+fn phase(held: &mut Held, rank: u8, request: &RawRequest) -> Result<Phase, Refusal> {
+    let mut number = 0;
+    // SAFETY: the engine is open, and this thread has the lock.
+    answer(unsafe { raw::wz_phase(&mut held.raw, rank, request, &mut number) })?;
+    Ok(match number {
+        0 => Phase::Idle,
+        1 => Phase::Pending,
+        _ => Phase::Done,
+    })
+}

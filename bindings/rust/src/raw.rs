@@ -1,0 +1,77 @@
+//! The functions of include/worzsunab.h.
+
+use crate::call::Call;
+
+#[repr(C)]
+#[derive(Clone, Copy, Debug, Default, PartialEq, Eq)]
+pub struct RawRequest {
+    pub slot: u32,
+    pub generation: u32,
+}
+
+#[repr(C)]
+pub struct RawEngine {
+    pub at: *mut u8,
+    pub opened: bool,
+}
+
+#[repr(C)]
+pub struct RawLimits {
+    pub ranks: u32,
+    pub slots: u32,
+    pub places: u32,
+    pub wear: u32,
+    pub starts: u32,
+}
+
+extern "C" {
+    pub fn wz_open(
+        engine: &mut RawEngine,
+        limits: &RawLimits,
+        sizes: *const u8,
+        communicators: usize,
+        members: *const u8,
+        member_count: usize,
+    ) -> i32;
+    pub fn wz_close(engine: &mut RawEngine) -> i32;
+    pub fn wz_post(
+        engine: &mut RawEngine,
+        rank: u8,
+        comm: u32,
+        call: &Call,
+        bytes: *const u8,
+        length: usize,
+        request: &mut RawRequest,
+    ) -> i32;
+    pub fn wz_init(
+        engine: &mut RawEngine,
+        rank: u8,
+        comm: u32,
+        call: &Call,
+        request: &mut RawRequest,
+    ) -> i32;
+    pub fn wz_start(
+        engine: &mut RawEngine,
+        rank: u8,
+        request: &RawRequest,
+        bytes: *const u8,
+        length: usize,
+    ) -> i32;
+    pub fn wz_free(engine: &mut RawEngine, rank: u8, request: &mut RawRequest) -> i32;
+    pub fn wz_test(
+        engine: &mut RawEngine,
+        rank: u8,
+        request: &mut RawRequest,
+        out: *mut u8,
+        room: usize,
+        count: &mut usize,
+    ) -> i32;
+    pub fn wz_phase(
+        engine: &mut RawEngine,
+        rank: u8,
+        request: &RawRequest,
+        phase: &mut u8,
+    ) -> i32;
+    pub fn wz_settle(engine: &mut RawEngine) -> i32;
+    pub fn wz_lent(engine: &mut RawEngine, bytes: &mut u64) -> i32;
+}

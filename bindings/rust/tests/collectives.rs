@@ -1,0 +1,150 @@
+//! Ranks as threads, and each refusal.
+
+use std::thread;
+use worzsunab::{Call, Engine, Limits, Op, Phase, Refusal, Type};
+
+fn by_ranks(engine: &Engine, ranks: u8, body: impl Fn(&Engine, u8) + Sync) {
+    thread::scope(|threads| {
+        for rank in 0..ranks {
+            let body = &body;
+            threads.spawn(move || body(engine, rank));
+        }
+    });
+}
+
+fn number(bytes: [u8; 4]) -> i32 {
+    i32::from_le_bytes(bytes)
+}
+
+const SUM: fn() -> Call = || Call::allreduce(Op::Sum, Type::I32, 1);
+
+#[test]
+fn four_ranks_sum_many_times() {
+    let engine = Engine::of_ranks(4).unwrap();
+    by_ranks(&engine, 4, |engine, rank| {
+        for i in 0..300 {
+            let mut request = engine.post(rank, 0, SUM(), &(i32::from(rank) + i).to_le_bytes()).unwrap();
+            let mut sum = [0; 4];
+            assert_eq!(engine.wait(&mut request, &mut sum), Ok(4));
+            assert_eq!(number(sum), 6 + 4 * i);
+            assert!(request.is_null());
+        }
+    });
+    assert_eq!(engine.lent(), 0);
+}
+
+#[test]
+fn a_persistent_request_is_started_again() {
+    let engine = Engine::of_ranks(3).unwrap();
+    by_ranks(&engine, 3, |engine, rank| {
+        let mut request = engine.init(rank, 0, Call::scan(Op::Max, Type::I32, 1)).unwrap();
+        assert_eq!(engine.phase(&request), Ok(Phase::Idle));
+        for i in 0..100 {
+            engine.start(&request, &(i32::from(rank) * 2 - i).to_le_bytes()).unwrap();
+            let mut most = [0; 4];
+            engine.wait(&mut request, &mut most).unwrap();
+            assert_eq!(number(most), i32::from(rank) * 2 - i);
+        }
+        engine.free(&mut request).unwrap();
+        assert_eq!(engine.start(&request, &[0; 4]), Err(Refusal::Stale));
+    });
+}
+
+#[test]
+fn each_kind_has_its_value() {
+    let engine = Engine::of_ranks(2).unwrap();
+    by_ranks(&engine, 2, |engine, rank| {
+        let value = |call: Call, gives: &[u8]| {
+            let mut request = engine.post(rank, 0, call, gives).unwrap();
+            let mut out = [99; 8];
+            let count = engine.wait(&mut request, &mut out).unwrap();
+            out[..count].to_vec()
+        };
+        let me = [rank + 1];
+        let row = [rank * 2 + 1, rank * 2 + 2];
+        let at = |root: u8, of_root: &[u8]| if rank == root { of_root.to_vec() } else { vec![] };
+        let own = |of_each: [u8; 2]| vec![of_each[usize::from(rank)]];
+        assert_eq!(value(Call::barrier(), &[]), []);
+        assert_eq!(value(Call::bcast(1, Type::Byte, 1), &at(1, &[7])), [7]);
+        assert_eq!(value(Call::gather(0, Type::U8, 1), &me), at(0, &[1, 2]));
+        assert_eq!(value(Call::scatter(1, Type::U8, 1), &at(1, &[5, 6])), own([5, 6]));
+        assert_eq!(value(Call::allgather(Type::U8, 1), &me), [1, 2]);
+        assert_eq!(value(Call::alltoall(Type::U8, 1), &row), if rank == 0 { [1, 3] } else { [2, 4] });
+        assert_eq!(value(Call::reduce(1, Op::Prod, Type::U8, 1), &me), at(1, &[2]));
+        assert_eq!(value(Call::allreduce(Op::Bxor, Type::Byte, 1), &me), [3]);
+        assert_eq!(value(Call::reduce_scatter_block(Op::Sum, Type::U8, 1), &row), own([4, 6]));
+        assert_eq!(value(Call::scan(Op::Sum, Type::U8, 1), &me), own([1, 3]));
+        assert_eq!(value(Call::exscan(Op::Sum, Type::U8, 1), &me), if rank == 0 { vec![] } else { vec![1] });
+    });
+}
+
+#[test]
+fn a_wait_that_nobody_can_end_is_told() {
+    let engine = Engine::of_ranks(3).unwrap();
+    by_ranks(&engine, 3, |engine, rank| {
+        if rank == 2 {
+            engine.leave(rank);
+            return;
+        }
+        let mut request = engine.post(rank, 0, Call::barrier(), &[]).unwrap();
+        assert_eq!(engine.wait(&mut request, &mut []), Err(Refusal::Stalled));
+        assert_eq!(engine.phase(&request), Ok(Phase::Pending));
+    });
+}
+
+#[test]
+fn communicators_number_their_members() {
+    let engine = Engine::open(3, &[&[0, 1, 2], &[2, 0]], Limits::default()).unwrap();
+    let mut second = engine.post(0, 1, Call::bcast(0, Type::U8, 1), &[]).unwrap();
+    assert_eq!(engine.test(&mut second, &mut [0]), Ok(None));
+    let mut first = engine.post(2, 1, Call::bcast(0, Type::U8, 1), &[9]).unwrap();
+    let mut out = [0];
+    assert_eq!(engine.test(&mut second, &mut out), Ok(Some(1)));
+    assert_eq!(engine.wait(&mut first, &mut out), Ok(1));
+    assert_eq!(out, [9]);
+    assert_eq!(engine.post(1, 1, Call::barrier(), &[]), Err(Refusal::NotMember));
+    assert_eq!(engine.post(1, 2, Call::barrier(), &[]), Err(Refusal::BadComm));
+}
+
+#[test]
+fn refusals_change_nothing() {
+    assert_eq!(Engine::of_ranks(0).err(), Some(Refusal::BadConfig));
+    assert_eq!(Engine::of_ranks(65).err(), Some(Refusal::BadConfig));
+    assert_eq!(Engine::open(2, &[&[0, 0]], Limits::default()).err(), Some(Refusal::BadConfig));
+    let few = Limits { slots: 2, places: 2, wear: 9, starts: 1 };
+    let engine = Engine::open(2, &[&[0, 1]], few).unwrap();
+    let four = [1, 0, 0, 0];
+    assert_eq!(engine.post(0, 0, Call::bcast(2, Type::U8, 1), &[]), Err(Refusal::BadSignature));
+    assert_eq!(engine.post(0, 0, SUM(), &[1]), Err(Refusal::BadLength));
+    let mut mine = engine.init(0, 0, SUM()).unwrap();
+    assert_eq!(engine.post(1, 0, SUM(), &four), Err(Refusal::Mismatch));
+    let mut yours = engine.init(1, 0, SUM()).unwrap();
+    assert_eq!(engine.init(1, 0, SUM()), Err(Refusal::Full));
+    assert_eq!(engine.start(&mine, &[1]), Err(Refusal::BadLength));
+    engine.start(&mine, &four).unwrap();
+    assert_eq!(engine.start(&mine, &four), Err(Refusal::Active));
+    assert_eq!(engine.free(&mut mine), Err(Refusal::Active));
+    engine.start(&yours, &four).unwrap();
+    let mut out = [7; 4];
+    assert_eq!(engine.test(&mut mine, &mut out[..3]), Err(Refusal::BadLength));
+    assert_eq!(out, [7; 4]);
+    assert_eq!(engine.test(&mut mine, &mut out), Ok(Some(4)));
+    assert_eq!(number(out), 2);
+    assert_eq!(engine.wait(&mut yours, &mut out), Ok(4));
+    assert_eq!(engine.start(&mine, &four), Err(Refusal::StartsUsed));
+    engine.free(&mut mine).unwrap();
+    engine.free(&mut yours).unwrap();
+    let mut once = engine.post(0, 0, SUM(), &four).unwrap();
+    assert_eq!(engine.start(&once, &four), Err(Refusal::NotPersistent));
+    assert_eq!(engine.free(&mut once), Err(Refusal::NotPersistent));
+    assert_eq!(engine.post(0, 0, SUM(), &four), Err(Refusal::PlacesUsed));
+}
+
+#[test]
+fn sentences_and_numbers() {
+    for refusal in Refusal::ALL {
+        assert!(refusal.to_string().len() > 9);
+    }
+    fn shared<T: Send + Sync>() {}
+    shared::<Engine>();
+}

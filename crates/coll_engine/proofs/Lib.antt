@@ -1,0 +1,7 @@
+pub mod Sets
+pub mod Measuring
+pub mod Outcomes
+pub mod Keeping
+pub mod Seats
+pub mod Refused
+pub mod Advancing

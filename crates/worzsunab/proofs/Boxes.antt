@@ -1,0 +1,34 @@
+-- A box of an engine, and the slots of what it is taken apart into.
+use mir.Syntax.{impl, tnil, dnil}
+use mathlib.Core.List.{[]}
+use Rattle.std.proofs.Common.{◌≡◌, Option, Some, None, true, is_some, refl}
+use Rattle.std.proofs.lemmas.Bool.{false≢true}
+use denote.Signature.{Slot, plain}
+use denote.RawPtr.{RawPtr}
+use Rattle.std_alloc.proofs.BoxSteps.Form.{Bx}
+use Rattle.std_heap.specs.contracts.Global as heap
+use Rattle.std_heap.specs.contracts.GlobalAllocator.TheImpl.{ghosts, dict}
+use Rattle.std_heap.proofs.Global.TheLaws as heap_laws
+use Rattle.coll_engine.specs.contracts.engine.Engine as engine
+use Rattle.coll_engine.proofs.engine.Engine.TheLaws as engine_laws
+use Rattle.worzsunab.specs.contracts.parts.Parts as parts
+use Rattle.worzsunab.specs.contracts.held.Held as held
+
+abbrev pub Boxed : Bx
+Boxed = record { row = engine.the_row; laws = engine_laws.the_row_laws; al = record { row = heap.the_row; laws = heap_laws.the_row_laws; g = ghosts; d = dict; drops = impl [] tnil dnil } }
+
+abbrev pub OfParts : Slot 0
+OfParts = plain (λ _. parts.the_row engine.the_row heap.the_row ghosts)
+
+abbrev pub OfHeld : Slot 0
+OfHeld = plain (λ _. held.the_row)
+
+pub some_of : {X : Type 0} (o : Option X) → is_some o ≡ true → (x : X) × (o ≡ Some x)
+some_of None live = absurd (false≢true live)
+some_of (Some x) live = (x, refl)
+
+abbrev pub OfAlloc : Slot 0
+OfAlloc = plain (λ _. heap.the_row)
+
+abbrev pub OfPointer : Slot 0
+OfPointer = plain (λ _. RawPtr)

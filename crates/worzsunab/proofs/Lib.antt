@@ -1,0 +1,4 @@
+mod Words
+mod Boxes
+mod Coding
+mod Answering

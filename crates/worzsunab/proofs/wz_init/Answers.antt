@@ -1,0 +1,25 @@
+use Rattle.std.proofs.Common.{inr, refl}
+use Rattle.worzsunab.specs.Answers.{done, refused}
+use Rattle.worzsunab.proofs.Answering.{was_open}
+use Rattle.worzsunab.proofs.Coding.{coded}
+use Rattle.worzsunab.proofs.wz_init.Goals as goal
+
+pub returns-in-Ok-clause-answers : goal.returns-in-Ok-clause-answers
+returns-in-Ok-clause-answers c =
+    let p = c.deref_mut.result.now in let r = c.init-answer.new.self in
+    inr (
+      c.in-Some.sig,
+      c.in-Some.ensures,
+      done p r (was_open c.args.handle.now.held.engine c.in-Some-take.engine.value p c.in-Some-take.ensures.found c.deref_mut.ensures.value) c.put.ensures c.in-Ok.ensures.setting
+          (record { request = c.in-Ok.made; makes = c.in-Ok.ensures.made; given_is = c.of.ensures }) refl,
+    )
+
+pub returns-in-Err-clause-answers : goal.returns-in-Err-clause-answers
+returns-in-Err-clause-answers c =
+    let p = c.deref_mut.result.now in let r = c.init-answer.new.self in
+    inr (
+      c.in-Some.sig,
+      c.in-Some.ensures,
+      refused p r c.in-Err.why (was_open c.args.handle.now.held.engine c.in-Some-take.engine.value p c.in-Some-take.ensures.found c.deref_mut.ensures.value) c.put.ensures
+          (record { setting_is = c.in-Err.ensures.setting; seen_is = c.in-Err.ensures.err }) refl c.in-Err.ensures.refused (coded c.in-Err.why c.code.result c.code.ensures),
+    )

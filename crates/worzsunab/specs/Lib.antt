@@ -1,0 +1,3 @@
+pub mod Owning
+pub mod Forms
+pub mod Answers

@@ -1,0 +1,14 @@
+//! What C holds of an engine.
+ghost use Rattle.std.specs.Prelude.{◌≡◌, is_some};
+
+use crate::held::Held;
+
+pub mod moving;
+
+/// An engine that is open, or none. All its bytes are 0 where it is closed.
+#[repr(C)]
+pub struct Handle {
+    pub held: Held,
+    pub opened: bool,
+    ghost agrees: { is_some held.engine ≡ opened },
+}

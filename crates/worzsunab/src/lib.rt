@@ -1,0 +1,337 @@
+//! The engine for C: the functions of include/worzsunab.h. An engine goes to one call at a time, so its callers have a lock.
+//!
+//! | Module | Has |
+//! |---|---|
+//! | `parts` | `Parts`, a box as its pointer |
+//! | `held` | `Held`, the pointer to an engine, and to none |
+//! | `handle` | `Handle`, what C holds of an engine |
+//! | `forms` | calls, requests and configurations as C gives them |
+//! | `codes` | what functions answer |
+//! | `lib` | the functions |
+#![tactic(auto)]
+
+ghost use Rattle.std.specs.Prelude.{◌≡◌, ◌<◌, ◌≤◌, ◌⊎◌, [], None, Some, IfOk, IfSome, IsSome, pos};
+ghost use Rattle.coll_kinds.specs.declared.kind.Mode.TheVariants.{Once, Persistent};
+ghost use Rattle.coll_kinds.specs.declared.signature.Signature.{Signature};
+ghost use Rattle.coll_machine.specs.Lents.{lent_bytes};
+ghost use Rattle.coll_machine.specs.Runs.{Runs};
+ghost use Rattle.coll_core.specs.Configs.{idle};
+ghost use Rattle.coll_core.specs.Cores.{seen, setting};
+ghost use Rattle.coll_core.specs.Steps.{Finishings, ready};
+ghost use Rattle.coll_complete.specs.Completing.{freeing};
+ghost use Rattle.coll_complete.specs.Requests.{free_refusal, phase_at};
+ghost use Rattle.coll_complete.specs.Starting.{StartsAt};
+ghost use Rattle.coll_engine.specs.Calls.{Denies, DeniesStart, InitsTo, PostsTo, init_by, naming_refusal, post_by};
+ghost use Rattle.coll_engine.specs.Lengths.{IsOutcomeLengthAt};
+ghost use Rattle.coll_engine.specs.Progress.{Advances};
+ghost use Rattle.worzsunab.specs.Answers.{Answers, IsPhase, Tests, phase_number};
+ghost use Rattle.worzsunab.specs.Forms.{IsCall, IsMade, named_by, request_of};
+
+mod codes;
+mod forms;
+mod handle;
+mod held;
+mod parts;
+
+use codes::{BAD_NUMBER, CLOSED, DONE, OPEN, PENDING, code};
+use coll_engine::{Engine, Mode, Phase, Refusal, Test};
+use forms::{Call, Limits, Request, groups_of};
+use handle::Handle;
+use std::alloc::Global;
+
+#[unsafe(no_mangle)]
+pub extern "C" fn wz_open(
+    alloc: Global,
+    handle: &mut Handle,
+    limits: &Limits,
+    sizes: &[u8],
+    members: &[u8],
+) -> i32
+    ensures open { IsSome handle.old.held.engine → (result ≡ pos 21) × (handle.new ≡ handle.old) }
+    ensures done { result ≡ pos 0 → IfSome handle.new.held.engine (λ p. seen p ≡ idle) × IsSome handle.new.held.engine }
+    ensures refused { (result ≡ pos 0) ⊎ (handle.new.held.engine ≡ handle.old.held.engine) }
+{
+    if handle.is_open() {
+        return OPEN;
+    }
+    match open_engine(alloc, *limits, sizes, members) {
+        Ok(engine) => {
+            handle.put(engine);
+            DONE
+        }
+        Err(why) => code(why),
+    }
+}
+
+fn open_engine(
+    alloc: Global,
+    limits: Limits,
+    sizes: &[u8],
+    members: &[u8],
+) -> Result<Box<Engine>, Refusal>
+    ensures idle { IfOk result (λ engine. seen engine.value ≡ idle) }
+{
+    let groups = groups_of(alloc, sizes, members)?;
+    let engine = Engine::open(alloc, limits.config(groups))?;
+    Ok(Box::new(alloc, engine)?)
+}
+
+#[unsafe(no_mangle)]
+pub extern "C" fn wz_close(alloc: Global, handle: &mut Handle) -> i32
+    ensures closed { handle.new.held.engine ≡ None }
+{
+    match handle.take(alloc) {
+        Some(engine) => {
+            drop(engine);
+            DONE
+        }
+        None => CLOSED,
+    }
+}
+
+#[unsafe(no_mangle)]
+pub extern "C" fn wz_post(
+    alloc: Global,
+    handle: &mut Handle,
+    rank: u8,
+    comm: u32,
+    call: &Call,
+    bytes: &[u8],
+    request: &mut Request,
+) -> i32
+    ensures answers { (result ≡ pos 19) ⊎ (sig : Signature) × IsCall call.now Once sig × Answers handle.old.held.engine handle.new.held.engine result (request.new ≡ request.old) (λ p. Denies (setting p) (seen p) (post_by (setting p) rank comm sig bytes.now)) (λ p r. IsMade (PostsTo (setting p) (seen p) (post_by (setting p) rank comm sig bytes.now) (seen r)) request.new) }
+    ensures unnamed { result ≡ pos 19 → (handle.new ≡ handle.old) × (request.new ≡ request.old) }
+{
+    let Some(sig) = call.signature(Mode::Once) else {
+        return BAD_NUMBER;
+    };
+    let Some(mut engine) = handle.take(alloc) else {
+        return CLOSED;
+    };
+    let answer = engine.post(rank, comm, sig, bytes);
+    handle.put(engine);
+    match answer {
+        Ok(made) => {
+            *request = Request::of(&made);
+            DONE
+        }
+        Err(why) => code(why),
+    }
+}
+
+#[unsafe(no_mangle)]
+pub extern "C" fn wz_init(
+    alloc: Global,
+    handle: &mut Handle,
+    rank: u8,
+    comm: u32,
+    call: &Call,
+    request: &mut Request,
+) -> i32
+    ensures answers { (result ≡ pos 19) ⊎ (sig : Signature) × IsCall call.now Persistent sig × Answers handle.old.held.engine handle.new.held.engine result (request.new ≡ request.old) (λ p. Denies (setting p) (seen p) (init_by (setting p) rank comm sig)) (λ p r. IsMade (InitsTo (setting p) (seen p) (init_by (setting p) rank comm sig) (seen r)) request.new) }
+    ensures unnamed { result ≡ pos 19 → (handle.new ≡ handle.old) × (request.new ≡ request.old) }
+{
+    let Some(sig) = call.signature(Mode::Persistent) else {
+        return BAD_NUMBER;
+    };
+    let Some(mut engine) = handle.take(alloc) else {
+        return CLOSED;
+    };
+    let answer = engine.init(rank, comm, sig);
+    handle.put(engine);
+    match answer {
+        Ok(made) => {
+            *request = Request::of(&made);
+            DONE
+        }
+        Err(why) => code(why),
+    }
+}
+
+#[unsafe(no_mangle)]
+pub extern "C" fn wz_start(
+    alloc: Global,
+    handle: &mut Handle,
+    rank: u8,
+    request: &Request,
+    bytes: &[u8],
+) -> i32
+    ensures answers { Answers handle.old.held.engine handle.new.held.engine result (Unit {0}) (λ p. DeniesStart (setting p) rank (seen p) (named_by request.now, bytes.now)) (λ p r. StartsAt (setting p) rank (seen p) (named_by request.now, bytes.now) (seen r)) }
+{
+    let Some(mut engine) = handle.take(alloc) else {
+        return CLOSED;
+    };
+    let answer = engine.start(rank, &request.held(), bytes);
+    handle.put(engine);
+    match answer {
+        Ok(()) => DONE,
+        Err(why) => code(why),
+    }
+}
+
+#[unsafe(no_mangle)]
+pub extern "C" fn wz_free(
+    alloc: Global,
+    handle: &mut Handle,
+    rank: u8,
+    request: &mut Request,
+) -> i32
+    ensures answers { Answers handle.old.held.engine handle.new.held.engine result (request.new ≡ request.old) (λ p why. free_refusal (setting p) (seen p).state rank (named_by request.old) ≡ Some why) (λ p r. Runs (setting p) (seen p) (freeing rank (named_by request.old)) (seen r) × (request.new ≡ request_of None)) }
+{
+    let Some(mut engine) = handle.take(alloc) else {
+        return CLOSED;
+    };
+    let mut held = request.held();
+    let answer = engine.free(rank, &mut held);
+    handle.put(engine);
+    match answer {
+        Ok(()) => {
+            *request = Request::of(&held);
+            DONE
+        }
+        Err(why) => code(why),
+    }
+}
+
+#[unsafe(no_mangle)]
+pub extern "C" fn wz_test(
+    alloc: Global,
+    handle: &mut Handle,
+    rank: u8,
+    request: &mut Request,
+    out: &mut [u8],
+    count: &mut usize,
+) -> i32
+    ensures tests { Tests handle.old.held.engine handle.new.held.engine result rank request.old request.new out.old out.new count.old count.new }
+{
+    let Some(mut engine) = handle.take(alloc) else {
+        return CLOSED;
+    };
+    let mut held = request.held();
+    let answer = engine.test(rank, &mut held, out);
+    handle.put(engine);
+    let test = match answer {
+        Ok(test) => test,
+        Err(why) => return code(why),
+    };
+    match test {
+        Test::Completed(bytes) => {
+            *request = Request::of(&held);
+            *count = bytes;
+            DONE
+        }
+        Test::Inactive => {
+            *count = 0;
+            DONE
+        }
+        Test::Pending => PENDING,
+    }
+}
+
+#[unsafe(no_mangle)]
+pub extern "C" fn wz_phase(
+    alloc: Global,
+    handle: &mut Handle,
+    rank: u8,
+    request: &Request,
+    phase: &mut u8,
+) -> i32
+    ensures answers { Answers handle.old.held.engine handle.new.held.engine result (phase.new ≡ phase.old) (λ p why. naming_refusal (setting p) (seen p).state rank (named_by request.now) ≡ Some why) (λ p r. (r ≡ p) × IsPhase (phase_at (seen p) (named_by request.now)) phase.new) }
+{
+    let Some(engine) = handle.take(alloc) else {
+        return CLOSED;
+    };
+    let answer = engine.phase(rank, &request.held());
+    handle.put(engine);
+    match answer {
+        Ok(found) => {
+            *phase = phase_number(found);
+            DONE
+        }
+        Err(why) => code(why),
+    }
+}
+
+fn phase_number(phase: Phase) -> u8
+    ensures { result ≡ phase_number phase }
+{
+    match phase {
+        Phase::Idle => 0,
+        Phase::Pending => 1,
+        Phase::Done => 2,
+    }
+}
+
+#[unsafe(no_mangle)]
+pub extern "C" fn wz_outcome_length(
+    alloc: Global,
+    handle: &mut Handle,
+    rank: u8,
+    request: &Request,
+    bytes: &mut usize,
+) -> i32
+    ensures answers { Answers handle.old.held.engine handle.new.held.engine result (bytes.new ≡ bytes.old) (λ p why. naming_refusal (setting p) (seen p).state rank (named_by request.now) ≡ Some why) (λ p r. (r ≡ p) × IsOutcomeLengthAt (setting p) (seen p).state (named_by request.now) bytes.new) }
+{
+    let Some(engine) = handle.take(alloc) else {
+        return CLOSED;
+    };
+    let answer = engine.outcome_len(rank, &request.held());
+    handle.put(engine);
+    match answer {
+        Ok(len) => {
+            *bytes = len;
+            DONE
+        }
+        Err(why) => code(why),
+    }
+}
+
+#[unsafe(no_mangle)]
+pub extern "C" fn wz_step(alloc: Global, handle: &mut Handle, budget: u32, actions: &mut u32) -> i32
+    ensures closed { handle.old.held.engine ≡ None → (handle.new.held.engine ≡ None) × (result ≡ pos 20) }
+    ensures quiet { (result ≡ pos 17) ⊎ IfSome handle.new.held.engine (λ r. actions.new < budget → ready r ≡ []) }
+    ensures steps { (result ≡ pos 17) ⊎ IfSome handle.old.held.engine (λ p. IfSome handle.new.held.engine (λ r. Advances p r actions.new × (actions.new ≤ budget))) }
+    ensures finishes { IfSome handle.old.held.engine (λ p. IfSome handle.new.held.engine (λ r. (setting r ≡ setting p) × Finishings (setting p) (seen p) (seen r))) }
+{
+    let Some(mut engine) = handle.take(alloc) else {
+        return CLOSED;
+    };
+    let answer = engine.step(budget);
+    handle.put(engine);
+    match answer {
+        Ok(made) => {
+            *actions = made;
+            DONE
+        }
+        Err(why) => code(why),
+    }
+}
+
+#[unsafe(no_mangle)]
+pub extern "C" fn wz_settle(alloc: Global, handle: &mut Handle) -> i32
+    ensures closed { handle.old.held.engine ≡ None → (handle.new.held.engine ≡ None) × (result ≡ pos 20) }
+    ensures quiet { (result ≡ pos 17) ⊎ IfSome handle.new.held.engine (λ r. ready r ≡ []) }
+    ensures settles { IfSome handle.old.held.engine (λ p. IfSome handle.new.held.engine (λ r. (setting r ≡ setting p) × Finishings (setting p) (seen p) (seen r))) }
+{
+    let Some(mut engine) = handle.take(alloc) else {
+        return CLOSED;
+    };
+    let answer = engine.settle();
+    handle.put(engine);
+    match answer {
+        Ok(()) => DONE,
+        Err(why) => code(why),
+    }
+}
+
+#[unsafe(no_mangle)]
+pub extern "C" fn wz_lent(alloc: Global, handle: &mut Handle, bytes: &mut u64) -> i32
+    ensures answers { Answers handle.old.held.engine handle.new.held.engine result (bytes.new ≡ bytes.old) (λ p why. ⊥) (λ p r. (r ≡ p) × (bytes.new ≡ lent_bytes (setting p) (seen p).state)) }
+{
+    let Some(engine) = handle.take(alloc) else {
+        return CLOSED;
+    };
+    *bytes = engine.lent();
+    handle.put(engine);
+    DONE
+}

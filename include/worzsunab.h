@@ -1,0 +1,379 @@
+/* MPI's nonblocking and persistent collectives (MPI 4.1, 6.12 and 6.13) among the threads of one process: C11 and C++.
+
+   An engine serves all ranks of a process. A rank posts a collective, or makes a persistent one and starts it, and is given a
+   request. wz_settle and wz_step make progress, for all ranks. wz_test completes a request into the caller's memory. No
+   function blocks, takes a lock, starts a thread or keeps a pointer that it was given.
+
+   Whoever calls owes this:
+   - an engine goes to one call at a time: threads that share one have a lock (worzsunab_threads.h has one);
+   - a wz_engine is all zeros, or was last written by a function of this library, and is neither copied nor changed between;
+   - pointers are good for as many bytes as are said, and no two of one call overlap. With length 0 a pointer may be NULL;
+   - malloc, realloc and free are of one allocator.
+   All else is told: a wrong number, length, rank, communicator or request, and a closed engine, have codes of their own. */
+#ifndef WORZSUNAB_H
+#define WORZSUNAB_H
+
+#include <stdbool.h>
+#include <stddef.h>
+#include <stdint.h>
+
+#ifdef __cplusplus
+extern "C" {
+#endif
+
+/* ---- collectives */
+
+/* Kinds (wz_call.kind), with the MPI call and the bytes that member r of n gives and gets; a block is count elements. */
+enum {
+    WZ_BARRIER = 0,              /* MPI_Ibarrier               gives 0                       gets 0                       */
+    WZ_BCAST = 1,                /* MPI_Ibcast                 root a block, others 0        a block                      */
+    WZ_GATHER = 2,               /* MPI_Igather                a block                       root n blocks, others 0      */
+    WZ_SCATTER = 3,              /* MPI_Iscatter               root n blocks, others 0       a block                      */
+    WZ_ALLGATHER = 4,            /* MPI_Iallgather             a block                       n blocks                     */
+    WZ_ALLTOALL = 5,             /* MPI_Ialltoall              n blocks                      n blocks                     */
+    WZ_REDUCE = 6,               /* MPI_Ireduce                a block                       root a block, others 0       */
+    WZ_ALLREDUCE = 7,            /* MPI_Iallreduce             a block                       a block                      */
+    WZ_REDUCE_SCATTER_BLOCK = 8, /* MPI_Ireduce_scatter_block  n blocks                      a block                      */
+    WZ_SCAN = 9,                 /* MPI_Iscan                  a block                       a block                      */
+    WZ_EXSCAN = 10               /* MPI_Iexscan                a block                       a block, member 0 gets 0     */
+};
+
+/* Operations (wz_call.op), with their MPI names (MPI 4.1, 6.9.2 and 6.9.4). */
+enum {
+    WZ_MAX = 0,    /* MPI_MAX */
+    WZ_MIN = 1,    /* MPI_MIN */
+    WZ_SUM = 2,    /* MPI_SUM, wrapped to the type's bits */
+    WZ_PROD = 3,   /* MPI_PROD, wrapped to the type's bits */
+    WZ_LAND = 4,   /* MPI_LAND */
+    WZ_LOR = 5,    /* MPI_LOR */
+    WZ_LXOR = 6,   /* MPI_LXOR */
+    WZ_BAND = 7,   /* MPI_BAND */
+    WZ_BOR = 8,    /* MPI_BOR */
+    WZ_BXOR = 9,   /* MPI_BXOR */
+    WZ_LASTNZ = 10,  /* the second element where it isn't 0, else the first: like an operation of a user, not commutative */
+    WZ_MAXLOC = 11, /* MPI_MAXLOC */
+    WZ_MINLOC = 12, /* MPI_MINLOC */
+    WZ_NO_OPERATION = 255 /* of the kinds that have none */
+};
+
+/* Types (wz_call.type), with the MPI type and the bytes of an element. Numbers are little-endian. */
+enum {
+    WZ_INT8 = 0,   /* MPI_INT8_T, 1 */
+    WZ_INT16 = 1,  /* MPI_INT16_T, 2 */
+    WZ_INT32 = 2,  /* MPI_INT32_T, 4 */
+    WZ_INT64 = 3,  /* MPI_INT64_T, 8 */
+    WZ_UINT8 = 4,  /* MPI_UINT8_T, 1 */
+    WZ_UINT16 = 5, /* MPI_UINT16_T, 2 */
+    WZ_UINT32 = 6, /* MPI_UINT32_T, 4 */
+    WZ_UINT64 = 7, /* MPI_UINT64_T, 8 */
+    WZ_BYTE = 8,   /* MPI_BYTE, 1; for the operations on bits alone */
+    WZ_2INT = 9    /* MPI_2INT, 8: a value and its index; for WZ_MAXLOC and WZ_MINLOC alone */
+};
+
+/* What all members of a communicator have to agree on at one place of their posting lists: the numbers above. A kind
+   without a root has root 0, which is a member number; a barrier has count 0. */
+typedef struct wz_call {
+    uint8_t kind;
+    uint8_t op;
+    uint8_t type;
+    uint8_t root;
+    uint32_t count; /* elements of a block: up to 65,536; nobody gives or gets more than 16,777,216 bytes */
+} wz_call;
+
+/* A request (MPI_Request). All zeros is null (MPI_REQUEST_NULL). A copy names the same request. */
+typedef struct wz_request {
+    uint32_t slot;
+    uint32_t generation;
+} wz_request;
+
+/* An engine. All zeros is closed: wz_engine engine = WZ_CLOSED_ENGINE; */
+typedef struct wz_engine {
+    void *at;
+    bool opened;
+} wz_engine;
+
+#define WZ_CLOSED_ENGINE { NULL, false }
+#define WZ_NULL_REQUEST { 0, 0 }
+
+/* What an engine is opened with. */
+typedef struct wz_limits {
+    uint32_t ranks;  /* 1 to 64: the ranks are the numbers below it */
+    uint32_t slots;  /* the most live requests at one time: 1 to 4,096 */
+    uint32_t places; /* the most posts and initialisations of one member on one communicator: 1 to 65,536 */
+    uint32_t wear;   /* how many requests one slot is given to, one after the other: 1 or more */
+    uint32_t starts; /* the most starts of one request: 1 to 1,048,576 */
+} wz_limits;
+
+/* The greatest limits, for so many ranks. */
+static inline wz_limits wz_greatest_limits(uint32_t ranks) {
+    wz_limits limits = { 0, 4096, 65536, 4294967295u, 1048576 };
+    limits.ranks = ranks;
+    return limits;
+}
+
+/* ---- what functions answer */
+
+enum {
+    WZ_DONE = 0,            /* it was done */
+    WZ_PENDING = -1,        /* the request isn't Done: test it again after progress */
+    WZ_BAD_COMM = 1,        /* there is no such communicator */
+    WZ_NOT_MEMBER = 2,      /* the rank isn't in the communicator's group */
+    WZ_BAD_SIGNATURE = 3,   /* root, operation, count or size break a rule */
+    WZ_BAD_LENGTH = 4,      /* another length than the call gives; in wz_test, less room than the outcome takes */
+    WZ_MISMATCH = 5,        /* another member has another collective at that place */
+    WZ_STALE = 6,           /* no live request has that name; a null one where a live one is due */
+    WZ_NOT_YOURS = 7,       /* the request is another rank's */
+    WZ_ACTIVE = 8,          /* a start or a free of an active request */
+    WZ_NOT_PERSISTENT = 9,  /* a start or a free of a request that isn't persistent */
+    WZ_PLACES_USED = 10,    /* the member has used all its places on the communicator */
+    WZ_STARTS_USED = 11,    /* the request has had all its starts */
+    WZ_FULL = 12,           /* no slot is free */
+    WZ_TRACE_FULL = 13,     /* of engines with a trace; no function of this library answers it */
+    WZ_STALLED = 14,        /* likewise */
+    WZ_STILL_ACTIVE = 15,   /* likewise */
+    WZ_TORN = 16,           /* likewise */
+    WZ_NO_MEMORY = 17,      /* malloc gave none */
+    WZ_BAD_CONFIG = 18,     /* a limit or a communicator is out of its range */
+    WZ_BAD_NUMBER = 19,     /* a number that names no kind, operation or type */
+    WZ_CLOSED = 20,         /* the engine is closed */
+    WZ_OPEN = 21            /* the engine is open already */
+};
+
+/* A sentence for an answer. */
+static inline const char *wz_message(int32_t code) {
+    switch (code) {
+    case WZ_DONE: return "done";
+    case WZ_PENDING: return "the request isn't done yet";
+    case WZ_BAD_COMM: return "there is no such communicator";
+    case WZ_NOT_MEMBER: return "the rank isn't in the communicator's group";
+    case WZ_BAD_SIGNATURE: return "the root, operation, count or size breaks a rule";
+    case WZ_BAD_LENGTH: return "the bytes have another length than the call gives, or there is too little room for the outcome";
+    case WZ_MISMATCH: return "another member has another collective at that place";
+    case WZ_STALE: return "the request is null, completed or freed";
+    case WZ_NOT_YOURS: return "the request belongs to another rank";
+    case WZ_ACTIVE: return "the request to start or free is active";
+    case WZ_NOT_PERSISTENT: return "the request to start or free isn't persistent";
+    case WZ_PLACES_USED: return "the member has used all its places on the communicator";
+    case WZ_STARTS_USED: return "the request has had all its starts";
+    case WZ_FULL: return "no request slot is free";
+    case WZ_TRACE_FULL: return "the trace would pass its limit";
+    case WZ_STALLED: return "nothing can go on any more";
+    case WZ_STILL_ACTIVE: return "a rank has an active request at the close";
+    case WZ_TORN: return "the ports and the trace disagree at the close";
+    case WZ_NO_MEMORY: return "memory was refused";
+    case WZ_BAD_CONFIG: return "a limit or a communicator is out of its range";
+    case WZ_BAD_NUMBER: return "a number names no kind, operation or type";
+    case WZ_CLOSED: return "the engine is closed";
+    case WZ_OPEN: return "the engine is open already";
+    default: return "no answer of this library";
+    }
+}
+
+/* The name of an answer: of a refusal as docs/PROMISES.md has it. */
+static inline const char *wz_name(int32_t code) {
+    static const char *const names[] = {
+        "Done", "BadComm", "NotMember", "BadSignature", "BadLength", "Mismatch", "Stale", "NotYours", "Active", "NotPersistent",
+        "PlacesUsed", "StartsUsed", "Full", "TraceFull", "Stalled", "StillActive", "Torn", "NoMemory", "BadConfig", "BadNumber",
+        "Closed", "Open"
+    };
+    if (code == WZ_PENDING) return "Pending";
+    return code >= 0 && code <= WZ_OPEN ? names[code] : "Unknown";
+}
+
+/* The MPI error class that an answer stands for (MPI 4.1, 9.4), by its name. */
+static inline const char *wz_mpi_class(int32_t code) {
+    switch (code) {
+    case WZ_DONE: return "MPI_SUCCESS";
+    case WZ_PENDING: return "MPI_ERR_PENDING";
+    case WZ_BAD_COMM: return "MPI_ERR_COMM";
+    case WZ_NOT_MEMBER: return "MPI_ERR_RANK";
+    case WZ_BAD_LENGTH: return "MPI_ERR_TRUNCATE";
+    case WZ_STALE:
+    case WZ_NOT_YOURS:
+    case WZ_ACTIVE:
+    case WZ_NOT_PERSISTENT: return "MPI_ERR_REQUEST";
+    case WZ_BAD_SIGNATURE:
+    case WZ_MISMATCH:
+    case WZ_BAD_CONFIG:
+    case WZ_BAD_NUMBER:
+    case WZ_CLOSED:
+    case WZ_OPEN: return "MPI_ERR_ARG";
+    case WZ_NO_MEMORY: return "MPI_ERR_NO_MEM";
+    case WZ_PLACES_USED:
+    case WZ_STARTS_USED:
+    case WZ_FULL:
+    case WZ_TRACE_FULL:
+    case WZ_STALLED:
+    case WZ_STILL_ACTIVE:
+    case WZ_TORN: return "MPI_ERR_OTHER";
+    default: return "MPI_ERR_UNKNOWN";
+    }
+}
+
+/* ---- functions. After an answer that isn't WZ_DONE nothing has changed, in the engine, the request or the memory, unless
+        it is said otherwise. The codes of each stand in the order in which they are looked for. */
+
+/* Opens an engine (MPI_Init, as far as it goes). Its communicators lie one after the other: sizes has the number of members of each,
+   members their ranks, in the order of their member numbers; there are 1 to 16, each of one rank or more, none twice.
+   WZ_OPEN, WZ_BAD_CONFIG (a limit, a size or a rank is out of its range, or there are more or fewer members than the sizes tell);
+   WZ_NO_MEMORY may come in place of the latter. */
+int32_t wz_open(wz_engine *engine, const wz_limits *limits, const uint8_t *sizes, size_t communicators,
+                const uint8_t *members, size_t member_count);
+
+/* Gives up an engine with all its requests, also active ones (MPI_Finalize). It is all zeros then.
+   WZ_CLOSED. */
+int32_t wz_close(wz_engine *engine);
+
+/* Starts a collective (MPI_Ibarrier, MPI_Ibcast and so on) for a rank of a communicator, with bytes that it gives, which are
+   copied. The members of a communicator make its posts and initialisations in one order.
+   WZ_BAD_NUMBER, WZ_CLOSED, WZ_BAD_COMM, WZ_NOT_MEMBER, WZ_BAD_SIGNATURE, WZ_MISMATCH, WZ_PLACES_USED, WZ_BAD_LENGTH, WZ_FULL;
+   WZ_NO_MEMORY may come in place of one from WZ_MISMATCH on. */
+int32_t wz_post(wz_engine *engine, uint8_t rank, uint32_t comm, const wz_call *call, const void *bytes, size_t length,
+                wz_request *request);
+
+/* Makes a persistent request, which isn't started yet (MPI_Barrier_init, MPI_Bcast_init and so on). It takes a place as a post
+   does.
+   WZ_BAD_NUMBER, WZ_CLOSED, WZ_BAD_COMM, WZ_NOT_MEMBER, WZ_BAD_SIGNATURE, WZ_MISMATCH, WZ_PLACES_USED, WZ_FULL; WZ_NO_MEMORY
+   may come in place of one from WZ_MISMATCH on. */
+int32_t wz_init(wz_engine *engine, uint8_t rank, uint32_t comm, const wz_call *call, wz_request *request);
+
+/* Starts a persistent request with bytes that the rank gives, which are copied (MPI_Start).
+   WZ_CLOSED, WZ_STALE, WZ_NOT_YOURS, WZ_NOT_PERSISTENT, WZ_ACTIVE, WZ_BAD_LENGTH, WZ_STARTS_USED; WZ_NO_MEMORY may come in place
+   of one from WZ_STALE on. */
+int32_t wz_start(wz_engine *engine, uint8_t rank, const wz_request *request, const void *bytes, size_t length);
+
+/* Gives up a persistent request that isn't active, and makes it null (MPI_Request_free).
+   WZ_CLOSED, WZ_STALE, WZ_NOT_YOURS, WZ_NOT_PERSISTENT, WZ_ACTIVE. */
+int32_t wz_free(wz_engine *engine, uint8_t rank, wz_request *request);
+
+/* Completes a request if it is done (MPI_Test; as MPI_Wait, call it again after progress). WZ_DONE: it was completed,
+   its outcome, *count bytes, stands at the front of out, and a request that isn't persistent is null; or it was null or not
+   active, and *count is 0. WZ_PENDING: nothing has changed. It makes no progress by itself, and takes no memory.
+   WZ_CLOSED, WZ_STALE, WZ_NOT_YOURS, WZ_BAD_LENGTH (room is less than the outcome's bytes; it can still be completed). */
+int32_t wz_test(wz_engine *engine, uint8_t rank, wz_request *request, void *out, size_t room, size_t *count);
+
+/* How far a request is (MPI_Request_get_status): *phase is one of these.
+   WZ_CLOSED, WZ_STALE, WZ_NOT_YOURS. */
+enum { WZ_IDLE = 0, WZ_IS_PENDING = 1, WZ_IS_DONE = 2 };
+int32_t wz_phase(wz_engine *engine, uint8_t rank, const wz_request *request, uint8_t *phase);
+
+/* The bytes of the outcome that a live request will have, or has.
+   WZ_CLOSED, WZ_STALE, WZ_NOT_YOURS. */
+int32_t wz_outcome_length(wz_engine *engine, uint8_t rank, const wz_request *request, size_t *bytes);
+
+/* Makes at most budget actions of any rank's collectives: each copies a message or combines two rows. *actions tells how many;
+   they are fewer only where none is left.
+   WZ_CLOSED; WZ_NO_MEMORY, after which the actions that were made stay made. */
+int32_t wz_step(wz_engine *engine, uint32_t budget, uint32_t *actions);
+
+/* Makes all actions that can be made. Each start to which all members have given is done then at each member.
+   WZ_CLOSED; WZ_NO_MEMORY, after which the actions that were made stay made. */
+int32_t wz_settle(wz_engine *engine);
+
+/* The bytes that active requests lend to the engine, given and got together.
+   WZ_CLOSED. */
+int32_t wz_lent(wz_engine *engine, uint64_t *bytes);
+
+/* ---- lists of requests of one rank, in which none stands twice (MPI 4.1, 3.7.5 and 3.9). outs[i] has room for rooms[i] bytes,
+        and counts[i] is set for each request that is completed. All requests are looked at before anything changes. They are
+        made of the functions above, and compiled as part of the program. */
+
+/* No position: no request of the list is active (MPI_UNDEFINED). */
+#define WZ_UNDEFINED SIZE_MAX
+
+/* What a list has. */
+typedef struct wz_survey_ {
+    size_t first_done;
+    bool active, pending;
+} wz_survey_;
+
+static inline int32_t wz_survey_list_(wz_engine *engine, uint8_t rank, const wz_request *requests, size_t many,
+                                      const size_t *rooms, bool all, wz_survey_ *survey) {
+    survey->first_done = WZ_UNDEFINED;
+    survey->active = survey->pending = false;
+    for (size_t i = 0; i < many; i++) {
+        uint8_t phase = WZ_IDLE;
+        size_t bytes = 0;
+        if (requests[i].generation == 0) continue;
+        int32_t code = wz_phase(engine, rank, &requests[i], &phase);
+        if (code != WZ_DONE) return code;
+        survey->active = survey->active || phase != WZ_IDLE;
+        survey->pending = survey->pending || phase == WZ_IS_PENDING;
+        if (phase != WZ_IS_DONE || (!all && survey->first_done != WZ_UNDEFINED)) continue;
+        code = wz_outcome_length(engine, rank, &requests[i], &bytes);
+        if (code != WZ_DONE) return code;
+        if (bytes > rooms[i]) return WZ_BAD_LENGTH;
+        if (survey->first_done == WZ_UNDEFINED) survey->first_done = i;
+    }
+    return WZ_DONE;
+}
+
+/* Completes the lowest request that is done (MPI_Testany): *index is its position, or WZ_UNDEFINED where none is active.
+   WZ_PENDING where some are active and none is done.
+   WZ_CLOSED, WZ_STALE, WZ_NOT_YOURS, WZ_BAD_LENGTH. */
+static inline int32_t wz_test_any(wz_engine *engine, uint8_t rank, wz_request *requests, size_t many, void *const *outs,
+                                  const size_t *rooms, size_t *counts, size_t *index) {
+    wz_survey_ survey;
+    int32_t code = wz_survey_list_(engine, rank, requests, many, rooms, false, &survey);
+    if (code != WZ_DONE) return code;
+    size_t at = survey.first_done;
+    if (at == WZ_UNDEFINED && survey.active) return WZ_PENDING;
+    *index = at;
+    return at == WZ_UNDEFINED ? WZ_DONE : wz_test(engine, rank, &requests[at], outs[at], rooms[at], &counts[at]);
+}
+
+/* Completes each request that is done, in rising position (MPI_Testsome): *completed tells how many, and done[i] whether that
+   was request i; *completed is WZ_UNDEFINED where none is active.
+   WZ_CLOSED, WZ_STALE, WZ_NOT_YOURS, WZ_BAD_LENGTH. */
+static inline int32_t wz_test_some(wz_engine *engine, uint8_t rank, wz_request *requests, size_t many, void *const *outs,
+                                   const size_t *rooms, size_t *counts, bool *done, size_t *completed) {
+    wz_survey_ survey;
+    int32_t code = wz_survey_list_(engine, rank, requests, many, rooms, true, &survey);
+    if (code != WZ_DONE) return code;
+    size_t found = 0;
+    for (size_t i = 0; i < many; i++) {
+        uint8_t phase = WZ_IDLE;
+        done[i] = false;
+        if (requests[i].generation == 0) continue;
+        code = wz_phase(engine, rank, &requests[i], &phase);
+        if (code == WZ_DONE && phase == WZ_IS_DONE) {
+            code = wz_test(engine, rank, &requests[i], outs[i], rooms[i], &counts[i]);
+            done[i] = code == WZ_DONE;
+            found++;
+        }
+        if (code != WZ_DONE) return code;
+    }
+    *completed = survey.active ? found : WZ_UNDEFINED;
+    return WZ_DONE;
+}
+
+/* Completes all requests if none is pending (MPI_Testall), else WZ_PENDING; counts[i] is 0 for one that wasn't active.
+   WZ_CLOSED, WZ_STALE, WZ_NOT_YOURS, WZ_BAD_LENGTH. */
+static inline int32_t wz_test_all(wz_engine *engine, uint8_t rank, wz_request *requests, size_t many, void *const *outs,
+                                  const size_t *rooms, size_t *counts) {
+    wz_survey_ survey;
+    int32_t code = wz_survey_list_(engine, rank, requests, many, rooms, true, &survey);
+    if (code != WZ_DONE) return code;
+    if (survey.pending) return WZ_PENDING;
+    for (size_t i = 0; i < many && code == WZ_DONE; i++)
+        code = wz_test(engine, rank, &requests[i], outs[i], rooms[i], &counts[i]);
+    return code;
+}
+
+/* Starts requests in rising position (MPI_Startall), with lengths[i] bytes at given[i]. *started tells how many were: those before
+   the first whose start is refused, with that refusal, as wz_start answers it. */
+static inline int32_t wz_start_all(wz_engine *engine, uint8_t rank, const wz_request *requests, size_t many,
+                                   const void *const *given, const size_t *lengths, size_t *started) {
+    for (*started = 0; *started < many; ++*started) {
+        size_t i = *started;
+        int32_t code = wz_start(engine, rank, &requests[i], given[i], lengths[i]);
+        if (code != WZ_DONE) return code;
+    }
+    return WZ_DONE;
+}
+
+#ifdef __cplusplus
+}
+#endif
+
+#endif
