@@ -16,7 +16,7 @@ sizes_fit-broken : (sig : Signature) (n : ℕ) → broken sig n ≡ None → siz
 sizes_fit-broken sig n e =
     let root = passed (root_fits sig n) _ _ e in
     let operation = passed (operation_fits sig) _ _ root.1 in
-    let count = passed (count_fits sig) _ _ operation.1 in
+    let count = passed (count_fits sig n) _ _ operation.1 in
     (passed (sizes_fit sig n n) _ _ count.1).0
 
 size_fits-below : (sig : Signature) (n k r : ℕ) → sizes_fit sig n k ≡ true → r < k → size_fits sig n r ≡ true

@@ -1,10 +1,10 @@
 -- Which rule a signature breaks for n members: the first, in the order root, operation, count, size.
-use Rattle.std.specs.Prelude.{◌≡◌, ◌<◌, ◌≤◌, ℕ, zero, suc, ◌==◌, Bool, true, false, not, ◌&&◌, nat_lt, nat_le, Option, Some, None, is_none, if◌then◌else◌}
+use Rattle.std.specs.Prelude.{◌≡◌, ◌<◌, ◌≤◌, ℕ, zero, suc, ◌==◌, Bool, true, false, not, ◌&&◌, ◌||◌, nat_lt, nat_le, List, length, slice_index, Option, Some, None, is_none, if◌then◌else◌}
 use Rattle.coll_kinds.specs.declared.datatype.Datatype.{Datatype}
 use Rattle.coll_kinds.specs.declared.operation.Op.{Op}
 use Rattle.coll_kinds.specs.declared.operation.Op.TheVariants.{Max, Min, Sum, Prod, Land, Lor, Lxor, Band, Bor, Bxor, LastNz, MaxLoc, MinLoc}
 use Rattle.coll_kinds.specs.declared.kind.Kind.{Kind}
-use Rattle.coll_kinds.specs.declared.kind.Kind.TheVariants.{Barrier, Bcast, Gather, Scatter, Allgather, Alltoall, Reduce, Allreduce, Rsblock, Scan, Exscan}
+use Rattle.coll_kinds.specs.declared.kind.Kind.TheVariants.{Barrier, Bcast, Gather, Scatter, Allgather, Allgatherv, Alltoall, Reduce, Allreduce, Rsblock, Scan, Exscan}
 use Rattle.coll_kinds.specs.declared.signature.Signature.{Signature}
 use Rattle.coll_kinds.specs.declared.refusal.SignatureFault.{SignatureFault}
 use Rattle.coll_kinds.specs.declared.refusal.SignatureFault.TheVariants.{Root, Operation, Count, Size}
@@ -18,6 +18,7 @@ has_root Bcast = true
 has_root Gather = true
 has_root Scatter = true
 has_root Allgather = false
+has_root Allgatherv = false
 has_root Alltoall = false
 has_root Reduce = true
 has_root Allreduce = false
@@ -31,6 +32,7 @@ has_operation Bcast = false
 has_operation Gather = false
 has_operation Scatter = false
 has_operation Allgather = false
+has_operation Allgatherv = false
 has_operation Alltoall = false
 has_operation Reduce = true
 has_operation Allreduce = true
@@ -44,12 +46,28 @@ is_barrier Bcast = false
 is_barrier Gather = false
 is_barrier Scatter = false
 is_barrier Allgather = false
+is_barrier Allgatherv = false
 is_barrier Alltoall = false
 is_barrier Reduce = false
 is_barrier Allreduce = false
 is_barrier Rsblock = false
 is_barrier Scan = false
 is_barrier Exscan = false
+
+-- each member's elements are counted
+abbrev pub has_counts : Kind → Bool
+has_counts Barrier = false
+has_counts Bcast = false
+has_counts Gather = false
+has_counts Scatter = false
+has_counts Allgather = false
+has_counts Allgatherv = true
+has_counts Alltoall = false
+has_counts Reduce = false
+has_counts Allreduce = false
+has_counts Rsblock = false
+has_counts Scan = false
+has_counts Exscan = false
 
 -- the operation may be used on the type (MPI 4.1, 6.9.2 and 6.9.4): pairs take the two that look for a place, all others
 -- those on bits, and integers all but these two
@@ -80,9 +98,23 @@ root_fits sig n = if has_root sig.kind then nat_lt sig.root n else sig.root == 0
 abbrev pub operation_fits : Signature → Bool
 operation_fits sig = if has_operation sig.kind then reduces sig.op sig.ty else is_none sig.op
 
--- a barrier has no elements
-abbrev pub count_fits : Signature → Bool
-count_fits sig = if is_barrier sig.kind then sig.count == 0 else nat_le sig.count max_count
+-- a barrier has no elements, and where each member's are counted there is no count of all
+abbrev pub one_count_fits : Signature → Bool
+one_count_fits sig = if is_barrier sig.kind || has_counts sig.kind then sig.count == 0 else nat_le sig.count max_count
+
+-- the counts below k: each of the n members has one, and behind them stands 0
+abbrev pub counts_below_fit : List ℕ → ℕ → ℕ → Bool
+counts_below_fit counts n zero = true
+counts_below_fit counts n (suc i) =
+    counts_below_fit counts n i
+    && (if nat_lt i n then nat_le (slice_index counts i) max_count else slice_index counts i == 0)
+
+abbrev pub counts_fit : Option (List ℕ) → Kind → ℕ → Bool
+counts_fit None kind n = not (has_counts kind)
+counts_fit (Some counts) kind n = has_counts kind && counts_below_fit counts n (length counts)
+
+abbrev pub count_fits : Signature → ℕ → Bool
+count_fits sig n = one_count_fits sig && counts_fit sig.each sig.kind n
 
 -- what member r of n gives and gets is at most 16 MiB each
 abbrev pub size_fits : Signature → ℕ → ℕ → Bool
@@ -98,7 +130,7 @@ abbrev pub broken : Signature → ℕ → Option SignatureFault
 broken sig n =
     if root_fits sig n then
     (if operation_fits sig then
-    (if count_fits sig then (if sizes_fit sig n n then None else Some Size) else Some Count)
+    (if count_fits sig n then (if sizes_fit sig n n then None else Some Size) else Some Count)
     else Some Operation)
     else Some Root
 

@@ -6,6 +6,7 @@ pub mod Texts
 pub mod Groups
 pub mod Lengths
 pub mod Needs
+pub mod Calls
 pub mod Checks
 pub mod Refusals
 -- worked rows

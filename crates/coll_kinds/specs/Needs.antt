@@ -1,7 +1,7 @@
 -- Whose contribution a member's outcome rests on: a set of members (MPI 4.1, 6.12).
 use Rattle.std.specs.Prelude.{ℕ, ◌==◌, Bool, true, ◌&&◌, ◌||◌, nat_lt, nat_le}
 use Rattle.coll_kinds.specs.declared.kind.Kind.{Kind}
-use Rattle.coll_kinds.specs.declared.kind.Kind.TheVariants.{Barrier, Bcast, Gather, Scatter, Allgather, Alltoall, Reduce, Allreduce, Rsblock, Scan, Exscan}
+use Rattle.coll_kinds.specs.declared.kind.Kind.TheVariants.{Barrier, Bcast, Gather, Scatter, Allgather, Allgatherv, Alltoall, Reduce, Allreduce, Rsblock, Scan, Exscan}
 use Rattle.coll_kinds.specs.declared.signature.Signature.{Signature}
 
 -- r's outcome rests on what p gives
@@ -11,6 +11,7 @@ needs_of Bcast root r p = p == root
 needs_of Gather root r p = (r == root) || (p == r)
 needs_of Scatter root r p = p == root
 needs_of Allgather root r p = true
+needs_of Allgatherv root r p = true
 needs_of Alltoall root r p = true
 needs_of Reduce root r p = (r == root) || (p == r)
 needs_of Allreduce root r p = true

@@ -1,8 +1,13 @@
 -- Worked rows, computed.
-use Rattle.std.specs.Prelude.{◌≡◌, [], ◌∷◌, Some, None, pos, negsuc, refl, codes}
-use Rattle.coll_kinds.specs.declared.datatype.Datatype.TheVariants.{I8, I32, Pair}
+use Rattle.std.specs.Prelude.{◌≡◌, [], ◌∷◌, ◌++◌, replicate, Some, None, pos, negsuc, refl, codes}
+use Rattle.coll_kinds.specs.declared.datatype.Datatype.TheVariants.{I8, I16, I32, U64, Pair}
+use Rattle.coll_kinds.specs.declared.signature.Signature.{Signature}
+use Rattle.coll_kinds.specs.declared.refusal.SignatureFault.TheVariants.{Count, Size}
 use Rattle.coll_kinds.specs.Elements.{whole, pair, element_bytes, element_at}
 use Rattle.coll_kinds.specs.Texts.{value_of}
+use Rattle.coll_kinds.specs.Lengths.{given_len, got_len, lent}
+use Rattle.coll_kinds.specs.Calls.{counted_call}
+use Rattle.coll_kinds.specs.Checks.{broken}
 
 bytes_of_six : element_bytes I32 (whole (pos 6)) ≡ 6 ∷ 0 ∷ 0 ∷ 0 ∷ []
 bytes_of_six = refl
@@ -53,3 +58,36 @@ index_too_great = refl
 
 three_numbers : value_of Pair (codes "7,2,1") ≡ None
 three_numbers = refl
+
+-- three members, of whom the second gives nothing
+abbrev of_three : Signature
+of_three = counted_call I16 (2 ∷ 0 ∷ 1 ∷ replicate 61 0)
+
+first_gives : given_len of_three 3 0 ≡ 4
+first_gives = refl
+
+second_gives : given_len of_three 3 1 ≡ 0
+second_gives = refl
+
+each_gets : got_len of_three 3 1 ≡ 6
+each_gets = refl
+
+third_lends : lent of_three 3 2 ≡ 8
+third_lends = refl
+
+three_fit : broken of_three 3 ≡ None
+three_fit = refl
+
+-- behind the second member nothing may be counted
+two_have_three_counts : broken of_three 2 ≡ Some Count
+two_have_three_counts = refl
+
+count_too_great : broken (counted_call I8 (65537 ∷ replicate 63 0)) 1 ≡ Some Count
+count_too_great = refl
+
+-- 16 MiB from 32 members
+thirty_two_fit : broken (counted_call U64 (replicate 32 65536 ++ replicate 32 0)) 32 ≡ None
+thirty_two_fit = refl
+
+thirty_three_are_too_many : broken (counted_call U64 (replicate 33 65536 ++ replicate 31 0)) 33 ≡ Some Size
+thirty_three_are_too_many = refl

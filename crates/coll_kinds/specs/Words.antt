@@ -7,7 +7,7 @@ use Rattle.coll_kinds.specs.declared.datatype.Datatype.TheVariants.{I8, I16, I32
 use Rattle.coll_kinds.specs.declared.operation.Op.{Op}
 use Rattle.coll_kinds.specs.declared.operation.Op.TheVariants.{Max, Min, Sum, Prod, Land, Lor, Lxor, Band, Bor, Bxor, LastNz, MaxLoc, MinLoc}
 use Rattle.coll_kinds.specs.declared.kind.Kind.{Kind}
-use Rattle.coll_kinds.specs.declared.kind.Kind.TheVariants.{Barrier, Bcast, Gather, Scatter, Allgather, Alltoall, Reduce, Allreduce, Rsblock, Scan, Exscan}
+use Rattle.coll_kinds.specs.declared.kind.Kind.TheVariants.{Barrier, Bcast, Gather, Scatter, Allgather, Allgatherv, Alltoall, Reduce, Allreduce, Rsblock, Scan, Exscan}
 
 abbrev pub kind_word : Kind → List ℕ
 kind_word Barrier = codes "barrier"
@@ -15,6 +15,7 @@ kind_word Bcast = codes "bcast"
 kind_word Gather = codes "gather"
 kind_word Scatter = codes "scatter"
 kind_word Allgather = codes "allgather"
+kind_word Allgatherv = codes "allgatherv"
 kind_word Alltoall = codes "alltoall"
 kind_word Reduce = codes "reduce"
 kind_word Allreduce = codes "allreduce"
@@ -50,7 +51,7 @@ datatype_word Byte = codes "byte"
 datatype_word Pair = codes "2int"
 
 abbrev pub kinds : List Kind
-kinds = Barrier ∷ Bcast ∷ Gather ∷ Scatter ∷ Allgather ∷ Alltoall ∷ Reduce ∷ Allreduce ∷ Rsblock ∷ Scan ∷ Exscan ∷ []
+kinds = Barrier ∷ Bcast ∷ Gather ∷ Scatter ∷ Allgather ∷ Allgatherv ∷ Alltoall ∷ Reduce ∷ Allreduce ∷ Rsblock ∷ Scan ∷ Exscan ∷ []
 
 abbrev pub operations : List Op
 operations = Max ∷ Min ∷ Sum ∷ Prod ∷ Land ∷ Lor ∷ Lxor ∷ Band ∷ Bor ∷ Bxor ∷ LastNz ∷ MaxLoc ∷ MinLoc ∷ []

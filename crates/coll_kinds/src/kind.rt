@@ -15,6 +15,9 @@ pub enum Kind {
     Scatter,
     /// `MPI_Iallgather`: every member gets every member's block (MPI 4.1, 6.12.5).
     Allgather,
+    /// `MPI_Iallgatherv`: every member gets every member's row, in member order; a row is as long as its member's count
+    /// says (MPI 4.1, 6.12.5).
+    Allgatherv,
     /// `MPI_Ialltoall`: member r gets block r of each member's n (MPI 4.1, 6.12.6).
     Alltoall,
     /// `MPI_Ireduce`: the root gets the combination of all blocks (MPI 4.1, 6.12.7).
@@ -32,16 +35,17 @@ pub enum Kind {
 }
 
 impl Kind {
-    ghost use Rattle.coll_kinds.specs.Checks.{has_root, has_operation};
+    ghost use Rattle.coll_kinds.specs.Checks.{has_root, has_operation, has_counts};
     ghost use Rattle.coll_kinds.specs.Words.{kind_of, kind_word};
 
     /// All kinds, in the order of their table.
-    pub const ALL: [Kind; 11] = [
+    pub const ALL: [Kind; 12] = [
         Kind::Barrier,
         Kind::Bcast,
         Kind::Gather,
         Kind::Scatter,
         Kind::Allgather,
+        Kind::Allgatherv,
         Kind::Alltoall,
         Kind::Reduce,
         Kind::Allreduce,
@@ -70,6 +74,13 @@ impl Kind {
         )
     }
 
+    /// Whether each member's elements are counted.
+    pub fn has_counts(self) -> bool
+        ensures { result ≡ has_counts self }
+    {
+        matches!(self, Kind::Allgatherv)
+    }
+
     /// Its word in a job text and in messages.
     pub fn word(self) -> &'static str
         ensures { result.now ≡ kind_word self }
@@ -80,6 +91,7 @@ impl Kind {
             Kind::Gather => "gather",
             Kind::Scatter => "scatter",
             Kind::Allgather => "allgather",
+            Kind::Allgatherv => "allgatherv",
             Kind::Alltoall => "alltoall",
             Kind::Reduce => "reduce",
             Kind::Allreduce => "allreduce",

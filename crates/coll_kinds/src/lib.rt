@@ -8,6 +8,7 @@
 //! | `operation` | `Op`, the reduction operations |
 //! | `kind` | `Kind`, the collectives, and `Mode`, once or persistent |
 //! | `signature` | `Signature`, with its check, lengths and needs |
+//! | `calls` | the signature of each of MPI's calls |
 //! | `same_signature` | whether two signatures are the same |
 //! | `laws` | what holds of every signature |
 //! | `limits` | the greatest numbers that the engine takes |
@@ -17,6 +18,7 @@
 //! | `number`, `element` | the decimal text of a number and of an element |
 #![tactic(auto)]
 
+mod calls;
 mod datatype;
 mod element;
 mod group;

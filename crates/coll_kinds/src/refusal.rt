@@ -1,6 +1,9 @@
 ghost use Rattle.std.specs.Prelude.{◌≡◌};
 ghost use Rattle.coll_kinds.specs.declared.refusal.Refusal.TheVariants.{NoMemory};
 
+use crate::datatype::Datatype;
+use crate::kind::{Kind, Mode};
+use crate::operation::Op;
 use crate::signature::Signature;
 use std::alloc::{AllocError, AllocFailed};
 use thiserror::Error;
@@ -77,8 +80,13 @@ pub enum Refusal {
         place: u32,
         /// The world rank of the lowest member that has that place.
         first: u8,
-        /// That member's signature.
-        sig: Signature,
+        /// That member's signature, but for the counts of an allgatherv, so that a refusal stays small.
+        kind: Kind,
+        mode: Mode,
+        root: u8,
+        op: Option<Op>,
+        ty: Datatype,
+        count: u32,
     },
     /// The ticket names no live request.
     #[error("Stale")]
@@ -126,7 +134,23 @@ pub enum Refusal {
 }
 
 impl Refusal {
-    ghost use Rattle.coll_kinds.specs.Refusals.{number_of};
+    ghost use Rattle.coll_kinds.specs.Refusals.{number_of, mismatch_at};
+
+    /// The refusal where the member of world rank `first` has the signature at the place.
+    pub fn mismatch_at(place: u32, first: u8, sig: &Signature) -> Refusal
+        ensures { result ≡ mismatch_at place first sig.now }
+    {
+        Refusal::Mismatch {
+            place,
+            first,
+            kind: sig.kind,
+            mode: sig.mode,
+            root: sig.root,
+            op: sig.op,
+            ty: sig.ty,
+            count: sig.count,
+        }
+    }
 
     /// The refusal's number, from 1 to 18, as the program prints it before the name.
     pub fn number(self) -> u8
