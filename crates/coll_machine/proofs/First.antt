@@ -5,7 +5,7 @@ use Rattle.std.specs.Option.{option_or}
 use Rattle.std.proofs.lemmas.Option.{none-some}
 use Rattle.std.proofs.lemmas.Bool.{cases_eq}
 use Rattle.coll_kinds.specs.declared.signature.Signature.{Signature}
-use Rattle.coll_kinds.specs.declared.refusal.Refusal.TheVariants.{Mismatch}
+use Rattle.coll_kinds.specs.Refusals.{mismatch_at}
 use Rattle.coll_kinds.specs.Sameness.{same_signature}
 use Rattle.coll_kinds.proofs.Sameness.{same_signature-Decides}
 use Rattle.coll_machine.specs.Settings.{Setting, size, rank_of}
@@ -39,5 +39,5 @@ pub agrees_with : (g : Setting) (s : State) (comm place b : ℕ) (sig y : Signat
 agrees_with g s comm place b sig y e lt has =
     let t = there_is (s.posts comm) place 0 (size g comm) b y (omega arith) (omega arith) has in
     let low : t.member < 0 + size g comm = t.low in
-    let same = fits (same_signature t.sig sig) (Mismatch place (rank_of g comm t.member) t.sig) (ap (λ (o : Option (ℕ × Signature)). option_and_then (λ first. unless (same_signature first.1 sig) (Mismatch place (rank_of g comm first.0) first.1)) o) (sym t.is) ∙ e) in
+    let same = fits (same_signature t.sig sig) (mismatch_at place (rank_of g comm t.member) t.sig) (ap (λ (o : Option (ℕ × Signature)). option_and_then (λ first. unless (same_signature first.1 sig) (mismatch_at place (rank_of g comm first.0) first.1)) o) (sym t.is) ∙ e) in
     (t.member, omega arith, t.has ∙ ap Some ((same_signature-Decides t.sig sig).0 same))

@@ -6,8 +6,9 @@ use Rattle.coll_kinds.specs.declared.kind.Mode.{Mode}
 use Rattle.coll_kinds.specs.declared.kind.Mode.TheVariants.{Once, Persistent}
 use Rattle.coll_kinds.specs.declared.signature.Signature.{Signature}
 use Rattle.coll_kinds.specs.declared.refusal.Refusal.{Refusal}
-use Rattle.coll_kinds.specs.declared.refusal.Refusal.TheVariants.{BadComm, NotMember, BadSignature, BadLength, Mismatch, Stale, NotYours, Active, NotPersistent, PlacesUsed, StartsUsed, Full}
+use Rattle.coll_kinds.specs.declared.refusal.Refusal.TheVariants.{BadComm, NotMember, BadSignature, BadLength, Stale, NotYours, Active, NotPersistent, PlacesUsed, StartsUsed, Full}
 use Rattle.coll_kinds.specs.declared.refusal.SignatureFault.TheVariants.{Mode as WrongMode, Group as WrongGroup}
+use Rattle.coll_kinds.specs.Refusals.{mismatch_at}
 use Rattle.coll_kinds.specs.Checks.{broken}
 use Rattle.coll_kinds.specs.Groups.{member_of}
 use Rattle.coll_kinds.specs.Lengths.{given_len}
@@ -33,7 +34,7 @@ first_there lists place from (suc n) =
 -- the lowest member that has the place has another signature there
 abbrev pub mismatch : Setting → State → ℕ → ℕ → Signature → Option Refusal
 mismatch g s comm place sig =
-    option_and_then (λ first. unless (same_signature first.1 sig) (Mismatch place (rank_of g comm first.0) first.1))
+    option_and_then (λ first. unless (same_signature first.1 sig) (mismatch_at place (rank_of g comm first.0) first.1))
     (first_there (s.posts comm) place 0 (size g comm))
 
 abbrev pub wrong_length : Signature → ℕ → ℕ → List ℕ → Option Refusal

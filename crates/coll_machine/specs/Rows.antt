@@ -6,7 +6,8 @@ use Rattle.coll_kinds.specs.declared.kind.Kind.TheVariants.{Barrier, Bcast, Allg
 use Rattle.coll_kinds.specs.declared.kind.Mode.TheVariants.{Once, Persistent}
 use Rattle.coll_kinds.specs.declared.signature.Signature.{Signature}
 use Rattle.coll_kinds.specs.declared.ticket.Ticket.{Ticket}
-use Rattle.coll_kinds.specs.declared.refusal.Refusal.TheVariants.{BadComm, NotMember, BadSignature, BadLength, Mismatch, Stale, NotYours, Active, NotPersistent, PlacesUsed, StartsUsed, Full}
+use Rattle.coll_kinds.specs.Refusals.{mismatch_at}
+use Rattle.coll_kinds.specs.declared.refusal.Refusal.TheVariants.{BadComm, NotMember, BadSignature, BadLength, Stale, NotYours, Active, NotPersistent, PlacesUsed, StartsUsed, Full}
 use Rattle.coll_kinds.specs.declared.refusal.SignatureFault.TheVariants.{Root, Mode as WrongMode, Group as WrongGroup}
 use Rattle.coll_ops.specs.Values.{value}
 use Rattle.coll_machine.specs.Settings.{Setting}
@@ -39,7 +40,7 @@ plan sig member = record { sig = sig; n = 2; member = member }
 -- ---- a bcast from rank 0, which rank 1 posts when rank 0 has already completed it
 
 abbrev pub bcast : Signature
-bcast = record { kind = Bcast; mode = Once; root = 0; op = None; ty = I32; count = 1 }
+bcast = record { kind = Bcast; mode = Once; root = 0; op = None; ty = I32; count = 1; each = None }
 
 abbrev pub request_of : ℕ → Request
 request_of rank = new_request rank 0 rank 0 Once
@@ -82,9 +83,9 @@ another_ranks_ticket = refl
 
 -- an allreduce where rank 0 has posted a bcast, whatever its bytes
 abbrev pub sum_once : Signature
-sum_once = record { kind = Allreduce; mode = Once; root = 0; op = Some Sum; ty = I32; count = 1 }
+sum_once = record { kind = Allreduce; mode = Once; root = 0; op = Some Sum; ty = I32; count = 1; each = None }
 
-mismatch_names_the_first : refusal two_ranks posted (Post 1 0 (plan sum_once 1) []) ≡ Some (Mismatch 0 0 bcast)
+mismatch_names_the_first : refusal two_ranks posted (Post 1 0 (plan sum_once 1) []) ≡ Some (mismatch_at 0 0 bcast)
 mismatch_names_the_first = refl
 
 -- of three members the lowest two have world ranks 2 and 3; the second and the third have posted the bcast
@@ -96,7 +97,7 @@ two_have_posted = record nothing { posts = λ comm member. if member == 0 then [
 
 mismatch_names_a_world_rank :
     refusal three_ranks two_have_posted (Post 2 0 (record { sig = sum_once; n = 3; member = 0 }) (i32 1))
-    ≡ Some (Mismatch 0 3 bcast)
+    ≡ Some (mismatch_at 0 3 bcast)
 mismatch_names_a_world_rank = refl
 
 no_such_communicator : refusal two_ranks posted (Post 5 1 (plan bcast 1) []) ≡ Some (BadComm 1)
@@ -137,7 +138,7 @@ no_slot_is_left = refl
 -- ---- a persistent allgather: rank 0 starts it twice while rank 1 still holds start 0
 
 abbrev pub gather : Signature
-gather = record { kind = Allgather; mode = Persistent; root = 0; op = None; ty = U8; count = 1 }
+gather = record { kind = Allgather; mode = Persistent; root = 0; op = None; ty = U8; count = 1; each = None }
 
 -- rank r's request, Idle after so many starts
 abbrev pub idle : ℕ → ℕ → Request
@@ -254,7 +255,7 @@ RowsAreLegal = LegalTrace two_ranks late_bcast left_late × LegalTrace two_ranks
 -- ---- a barrier that rank 0 alone has posted
 
 abbrev pub barrier : Signature
-barrier = record { kind = Barrier; mode = Once; root = 0; op = None; ty = Byte; count = 0 }
+barrier = record { kind = Barrier; mode = Once; root = 0; op = None; ty = Byte; count = 0; each = None }
 
 abbrev pub waiting : State
 waiting = started (created nothing (ticket 0 1) (request_of 0) barrier) 0 (request_of 0) []

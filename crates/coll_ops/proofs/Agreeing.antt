@@ -7,7 +7,7 @@ use Rattle.coll_kinds.specs.declared.operation.Op.{Op}
 use Rattle.coll_kinds.specs.declared.operation.Op.TheVariants.{Sum}
 use Rattle.coll_kinds.specs.Lengths.{block_len}
 use Rattle.std.specs.Bool.{IsTrue}
-use Rattle.coll_kinds.specs.declared.kind.Kind.TheVariants.{Barrier, Bcast, Gather, Scatter, Allgather, Alltoall, Reduce, Allreduce, Rsblock, Scan, Exscan}
+use Rattle.coll_kinds.specs.declared.kind.Kind.TheVariants.{Barrier, Bcast, Gather, Scatter, Allgather, Allgatherv, Alltoall, Reduce, Allreduce, Rsblock, Scan, Exscan}
 use Rattle.coll_kinds.specs.declared.kind.Kind.{Kind}
 use Rattle.coll_kinds.specs.Checks.{has_root}
 use Rattle.coll_kinds.specs.Needs.{needs_of}
@@ -54,6 +54,8 @@ value_by-agree Gather op ty b root n r given others rooted member given_len othe
 value_by-agree Scatter op ty b root n r given others rooted member given_len others_len same =
     ap (block b r) (same root (and_from _ _ (lt-ltb root n (rooted refl)) (search rules)))
 value_by-agree Allgather op ty b root n r given others rooted member given_len others_len same =
+    ap all_rows (same_rows given others (given_len ∙ sym others_len) (λ i within. same i (and_from _ _ (lt-ltb i n (omega arith)) refl)))
+value_by-agree Allgatherv op ty b root n r given others rooted member given_len others_len same =
     ap all_rows (same_rows given others (given_len ∙ sym others_len) (λ i within. same i (and_from _ _ (lt-ltb i n (omega arith)) refl)))
 value_by-agree Alltoall op ty b root n r given others rooted member given_len others_len same =
     ap (flat_map (block b r)) (same_rows given others (given_len ∙ sym others_len) (λ i within. same i (and_from _ _ (lt-ltb i n (omega arith)) refl)))

@@ -6,7 +6,7 @@ use Rattle.std.specs.List.{flat_map}
 use Rattle.coll_kinds.specs.declared.kind.Kind.{Kind}
 use Rattle.coll_kinds.specs.declared.operation.Op.TheVariants.{Sum}
 use Rattle.coll_kinds.specs.declared.signature.Signature.{Signature}
-use Rattle.coll_kinds.specs.Lengths.{block_len, given_by}
+use Rattle.coll_kinds.specs.Lengths.{block_len, row_len, given_by}
 use Rattle.coll_ops.specs.Contributions.{rows_of, AreGiven}
 use Rattle.coll_ops.specs.Values.{part, row_of, all_rows, value, value_by}
 use Rattle.std.proofs.lemmas.Bool.{false≢true, ltb-true}
@@ -25,8 +25,8 @@ pub value-kind : (sig : Signature) (kind : Kind) (rows : List (List ℕ)) (r : �
 value-kind sig kind rows r is = ap (λ k. value_by k (unwrap_or sig.op Sum) sig.ty (block_len sig) sig.root rows r) is
 
 -- a row's length by the kind
-pub length-given : (sig : Signature) (kind : Kind) (n : ℕ) (rows : List (List ℕ)) → sig.kind ≡ kind → AreGiven sig n rows → (i : ℕ) → i < n → length (row_of rows i) ≡ given_by kind sig.root n i (block_len sig)
-length-given sig kind n rows is given i within = given.long i within ∙ ap (λ k. given_by k sig.root n i (block_len sig)) is
+pub length-given : (sig : Signature) (kind : Kind) (n : ℕ) (rows : List (List ℕ)) → sig.kind ≡ kind → AreGiven sig n rows → (i : ℕ) → i < n → length (row_of rows i) ≡ given_by kind sig.root n i (block_len sig) (row_len sig)
+length-given sig kind n rows is given i within = given.long i within ∙ ap (λ k. given_by k sig.root n i (block_len sig) (row_len sig)) is
 
 -- the code's row, by the definition's
 pub length-item : (rows : List (Vec ℕ Global)) (i : ℕ) (v : Vec ℕ Global) → i < length rows → v ≡ get_or rows i v → length v.items ≡ length (row_of (rows_of rows) i)
@@ -79,7 +79,7 @@ root-member sig n fits rooted =
 -- the root's row, as the code reads it
 pub root-row : (sig : Signature) (kind : Kind) (n : ℕ) (given : List (Vec ℕ Global)) (root : ℕ) (v : Vec ℕ Global) → sig.kind ≡ kind → has_root kind ≡ true →
     broken sig n ≡ None → AreGiven sig n (rows_of given) → root ≡ sig.root → v ≡ get_or given root v →
-    (length v.items ≡ given_by kind sig.root n sig.root (block_len sig)) × (v.items ≡ row_of (rows_of given) sig.root)
+    (length v.items ≡ given_by kind sig.root n sig.root (block_len sig) (row_len sig)) × (v.items ≡ row_of (rows_of given) sig.root)
 root-row sig kind n given root v is rooted fits rows root_is v_is =
     let member : sig.root < n = root-member sig n fits (ap has_root is ∙ rooted) in
     let within : root < length given = omega (arith, rows.each, length-rows_of given) in

@@ -37,18 +37,18 @@ part-fits rows at len i v have within is =
 pub length-part : (at len : ℕ) (row : List ℕ) → at + len ≤ length row → length (part at len row) ≡ len
 length-part at len row within = simp (length-take, length-drop) (omega arith)
 
--- one more part behind those of the rows before
-flat_map-parts_suc : (rows : List (Vec ℕ Global)) (at len i : ℕ) (v : Vec ℕ Global) → i < length rows → v ≡ get_or rows i v →
-    flat_map (part at len) (take (suc i) (rows_of rows)) ≡ flat_map (part at len) (take i (rows_of rows)) ++ part at len v.items
-flat_map-parts_suc [] at len i v within is = absurd (omega arith)
-flat_map-parts_suc (row ∷ rows) at len zero v within is = append-nil (part at len row.items) ∙ ap (λ w. part at len w.items) (sym is)
-flat_map-parts_suc (row ∷ rows) at len (suc i) v within is =
-    ap (λ rest. part at len row.items ++ rest) (flat_map-parts_suc rows at len i v (omega arith) is)
-    ∙ sym (append_assoc (part at len row.items) (flat_map (part at len) (take i (rows_of rows))) (part at len v.items))
+-- what is taken of one more row behind that of the rows before
+pub flat_map-rows_suc : (f : List ℕ → List ℕ) (rows : List (Vec ℕ Global)) (i : ℕ) (v : Vec ℕ Global) → i < length rows → v ≡ get_or rows i v →
+    flat_map f (take (suc i) (rows_of rows)) ≡ flat_map f (take i (rows_of rows)) ++ f v.items
+flat_map-rows_suc f [] i v within is = absurd (omega arith)
+flat_map-rows_suc f (row ∷ rows) zero v within is = append-nil (f row.items) ∙ ap (λ w. f w.items) (sym is)
+flat_map-rows_suc f (row ∷ rows) (suc i) v within is =
+    ap (λ rest. f row.items ++ rest) (flat_map-rows_suc f rows i v (omega arith) is)
+    ∙ sym (append_assoc (f row.items) (flat_map f (take i (rows_of rows))) (f v.items))
 
-pub flat_map-parts_more : (rows : List (Vec ℕ Global)) (at len i : ℕ) (v : Vec ℕ Global) → i < length rows → v ≡ get_or rows i v →
-    flat_map (part at len) (take (i + 1) (rows_of rows)) ≡ flat_map (part at len) (take i (rows_of rows)) ++ part at len v.items
-flat_map-parts_more rows at len i v within is = rw add-one (flat_map-parts_suc rows at len i v within is)
+pub flat_map-rows_more : (f : List ℕ → List ℕ) (rows : List (Vec ℕ Global)) (i : ℕ) (v : Vec ℕ Global) → i < length rows → v ≡ get_or rows i v →
+    flat_map f (take (i + 1) (rows_of rows)) ≡ flat_map f (take i (rows_of rows)) ++ f v.items
+flat_map-rows_more f rows i v within is = rw add-one (flat_map-rows_suc f rows i v within is)
 
 combination-drop_suc : (op : Op) (ty : Datatype) (rows : List (List ℕ)) (i : ℕ) → suc i < length rows →
     combination op ty (drop i rows) ≡ combined op ty (row_of rows i) (combination op ty (drop (suc i) rows))

@@ -10,16 +10,16 @@ use Rattle.coll_kinds.specs.Elements.{whole, pair, element_bytes}
 use Rattle.coll_ops.specs.Values.{value}
 
 abbrev allreduce_sum_i32 : Signature
-allreduce_sum_i32 = record { kind = Allreduce; mode = Once; root = 0; op = Some Sum; ty = I32; count = 1 }
+allreduce_sum_i32 = record { kind = Allreduce; mode = Once; root = 0; op = Some Sum; ty = I32; count = 1; each = None }
 
 abbrev allreduce_land_i32 : Signature
-allreduce_land_i32 = record { kind = Allreduce; mode = Once; root = 0; op = Some Land; ty = I32; count = 1 }
+allreduce_land_i32 = record { kind = Allreduce; mode = Once; root = 0; op = Some Land; ty = I32; count = 1; each = None }
 
 abbrev allreduce_sum_i8 : Signature
-allreduce_sum_i8 = record { kind = Allreduce; mode = Once; root = 0; op = Some Sum; ty = I8; count = 1 }
+allreduce_sum_i8 = record { kind = Allreduce; mode = Once; root = 0; op = Some Sum; ty = I8; count = 1; each = None }
 
 abbrev bcast_i32 : Signature
-bcast_i32 = record { kind = Bcast; mode = Once; root = 1; op = None; ty = I32; count = 1 }
+bcast_i32 = record { kind = Bcast; mode = Once; root = 1; op = None; ty = I32; count = 1; each = None }
 
 abbrev row : ℤ → List ℕ
 row z = element_bytes I32 (whole z)
@@ -46,13 +46,13 @@ bcast_of_seven : value bcast_i32 ([] ∷ row (pos 7) ∷ []) 0 ≡ row (pos 7)
 bcast_of_seven = refl
 
 abbrev reduce_lastnz_i32 : Signature
-reduce_lastnz_i32 = record { kind = Reduce; mode = Once; root = 2; op = Some LastNz; ty = I32; count = 1 }
+reduce_lastnz_i32 = record { kind = Reduce; mode = Once; root = 2; op = Some LastNz; ty = I32; count = 1; each = None }
 
 abbrev alltoall_u8 : Signature
-alltoall_u8 = record { kind = Alltoall; mode = Once; root = 0; op = None; ty = U8; count = 1 }
+alltoall_u8 = record { kind = Alltoall; mode = Once; root = 0; op = None; ty = U8; count = 1; each = None }
 
 abbrev allreduce_lxor_i8 : Signature
-allreduce_lxor_i8 = record { kind = Allreduce; mode = Once; root = 0; op = Some Lxor; ty = I8; count = 1 }
+allreduce_lxor_i8 = record { kind = Allreduce; mode = Once; root = 0; op = Some Lxor; ty = I8; count = 1; each = None }
 
 -- the last that isn't 0, in member order; the reverse order would give 3
 lastnz_in_order : value reduce_lastnz_i32 (row (pos 3) ∷ row (pos 0) ∷ row (pos 5) ∷ []) 2 ≡ row (pos 5)
@@ -66,10 +66,10 @@ lxor_of_three : value allreduce_lxor_i8 ((5 ∷ []) ∷ (5 ∷ []) ∷ (5 ∷ []
 lxor_of_three = refl
 
 abbrev scan_lastnz_i8 : Signature
-scan_lastnz_i8 = record { kind = Scan; mode = Once; root = 0; op = Some LastNz; ty = I8; count = 1 }
+scan_lastnz_i8 = record { kind = Scan; mode = Once; root = 0; op = Some LastNz; ty = I8; count = 1; each = None }
 
 abbrev exscan_lastnz_i8 : Signature
-exscan_lastnz_i8 = record { kind = Exscan; mode = Once; root = 0; op = Some LastNz; ty = I8; count = 1 }
+exscan_lastnz_i8 = record { kind = Exscan; mode = Once; root = 0; op = Some LastNz; ty = I8; count = 1; each = None }
 
 -- a scan combines up to the member's own row, an exscan up to the one before, and the first gets nothing
 scan_of_three : value scan_lastnz_i8 ((3 ∷ []) ∷ (0 ∷ []) ∷ (5 ∷ []) ∷ []) 2 ≡ 5 ∷ []
@@ -82,10 +82,10 @@ exscan_of_the_first : value exscan_lastnz_i8 ((3 ∷ []) ∷ (0 ∷ []) ∷ (5 �
 exscan_of_the_first = refl
 
 abbrev allreduce_maxloc : Signature
-allreduce_maxloc = record { kind = Allreduce; mode = Once; root = 0; op = Some MaxLoc; ty = Pair; count = 1 }
+allreduce_maxloc = record { kind = Allreduce; mode = Once; root = 0; op = Some MaxLoc; ty = Pair; count = 1; each = None }
 
 abbrev allreduce_minloc : Signature
-allreduce_minloc = record { kind = Allreduce; mode = Once; root = 0; op = Some MinLoc; ty = Pair; count = 1 }
+allreduce_minloc = record { kind = Allreduce; mode = Once; root = 0; op = Some MinLoc; ty = Pair; count = 1; each = None }
 
 abbrev located_row : ℤ → ℤ → List ℕ
 located_row z at = element_bytes Pair (pair z at)

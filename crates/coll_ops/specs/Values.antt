@@ -6,7 +6,7 @@ use Rattle.coll_kinds.specs.declared.datatype.Datatype.{Datatype}
 use Rattle.coll_kinds.specs.declared.operation.Op.{Op}
 use Rattle.coll_kinds.specs.declared.operation.Op.TheVariants.{Sum}
 use Rattle.coll_kinds.specs.declared.kind.Kind.{Kind}
-use Rattle.coll_kinds.specs.declared.kind.Kind.TheVariants.{Barrier, Bcast, Gather, Scatter, Allgather, Alltoall, Reduce, Allreduce, Rsblock, Scan, Exscan}
+use Rattle.coll_kinds.specs.declared.kind.Kind.TheVariants.{Barrier, Bcast, Gather, Scatter, Allgather, Allgatherv, Alltoall, Reduce, Allreduce, Rsblock, Scan, Exscan}
 use Rattle.coll_kinds.specs.declared.signature.Signature.{Signature}
 use Rattle.coll_kinds.specs.Lengths.{block_len}
 use Rattle.coll_ops.specs.Combinations.{combination}
@@ -34,6 +34,7 @@ value_by Bcast op ty b root given r = row_of given root
 value_by Gather op ty b root given r = if r == root then all_rows given else []
 value_by Scatter op ty b root given r = block b r (row_of given root)
 value_by Allgather op ty b root given r = all_rows given
+value_by Allgatherv op ty b root given r = all_rows given
 value_by Alltoall op ty b root given r = flat_map (block b r) given
 value_by Reduce op ty b root given r = if r == root then combination op ty given else []
 value_by Allreduce op ty b root given r = combination op ty given

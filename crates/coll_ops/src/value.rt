@@ -4,7 +4,7 @@ ghost use Rattle.coll_kinds.specs.Checks.{broken, reduces};
 ghost use Rattle.coll_kinds.specs.Lengths.{block_len};
 ghost use Rattle.coll_ops.specs.Combinations.{combination};
 ghost use Rattle.coll_ops.specs.Contributions.{rows_of, AreGiven, HaveParts};
-ghost use Rattle.coll_ops.specs.Values.{part, value};
+ghost use Rattle.coll_ops.specs.Values.{part, all_rows, value};
 
 use crate::rows::combine;
 use coll_kinds::{Datatype, Kind, Op, Refusal, Signature};
@@ -42,6 +42,7 @@ pub fn plain_value(
         }
         Kind::Scatter => Ok(Vec::from_slice(alloc, part(&given[root], own, block))?),
         Kind::Allgather => joined(alloc, given, 0, block),
+        Kind::Allgatherv => whole(alloc, given),
         Kind::Alltoall => joined(alloc, given, own, block),
         Kind::Reduce => {
             if r == sig.root {
@@ -99,6 +100,18 @@ fn joined(alloc: Global, rows: &[Vec<u8>], at: usize, len: usize) -> Result<Vec<
     let mut bytes = Vec::new(alloc);
     for row in rows {
         bytes.extend_from_slice(part(row, at, len))?;
+    }
+    Ok(bytes)
+}
+
+/// The rows, one after the other.
+fn whole(alloc: Global, rows: &[Vec<u8>]) -> Result<Vec<u8>, Refusal>
+    ensures ok { IfOk result (λ bytes. bytes.items ≡ all_rows (rows_of rows.now)) }
+    ensures refusal { IsOkUnless result Refusal.NoMemory }
+{
+    let mut bytes = Vec::new(alloc);
+    for row in rows {
+        bytes.extend_from_slice(row)?;
     }
     Ok(bytes)
 }

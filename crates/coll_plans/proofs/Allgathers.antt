@@ -6,7 +6,7 @@ use Rattle.std.specs.List.{AllByRecursion}
 use Rattle.coll_kinds.specs.declared.signature.Signature.{Signature}
 use Rattle.coll_kinds.specs.declared.kind.Kind.TheVariants.{Allgather}
 use Rattle.coll_kinds.specs.declared.operation.Op.TheVariants.{Sum}
-use Rattle.coll_kinds.specs.Lengths.{block_len, given_by, got_by}
+use Rattle.coll_kinds.specs.Lengths.{block_len, row_len, given_by, got_by}
 use Rattle.coll_kinds.specs.Needs.{needs_of}
 use Rattle.coll_ops.specs.Values.{row_of, all_rows, value_by}
 use Rattle.coll_sched.specs.declared.region.Region.{Region}
@@ -97,7 +97,7 @@ allgather_serves sig n kind top = record {
   serves = record {
     lawful = allgather_lawful n (block_len sig) top;
     takes_given = λ r h. takes r;
-    gives_got = λ r h. sym (ap (λ k. got_by k sig.root n r (block_len sig)) kind);
+    gives_got = λ r h. sym (ap (λ k. got_by k sig.root n r (block_len sig) (row_len sig)) kind);
     has_value = λ given are bytes r h. allgather_value n (block_len sig) top given are.each (λ q l. are.long q l ∙ sym (takes q)) r h ∙ sym (ap (λ k. value_by k (unwrap_or sig.op Sum) sig.ty (block_len sig) sig.root given r) kind);
     hears = λ r p h need. allgather_hears n (block_len sig) top r p h (ltb-true p n (and_parts (ltb p n) (needs_of sig.kind sig.root r p) need).0);
   };
@@ -105,8 +105,8 @@ allgather_serves sig n kind top = record {
   few = few_exchanges n (n * block_len sig + n * block_len sig) (λ r. front (block_len sig)) (λ r. blocks_at (block_len sig) n n) (bruck_rounds (block_len sig) n 0 (depth n)) (depth n) (bruck_costs (block_len sig) n 0 (depth n));
 }
   where
-    takes : (r : ℕ) → block_len sig ≡ given_by sig.kind sig.root n r (block_len sig)
-    takes r = sym (ap (λ k. given_by k sig.root n r (block_len sig)) kind)
+    takes : (r : ℕ) → block_len sig ≡ given_by sig.kind sig.root n r (block_len sig) (row_len sig)
+    takes r = sym (ap (λ k. given_by k sig.root n r (block_len sig) (row_len sig)) kind)
 
 -- the parts that the builder makes are the family's
 pub allgather_parts : (sig : Signature) (n r len half : ℕ) (input output : Region) (rounds : List (List Action)) → len ≡ block_len sig → half ≡ n * len → input ≡ front len → output ≡ blocks_at len n n → rounds ≡ rounds_of (bruck_rounds len n 0 (depth n)) r → ◌≡◌ {A = Parts} (record { size = half + half; input = input; output = output; rounds = rounds }) (allgather_family sig n r)

@@ -7,7 +7,7 @@ use Rattle.coll_kinds.specs.declared.kind.Kind.TheVariants.{Allreduce}
 use Rattle.coll_kinds.specs.declared.operation.Op.{Op}
 use Rattle.coll_kinds.specs.declared.operation.Op.TheVariants.{Sum}
 use Rattle.coll_kinds.specs.Elements.{AreBytes}
-use Rattle.coll_kinds.specs.Lengths.{block_len, given_by, given_len, got_by}
+use Rattle.coll_kinds.specs.Lengths.{block_len, row_len, given_by, given_len, got_by}
 use Rattle.coll_kinds.specs.Needs.{needs_of, needs}
 use Rattle.coll_kinds.specs.Checks.{allowed, has_operation, broken}
 use Rattle.coll_ops.specs.Values.{row_of, value_by, value}
@@ -61,7 +61,7 @@ module _ (sig : Signature) (n : ℕ) (kind : sig.kind ≡ Allreduce) (pos : 0 < 
       ∙ omega (arith, length-append {A = Column} (trading op sig.ty b (extra n) 0 d) (tell b (extra n) ∷ []), length-trading op sig.ty b (extra n) 0 d)
 
   takes : (r : ℕ) → b ≡ given_len sig n r
-  takes r = sym (ap (λ k. given_by k sig.root n r b) kind)
+  takes r = sym (ap (λ k. given_by k sig.root n r b (row_len sig)) kind)
 
   module _ (given : List (List ℕ)) (are : AreGiven sig n given) (bytes : (r : ℕ) → r < n → AreBytes (row_of given r)) where
     laid : GivenFits n (allreduce_family sig n) (row_of given)
@@ -99,7 +99,7 @@ module _ (sig : Signature) (n : ℕ) (kind : sig.kind ≡ Allreduce) (pos : 0 < 
     serves = record {
       lawful = allreduce_lawful;
       takes_given = λ r h. takes r;
-      gives_got = λ r h. sym (ap (λ k. got_by k sig.root n r b) kind);
+      gives_got = λ r h. sym (ap (λ k. got_by k sig.root n r b (row_len sig)) kind);
       has_value = allreduce_value;
       hears = allreduce_hears;
     };

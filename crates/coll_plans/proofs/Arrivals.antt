@@ -8,7 +8,7 @@ use Rattle.coll_sched.proofs.Rounds.{GivenFits}
 use Rattle.coll_sched.proofs.Builders.{read_split, input_held}
 use Rattle.coll_plans.specs.declared.blocks.Blocks.{Blocks}
 use Rattle.coll_plans.specs.declared.pattern.Pattern.{Pattern}
-use Rattle.coll_plans.specs.Exchanges.{place, carries, exchange as exchange_of}
+use Rattle.coll_plans.specs.Exchanges.{place, carries, alike, exchange as exchange_of}
 use Rattle.coll_plans.specs.Directs.{blocks_from, all_blocks}
 use Rattle.coll_plans.proofs.Exchanges.{arrives, hears}
 
@@ -40,13 +40,13 @@ module _ (n : ℕ) (pattern : Pattern) (from into : Blocks) (f : Family) (lawful
   -- what member r gets of q is its part of what q gave
   pub got_part : (given : ℕ → List ℕ) → GivenFits n f given → (r q : ℕ) → r < n → q < n → carries pattern q r ≡ true → (f q).input.at ≡ from.at → r * from.step + from.len ≤ (f q).input.len → read_of (lock_step f given 1 r) (place into q) ≡ part (r * from.step) from.len (given q)
   got_part given laid r q hr hq h at within =
-      arrives n pattern from into f lawful acts given laid r q hr hq h
+      arrives n pattern (alike from) (alike into) f lawful acts given laid r q hr hq h
       ∙ (ap (λ a. read_of (lock_step f given 0 q) (record { at = a + r * from.step; len = from.len })) (sym at)
       ∙ given_part n f lawful given laid q (r * from.step) from.len hq within)
 
   -- and r has heard of q, also after further rounds
   pub heard_of : (j r q : ℕ) → q < n → carries pattern q r ≡ true → Heard f (suc j) r q
-  heard_of zero r q hq h = hears n pattern from into f lawful acts r q hq h
+  heard_of zero r q hq h = hears n pattern (alike from) (alike into) f lawful acts r q hq h
   heard_of (suc j) r q hq h = inl (heard_of j r q hq h)
 
 -- where all have bytes for r, it gets the parts of all, joined

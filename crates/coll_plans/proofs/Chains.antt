@@ -4,7 +4,7 @@ use Rattle.std.proofs.lemmas.Bool.{cond-true, cond_both, and_parts}
 use Rattle.coll_kinds.specs.declared.signature.Signature.{Signature}
 use Rattle.coll_kinds.specs.declared.kind.Kind.TheVariants.{Bcast}
 use Rattle.coll_kinds.specs.declared.operation.Op.TheVariants.{Sum}
-use Rattle.coll_kinds.specs.Lengths.{block_len, given_by, given_len, got_by}
+use Rattle.coll_kinds.specs.Lengths.{block_len, row_len, given_by, given_len, got_by}
 use Rattle.coll_kinds.specs.Needs.{needs_of, needs}
 use Rattle.coll_kinds.specs.Checks.{has_root, broken}
 use Rattle.coll_ops.specs.Values.{row_of, value_by, value}
@@ -59,7 +59,7 @@ module _ (sig : Signature) (n : ℕ) (kind : sig.kind ≡ Bcast) (low : sig.root
   number_in r h = number_low n sig.root r (from_root n sig.root r) h (from_root_is n sig.root r low)
 
   takes : (r : ℕ) → (input r).len ≡ given_len sig n r
-  takes r = elim (eqb r sig.root) as (λ t. (cond t (front b) nothing).len ≡ cond t b 0) [ true ↦ refl | false ↦ refl ] ∙ sym (ap (λ k. given_by k sig.root n r b) kind)
+  takes r = elim (eqb r sig.root) as (λ t. (cond t (front b) nothing).len ≡ cond t b 0) [ true ↦ refl | false ↦ refl ] ∙ sym (ap (λ k. given_by k sig.root n r b (row_len sig)) kind)
 
   module _ (given : List (List ℕ)) (are : AreGiven sig n given) where
     laid : GivenFits n (chain_family sig n) (row_of given)
@@ -104,7 +104,7 @@ module _ (sig : Signature) (n : ℕ) (kind : sig.kind ≡ Bcast) (low : sig.root
     serves = record {
       lawful = chain_lawful;
       takes_given = λ r h. takes r;
-      gives_got = λ r h. sym (ap (λ k. got_by k sig.root n r b) kind);
+      gives_got = λ r h. sym (ap (λ k. got_by k sig.root n r b (row_len sig)) kind);
       has_value = λ given are bytes r h. chain_value given are r h;
       hears = chain_hears;
     };

@@ -1,16 +1,17 @@
 -- How many actions a member of each family has
-use Rattle.std.proofs.Common.{◌≡◌, ℕ, zero, suc, ◌+◌, ◌-◌, ◌*◌, ◌%◌, ◌^◌, ◌≤◌, ◌&&◌, cond, eqb, leb, ltb, Bool, true, false, None, [], ◌∷◌, ◌++◌, length, unwrap_or, arith, eqb-true, leb-true, length-append, mul-le-mul}
-use Rattle.std.proofs.lemmas.Bool.{cond_both}
+use Rattle.std.proofs.Common.{◌≡◌, ℕ, zero, suc, ◌+◌, ◌-◌, ◌*◌, ◌%◌, ◌^◌, ◌≤◌, ◌&&◌, ◌||◌, cond, eqb, leb, ltb, Bool, true, false, None, [], ◌∷◌, ◌++◌, length, unwrap_or, arith, eqb-true, leb-true, length-append, mul-le-mul}
+use Rattle.std.proofs.lemmas.Bool.{and_parts, cond_both}
 use Rattle.coll_kinds.specs.declared.kind.Kind.{Kind}
-use Rattle.coll_kinds.specs.declared.kind.Kind.TheVariants.{Barrier, Bcast, Gather, Scatter, Allgather, Alltoall, Reduce, Allreduce, Rsblock, Scan, Exscan}
+use Rattle.coll_kinds.specs.declared.kind.Kind.TheVariants.{Barrier, Bcast, Gather, Scatter, Allgather, Allgatherv, Alltoall, Reduce, Allreduce, Rsblock, Scan, Exscan}
 use Rattle.coll_kinds.specs.declared.operation.Op.{Op}
 use Rattle.coll_kinds.specs.declared.operation.Op.TheVariants.{Sum}
 use Rattle.coll_kinds.specs.declared.datatype.Datatype.{Datatype}
 use Rattle.coll_kinds.specs.declared.datatype.Datatype.TheVariants.{I8, I16, I32, I64, U8, U16, U32, U64, Byte, Pair}
 use Rattle.coll_kinds.specs.Elements.{width}
-use Rattle.coll_kinds.specs.Checks.{broken, is_barrier}
+use Rattle.coll_kinds.specs.Checks.{broken, counts_fit, has_counts, is_barrier, one_count_fits}
 use Rattle.coll_kinds.specs.declared.signature.Signature.{Signature}
-use Rattle.coll_kinds.specs.Lengths.{block_len}
+use Rattle.coll_kinds.specs.Lengths.{block_len, row_len}
+use Rattle.coll_sched.specs.declared.region.Region.{Region}
 use Rattle.coll_sched.specs.declared.action.Action.{Action}
 use Rattle.coll_sched.specs.Points.{remaining}
 use Rattle.coll_trees.specs.Columns.{Column}
@@ -28,8 +29,8 @@ use Rattle.coll_plans.specs.declared.pattern.Pattern.TheVariants.{ToAll, ToRoot,
 use Rattle.coll_plans.specs.Barriers.{meetings}
 use Rattle.coll_plans.specs.Scans.{doubling, join, join_both, receipt, shift}
 use Rattle.coll_plans.specs.Bruck.{bruck_rounds}
-use Rattle.coll_plans.specs.Exchanges.{carries, chosen, exchange, keeps, recvs, sends}
-use Rattle.coll_plans.specs.Directs.{blocks_from, combines_below, one_block}
+use Rattle.coll_plans.specs.Exchanges.{alike, carries, chosen, exchange_by, keeps, recvs, sends}
+use Rattle.coll_plans.specs.Directs.{blocks_from, combines_below, one_block, own_row, row_at}
 use Rattle.coll_plans.specs.Corners.{corner, dimension, extra, mate, pairing}
 use Rattle.coll_plans.specs.Trades.{exchanging, give, gives, joins_by, pair_up, pairs, tell, tells, trade, trade_joins, trades, trading}
 use Rattle.coll_plans.specs.Relays.{chain_family, is_long, is_passing, receipt_of, relay_count, relay_of, relaying, segment_count}
@@ -73,12 +74,12 @@ chosen-few pick act k (suc c) =
     let rest : length (chosen pick act (suc k) c) ≤ c = chosen-few pick act (suc k) c in
     cond-few (pick k) _ (chosen pick act (suc k) c) (suc c) (omega arith) (omega arith)
 
-exchange-few : (pattern : Pattern) (from into : Blocks) (n r : ℕ) → length (exchange pattern from into n r) ≤ n + n + 1
+exchange-few : (pattern : Pattern) (from into : ℕ → ℕ → Region) (n r : ℕ) → length (exchange_by pattern from into n r) ≤ n + n + 1
 exchange-few pattern from into n r =
-    let out : length (sends pattern from r 0 n) ≤ n = chosen-few _ _ 0 n in
-    let own : length (keeps pattern from into r) ≤ 1 = cond-few (carries pattern r r) _ [] 1 (omega arith) (omega arith) in
-    let back : length (recvs pattern into r 0 n) ≤ n = chosen-few _ _ 0 n in
-    omega (arith, length-append (sends pattern from r 0 n) (keeps pattern from into r ++ recvs pattern into r 0 n), length-append (keeps pattern from into r) (recvs pattern into r 0 n))
+    let out : length (sends pattern (from r) r 0 n) ≤ n = chosen-few _ _ 0 n in
+    let own : length (keeps pattern (from r) (into r) r) ≤ 1 = cond-few (carries pattern r r) _ [] 1 (omega arith) (omega arith) in
+    let back : length (recvs pattern (into r) r 0 n) ≤ n = chosen-few _ _ 0 n in
+    omega (arith, length-append (sends pattern (from r) r 0 n) (keeps pattern (from r) (into r) r ++ recvs pattern (into r) r 0 n), length-append (keeps pattern (from r) (into r) r) (recvs pattern (into r) r 0 n))
 
 combines_below-few : (op : Op) (ty : Datatype) (blocks : Blocks) (k r : ℕ) → all_in (combines_below op ty blocks k) r ≤ k
 combines_below-few op ty blocks zero r = omega arith
@@ -158,12 +159,12 @@ width-most U64 = omega arith
 width-most Byte = omega arith
 width-most Pair = omega arith
 
-count_is-most : (barrier : Bool) (count : ℕ) → cond barrier (eqb count 0) (leb count 65536) ≡ true → count ≤ 65536
+count_is-most : (none : Bool) (count : ℕ) → cond none (eqb count 0) (leb count 65536) ≡ true → count ≤ 65536
 count_is-most true count h = let e : count ≡ 0 = eqb-true count 0 h in omega arith
 count_is-most false count h = leb-true count 65536 h
 
 block_len-most : (sig : Signature) (n : ℕ) → broken sig n ≡ None → block_len sig ≤ 524288
-block_len-most sig n h = mul-le-mul (count_is-most (is_barrier sig.kind) sig.count (checked sig n h).count_is) (width-most sig.ty)
+block_len-most sig n h = mul-le-mul (count_is-most (is_barrier sig.kind || has_counts sig.kind) sig.count (and_parts (one_count_fits sig) (counts_fit sig.each sig.kind n) (checked sig n h).count_is).0) (width-most sig.ty)
 
 -- the actions of each kind's schedules
 pub short_by : (k : Kind) (sig : Signature) (n : ℕ) → broken sig n ≡ None → n ≤ 64 → depth n ≤ 6 → (r : ℕ) → remaining (family_by k sig n r) 0 0 ≤ most_actions
@@ -172,10 +173,11 @@ short_by Bcast sig n h few d r =
     cond_both (is_long n (block_len sig)) (chain_family sig n) (bcast_family sig n) (λ f. remaining (f r) 0 0 ≤ most_actions)
     (λ e. let short : block_len sig ≤ 524288 = block_len-most sig n h in omega (arith, relaying-few (block_len sig) n sig.root 0 (relay_count n (block_len sig)) r))
     (λ e. omega (arith, spreading-few (block_len sig) n sig.root 0 (depth n) r))
-short_by Gather sig n h few d r = omega (arith, exchange-few (ToRoot sig.root) (one_block (block_len sig)) (blocks_from (block_len sig) (block_len sig)) n r)
-short_by Scatter sig n h few d r = omega (arith, exchange-few (FromRoot sig.root) (blocks_from (block_len sig) (block_len sig)) (one_block (block_len sig)) n r)
+short_by Gather sig n h few d r = omega (arith, exchange-few (ToRoot sig.root) (alike (one_block (block_len sig))) (alike (blocks_from (block_len sig) (block_len sig))) n r)
+short_by Scatter sig n h few d r = omega (arith, exchange-few (FromRoot sig.root) (alike (blocks_from (block_len sig) (block_len sig))) (alike (one_block (block_len sig))) n r)
 short_by Allgather sig n h few d r = omega (arith, bruck_rounds-few (block_len sig) n 0 (depth n) r)
-short_by Alltoall sig n h few d r = omega (arith, exchange-few ToAll (blocks_from 0 (block_len sig)) (blocks_from (n * block_len sig) (block_len sig)) n r)
+short_by Allgatherv sig n h few d r = omega (arith, exchange-few ToAll (λ q p. own_row (row_len sig) n q) (λ q p. row_at (row_len sig) p) n r)
+short_by Alltoall sig n h few d r = omega (arith, exchange-few ToAll (alike (blocks_from 0 (block_len sig))) (alike (blocks_from (n * block_len sig) (block_len sig))) n r)
 short_by Reduce sig n h few d r =
     omega (
       arith,
@@ -189,7 +191,7 @@ short_by Allreduce sig n h few d r =
 short_by Rsblock sig n h few d r =
     omega (
       arith,
-      exchange-few ToAll (blocks_from 0 (block_len sig)) (blocks_from (n * block_len sig) (block_len sig)) n r,
+      exchange-few ToAll (alike (blocks_from 0 (block_len sig))) (alike (blocks_from (n * block_len sig) (block_len sig))) n r,
       combines_below-few (unwrap_or sig.op Sum) sig.ty (blocks_from (n * block_len sig) (block_len sig)) (n - 1) r,
     )
 short_by Scan sig n h few d r = omega (arith, doubling-few (block_len sig) n (join (unwrap_or sig.op Sum) sig.ty (block_len sig)) (join-few (unwrap_or sig.op Sum) sig.ty (block_len sig)) 0 (depth n) r)

@@ -8,7 +8,7 @@ use Rattle.coll_kinds.specs.declared.operation.Op.{Op}
 use Rattle.coll_kinds.specs.declared.operation.Op.TheVariants.{Sum}
 use Rattle.coll_kinds.specs.declared.datatype.Datatype.{Datatype}
 use Rattle.coll_kinds.specs.Elements.{width, AreBytes}
-use Rattle.coll_kinds.specs.Lengths.{block_len, given_by, given_len, got_by, got_len}
+use Rattle.coll_kinds.specs.Lengths.{block_len, row_len, given_by, given_len, got_by, got_len}
 use Rattle.coll_kinds.specs.Needs.{needs_of, needs}
 use Rattle.coll_kinds.specs.Checks.{allowed, has_operation, broken}
 use Rattle.coll_ops.specs.Combinations.{combined, combination}
@@ -139,10 +139,10 @@ module _ (sig : Signature) (n : ℕ) (kind : sig.kind ≡ Exscan) (top : n ≤ 6
   also_joined i r low near = subst (λ xs. Has xs (Combine op sig.ty (behind b) (front b) (front b))) (sym (joined i r low near)) (inr (inl refl))
 
   takes : (r : ℕ) → b ≡ given_len sig n r
-  takes r = sym (ap (λ k. given_by k sig.root n r b) kind)
+  takes r = sym (ap (λ k. given_by k sig.root n r b (row_len sig)) kind)
 
   gives : (r : ℕ) → (output r).len ≡ got_len sig n r
-  gives r = elim (eqb r 0) as (λ t. (cond t nothing (third b)).len ≡ cond t 0 b) [ true ↦ refl | false ↦ refl ] ∙ sym (ap (λ k. got_by k sig.root n r b) kind)
+  gives r = elim (eqb r 0) as (λ t. (cond t nothing (third b)).len ≡ cond t 0 b) [ true ↦ refl | false ↦ refl ] ∙ sym (ap (λ k. got_by k sig.root n r b (row_len sig)) kind)
 
   module _ (given : List (List ℕ)) (are : AreGiven sig n given) (bytes : (r : ℕ) → r < n → AreBytes (row_of given r)) where
     abbrev holding : ℕ → ℕ → Region → List ℕ

@@ -5,7 +5,7 @@ use Rattle.std.proofs.Math.Nat.{mul-zero}
 use Rattle.coll_kinds.specs.declared.signature.Signature.{Signature}
 use Rattle.coll_kinds.specs.declared.kind.Kind.TheVariants.{Gather}
 use Rattle.coll_kinds.specs.declared.operation.Op.TheVariants.{Sum}
-use Rattle.coll_kinds.specs.Lengths.{block_len, given_by, got_by}
+use Rattle.coll_kinds.specs.Lengths.{block_len, row_len, given_by, got_by}
 use Rattle.coll_kinds.specs.Needs.{needs_of}
 use Rattle.coll_ops.specs.Values.{part, row_of, all_rows, value_by}
 use Rattle.coll_ops.proofs.Given.{flat_map-part_whole}
@@ -14,7 +14,7 @@ use Rattle.coll_sched.specs.Families.{lock_step, result_at, Heard, IsLawful}
 use Rattle.coll_sched.proofs.Track.{heard_self}
 use Rattle.coll_trees.proofs.Columns.{lawful_columns}
 use Rattle.coll_plans.specs.declared.pattern.Pattern.TheVariants.{ToRoot}
-use Rattle.coll_plans.specs.Exchanges.{exchange}
+use Rattle.coll_plans.specs.Exchanges.{alike, exchange}
 use Rattle.coll_plans.specs.Directs.{IsDirectFor, one_block, blocks_from, all_blocks, gather_by, gather_family}
 use Rattle.coll_trees.specs.Depths.{direct_bound}
 use Rattle.coll_plans.proofs.Exchanges.{IsRouted, exchange_column}
@@ -26,9 +26,9 @@ module _ (root n b : ℕ) where
   room : (r : ℕ) → b ≤ (gather_by root n b r).size
   room r = cond_both (eqb r root) (b + n * b) b (λ size. b ≤ size) (λ e. omega arith) (λ e. omega arith)
 
-  routed : IsRouted n (λ r. (gather_by root n b r).size) (ToRoot root) (one_block b) (blocks_from b b)
+  routed : IsRouted n (λ r. (gather_by root n b r).size) (ToRoot root) (alike (one_block b)) (alike (blocks_from b b))
   routed = record {
-    same = refl;
+    same = λ q r. refl;
     from_inside = λ r p hr hp e. let l : b ≤ (gather_by root n b r).size = room r in let z : p * 0 ≡ 0 = mul-zero p in omega arith;
     into_inside = λ r q hr hq e. let l : q * b + b ≤ n * b = block_within q n b hq in let s : (gather_by root n b r).size ≡ b + n * b = cond-true (eqb r root) (b + n * b) b e in omega arith;
     sent_apart = λ r p q hp hq d e i x y z w. let t : p * 0 ≡ 0 = mul-zero p in omega arith;
@@ -43,7 +43,7 @@ module _ (root n b : ℕ) where
 
   gather_lawful : IsLawful n (gather_by root n b)
   gather_lawful = lawful_columns n (gather_by root n b) (exchange (ToRoot root) (one_block b) (blocks_from b b) n ∷ []) (λ r. refl) (λ r h. input_in r) (λ r h. output_in r)
-      (exchange_column n (ToRoot root) (one_block b) (blocks_from b b) (λ r. (gather_by root n b r).size) routed, tt)
+      (exchange_column n (ToRoot root) (alike (one_block b)) (alike (blocks_from b b)) (λ r. (gather_by root n b r).size) routed, tt)
 
   -- the root ends with all rows, the others with nothing
   gather_value : (given : List (List ℕ)) → length given ≡ n → ((r : ℕ) → r < n → length (row_of given r) ≡ b) → (r : ℕ) → r < n → result_at (gather_by root n b) (row_of given) r ≡ cond (eqb r root) (all_rows given) []
@@ -67,12 +67,12 @@ gather_serves sig n kind = record {
   serves = record {
     lawful = gather_lawful sig.root n (block_len sig);
     takes_given = λ r h. takes r;
-    gives_got = λ r h. elim (eqb r sig.root) as (λ t. (cond t (all_blocks (block_len sig) n (block_len sig)) nothing).len ≡ cond t (n * block_len sig) 0) [ true ↦ refl | false ↦ refl ] ∙ sym (ap (λ k. got_by k sig.root n r (block_len sig)) kind);
+    gives_got = λ r h. elim (eqb r sig.root) as (λ t. (cond t (all_blocks (block_len sig) n (block_len sig)) nothing).len ≡ cond t (n * block_len sig) 0) [ true ↦ refl | false ↦ refl ] ∙ sym (ap (λ k. got_by k sig.root n r (block_len sig) (row_len sig)) kind);
     has_value = λ given are bytes r h. gather_value sig.root n (block_len sig) given are.each (λ q l. are.long q l ∙ sym (takes q)) r h ∙ sym (ap (λ k. value_by k (unwrap_or sig.op Sum) sig.ty (block_len sig) sig.root given r) kind);
     hears = λ r p h need. let parts = and_parts (ltb p n) (needs_of sig.kind sig.root r p) need in gather_hears sig.root n (block_len sig) r p (ltb-true p n parts.0) (or_cases (eqb r sig.root) (eqb p r) (sym (ap (λ k. needs_of k sig.root r p) kind) ∙ parts.1));
   };
-  few = direct_few n (ToRoot sig.root) (one_block (block_len sig)) (blocks_from (block_len sig) (block_len sig)) (λ r. cond (eqb r sig.root) (block_len sig + n * block_len sig) (block_len sig)) (λ r. front (block_len sig)) (λ r. cond (eqb r sig.root) (all_blocks (block_len sig) n (block_len sig)) nothing) [] tt;
+  few = direct_few n (ToRoot sig.root) (alike (one_block (block_len sig))) (alike (blocks_from (block_len sig) (block_len sig))) (λ r. cond (eqb r sig.root) (block_len sig + n * block_len sig) (block_len sig)) (λ r. front (block_len sig)) (λ r. cond (eqb r sig.root) (all_blocks (block_len sig) n (block_len sig)) nothing) [] tt;
 }
   where
-    takes : (r : ℕ) → block_len sig ≡ given_by sig.kind sig.root n r (block_len sig)
-    takes r = sym (ap (λ k. given_by k sig.root n r (block_len sig)) kind)
+    takes : (r : ℕ) → block_len sig ≡ given_by sig.kind sig.root n r (block_len sig) (row_len sig)
+    takes r = sym (ap (λ k. given_by k sig.root n r (block_len sig) (row_len sig)) kind)

@@ -8,6 +8,8 @@ pub mod Costs
 pub mod Gathers
 pub mod Scatters
 pub mod Alltoalls
+pub mod RowRegions
+pub mod Allgathervs
 pub mod Combining
 pub mod Rsblocks
 pub mod LocalRounds

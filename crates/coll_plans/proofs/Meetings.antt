@@ -5,7 +5,7 @@ use Rattle.std.specs.List.{AllByRecursion}
 use Rattle.coll_kinds.specs.declared.signature.Signature.{Signature}
 use Rattle.coll_kinds.specs.declared.kind.Kind.TheVariants.{Barrier}
 use Rattle.coll_kinds.specs.declared.operation.Op.TheVariants.{Sum}
-use Rattle.coll_kinds.specs.Lengths.{block_len, given_by, got_by}
+use Rattle.coll_kinds.specs.Lengths.{block_len, row_len, given_by, got_by}
 use Rattle.coll_kinds.specs.Needs.{needs_of, needs}
 use Rattle.coll_ops.specs.Values.{value_by}
 use Rattle.coll_sched.specs.Schedules.{IsRound}
@@ -114,8 +114,8 @@ pub barrier_serves : (sig : Signature) (n : ℕ) → sig.kind ≡ Barrier → 0 
 barrier_serves sig n kind pos top = record {
   serves = record {
     lawful = lawful_family n 0 (λ r. nothing) (λ r. nothing) (meetings n 0 (depth n)) (λ r h. omega arith) (λ r h. omega arith) (all_columns n pos);
-    takes_given = λ r h. sym (ap (λ k. given_by k sig.root n r (block_len sig)) kind);
-    gives_got = λ r h. sym (ap (λ k. got_by k sig.root n r (block_len sig)) kind);
+    takes_given = λ r h. sym (ap (λ k. given_by k sig.root n r (block_len sig) (row_len sig)) kind);
+    gives_got = λ r h. sym (ap (λ k. got_by k sig.root n r (block_len sig) (row_len sig)) kind);
     has_value = λ given are bytes r h. sym (ap (λ k. value_by k (unwrap_or sig.op Sum) sig.ty (block_len sig) sig.root given r) kind);
     hears = λ r p h need. hears r p h need;
   };

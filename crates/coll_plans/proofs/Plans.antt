@@ -2,7 +2,7 @@
 use Rattle.std.proofs.Common.{◌≡◌, ℕ, ◌<◌, ◌≤◌, ◌⊎◌, inl, inr, Bool, true, false, cond, Option, Some, None, MatchOption, Result, Ok, Err, IsOk, IfOk, IsErrOf, IsOkUnless, refl, sym, ap, subst, ◌∙◌}
 use Rattle.std.proofs.lemmas.Bool.{cases_Bool, false≢true}
 use Rattle.coll_kinds.specs.declared.kind.Kind.{Kind}
-use Rattle.coll_kinds.specs.declared.kind.Kind.TheVariants.{Barrier, Bcast, Gather, Scatter, Allgather, Alltoall, Reduce, Allreduce, Rsblock, Scan, Exscan}
+use Rattle.coll_kinds.specs.declared.kind.Kind.TheVariants.{Barrier, Bcast, Gather, Scatter, Allgather, Allgatherv, Alltoall, Reduce, Allreduce, Rsblock, Scan, Exscan}
 use Rattle.coll_kinds.specs.declared.signature.Signature.{Signature}
 use Rattle.coll_kinds.specs.declared.refusal.Refusal.{Refusal}
 use Rattle.coll_kinds.specs.declared.refusal.Refusal.TheVariants.{BadSignature, NoMemory}
@@ -29,6 +29,7 @@ use Rattle.coll_plans.proofs.Chains.{chain_serves}
 use Rattle.coll_plans.proofs.Gathers.{gather_serves}
 use Rattle.coll_plans.proofs.Scatters.{scatter_serves}
 use Rattle.coll_plans.proofs.Allgathers.{allgather_serves}
+use Rattle.coll_plans.proofs.Allgathervs.{allgatherv_serves}
 use Rattle.coll_plans.proofs.Alltoalls.{alltoall_serves}
 use Rattle.coll_plans.proofs.Rsblocks.{rsblock_serves}
 
@@ -66,6 +67,7 @@ by_kind sig n h pos top Bcast e = of_narrow sig n Bcast h top e (bcasts_serve si
 by_kind sig n h pos top Gather e = of_direct sig n Gather h top e refl (gather_serves sig n e)
 by_kind sig n h pos top Scatter e = of_direct sig n Scatter h top e refl (scatter_serves sig n h e)
 by_kind sig n h pos top Allgather e = of_narrow sig n Allgather h top e (allgather_serves sig n e top)
+by_kind sig n h pos top Allgatherv e = of_direct sig n Allgatherv h top e refl (allgatherv_serves sig n e)
 by_kind sig n h pos top Alltoall e = of_direct sig n Alltoall h top e refl (alltoall_serves sig n e)
 by_kind sig n h pos top Reduce e = of_narrow sig n Reduce h top e (reduce_serves sig n h e top)
 by_kind sig n h pos top Allreduce e = of_narrow sig n Allreduce h top e (allreduce_serves sig n h e pos top)

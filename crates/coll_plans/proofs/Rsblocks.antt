@@ -8,7 +8,7 @@ use Rattle.coll_kinds.specs.declared.operation.Op.{Op}
 use Rattle.coll_kinds.specs.declared.operation.Op.TheVariants.{Sum}
 use Rattle.coll_kinds.specs.declared.datatype.Datatype.{Datatype}
 use Rattle.coll_kinds.specs.Elements.{width}
-use Rattle.coll_kinds.specs.Lengths.{block_len, given_by, got_by}
+use Rattle.coll_kinds.specs.Lengths.{block_len, row_len, given_by, got_by}
 use Rattle.coll_kinds.specs.Needs.{needs_of}
 use Rattle.coll_kinds.specs.Checks.{allowed, has_operation, broken}
 use Rattle.coll_ops.specs.Combinations.{combination}
@@ -25,7 +25,7 @@ use Rattle.coll_trees.specs.Columns.{rounds_of}
 use Rattle.coll_trees.proofs.Checked.{checked, operation_allowed, block_whole}
 use Rattle.coll_trees.proofs.Columns.{column_of, round-column, lawful_columns}
 use Rattle.coll_plans.specs.declared.pattern.Pattern.TheVariants.{ToAll}
-use Rattle.coll_plans.specs.Exchanges.{place, exchange}
+use Rattle.coll_plans.specs.Exchanges.{alike, place, exchange}
 use Rattle.coll_plans.specs.Directs.{IsDirectFor, blocks_from, all_blocks, combines_below, rsblock_by, rsblock_family}
 use Rattle.coll_trees.specs.Depths.{direct_bound}
 use Rattle.coll_plans.proofs.Exchanges.{exchange_column}
@@ -54,7 +54,7 @@ module _ (op : Op) (ty : Datatype) (n b : ℕ) (may : IsTrue (allowed op ty)) (w
   rsblock_lawful =
       lawful_columns n (rsblock_by op ty n b) (exchange ToAll (blocks_from 0 b) (blocks_from (n * b) b) n ∷ combines_below op ty (blocks_from (n * b) b) (n - 1)) (λ r. refl) (λ r h. omega arith)
       (λ r h. let l : 0 * b + b ≤ n * b = block_within 0 n b (omega arith) in omega arith)
-      (exchange_column n ToAll (blocks_from 0 b) (blocks_from (n * b) b) (λ r. n * b + n * b) (all_routed n b), combines_columns op ty n (n * b) b (n - 1) (λ r. n * b + n * b) may whole (omega arith) (λ r h. omega arith))
+      (exchange_column n ToAll (alike (blocks_from 0 b)) (alike (blocks_from (n * b) b)) (λ r. n * b + n * b) (all_routed n b), combines_columns op ty n (n * b) b (n - 1) (λ r. n * b + n * b) may whole (omega arith) (λ r h. omega arith))
 
   -- each ends with the combination of its blocks of all rows
   module _ (given : List (List ℕ)) (each : length given ≡ n) (long : (r : ℕ) → r < n → length (row_of given r) ≡ n * b) (r : ℕ) (low : r < n) where
@@ -85,22 +85,22 @@ rsblock_serves sig n fits kind = record {
   serves = record {
     lawful = rsblock_lawful (unwrap_or sig.op Sum) sig.ty n (block_len sig) may (block_whole sig);
     takes_given = λ r h. takes r;
-    gives_got = λ r h. sym (ap (λ k. got_by k sig.root n r (block_len sig)) kind);
+    gives_got = λ r h. sym (ap (λ k. got_by k sig.root n r (block_len sig) (row_len sig)) kind);
     has_value = λ given are bytes r h. combined_value (unwrap_or sig.op Sum) sig.ty n (block_len sig) may (block_whole sig) given are.each (λ q l. are.long q l ∙ sym (takes q)) r h
         ∙ (block-combination (unwrap_or sig.op Sum) sig.ty n r sig.count given h are.each (λ q l. are.long q l ∙ sym (takes q)) ∙ sym (ap (λ k. value_by k (unwrap_or sig.op Sum) sig.ty (block_len sig) sig.root given r) kind));
     hears = λ r p h need. let parts = and_parts (ltb p n) (needs_of sig.kind sig.root r p) need in
         heard_of n ToAll (blocks_from 0 (block_len sig)) (blocks_from (n * block_len sig) (block_len sig)) (rsblock_family sig n) (rsblock_lawful (unwrap_or sig.op Sum) sig.ty n (block_len sig) may (block_whole sig)) (λ q. refl)
         (length (rounds_of (combines_below (unwrap_or sig.op Sum) sig.ty (blocks_from (n * block_len sig) (block_len sig)) (n - 1)) r)) r p (ltb-true p n parts.0) refl;
   };
-  few = direct_few n ToAll (blocks_from 0 (block_len sig)) (blocks_from (n * block_len sig) (block_len sig)) (λ r. n * block_len sig + n * block_len sig) (λ r. all_blocks 0 n (block_len sig)) (λ r. record { at = n * block_len sig; len = block_len sig })
+  few = direct_few n ToAll (alike (blocks_from 0 (block_len sig))) (alike (blocks_from (n * block_len sig) (block_len sig))) (λ r. n * block_len sig + n * block_len sig) (λ r. all_blocks 0 n (block_len sig)) (λ r. record { at = n * block_len sig; len = block_len sig })
       (combines_below (unwrap_or sig.op Sum) sig.ty (blocks_from (n * block_len sig) (block_len sig)) (n - 1)) (combines_local (unwrap_or sig.op Sum) sig.ty (n * block_len sig) (block_len sig) (n - 1));
 }
   where
     may : IsTrue (allowed (unwrap_or sig.op Sum) sig.ty)
     may = operation_allowed sig n (checked sig n fits) (ap has_operation kind)
 
-    takes : (r : ℕ) → n * block_len sig ≡ given_by sig.kind sig.root n r (block_len sig)
-    takes r = sym (ap (λ k. given_by k sig.root n r (block_len sig)) kind)
+    takes : (r : ℕ) → n * block_len sig ≡ given_by sig.kind sig.root n r (block_len sig) (row_len sig)
+    takes r = sym (ap (λ k. given_by k sig.root n r (block_len sig) (row_len sig)) kind)
 
 -- the parts that the builder makes are the family's
 pub rsblock_parts : (sig : Signature) (n r len half : ℕ) (op : Op) (input : Region) (rounds : List (List Action)) → len ≡ block_len sig → half ≡ n * len → sig.op ≡ Some op → input ≡ all_blocks 0 n len →

@@ -8,7 +8,7 @@ use Rattle.coll_kinds.specs.declared.operation.Op.{Op}
 use Rattle.coll_kinds.specs.declared.operation.Op.TheVariants.{Sum}
 use Rattle.coll_kinds.specs.declared.datatype.Datatype.{Datatype}
 use Rattle.coll_kinds.specs.Elements.{width, AreBytes}
-use Rattle.coll_kinds.specs.Lengths.{block_len, given_by, given_len, got_by}
+use Rattle.coll_kinds.specs.Lengths.{block_len, row_len, given_by, given_len, got_by}
 use Rattle.coll_kinds.specs.Needs.{needs_of, needs}
 use Rattle.coll_kinds.specs.Checks.{allowed, has_operation, broken}
 use Rattle.coll_ops.specs.Combinations.{combination}
@@ -84,7 +84,7 @@ module _ (sig : Signature) (n : ℕ) (kind : sig.kind ≡ Scan) (top : n ≤ 64)
   then_joined i r h = round-column columns (suc (i + i)) r ∙ join_at b n (join op sig.ty b) (depth n) i r h
 
   takes : (r : ℕ) → b ≡ given_len sig n r
-  takes r = sym (ap (λ k. given_by k sig.root n r b) kind)
+  takes r = sym (ap (λ k. given_by k sig.root n r b (row_len sig)) kind)
 
   module _ (given : List (List ℕ)) (are : AreGiven sig n given) (bytes : (r : ℕ) → r < n → AreBytes (row_of given r)) where
     laid : GivenFits n (scan_family sig n) (row_of given)
@@ -127,7 +127,7 @@ module _ (sig : Signature) (n : ℕ) (kind : sig.kind ≡ Scan) (top : n ≤ 64)
     serves = record {
       lawful = scan_lawful;
       takes_given = λ r h. takes r;
-      gives_got = λ r h. sym (ap (λ k. got_by k sig.root n r b) kind);
+      gives_got = λ r h. sym (ap (λ k. got_by k sig.root n r b (row_len sig)) kind);
       has_value = scan_value;
       hears = scan_hears;
     };

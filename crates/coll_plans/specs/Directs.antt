@@ -5,7 +5,7 @@ use Rattle.coll_kinds.specs.declared.operation.Op.{Op}
 use Rattle.coll_kinds.specs.declared.operation.Op.TheVariants.{Sum}
 use Rattle.coll_kinds.specs.declared.datatype.Datatype.{Datatype}
 use Rattle.coll_kinds.specs.declared.signature.Signature.{Signature}
-use Rattle.coll_kinds.specs.Lengths.{block_len}
+use Rattle.coll_kinds.specs.Lengths.{block_len, row_len, total}
 use Rattle.coll_sched.specs.declared.region.Region.{Region}
 use Rattle.coll_sched.specs.declared.action.Action.TheVariants.{Combine}
 use Rattle.coll_sched.specs.Families.{Family, family_exchanges}
@@ -14,7 +14,7 @@ use Rattle.coll_trees.specs.Columns.{Column, family_with}
 use Rattle.coll_sched.specs.Regions.{front, nothing}
 use Rattle.coll_plans.specs.declared.blocks.Blocks.{Blocks}
 use Rattle.coll_plans.specs.declared.pattern.Pattern.TheVariants.{ToAll, ToRoot, FromRoot}
-use Rattle.coll_plans.specs.Exchanges.{place, exchange}
+use Rattle.coll_plans.specs.Exchanges.{place, exchange, exchange_by}
 
 -- the family serves the signature in at most so many exchanges
 pub record IsDirectFor (sig : Signature) (n : ℕ) (f : Family) (bound : ℕ) : Type 0 where
@@ -65,6 +65,22 @@ abbrev pub rsblock_by : Op → Datatype → ℕ → ℕ → Family
 rsblock_by op ty n b = family_with (λ r. n * b + n * b) (λ r. all_blocks 0 n b) (λ r. record { at = n * b; len = b })
     (exchange ToAll (blocks_from 0 b) (blocks_from (n * b) b) n ∷ combines_below op ty (blocks_from (n * b) b) (n - 1))
 
+-- member i's row, where those of all members lie packed at the front, in member order
+abbrev pub row_at : (ℕ → ℕ) → ℕ → Region
+row_at rows i = record { at = total rows i; len = rows i }
+
+-- what member r gives: its own row, behind those of all n
+abbrev pub own_row : (ℕ → ℕ) → ℕ → ℕ → Region
+own_row rows n r = record { at = total rows n; len = rows r }
+
+-- member i's row, of rows i bytes, goes to all
+abbrev pub row_exchange : (ℕ → ℕ) → ℕ → Column
+row_exchange rows n = exchange_by ToAll (λ r p. own_row rows n r) (λ r q. row_at rows q) n
+
+-- each sends its row to all, and has the n rows, in member order, before its own
+abbrev pub allgatherv_by : (ℕ → ℕ) → ℕ → Family
+allgatherv_by rows n = family_with (λ r. total rows n + rows r) (λ r. own_row rows n r) (λ r. front (total rows n)) (row_exchange rows n ∷ [])
+
 abbrev pub gather_family : Signature → ℕ → Family
 gather_family sig n = gather_by sig.root n (block_len sig)
 
@@ -73,6 +89,9 @@ scatter_family sig n = scatter_by sig.root n (block_len sig)
 
 abbrev pub alltoall_family : Signature → ℕ → Family
 alltoall_family sig n = alltoall_by n (block_len sig)
+
+abbrev pub allgatherv_family : Signature → ℕ → Family
+allgatherv_family sig n = allgatherv_by (row_len sig) n
 
 abbrev pub rsblock_family : Signature → ℕ → Family
 rsblock_family sig n = rsblock_by (unwrap_or sig.op Sum) sig.ty n (block_len sig)

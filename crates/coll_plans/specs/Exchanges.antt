@@ -28,18 +28,26 @@ abbrev pub chosen : (ℕ → Bool) → (ℕ → Action) → ℕ → ℕ → List
 chosen pick act k zero = []
 chosen pick act k (suc c) = cond (pick k) (act k ∷ chosen pick act (suc k) c) (chosen pick act (suc k) c)
 
--- what member r sends to those of the c members from k on
-abbrev pub sends : Pattern → Blocks → ℕ → ℕ → ℕ → List Action
-sends pattern from r k c = chosen (crosses pattern r) (λ p. Send p (place from p)) k c
+-- what member r sends to those of the c members from k on, where it has `from p` for member p
+abbrev pub sends : Pattern → (ℕ → Region) → ℕ → ℕ → ℕ → List Action
+sends pattern from r k c = chosen (crosses pattern r) (λ p. Send p (from p)) k c
 
 -- what it keeps
-abbrev pub keeps : Pattern → Blocks → Blocks → ℕ → List Action
-keeps pattern from into r = cond (carries pattern r r) (Copy (place from r) (place into r) ∷ []) []
+abbrev pub keeps : Pattern → (ℕ → Region) → (ℕ → Region) → ℕ → List Action
+keeps pattern from into r = cond (carries pattern r r) (Copy (from r) (into r) ∷ []) []
 
--- what it receives of those of the c members from k on
-abbrev pub recvs : Pattern → Blocks → ℕ → ℕ → ℕ → List Action
-recvs pattern into r k c = chosen (λ q. crosses pattern q r) (λ q. Recv q (place into q)) k c
+-- what it receives of those of the c members from k on, where `into q` is for what member q has
+abbrev pub recvs : Pattern → (ℕ → Region) → ℕ → ℕ → ℕ → List Action
+recvs pattern into r k c = chosen (λ q. crosses pattern q r) (λ q. Recv q (into q)) k c
 
--- the round of n members: `from` has the blocks that a member gives, by receiver, `into` those that it gets, by sender
+-- the round of n members: `from r` has the regions that member r gives, by receiver, `into r` those that it gets, by sender
+abbrev pub exchange_by : Pattern → (ℕ → ℕ → Region) → (ℕ → ℕ → Region) → ℕ → Column
+exchange_by pattern from into n r = sends pattern (from r) r 0 n ++ (keeps pattern (from r) (into r) r ++ recvs pattern (into r) r 0 n)
+
+-- the blocks lie alike in the buffers of all members
+abbrev pub alike : Blocks → ℕ → ℕ → Region
+alike blocks r p = place blocks p
+
+-- the round where the blocks do so
 abbrev pub exchange : Pattern → Blocks → Blocks → ℕ → Column
-exchange pattern from into n r = sends pattern from r 0 n ++ (keeps pattern from into r ++ recvs pattern into r 0 n)
+exchange pattern from into n = exchange_by pattern (alike from) (alike into) n

@@ -1,7 +1,7 @@
 -- The one family that a signature and a number of members fix, and what is known of it
 use Rattle.std.specs.Prelude.{◌≡◌, ℕ, ◌+◌, ◌<◌, ◌≤◌, Bool, true, false, cond, None}
 use Rattle.coll_kinds.specs.declared.kind.Kind.{Kind}
-use Rattle.coll_kinds.specs.declared.kind.Kind.TheVariants.{Barrier, Bcast, Gather, Scatter, Allgather, Alltoall, Reduce, Allreduce, Rsblock, Scan, Exscan}
+use Rattle.coll_kinds.specs.declared.kind.Kind.TheVariants.{Barrier, Bcast, Gather, Scatter, Allgather, Allgatherv, Alltoall, Reduce, Allreduce, Rsblock, Scan, Exscan}
 use Rattle.coll_kinds.specs.declared.signature.Signature.{Signature}
 use Rattle.coll_kinds.specs.Checks.{broken}
 use Rattle.coll_kinds.specs.Lengths.{block_len}
@@ -16,7 +16,7 @@ use Rattle.coll_plans.specs.Scans.{scan_family, exscan_family}
 use Rattle.coll_plans.specs.Trades.{allreduce_family, most_trades}
 use Rattle.coll_plans.specs.Relays.{chain_family, is_long, relay_count}
 use Rattle.coll_plans.specs.Bruck.{allgather_family}
-use Rattle.coll_plans.specs.Directs.{gather_family, scatter_family, alltoall_family, rsblock_family}
+use Rattle.coll_plans.specs.Directs.{gather_family, scatter_family, allgatherv_family, alltoall_family, rsblock_family}
 
 -- by kind; a bcast also by its length
 abbrev pub family_by : Kind → Signature → ℕ → Family
@@ -25,6 +25,7 @@ family_by Bcast sig n = cond (is_long n (block_len sig)) (chain_family sig n) (b
 family_by Gather sig n = gather_family sig n
 family_by Scatter sig n = scatter_family sig n
 family_by Allgather sig n = allgather_family sig n
+family_by Allgatherv sig n = allgatherv_family sig n
 family_by Alltoall sig n = alltoall_family sig n
 family_by Reduce sig n = reduce_family sig n
 family_by Allreduce sig n = allreduce_family sig n
@@ -43,6 +44,7 @@ is_direct Bcast = false
 is_direct Gather = true
 is_direct Scatter = true
 is_direct Allgather = false
+is_direct Allgatherv = true
 is_direct Alltoall = true
 is_direct Reduce = false
 is_direct Allreduce = false
@@ -57,6 +59,7 @@ most_exchanges_by Bcast sig n = cond (is_long n (block_len sig)) (relay_count n 
 most_exchanges_by Gather sig n = direct_bound n
 most_exchanges_by Scatter sig n = direct_bound n
 most_exchanges_by Allgather sig n = depth n
+most_exchanges_by Allgatherv sig n = direct_bound n
 most_exchanges_by Alltoall sig n = direct_bound n
 most_exchanges_by Reduce sig n = depth n + direct_bound n
 most_exchanges_by Allreduce sig n = most_trades n

@@ -1,5 +1,5 @@
 -- Worked rows, computed.
-use Rattle.std.specs.Prelude.{◌≡◌, ℕ, List, [], ◌∷◌, Some, refl}
+use Rattle.std.specs.Prelude.{◌≡◌, ℕ, List, [], ◌∷◌, Some, None, refl}
 use Rattle.coll_kinds.specs.declared.kind.Kind.{Kind}
 use Rattle.coll_kinds.specs.declared.kind.Kind.TheVariants.{Reduce, Scan, Exscan}
 use Rattle.coll_kinds.specs.declared.kind.Mode.TheVariants.{Once}
@@ -51,7 +51,7 @@ later_are_joined = refl
 
 -- of three members that give 3, 0, 5 the last nonzero row up to the member's own, and before it
 abbrev pub last_nonzero : Kind → Signature
-last_nonzero kind = record { kind = kind; mode = Once; root = 0; op = Some LastNz; ty = I8; count = 1 }
+last_nonzero kind = record { kind = kind; mode = Once; root = 0; op = Some LastNz; ty = I8; count = 1; each = None }
 
 abbrev given : ℕ → List ℕ
 given r = row_of ((3 ∷ []) ∷ (0 ∷ []) ∷ (5 ∷ []) ∷ []) r

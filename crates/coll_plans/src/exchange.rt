@@ -24,7 +24,7 @@ pub(crate) struct Exchange {
 }
 
 impl Exchange {
-    ghost use Rattle.coll_plans.specs.Exchanges.{sends, keeps, recvs, exchange};
+    ghost use Rattle.coll_plans.specs.Exchanges.{place, sends, keeps, recvs, exchange};
 
     /// The round of member `r`: its sends, in the order of their receivers, the copy of what it keeps, and its
     /// receives, in the order of their senders.
@@ -41,7 +41,7 @@ impl Exchange {
     }
 
     fn push_sends(self, r: u8, round: &mut Round) -> Result<(), Refusal>
-        ensures ok { OnOk result (round.new ≡ round.old ++ sends self.pattern self.from r 0 self.n) }
+        ensures ok { OnOk result (round.new ≡ round.old ++ sends self.pattern (place self.from) r 0 self.n) }
         ensures refusal { IsOkUnless result Refusal.NoMemory }
     {
         for p in 0..self.n {
@@ -57,7 +57,7 @@ impl Exchange {
 
     fn push_kept(self, r: u8, round: &mut Round) -> Result<(), Refusal>
         requires { r < self.n }
-        ensures ok { OnOk result (round.new ≡ round.old ++ keeps self.pattern self.from self.into r) }
+        ensures ok { OnOk result (round.new ≡ round.old ++ keeps self.pattern (place self.from) (place self.into) r) }
         ensures refusal { IsOkUnless result Refusal.NoMemory }
     {
         if self.pattern.carries(r, r) {
@@ -70,7 +70,7 @@ impl Exchange {
     }
 
     fn push_recvs(self, r: u8, round: &mut Round) -> Result<(), Refusal>
-        ensures ok { OnOk result (round.new ≡ round.old ++ recvs self.pattern self.into r 0 self.n) }
+        ensures ok { OnOk result (round.new ≡ round.old ++ recvs self.pattern (place self.into) r 0 self.n) }
         ensures refusal { IsOkUnless result Refusal.NoMemory }
     {
         for q in 0..self.n {

@@ -12,6 +12,7 @@
 //! | `chain_builder` | `chain_bcast`, of a long block along a chain |
 //! | `gather_builder` | `gather`, by a direct exchange |
 //! | `scatter_builder` | `scatter`, likewise |
+//! | `allgatherv_builder` | `allgatherv`, likewise |
 //! | `alltoall_builder` | `alltoall`, likewise |
 //! | `rsblock_builder` | `rsblock`, likewise, and then the blocks are combined |
 //! | `scan_builder` | `scan`, by doubling of ranges |
@@ -22,12 +23,14 @@
 //! | `cube`, `pairing` | which members trade, and which act for two |
 //! | `relay` | `Relay`, the rounds of a chain |
 //! | `exchange` | `Exchange`, the round of a direct exchange |
+//! | `row_exchange` | the same of rows that differ in length |
 //! | `pattern` | `Pattern`, which members have bytes for which others |
 //! | `blocks` | `Blocks`, where a member's blocks lie |
 //! | `layout` | the buffers of direct exchanges, and the schedule of a list of rounds |
 #![tactic(auto)]
 
 mod allgather_builder;
+mod allgatherv_builder;
 mod allreduce_builder;
 mod alltoall_builder;
 mod barrier_builder;
@@ -45,6 +48,7 @@ mod pattern;
 mod planned;
 mod planning;
 mod relay;
+mod row_exchange;
 mod rsblock_builder;
 mod scan_builder;
 mod scanning;
@@ -52,6 +56,7 @@ mod scatter_builder;
 mod trading;
 
 pub use allgather_builder::allgather;
+pub use allgatherv_builder::allgatherv;
 pub use allreduce_builder::allreduce;
 pub use alltoall_builder::alltoall;
 pub use barrier_builder::barrier;

@@ -10,10 +10,10 @@ use std::sync::Arc;
 
 /// One member's part of one collective: its schedule in the family that the signature and the number of
 /// members fix. So the plans of one signature for all members of a communicator fit together. Only
-/// [`plan`](crate::plan) makes one. Its copies share the schedule, and may go to other threads.
+/// [`plan`](crate::plan) makes one. Its copies share the signature and the schedule, and may go to other threads.
 #[derive(Debug, Drop)]
 pub struct Plan {
-    sig: Signature,
+    sig: Arc<Signature>,
     n: u8,
     member: u8,
     schedule: Arc<Schedule>,
@@ -25,18 +25,18 @@ impl Model for Plan {
 
     ghost Value = { Planned };
 
-    ghost view = { λ p. record { sig = p.sig; n = p.n; member = p.member } };
+    ghost view = { λ p. record { sig = arc_value p.sig; n = p.n; member = p.member } };
 
-    ghost invariant = { λ p. IsPlan p.sig p.n p.member (arc_value p.schedule) };
+    ghost invariant = { λ p. IsPlan (arc_value p.sig) p.n p.member (arc_value p.schedule) };
 }
 
 impl Plan {
     ghost use Rattle.coll_plans.specs.Plans.{family, IsPlan, IsPlanned};
 
     // The plan of these parts.
-    pub(crate) fn of_parts(sig: Signature, n: u8, member: u8, schedule: Arc<Schedule>) -> Self
-        requires { IsPlan sig n member (arc_value schedule) }
-        ensures { result ≡ record { sig = sig; n = n; member = member } }
+    pub(crate) fn of_parts(sig: Arc<Signature>, n: u8, member: u8, schedule: Arc<Schedule>) -> Self
+        requires { IsPlan (arc_value sig) n member (arc_value schedule) }
+        ensures { result ≡ record { sig = arc_value sig; n = n; member = member } }
     {
         Plan {
             sig,
@@ -50,26 +50,37 @@ impl Plan {
     ///
     /// # Errors
     ///
-    /// NoMemory where the schedule has as many owners as can be counted.
+    /// NoMemory where the plan has as many owners as can be counted.
     pub fn share(&self) -> Result<Plan, Refusal>
         ensures same { IfOk result (λ plan. plan ≡ self.now) }
         ensures refused { IsOkUnless result Refusal.NoMemory }
     {
-        let schedule = self.schedule.clone()?;
         Ok(Plan {
-            sig: self.sig,
+            sig: self.sig.clone()?,
             n: self.n,
             member: self.member,
-            schedule,
+            schedule: self.schedule.clone()?,
         })
     }
 
     /// The signature, which breaks no rule.
-    pub fn sig(&self) -> Signature
-        ensures sig { result ≡ self.now.sig }
+    pub fn sig(&self) -> &Signature
+        ensures sig { result.now ≡ self.now.sig }
         ensures checked { broken self.now.sig self.now.n ≡ None }
     {
-        self.sig
+        &self.sig
+    }
+
+    /// The signature, with the plan as one more owner, for what outlives the plan. It takes no memory.
+    ///
+    /// # Errors
+    ///
+    /// NoMemory where the signature has as many owners as can be counted.
+    pub fn shared_sig(&self) -> Result<Arc<Signature>, Refusal>
+        ensures same { IfOk result (λ sig. arc_value sig ≡ self.now.sig) }
+        ensures refused { IsOkUnless result Refusal.NoMemory }
+    {
+        Ok(self.sig.clone()?)
     }
 
     /// How many members there are.

@@ -8,7 +8,8 @@ use crate::chain_builder::is_long;
 use crate::layout::block_bytes;
 use crate::planned::Plan;
 use crate::{
-    allgather, allreduce, alltoall, barrier, chain_bcast, exscan, gather, rsblock, scan, scatter,
+    allgather, allgatherv, allreduce, alltoall, barrier, chain_bcast, exscan, gather, rsblock,
+    scan, scatter,
 };
 use coll_kinds::{Kind, Refusal, Signature};
 use coll_sched::Schedule;
@@ -30,6 +31,7 @@ pub fn plan(alloc: Global, sig: Signature, n: u8, r: u8) -> Result<Plan, Refusal
 {
     sig.check(n)?;
     let schedule = owned_schedule_of(alloc, sig, n, r)?;
+    let sig = Arc::new(alloc, sig)?;
     Ok(Plan::of_parts(sig, n, r, schedule))
 }
 
@@ -59,6 +61,7 @@ fn schedule_of(alloc: Global, sig: Signature, n: u8, r: u8) -> Result<Schedule, 
         Kind::Gather => gather(alloc, sig, n, r),
         Kind::Scatter => scatter(alloc, sig, n, r),
         Kind::Allgather => allgather(alloc, sig, n, r),
+        Kind::Allgatherv => allgatherv(alloc, sig, n, r),
         Kind::Alltoall => alltoall(alloc, sig, n, r),
         Kind::Reduce => reduce(alloc, sig, n, r),
         Kind::Allreduce => allreduce(alloc, sig, n, r),

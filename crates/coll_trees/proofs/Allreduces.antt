@@ -6,7 +6,7 @@ use Rattle.coll_kinds.specs.declared.signature.Signature.{Signature}
 use Rattle.coll_kinds.specs.declared.kind.Kind.TheVariants.{Allreduce}
 use Rattle.coll_kinds.specs.declared.operation.Op.{Op}
 use Rattle.coll_kinds.specs.declared.operation.Op.TheVariants.{Sum}
-use Rattle.coll_kinds.specs.Lengths.{block_len, given_by, given_len, got_by}
+use Rattle.coll_kinds.specs.Lengths.{block_len, row_len, given_by, given_len, got_by}
 use Rattle.coll_kinds.specs.Needs.{needs_of, needs}
 use Rattle.coll_kinds.specs.Checks.{allowed, has_operation, broken}
 use Rattle.coll_ops.specs.Combinations.{combination}
@@ -64,7 +64,7 @@ module _ (sig : Signature) (n : ℕ) (kind : sig.kind ≡ Allreduce) (pos : 0 < 
       omega arith
 
   takes : (r : ℕ) → block_len sig ≡ given_len sig n r
-  takes r = sym (ap (λ k. given_by k sig.root n r (block_len sig)) kind)
+  takes r = sym (ap (λ k. given_by k sig.root n r (block_len sig) (row_len sig)) kind)
 
   module _ (given : List (List ℕ)) (are : AreGiven sig n given) (bytes : (r : ℕ) → r < n → AreBytes (row_of given r)) where
     laid : GivenFits n (allreduce_family sig n) (row_of given)
@@ -97,7 +97,7 @@ module _ (sig : Signature) (n : ℕ) (kind : sig.kind ≡ Allreduce) (pos : 0 < 
     serves = record {
       lawful = allreduce_lawful;
       takes_given = λ r h. takes r;
-      gives_got = λ r h. sym (ap (λ k. got_by k sig.root n r (block_len sig)) kind);
+      gives_got = λ r h. sym (ap (λ k. got_by k sig.root n r (block_len sig) (row_len sig)) kind);
       has_value = allreduce_value;
       hears = allreduce_hears;
     };

@@ -4,7 +4,7 @@ use Rattle.std.proofs.lemmas.Bool.{cond-true, cond_both, and_parts}
 use Rattle.coll_kinds.specs.declared.signature.Signature.{Signature}
 use Rattle.coll_kinds.specs.declared.kind.Kind.TheVariants.{Bcast}
 use Rattle.coll_kinds.specs.declared.operation.Op.TheVariants.{Sum}
-use Rattle.coll_kinds.specs.Lengths.{block_len, given_by, given_len, got_by}
+use Rattle.coll_kinds.specs.Lengths.{block_len, row_len, given_by, given_len, got_by}
 use Rattle.coll_kinds.specs.Needs.{needs_of, needs}
 use Rattle.coll_kinds.specs.Checks.{has_root, broken}
 use Rattle.coll_ops.specs.Values.{row_of, value_by, value}
@@ -51,7 +51,7 @@ module _ (sig : Signature) (n : ℕ) (kind : sig.kind ≡ Bcast) (low : sig.root
       omega arith
 
   takes : (r : ℕ) → (cond (eqb r sig.root) (front (block_len sig)) nothing).len ≡ given_len sig n r
-  takes r = elim (eqb r sig.root) as (λ t. (cond t (front (block_len sig)) nothing).len ≡ cond t (block_len sig) 0) [ true ↦ refl | false ↦ refl ] ∙ sym (ap (λ k. given_by k sig.root n r (block_len sig)) kind)
+  takes r = elim (eqb r sig.root) as (λ t. (cond t (front (block_len sig)) nothing).len ≡ cond t (block_len sig) 0) [ true ↦ refl | false ↦ refl ] ∙ sym (ap (λ k. given_by k sig.root n r (block_len sig) (row_len sig)) kind)
 
   module _ (given : List (List ℕ)) (are : AreGiven sig n given) where
     laid : GivenFits n (bcast_family sig n) (row_of given)
@@ -80,7 +80,7 @@ module _ (sig : Signature) (n : ℕ) (kind : sig.kind ≡ Bcast) (low : sig.root
     serves = record {
       lawful = bcast_lawful;
       takes_given = λ r h. takes r;
-      gives_got = λ r h. sym (ap (λ k. got_by k sig.root n r (block_len sig)) kind);
+      gives_got = λ r h. sym (ap (λ k. got_by k sig.root n r (block_len sig) (row_len sig)) kind);
       has_value = λ given are bytes r h. bcast_value given are r h;
       hears = bcast_hears;
     };

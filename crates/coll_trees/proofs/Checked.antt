@@ -22,7 +22,7 @@ passes false x y h = absurd (none-some y (sym h))
 pub record IsChecked (sig : Signature) (n : ℕ) : Type 0 where
   pub root_is : root_fits sig n ≡ true
   pub operation_is : operation_fits sig ≡ true
-  pub count_is : count_fits sig ≡ true
+  pub count_is : count_fits sig n ≡ true
   pub sizes_are : sizes_fit sig n n ≡ true
 
 sizes_pass : (b : Bool) → cond b None (Some Size) ≡ None → b ≡ true
@@ -31,9 +31,9 @@ sizes_pass false h = absurd (none-some Size (sym h))
 
 pub checked : (sig : Signature) (n : ℕ) → broken sig n ≡ None → IsChecked sig n
 checked sig n h =
-    let a = passes (root_fits sig n) (cond (operation_fits sig) (cond (count_fits sig) (cond (sizes_fit sig n n) None (Some Size)) (Some Count)) (Some Operation)) Root h in
-    let b = passes (operation_fits sig) (cond (count_fits sig) (cond (sizes_fit sig n n) None (Some Size)) (Some Count)) Operation a.1 in
-    let c = passes (count_fits sig) (cond (sizes_fit sig n n) None (Some Size)) Count b.1 in
+    let a = passes (root_fits sig n) (cond (operation_fits sig) (cond (count_fits sig n) (cond (sizes_fit sig n n) None (Some Size)) (Some Count)) (Some Operation)) Root h in
+    let b = passes (operation_fits sig) (cond (count_fits sig n) (cond (sizes_fit sig n n) None (Some Size)) (Some Count)) Operation a.1 in
+    let c = passes (count_fits sig n) (cond (sizes_fit sig n n) None (Some Size)) Count b.1 in
     record { root_is = a.0; operation_is = b.0; count_is = c.0; sizes_are = sizes_pass (sizes_fit sig n n) c.1 }
 
 pub root_low : (sig : Signature) (n : ℕ) → IsChecked sig n → has_root sig.kind ≡ true → sig.root < n

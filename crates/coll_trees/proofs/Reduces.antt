@@ -6,7 +6,7 @@ use Rattle.coll_kinds.specs.declared.signature.Signature.{Signature}
 use Rattle.coll_kinds.specs.declared.kind.Kind.TheVariants.{Reduce}
 use Rattle.coll_kinds.specs.declared.operation.Op.{Op}
 use Rattle.coll_kinds.specs.declared.operation.Op.TheVariants.{Sum}
-use Rattle.coll_kinds.specs.Lengths.{block_len, given_by, given_len, got_by, got_len}
+use Rattle.coll_kinds.specs.Lengths.{block_len, row_len, given_by, given_len, got_by, got_len}
 use Rattle.coll_kinds.specs.Needs.{needs_of, needs}
 use Rattle.coll_kinds.specs.Checks.{allowed, has_root, has_operation, broken}
 use Rattle.coll_ops.specs.Combinations.{combination}
@@ -62,10 +62,10 @@ module _ (sig : Signature) (n : ℕ) (kind : sig.kind ≡ Reduce) (low : sig.roo
       ∙ later (unwrap_or sig.op Sum) sig.ty (block_len sig) n (reduce_family sig n) (last_hop (block_len sig) sig.root ∷ []) is_at 0 r
 
   takes : (r : ℕ) → block_len sig ≡ given_len sig n r
-  takes r = sym (ap (λ k. given_by k sig.root n r (block_len sig)) kind)
+  takes r = sym (ap (λ k. given_by k sig.root n r (block_len sig) (row_len sig)) kind)
 
   gives : (r : ℕ) → (cond (eqb r sig.root) (front (block_len sig)) nothing).len ≡ got_len sig n r
-  gives r = elim (eqb r sig.root) as (λ t. (cond t (front (block_len sig)) nothing).len ≡ cond t (block_len sig) 0) [ true ↦ refl | false ↦ refl ] ∙ sym (ap (λ k. got_by k sig.root n r (block_len sig)) kind)
+  gives r = elim (eqb r sig.root) as (λ t. (cond t (front (block_len sig)) nothing).len ≡ cond t (block_len sig) 0) [ true ↦ refl | false ↦ refl ] ∙ sym (ap (λ k. got_by k sig.root n r (block_len sig) (row_len sig)) kind)
 
   module _ (given : List (List ℕ)) (are : AreGiven sig n given) (bytes : (r : ℕ) → r < n → AreBytes (row_of given r)) where
     laid : GivenFits n (reduce_family sig n) (row_of given)

@@ -3,7 +3,7 @@ use Rattle.std.specs.Prelude.{unwrap_or}
 use Rattle.std.specs.List.{flat_map}
 use Rattle.std.proofs.Math.Nat.{mul-le-mul_right, mul_assoc}
 use Rattle.coll_kinds.specs.declared.operation.Op.TheVariants.{Sum}
-use Rattle.coll_kinds.specs.declared.kind.Kind.TheVariants.{Bcast, Gather, Scatter, Allgather, Reduce, Allreduce, Rsblock, Scan, Exscan}
+use Rattle.coll_kinds.specs.declared.kind.Kind.TheVariants.{Bcast, Gather, Scatter, Allgather, Allgatherv, Reduce, Allreduce, Rsblock, Scan, Exscan}
 use Rattle.coll_kinds.specs.Elements.{width}
 use Rattle.coll_kinds.specs.Lengths.{block_len}
 use Rattle.coll_ops.specs.Combinations.{combination}
@@ -52,6 +52,11 @@ returns-in-Allgather-clause-ok c =
     let whole : flat_map (part 0 c.block_len-block.result) rows ≡ all_rows rows =
     flat_map-part_whole c.block_len-block.result rows (λ i within. length-given c.args.sig Allgather c.args.n rows c.in-Allgather.is c.requires.given i (omega (arith, c.requires.given.each)) ∙ sym c.block_len-block.ensures) in
     IfOk-map _ _ (λ bytes is. is ∙ (whole ∙ sym (value-kind c.args.sig Allgather rows c.args.r c.in-Allgather.is))) c.joined-in-Allgather.result c.joined-in-Allgather.ensures.ok
+
+pub returns-in-Allgatherv-clause-ok : goal.returns-in-Allgatherv-clause-ok
+returns-in-Allgatherv-clause-ok c =
+    let rows : List (List ℕ) = rows_of c.args.given.now in
+    IfOk-map _ _ (λ bytes is. is ∙ sym (value-kind c.args.sig Allgatherv rows c.args.r c.in-Allgatherv.is)) c.whole.result c.whole.ensures.ok
 
 pub returns-then-r-sig-2-clause-ok : goal.returns-then-r-sig-2-clause-ok
 returns-then-r-sig-2-clause-ok c =

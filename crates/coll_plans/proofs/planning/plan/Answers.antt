@@ -1,7 +1,10 @@
 -- what the check and the builder have shown
-use Rattle.std.proofs.Common.{arith}
+use Rattle.std.proofs.Common.{◌≡◌, arith, sym, subst, rules}
+use Rattle.std.specs.Arc.{arc_value}
 use Rattle.std.proofs.lemmas.Result.{err_from_is_err_and}
+use Rattle.coll_kinds.specs.declared.signature.Signature.{Signature}
 use Rattle.coll_kinds.specs.Checks.{broken}
+use Rattle.coll_plans.specs.Plans.{IsPlan}
 use Rattle.coll_plans.proofs.Plans.{all_served, unbroken, refused, accepted}
 use Rattle.coll_plans.proofs.planning.plan.Goals as goal
 
@@ -22,13 +25,23 @@ returns-in_err-schedule-clause-refusal c =
     accepted (broken c.args.sig c.args.n) c.from_residual-in_err-schedule.result (unbroken (broken c.args.sig c.args.n) c.in_ok-check.field-0 c.in_ok-check.ensures)
     (rw (p.1, p.2) c.in_err-schedule.ensures.refusal)
 
+pub returns-in_err-sig-clause-family : goal.returns-in_err-sig-clause-family
+returns-in_err-sig-clause-family c = λ checked. all_served c.args.sig c.args.n checked (omega arith) c.requires.few
+
+pub returns-in_err-sig-clause-refusal : goal.returns-in_err-sig-clause-refusal
+returns-in_err-sig-clause-refusal c =
+    accepted (broken c.args.sig c.args.n) c.from_residual-in_err-sig.result (unbroken (broken c.args.sig c.args.n) c.in_ok-check.field-0 c.in_ok-check.ensures) (search rules)
+
 pub of_parts-requires : goal.of_parts-requires
-of_parts-requires c = record {
-  checked = unbroken (broken c.args.sig c.args.n) c.in_ok-check.field-0 c.in_ok-check.ensures;
-  low = c.requires.member;
-  few = c.requires.few;
-  schedule_is = c.in_ok-schedule.ensures.schedule;
-}
+of_parts-requires c =
+    let same : arc_value c.in_ok-sig.sig ≡ c.args.sig = search rules in
+    subst (λ (s : Signature). IsPlan s c.args.n c.args.r (arc_value c.in_ok-schedule.schedule)) (sym same)
+    (record {
+      checked = unbroken (broken c.args.sig c.args.n) c.in_ok-check.field-0 c.in_ok-check.ensures;
+      low = c.requires.member;
+      few = c.requires.few;
+      schedule_is = c.in_ok-schedule.ensures.schedule;
+    })
 
 pub returns-clause-family : goal.returns-clause-family
 returns-clause-family c = λ checked. all_served c.args.sig c.args.n checked (omega arith) c.requires.few

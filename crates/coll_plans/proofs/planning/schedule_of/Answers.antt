@@ -1,5 +1,5 @@
 -- each arm by its builder's contract
-use Rattle.coll_kinds.specs.declared.kind.Kind.TheVariants.{Barrier, Bcast, Gather, Scatter, Allgather, Alltoall, Reduce, Allreduce, Rsblock, Scan, Exscan}
+use Rattle.coll_kinds.specs.declared.kind.Kind.TheVariants.{Barrier, Bcast, Gather, Scatter, Allgather, Allgatherv, Alltoall, Reduce, Allreduce, Rsblock, Scan, Exscan}
 use Rattle.coll_plans.proofs.Plans.{of_kind}
 use Rattle.coll_plans.proofs.planning.schedule_of.Goals as goal
 
@@ -17,6 +17,9 @@ returns-in-Scatter-clause-schedule c = of_kind c.args.sig c.args.n c.args.r Scat
 
 pub returns-in-Allgather-clause-schedule : goal.returns-in-Allgather-clause-schedule
 returns-in-Allgather-clause-schedule c = of_kind c.args.sig c.args.n c.args.r Allgather c.allgather.result c.in-Allgather.is c.allgather.ensures.schedule
+
+pub returns-in-Allgatherv-clause-schedule : goal.returns-in-Allgatherv-clause-schedule
+returns-in-Allgatherv-clause-schedule c = of_kind c.args.sig c.args.n c.args.r Allgatherv c.allgatherv.result c.in-Allgatherv.is c.allgatherv.ensures.schedule
 
 pub returns-in-Alltoall-clause-schedule : goal.returns-in-Alltoall-clause-schedule
 returns-in-Alltoall-clause-schedule c = of_kind c.args.sig c.args.n c.args.r Alltoall c.alltoall.result c.in-Alltoall.is c.alltoall.ensures.schedule
