@@ -3,6 +3,11 @@ use Rattle.std.specs.Prelude.{◌≡◌, ℕ, ◌<◌, ◌≤◌, List, length, 
 use Rattle.coll_kinds.specs.declared.signature.Signature.{Signature}
 use Rattle.coll_queues.specs.Lists.{Lists}
 
+-- the signatures of the places so far, and how many memory stands for
+pub record Places : Type 0 where
+  pub items : List Signature
+  pub room : ℕ
+
 abbrev pub lists_of : List ℕ → List Signature → List ℕ → ℕ → Lists
 lists_of group signatures lengths room =
     record { group = group; lists = map (λ n. take n signatures) lengths; room = room }

@@ -2,8 +2,9 @@
 use Rattle.std.specs.Prelude.{ℕ, Bool, nat_lt, List, [], ◌∷◌, length, slice_index, Option, Some, None, is_some, option_map, if◌then◌else◌}
 use Rattle.coll_kinds.specs.declared.signature.Signature.{Signature}
 use Rattle.coll_kinds.specs.declared.refusal.Refusal.{Refusal}
-use Rattle.coll_kinds.specs.declared.refusal.Refusal.TheVariants.{BadComm, NotMember, BadSignature, Mismatch, PlacesUsed}
+use Rattle.coll_kinds.specs.declared.refusal.Refusal.TheVariants.{BadComm, NotMember, BadSignature, PlacesUsed}
 use Rattle.coll_kinds.specs.Checks.{broken}
+use Rattle.coll_kinds.specs.Refusals.{mismatch_at}
 use Rattle.coll_kinds.specs.Sameness.{same_signature}
 use Rattle.coll_queues.specs.Lists.{Lists, first_there, posts_in}
 use Rattle.coll_queues.specs.Postings.{Postings, group, groups_of, member_of, place_of, posts, size}
@@ -28,7 +29,7 @@ member_refusal q comm rank =
 abbrev pub mismatch_with : List ℕ → ℕ → Signature → Option (ℕ × Signature) → Option Refusal
 mismatch_with group place sig None = None
 mismatch_with group place sig (Some first) =
-    unless (same_signature first.1 sig) (Mismatch place (slice_index group first.0) first.1)
+    unless (same_signature first.1 sig) (mismatch_at place (slice_index group first.0) first.1)
 
 abbrev pub mismatch : Postings → ℕ → ℕ → Signature → Option Refusal
 mismatch q comm place sig = mismatch_with (group q comm) place sig (first_there (posts q comm) place 0 (size q comm))

@@ -13,5 +13,6 @@
 pub mod laws;
 mod posting_lists;
 mod queues;
+mod signatures;
 
 pub use queues::Queues;

@@ -1,4 +1,5 @@
 ghost use Rattle.std.specs.Prelude.{◌≡◌, ◌+◌, ◌<◌, ◌≤◌, ◌^◌, ◌++◌, ◌∷◌, [], Some, length, nat_lt, replicate, slice_index, option_map, IsSome, IfOk, OnOk, OnErr};
+ghost use Rattle.std.specs.Arc.{arc_value};
 ghost use Rattle.std.specs.List.{position};
 ghost use Rattle.std.specs.Option.{ForSome};
 ghost use Rattle.std.specs.Result.{result_err};
@@ -8,9 +9,11 @@ ghost use Rattle.coll_queues.specs.Lists.{first_there, posts_in, signed_in};
 ghost use Rattle.coll_queues.specs.Refusing.{mismatch_in, refusal_in};
 ghost use Rattle.coll_queues.specs.Sound.{IsAgreed};
 
+use crate::signatures::Signatures;
 use coll_kinds::{Refusal, Signature, member_of};
 use std::alloc::{AllocError, Global};
 use std::marker::Model;
+use std::sync::Arc;
 
 /// The posting lists of one communicator's members.
 ///
@@ -18,19 +21,18 @@ use std::marker::Model;
 #[derive(Debug, Drop)]
 pub(crate) struct PostingLists {
     group: Vec<u8>,
-    signatures: Vec<Signature>,
+    signatures: Signatures,
     lengths: Vec<u32>,
 }
 
 impl Model for PostingLists {
-    ghost use Rattle.std.specs.Prelude.{vec_capacity};
     ghost use Rattle.coll_queues.specs.Lists.{Lists};
 
     ghost Value = { Lists };
 
     ghost use Rattle.coll_queues.specs.Fronts.{AreFronts, lists_of};
 
-    ghost view = { λ a. lists_of a.group.items a.signatures.items a.lengths.items (vec_capacity a.signatures) };
+    ghost view = { λ a. lists_of a.group.items a.signatures.items a.lengths.items a.signatures.room };
 
     ghost invariant = { λ a. AreFronts a.group.items a.signatures.items a.lengths.items };
 }
@@ -64,7 +66,7 @@ impl PostingLists {
         let lengths = zeros(alloc, group.len())?;
         Ok(PostingLists {
             group,
-            signatures: Vec::new(alloc),
+            signatures: Signatures::new(alloc),
             lengths,
         })
     }
@@ -93,16 +95,16 @@ impl PostingLists {
     }
 
     /// The signature at a place of all lists that have it.
-    pub(crate) fn signature(&self, place: u32) -> Option<Signature>
-        ensures { result ≡ signed_in self.now place }
+    pub(crate) fn signature(&self, place: u32) -> Option<&Signature>
+        ensures { option_map (λ sig. sig.now) result ≡ signed_in self.now place }
     {
-        self.signatures.get(place as usize).copied()
+        self.signatures.get(place as usize)
     }
 
     /// The place that a member's next signature would get, which is to be below that many.
-    pub(crate) fn judge(&self, member: u8, sig: Signature, places: u32) -> Result<u32, Refusal>
+    pub(crate) fn judge(&self, member: u8, sig: &Signature, places: u32) -> Result<u32, Refusal>
         requires { member < length self.now.group }
-        ensures refused { result_err result ≡ refusal_in self.now member sig places }
+        ensures refused { result_err result ≡ refusal_in self.now member sig.now places }
         ensures place { IfOk result (λ place. place ≡ length (posts_in self.now member)) }
     {
         sig.check(self.size())?;
@@ -115,15 +117,14 @@ impl PostingLists {
     }
 
     /// Refuses another signature than the one that stands at the place.
-    fn compare(&self, place: u32, sig: Signature) -> Result<(), Refusal>
-        ensures { result_err result ≡ mismatch_in self.now place sig }
+    fn compare(&self, place: u32, sig: &Signature) -> Result<(), Refusal>
+        ensures { result_err result ≡ mismatch_in self.now place sig.now }
     {
         match self.signature(place) {
-            Some(known) if !known.is_same(sig) => Err(Refusal::Mismatch {
-                place,
-                first: self.first_rank(place),
-                sig: known,
-            }),
+            Some(known) if !known.is_same(sig) => {
+                let first = self.first_rank(place);
+                Err(Refusal::mismatch_at(place, first, known))
+            }
             _ => Ok(()),
         }
     }
@@ -152,19 +153,19 @@ impl PostingLists {
     }
 
     /// Enters a signature at the end of the member's list.
-    pub(crate) fn push(&mut self, member: u8, sig: Signature)
+    pub(crate) fn push(&mut self, member: u8, sig: Arc<Signature>)
         requires member_in { member < length self.old.group }
-        requires agrees { ForSome (signed_in self.old (length (posts_in self.old member))) (λ known. known ≡ sig) }
+        requires agrees { ForSome (signed_in self.old (length (posts_in self.old member))) (λ known. known ≡ arc_value sig) }
         requires room { length (posts_in self.old member) < self.old.room }
         requires short { length (posts_in self.old member) + 1 < 2 ^ 32 }
         ensures group { self.new.group ≡ self.old.group }
-        ensures posts { posts_in self.new ≡ put (posts_in self.old) member (posts_in self.old member ++ sig ∷ []) }
+        ensures posts { posts_in self.new ≡ put (posts_in self.old) member (posts_in self.old member ++ arc_value sig ∷ []) }
         ensures agreed { IsAgreed self.new }
-        ensures signed { signed_in self.new ≡ put (signed_in self.old) (length (posts_in self.old member)) (Some sig) }
+        ensures signed { signed_in self.new ≡ put (signed_in self.old) (length (posts_in self.old member)) (Some (arc_value sig)) }
     {
         let place = self.lengths[usize::from(member)];
         if place as usize == self.signatures.len() {
-            self.signatures.push_reserved(sig);
+            self.signatures.push(sig);
         }
         self.lengths[usize::from(member)] = place + 1;
     }

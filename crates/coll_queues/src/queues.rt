@@ -1,4 +1,5 @@
-ghost use Rattle.std.specs.Prelude.{◌≡◌, ◌≤◌, ◌++◌, ◌∷◌, [], None, Some, All, length, map, IfOk, IfErr, OnOk, OnErr};
+ghost use Rattle.std.specs.Prelude.{◌≡◌, ◌≤◌, ◌++◌, ◌∷◌, [], None, Some, All, length, map, option_map, IfOk, IfErr, OnOk, OnErr};
+ghost use Rattle.std.specs.Arc.{arc_value};
 ghost use Rattle.std.specs.Result.{result_err};
 ghost use Rattle.coll_queues.specs.Postings.{HasRoom, groups_of, member_of, number_of, place_of, posts, put_posts, put_signed, signed, size};
 ghost use Rattle.coll_queues.specs.Refusing.{judge_refusal, member_refusal};
@@ -8,6 +9,7 @@ use crate::posting_lists::PostingLists;
 use coll_kinds::{Refusal, Signature};
 use std::alloc::Global;
 use std::marker::Model;
+use std::sync::Arc;
 
 /// The posting lists of all communicators.
 ///
@@ -100,14 +102,14 @@ impl Queues {
     ///
     /// In this order: BadComm; NotMember; BadSignature with the first rule that the signature breaks for this group;
     /// Mismatch where another member has another signature at that place, with the world rank of the lowest member
-    /// that has the place, and its signature; PlacesUsed where the list has its full length. The mode is part of the
+    /// that has the place, and its signature but for an allgatherv's counts, which `signature` gives; PlacesUsed where the list has its full length. The mode is part of the
     /// signature, so a once call and a persistent one at one place are a Mismatch.
     pub fn judge(&self, comm: u32, rank: u8, sig: &Signature) -> Result<u32, Refusal>
         ensures refused { result_err result ≡ judge_refusal self.now comm rank sig.now }
         ensures place { IfOk result (λ place. place ≡ place_of self.now comm rank) }
     {
         let member = self.member(comm, rank)?;
-        self.comms[comm as usize].judge(member, *sig, self.places)
+        self.comms[comm as usize].judge(member, sig, self.places)
     }
 
     /// Makes room for one more signature in the list of a rank that is a member. Only NoMemory is refused; nothing
@@ -129,14 +131,14 @@ impl Queues {
 
     /// Enters a signature that `judge` accepts at the end of the rank's list, where `room` was made, and answers its
     /// place. It takes no memory. Linear in the group.
-    pub fn offer(&mut self, comm: u32, rank: u8, sig: Signature) -> u32
-        requires judged { judge_refusal self.old comm rank sig ≡ None }
+    pub fn offer(&mut self, comm: u32, rank: u8, sig: Arc<Signature>) -> u32
+        requires judged { judge_refusal self.old comm rank (arc_value sig) ≡ None }
         requires room { HasRoom self.old comm rank }
         ensures place { result ≡ place_of self.old comm rank }
         ensures groups { groups_of self.new ≡ groups_of self.old }
         ensures places { self.new.places ≡ self.old.places }
-        ensures posts { posts self.new ≡ put_posts (posts self.old) comm (number_of self.old comm rank) (posts self.old comm (number_of self.old comm rank) ++ sig ∷ []) }
-        ensures signed { signed self.new ≡ put_signed (signed self.old) comm (place_of self.old comm rank) (Some sig) }
+        ensures posts { posts self.new ≡ put_posts (posts self.old) comm (number_of self.old comm rank) (posts self.old comm (number_of self.old comm rank) ++ arc_value sig ∷ []) }
+        ensures signed { signed self.new ≡ put_signed (signed self.old) comm (place_of self.old comm rank) (Some (arc_value sig)) }
     {
         let member = self.number(comm, rank);
         let lists = &mut self.comms[comm as usize];
@@ -147,8 +149,8 @@ impl Queues {
 
     /// The signature that the communicator's lists have at the place; none where no list has it, or there is no such
     /// communicator. It takes constant time.
-    pub fn signature(&self, comm: u32, place: u32) -> Option<Signature>
-        ensures { result ≡ signed self.now comm place }
+    pub fn signature(&self, comm: u32, place: u32) -> Option<&Signature>
+        ensures { option_map (λ sig. sig.now) result ≡ signed self.now comm place }
     {
         self.comms.get(comm as usize)?.signature(place)
     }

@@ -106,7 +106,7 @@ fn is_of(tickets: &[Ticket], command: Command<'_>, entry: &Entry) -> bool
                 sig,
                 bytes,
                 ..
-            } => is_posting(*comm, *sig, on, wanted) && is_given(bytes.as_slice(), given),
+            } => is_posting(*comm, sig, on, &wanted) && is_given(bytes.as_slice(), given),
             Entry::Inited { .. } => false,
             Entry::Started { .. } => false,
             Entry::Retired { .. } => false,
@@ -117,7 +117,7 @@ fn is_of(tickets: &[Ticket], command: Command<'_>, entry: &Entry) -> bool
             sig: wanted,
         } => match entry {
             Entry::Posted { .. } => false,
-            Entry::Inited { comm, sig, .. } => is_posting(*comm, *sig, on, wanted),
+            Entry::Inited { comm, sig, .. } => is_posting(*comm, sig, on, &wanted),
             Entry::Started { .. } => false,
             Entry::Retired { .. } => false,
             Entry::Freed { .. } => false,
@@ -135,8 +135,8 @@ fn is_of(tickets: &[Ticket], command: Command<'_>, entry: &Entry) -> bool
     }
 }
 
-fn is_posting(comm: u32, sig: Signature, on: u32, wanted: Signature) -> bool
-    ensures { IsTrue result ↔ ((comm ≡ on) × (sig ≡ wanted)) }
+fn is_posting(comm: u32, sig: &Signature, on: u32, wanted: &Signature) -> bool
+    ensures { IsTrue result ↔ ((comm ≡ on) × (sig.now ≡ wanted.now)) }
 {
     comm == on && sig.is_same(wanted)
 }

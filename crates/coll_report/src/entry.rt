@@ -3,6 +3,7 @@ ghost use Rattle.std.specs.Prelude.{◌≡◌, ◌↔◌, IsTrue};
 use crate::bytes::Bytes;
 use coll_core::Outcome;
 use coll_kinds::{Signature, Ticket};
+use std::sync::Arc;
 
 /// An accepted call that changed a request. Refused calls, and tests that complete nothing, have no entry.
 #[derive(Debug, Drop)]
@@ -16,7 +17,7 @@ pub enum Entry {
         comm: u32,
         /// How many of its member's posts and initialisations on the communicator came before.
         place: u32,
-        sig: Signature,
+        sig: Arc<Signature>,
         /// What the member gave.
         bytes: Bytes,
     },
@@ -26,7 +27,7 @@ pub enum Entry {
         ticket: Ticket,
         comm: u32,
         place: u32,
-        sig: Signature,
+        sig: Arc<Signature>,
     },
     /// A persistent request was started (MPI 4.1, 3.9).
     Started {

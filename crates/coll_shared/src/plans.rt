@@ -19,9 +19,9 @@ pub(crate) struct Plans {
 }
 
 /// Whether a plan is that member's of such a collective.
-fn is_of(plan: &Plan, sig: Signature, n: u8, member: u8) -> bool
-    ensures is { IsTrue result → plan.now ≡ record { sig = sig; n = n; member = member } }
-    ensures checked { IsTrue result → broken sig n ≡ None }
+fn is_of(plan: &Plan, sig: &Signature, n: u8, member: u8) -> bool
+    ensures is { IsTrue result → plan.now ≡ record { sig = sig.now; n = n; member = member } }
+    ensures checked { IsTrue result → broken sig.now n ≡ None }
 {
     plan.sig().is_same(sig) && plan.n() == n && plan.member() == member
 }
@@ -40,18 +40,18 @@ impl Plans {
     /// # Errors
     ///
     /// BadSignature; NoMemory.
-    pub(crate) fn ready(&mut self, sig: Signature, n: u8, member: u8) -> Result<Plan, Refusal>
+    pub(crate) fn ready(&mut self, sig: &Signature, n: u8, member: u8) -> Result<Plan, Refusal>
         requires member { member < n }
         requires few { n ≤ 64 }
-        ensures plan { IfOk result (λ p. p ≡ record { sig = sig; n = n; member = member }) }
-        ensures refusal { MatchOption (broken sig n)
+        ensures plan { IfOk result (λ p. p ≡ record { sig = sig.now; n = n; member = member }) }
+        ensures refusal { MatchOption (broken sig.now n)
             (IsOkUnless result Refusal.NoMemory)
             (λ cause. IsErrOf result (Refusal.BadSignature cause)) }
     {
         if let Some(known) = self.known(sig, n, member) {
             return known.share();
         }
-        let made = match plan(self.alloc, sig, n, member) {
+        let made = match plan(self.alloc, *sig, n, member) {
             Ok(made) => made,
             Err(why) => return Err(why),
         };
@@ -60,9 +60,9 @@ impl Plans {
     }
 
     /// The kept plan of such a collective.
-    fn known(&self, sig: Signature, n: u8, member: u8) -> Option<&Plan>
-        ensures is { IfSome result (λ plan. plan.now ≡ record { sig = sig; n = n; member = member }) }
-        ensures checked { IsSome result → broken sig n ≡ None }
+    fn known(&self, sig: &Signature, n: u8, member: u8) -> Option<&Plan>
+        ensures is { IfSome result (λ plan. plan.now ≡ record { sig = sig.now; n = n; member = member }) }
+        ensures checked { IsSome result → broken sig.now n ≡ None }
     {
         for plan in &self.kept {
             if is_of(plan, sig, n, member) {

@@ -92,13 +92,13 @@ impl<L: Entries> Port<L> {
     /// # Errors
     ///
     /// In this order: BadComm; NotMember; BadSignature; NoMemory.
-    pub fn ready_plan(&mut self, comm: u32, sig: Signature) -> Result<Plan, Refusal>
+    pub fn ready_plan(&mut self, comm: u32, sig: &Signature) -> Result<Plan, Refusal>
         ensures same { self.new ≡ self.old }
-        ensures sig { IfOk result (λ plan. plan.sig ≡ sig) }
+        ensures sig { IfOk result (λ plan. plan.sig ≡ sig.now) }
         ensures n { IfOk result (λ plan. plan.n ≡ length (group_at self.old.groups comm)) }
         ensures member { IfOk result (λ plan. member_of self.old.rank (group_at self.old.groups comm) ≡ Some plan.member) }
         ensures unseated { IfSome (unseated self.old.groups self.old.rank comm) (λ why. IsErrOf result why) }
-        ensures refused { IfNone (unseated self.old.groups self.old.rank comm) (MatchOption (broken sig (length (group_at self.old.groups comm)))
+        ensures refused { IfNone (unseated self.old.groups self.old.rank comm) (MatchOption (broken sig.now (length (group_at self.old.groups comm)))
             (IsOkUnless result Refusal.NoMemory)
             (λ cause. IsErrOf result (Refusal.BadSignature cause))) }
     {

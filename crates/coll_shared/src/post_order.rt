@@ -1,4 +1,5 @@
 ghost use Rattle.std.specs.Prelude.{◌≡◌, ◌+◌, [], ◌∷◌, ◌++◌, IfSome, IsNone, Some};
+ghost use Rattle.std.specs.Arc.{arc_value};
 ghost use Rattle.coll_kinds.specs.declared.ticket.Ticket.{Ticket as Named};
 ghost use Rattle.coll_kinds.specs.declared.refusal.Refusal.{Refusal};
 ghost use Rattle.coll_core.specs.Posts.{post_of};
@@ -12,8 +13,10 @@ use crate::shared::Shared;
 use crate::tally::{Entries, Tally};
 use coll_core::Offer;
 use coll_kinds::{Signature, Ticket};
+use coll_plans::Plan;
 use coll_report::{Bytes, Entry};
 use std::alloc::Global;
+use std::sync::Arc;
 
 /// A post that a port orders, with what it keeps.
 #[derive(Drop)]
@@ -23,16 +26,37 @@ pub(crate) struct PostOrder {
     kept: Kept,
     /// What is given once more, for the entry that the port gets.
     bytes: Bytes,
+    /// The plan's signature, for that entry.
+    sig: Arc<Signature>,
     ghost keeps: { KeepsFor offer kept },
     ghost copied: { bytes ≡ offer.bytes.items },
+    ghost signed: { arc_value sig ≡ offer.plan.sig },
+}
+
+/// Bytes once more, for an entry.
+fn entry_bytes(alloc: Global, bytes: &[u8]) -> Option<Bytes>
+    ensures { IfSome result (λ made. made ≡ bytes.now) }
+{
+    let bytes = Vec::from_slice(alloc, bytes).ok()?;
+    Some(Bytes::new(alloc, bytes))
+}
+
+/// A plan once more, with its signature.
+fn shared(plan: &Plan) -> Option<(Plan, Arc<Signature>)>
+    ensures plan { IfSome result (λ r. r.0 ≡ plan.now) }
+    ensures sig { IfSome result (λ r. arc_value r.1 ≡ plan.now.sig) }
+{
+    let sig = plan.shared_sig().ok()?;
+    let plan = plan.share().ok()?;
+    Some((plan, sig))
 }
 
 impl PostOrder {
     /// Of an offer, in copies; none where memory is short.
     pub(crate) fn of(alloc: Global, comm: u32, offer: &Offer) -> Option<PostOrder> {
         let given = Vec::from_slice(alloc, &offer.bytes).ok()?;
-        let bytes = Bytes::new(alloc, Vec::from_slice(alloc, &given).ok()?);
-        let plan = offer.plan.share().ok()?;
+        let bytes = entry_bytes(alloc, &given)?;
+        let (plan, sig) = shared(&offer.plan)?;
         let offer = Offer { plan, bytes: given };
         let kept = Kept::of(alloc, &offer).ok()?;
         Some(PostOrder {
@@ -40,6 +64,7 @@ impl PostOrder {
             offer,
             kept,
             bytes,
+            sig,
         })
     }
 
@@ -61,8 +86,8 @@ impl PostOrder {
             offer,
             kept,
             bytes,
+            sig,
         } = self;
-        let sig = offer.plan.sig();
         match shared.post(mine, rank, comm, offer, Ok(kept)) {
             Ok((ticket, _receipt)) => {
                 let place = shared.last_place();
@@ -86,11 +111,11 @@ pub(crate) fn posted_in(
     entry: &Entry,
     of: u8,
     on: u32,
-    with: Signature,
+    with: &Signature,
     given: &[u8],
 ) -> Option<Ticket>
-    ensures found { IfSome result (λ ticket. IsPosted of (Some ticket) on with given.now (seen entry.now)) }
-    ensures none { IsNone result → (ticket : Named) → IsPosted of (Some ticket) on with given.now (seen entry.now) → ⊥ }
+    ensures found { IfSome result (λ ticket. IsPosted of (Some ticket) on with.now given.now (seen entry.now)) }
+    ensures none { IsNone result → (ticket : Named) → IsPosted of (Some ticket) on with.now given.now (seen entry.now) → ⊥ }
 {
     match entry {
         Entry::Posted {

@@ -102,13 +102,13 @@ impl<L: Entries> Shelf<L> {
         mine: &mut Tally<L>,
         rank: u8,
         comm: u32,
-        sig: Signature,
+        sig: &Signature,
         bytes: &[u8],
     ) -> Option<(Ticket, Receipt)>
-        ensures posted { IfSome result (λ r. IsPosted rank (Some r.0) comm sig bytes.now r.1) }
+        ensures posted { IfSome result (λ r. IsPosted rank (Some r.0) comm sig.now bytes.now r.1) }
         ensures counted { IfSome result (λ r. mine.new ≡ mine.old + 1) }
         ensures none { IsNone result → mine.new ≡ mine.old }
-        ensures left { IsNone result → ForSome self.old.made (λ entry. (t : Named) → IsPosted rank (Some t) comm sig bytes.now (seen entry) → (self.old.tally ≡ None) ⊎ (mine.old + 1 ≡ 2 ^ 64)) }
+        ensures left { IsNone result → ForSome self.old.made (λ entry. (t : Named) → IsPosted rank (Some t) comm sig.now bytes.now (seen entry) → (self.old.tally ≡ None) ⊎ (mine.old + 1 ≡ 2 ^ 64)) }
     {
         self.order = None;
         let Some(entry) = &self.made else {

@@ -79,10 +79,10 @@ impl<L: Entries> Shelves<L> {
         mine: &mut Tally<L>,
         rank: u8,
         comm: u32,
-        sig: Signature,
+        sig: &Signature,
         bytes: &[u8],
     ) -> Option<(Ticket, Receipt)>
-        ensures posted { IfSome result (λ r. IsPosted rank (Some r.0) comm sig bytes.now r.1) }
+        ensures posted { IfSome result (λ r. IsPosted rank (Some r.0) comm sig.now bytes.now r.1) }
         ensures counted { IfSome result (λ r. mine.new ≡ mine.old + 1) }
         ensures none { IsNone result → mine.new ≡ mine.old }
     {

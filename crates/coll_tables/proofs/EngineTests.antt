@@ -8,7 +8,8 @@ use Rattle.std.proofs.Math.ListN.{get_or-eq_default}
 use Rattle.coll_kinds.specs.declared.kind.Mode.{Mode}
 use Rattle.coll_kinds.specs.declared.kind.Mode.TheVariants.{Once, Persistent}
 use Rattle.coll_kinds.specs.declared.refusal.Refusal.{Refusal}
-use Rattle.coll_kinds.specs.declared.refusal.Refusal.TheVariants.{Active, BadComm, BadSignature, Full, Mismatch, NotMember, NotPersistent, PlacesUsed, StartsUsed}
+use Rattle.coll_kinds.specs.Refusals.{mismatch_at}
+use Rattle.coll_kinds.specs.declared.refusal.Refusal.TheVariants.{Active, BadComm, BadSignature, Full, NotMember, NotPersistent, PlacesUsed, StartsUsed}
 use Rattle.coll_kinds.specs.declared.refusal.SignatureFault.TheVariants.{Mode as WrongMode, Group as WrongGroup}
 use Rattle.coll_kinds.specs.declared.signature.Signature.{Signature}
 use Rattle.coll_kinds.specs.Checks.{broken}
@@ -119,9 +120,9 @@ abbrev by_lists : Setting → Postings → Setting
 by_lists g q = record { ranks = g.ranks; groups = groups_of q; slots = g.slots; places = q.places; wear = g.wear; starts = g.starts; trace = g.trace }
 
 mismatch_same : (g : Setting) (s : State) (q : Postings) (comm place : ℕ) (sig : Signature) → s.posts ≡ posts q → mismatch (by_lists g q) s comm place sig ≡ mismatch_in q comm place sig
-mismatch_same g s q comm place sig e = ap (λ (o : Option (ℕ × Signature)). option_and_then (λ first. unless (same_signature first.1 sig) (Mismatch place (slice_index (group_in q comm) first.0) first.1)) o) (ap (λ (f : ℕ → ℕ → List Signature). first_there (f comm) place 0 (size_in q comm)) e ∙ first_same (posts q comm) place 0 (size_in q comm)) ∙ go (first_posted (posts q comm) place 0 (size_in q comm))
+mismatch_same g s q comm place sig e = ap (λ (o : Option (ℕ × Signature)). option_and_then (λ first. unless (same_signature first.1 sig) (mismatch_at place (slice_index (group_in q comm) first.0) first.1)) o) (ap (λ (f : ℕ → ℕ → List Signature). first_there (f comm) place 0 (size_in q comm)) e ∙ first_same (posts q comm) place 0 (size_in q comm)) ∙ go (first_posted (posts q comm) place 0 (size_in q comm))
   where
-    go : (o : Option (ℕ × Signature)) → option_and_then (λ first. unless (same_signature first.1 sig) (Mismatch place (slice_index (group_in q comm) first.0) first.1)) o ≡ mismatch_with (group_in q comm) place sig o
+    go : (o : Option (ℕ × Signature)) → option_and_then (λ first. unless (same_signature first.1 sig) (mismatch_at place (slice_index (group_in q comm) first.0) first.1)) o ≡ mismatch_with (group_in q comm) place sig o
     go None = refl
     go (Some x) = refl
 

@@ -27,7 +27,7 @@ use Rattle.coll_tables.specs.Sound.{IsSound, next}
 
 -- a byte from rank 0 for each
 abbrev pub scatter : Signature
-scatter = record { kind = Scatter; mode = Once; root = 0; op = None; ty = U8; count = 1 }
+scatter = record { kind = Scatter; mode = Once; root = 0; op = None; ty = U8; count = 1; each = None }
 
 abbrev pub at : ℕ → ℕ → List ℕ → Progress
 at round index buf = record { round = round; index = index; buf = buf }

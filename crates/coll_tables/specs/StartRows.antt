@@ -1,6 +1,6 @@
 -- Worked rows: the tables of two ranks with a persistent reduce-scatter. Rank 0 starts and waits, rank 1 starts and
 -- wakes it, and rank 0's combination goes out.
-use Rattle.std.specs.Prelude.{◌≡◌, ℕ, true, false, List, [], ◌∷◌, Some, refl}
+use Rattle.std.specs.Prelude.{None, ◌≡◌, ℕ, true, false, List, [], ◌∷◌, Some, refl}
 use Rattle.coll_kinds.specs.declared.datatype.Datatype.TheVariants.{U8}
 use Rattle.coll_kinds.specs.declared.kind.Kind.TheVariants.{Rsblock}
 use Rattle.coll_kinds.specs.declared.kind.Mode.TheVariants.{Persistent}
@@ -23,7 +23,7 @@ use Rattle.coll_tables.specs.Sound.{IsSound, next}
 
 -- the sums of two bytes of each, one for each member
 abbrev pub sums : Signature
-sums = record { kind = Rsblock; mode = Persistent; root = 0; op = Some Sum; ty = U8; count = 1 }
+sums = record { kind = Rsblock; mode = Persistent; root = 0; op = Some Sum; ty = U8; count = 1; each = None }
 
 -- ---- both initialise, and rank 1 might free
 

@@ -34,7 +34,7 @@ Paths = Key → ℕ → Option Progress
 
 -- the family of schedules of a collective; where no signature was posted at its place yet, any
 abbrev pub no_signature : Signature
-no_signature = record { kind = Barrier; mode = Once; root = 0; op = None; ty = Byte; count = 0 }
+no_signature = record { kind = Barrier; mode = Once; root = 0; op = None; ty = Byte; count = 0; each = None }
 
 abbrev pub family_at : Tables → Key → Family
 family_at v k = family (unwrap_or (v.signed k.comm k.place) no_signature) (size v.setting k.comm)

@@ -1,6 +1,7 @@
 //! Posts and initialisations.
 
 ghost use Rattle.std.specs.Prelude.{◌≡◌, ◌<◌, None, OnOk, OnErr, IfOk, IfErr};
+ghost use Rattle.std.specs.Arc.{arc_value};
 ghost use Rattle.std.specs.Result.{result_err};
 ghost use Rattle.coll_kinds.specs.Elements.{AreBytes};
 ghost use Rattle.coll_kinds.specs.Lengths.{given_len};
@@ -26,12 +27,13 @@ use crate::request::Request;
 use coll_arena::laws::is_sound;
 use coll_arena::{ListName, Ticket};
 use coll_kinds::laws::lengths_are_small;
-use coll_kinds::{Mode, Refusal, Refused, SignatureFault};
+use coll_kinds::{Mode, Refusal, Refused, Signature, SignatureFault};
 use coll_match::Key;
 use coll_plans::Plan;
 use coll_tables::laws::{
     entry_core, init_core, init_refused, new_core, post_core, post_refused, room_core,
 };
+use std::sync::Arc;
 
 /// The signature breaks no rule among so many members, and the plan is that mode's and that member's.
 fn fits(plan: &Plan, size: u8, member: u8, mode: Mode) -> Result<(), Refusal>
@@ -116,11 +118,11 @@ impl Core {
         if let Err(why) = self.may_post(rank, comm, &offer) {
             return Err(Refused { why, back: offer });
         }
-        let buffer = match self.make_room(rank, comm, &offer, laid) {
-            Ok(buffer) => buffer,
+        let (sig, buffer) = match self.make_room(rank, comm, &offer, laid) {
+            Ok(room) => room,
             Err(why) => return Err(Refused { why, back: offer }),
         };
-        Ok(self.enter(rank, comm, offer, buffer))
+        Ok(self.enter(rank, comm, offer, sig, buffer))
     }
 
     /// Makes a persistent request, which is Idle (`MPI_Bcast_init` and its like; MPI 4.1, 6.13).
@@ -139,10 +141,11 @@ impl Core {
         if let Err(why) = self.may_init(rank, comm, &plan) {
             return Err(Refused { why, back: plan });
         }
-        if let Err(why) = self.make_idle_room(rank, comm, &plan) {
-            return Err(Refused { why, back: plan });
-        }
-        Ok(self.lay_down(rank, comm, plan))
+        let sig = match self.make_idle_room(rank, comm, &plan) {
+            Ok(sig) => sig,
+            Err(why) => return Err(Refused { why, back: plan }),
+        };
+        Ok(self.lay_down(rank, comm, plan, sig))
     }
 
     /// A plan may enter the rank's posting list.
@@ -156,7 +159,7 @@ impl Core {
         if let Err(why) = fits(plan, self.queues.size(comm), member, mode) {
             return Err(why);
         }
-        match self.queues.judge(comm, rank, &plan.sig()) {
+        match self.queues.judge(comm, rank, plan.sig()) {
             Ok(_) => Ok(()),
             Err(why) => Err(why),
         }
@@ -227,20 +230,22 @@ impl Core {
         self.matches.room(key, n)
     }
 
-    /// Makes room for all that a post takes beside the schedule's buffer, and answers that.
+    /// Makes room for all that a post takes beside the schedule's buffer, and answers the signature for the posting list and
+    /// that buffer.
     fn make_room(
         &mut self,
         rank: u8,
         comm: u32,
         offer: &Offer,
         laid: Result<Vec<u8>, Refusal>,
-    ) -> Result<Vec<u8>, Refusal>
+    ) -> Result<(Arc<Signature>, Vec<u8>), Refusal>
         requires accepted { refused_in self.old (post_of rank comm offer.now) ≡ None }
         requires laid { IfOk laid (λ buffer. IsLaid offer.now buffer.items) }
         requires short { IfErr laid (λ why. why ≡ Refusal.NoMemory) }
         ensures unchanged { Unchanged self.old self.new }
         ensures room { OnOk result (IsRoomy self.new rank comm offer.now.plan) }
-        ensures buffer { IfOk result (λ buffer. buffer.items ≡ laid_in (family offer.now.plan.sig offer.now.plan.n offer.now.plan.member) offer.now.bytes.items) }
+        ensures sig { IfOk result (λ r. arc_value r.0 ≡ offer.now.plan.sig) }
+        ensures buffer { IfOk result (λ r. r.1.items ≡ laid_in (family offer.now.plan.sig offer.now.plan.n offer.now.plan.member) offer.now.bytes.items) }
         ensures refused { IfErr result (λ why. why ≡ Refusal.NoMemory) }
     {
         is_sound(&self.arena);
@@ -256,25 +261,45 @@ impl Core {
         if let Err(why) = self.make_instance(rank, comm, offer.plan.n()) {
             return Err(why);
         }
-        Ok(buffer)
+        match offer.plan.shared_sig() {
+            Ok(sig) => Ok((sig, buffer)),
+            Err(why) => Err(why),
+        }
     }
 
-    /// Makes room for all that an initialisation takes.
-    fn make_idle_room(&mut self, rank: u8, comm: u32, plan: &Plan) -> Result<(), Refusal>
+    /// Makes room for all that an initialisation takes, and answers the signature for the posting list.
+    fn make_idle_room(
+        &mut self,
+        rank: u8,
+        comm: u32,
+        plan: &Plan,
+    ) -> Result<Arc<Signature>, Refusal>
         requires { refused_in self.old (init_of rank comm plan.now) ≡ None }
         ensures unchanged { Unchanged self.old self.new }
         ensures room { OnOk result (HasRoom self.new.queues comm rank) }
+        ensures sig { IfOk result (λ sig. arc_value sig ≡ plan.now.sig) }
         ensures refused { IfErr result (λ why. why ≡ Refusal.NoMemory) }
     {
         is_sound(&self.arena);
         entry_core(&self.arena);
-        self.make_place(rank, comm)
+        if let Err(why) = self.make_place(rank, comm) {
+            return Err(why);
+        }
+        plan.shared_sig()
     }
 
     /// Enters a post for which room was made.
-    fn enter(&mut self, rank: u8, comm: u32, offer: Offer, buffer: Vec<u8>) -> Ticket
+    fn enter(
+        &mut self,
+        rank: u8,
+        comm: u32,
+        offer: Offer,
+        sig: Arc<Signature>,
+        buffer: Vec<u8>,
+    ) -> Ticket
         requires accepted { refused_in self.old (post_of rank comm offer) ≡ None }
         requires room { IsRoomy self.old rank comm offer.plan }
+        requires sig { arc_value sig ≡ offer.plan.sig }
         requires buffer { buffer.items ≡ laid_in (family offer.plan.sig offer.plan.n offer.plan.member) offer.bytes.items }
         ensures setting { setting self.new ≡ setting self.old }
         ensures posted { StepsTo (setting self.old) (seen self.old) (post_of rank comm offer) (Ticketed result) (seen self.new) }
@@ -286,7 +311,7 @@ impl Core {
         post_core(&self.arena);
         let Offer { plan, bytes } = offer;
         are_bytes(&bytes);
-        let place = self.queues.offer(comm, rank, plan.sig());
+        let place = self.queues.offer(comm, rank, sig);
         let member = plan.member();
         let weight = plan.sig().lent(plan.n(), member) as u32;
         let mut request = Request {
@@ -315,16 +340,17 @@ impl Core {
     }
 
     /// Enters an initialisation for whose signature room was made.
-    fn lay_down(&mut self, rank: u8, comm: u32, plan: Plan) -> Ticket
+    fn lay_down(&mut self, rank: u8, comm: u32, plan: Plan, sig: Arc<Signature>) -> Ticket
         requires accepted { refused_in self.old (init_of rank comm plan) ≡ None }
         requires room { HasRoom self.old.queues comm rank }
+        requires sig { arc_value sig ≡ plan.sig }
         ensures setting { setting self.new ≡ setting self.old }
         ensures made { MachineStep (setting self.old) (seen self.old) (init_of rank comm plan) (Ticketed result) (seen self.new) }
     {
         is_sound(&self.arena);
         entry_core(&self.arena);
         init_core(&self.arena);
-        let place = self.queues.offer(comm, rank, plan.sig());
+        let place = self.queues.offer(comm, rank, sig);
         let request = Request {
             rank,
             comm,

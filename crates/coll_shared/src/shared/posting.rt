@@ -70,7 +70,10 @@ impl<L: Entries> Shared<L> {
             Ok(kept) => kept,
             Err(why) => return Err(Refused { why, back: offer }),
         };
-        let sig = offer.plan.sig();
+        let sig = match offer.plan.shared_sig() {
+            Ok(sig) => sig,
+            Err(why) => return Err(Refused { why, back: offer }),
+        };
         let ticket = match self.core.post_laid(rank, comm, offer, Ok(laid)) {
             Ok(ticket) => ticket,
             Err(refused) => return Err(refused),
@@ -125,7 +128,10 @@ impl<L: Entries> Shared<L> {
         if let Err(why) = self.trace.make_room() {
             return Err(Refused { why, back: plan });
         }
-        let sig = plan.sig();
+        let sig = match plan.shared_sig() {
+            Ok(sig) => sig,
+            Err(why) => return Err(Refused { why, back: plan }),
+        };
         let space = Space::empty(self.alloc, outcome_len(&plan));
         let ticket = match self.core.init(rank, comm, plan) {
             Ok(ticket) => ticket,

@@ -1,4 +1,5 @@
 use Rattle.std.proofs.Common.{◌≡◌, ◌∙◌, None, length, ap, refl, subst}
+use Rattle.std.specs.Arc.{arc_value}
 use Rattle.coll_arena.specs.ListNames.{number_of}
 use Rattle.coll_lists.specs.Layouts.{sequence}
 use Rattle.coll_kinds.specs.declared.kind.Mode.TheVariants.{Once}
@@ -22,7 +23,7 @@ offer-place-requires-clause-judged c =
     let bytes = c.args.offer.bytes.items in
     let accepted : refused_in p (Post c.args.rank c.args.comm plan bytes) ≡ None = accepted_from p c.args.self.now (Post c.args.rank c.args.comm plan bytes) c.self.view_is c.requires.accepted in
     let tested : MayEnter (setting p) p.arena p.queues c.args.rank c.args.comm Once plan = ((c.entry_core.ensures shown (setting p) p.arena p.queues p.matches c.args.rank c.args.comm plan c.self.invariant c.is_sound.ensures).0 bytes accepted).0 in
-    ap (λ (s : Signature). judge_refusal c.self.inside.queues c.args.comm c.args.rank s) c.sig.ensures.sig ∙ tested.judged
+    ap (λ (s : Signature). judge_refusal c.self.inside.queues c.args.comm c.args.rank s) c.requires.sig ∙ tested.judged
 
 pub join-hint-requires-clause-new : goal.join-hint-requires-clause-new
 join-hint-requires-clause-new c =
@@ -46,24 +47,24 @@ invariant_of-self c =
     let accepted : refused_in p (Post c.args.rank c.args.comm plan bytes) ≡ None = accepted_from p c.args.self.now (Post c.args.rank c.args.comm plan bytes) c.self.view_is c.requires.accepted in
     let key_is : c.key-key.result ≡ record { comm = c.args.comm; place = c.offer-place.result; start = 0 } = c.key-key.ensures in
     let x : Request = record { rank = c.args.rank; comm = c.args.comm; place = c.offer-place.result; hint = c.join-hint.result; plan = c.args.offer.plan; starts = 1; round = 0; index = 0; buffer = c.new.result } in
-    let calls : Calls p c.take.new.self c.offer-place.new.self c.join-hint.new.self c.seat.new.self c.in-Ok.ticket c.args.rank c.args.comm plan bytes c.sig.result c.key-key.result c.offer-place.result c.member-member.result c.lent-weight.result (number_of c.list-list.result) x c.go_over.new.self = record {
+    let calls : Calls p c.take.new.self c.offer-place.new.self c.join-hint.new.self c.seat.new.self c.in-Ok.ticket c.args.rank c.args.comm plan bytes (arc_value c.args.sig) c.key-key.result c.offer-place.result c.member-member.result c.lent-weight.result (number_of c.list-list.result) x c.go_over.new.self = record {
       accepted = accepted;
       are = subst AreBytes c.deref.ensures.value c.are_bytes.ensures;
       free = record { first = c.in-Ok.ensures.slot; next = c.in-Ok.ensures.generation };
       offered = record { groups = c.offer-place.ensures.groups; places = c.offer-place.ensures.places; posted = c.offer-place.ensures.posts; signs = c.offer-place.ensures.signed };
-      sig_is = c.sig.ensures.sig;
+      sig_is = c.requires.sig;
       place_is = c.offer-place.ensures.place;
       key_is = key_is;
       member_is = c.member-member.ensures.member;
       joins = record { members_is = c.join-hint.ensures.members; given_is = c.join-hint.ensures.given; seats_is = c.join-hint.ensures.seats; mail_is = c.join-hint.ensures.mail; then_members = c.seat.ensures.members; then_given = c.seat.ensures.given; then_seats = c.seat.ensures.seats; then_mail = c.seat.ensures.mail };
       puts = c.in-Ok.ensures.puts;
-      weight_is = c.lent-weight.ensures ∙ lent_moved c.sig-2.result plan.sig c.n.result plan.n c.member-member.result plan.member c.sig-2.ensures.sig c.n.ensures.n c.member-member.ensures.member;
+      weight_is = c.lent-weight.ensures ∙ lent_moved c.sig.result.now plan.sig c.n.result plan.n c.member-member.result plan.member c.sig.ensures.sig c.n.ensures.n c.member-member.ensures.member;
       made_is = refl;
       over = c.go_over.ensures;
       buf = c.new.ensures ∙ c.requires.buffer;
       stands = c.list-list.ensures.stands;
     } in
-    post_kept p c.take.new.self c.offer-place.new.self c.join-hint.new.self c.seat.new.self c.in-Ok.ticket c.args.rank c.args.comm plan bytes c.sig.result c.key-key.result c.offer-place.result c.member-member.result c.lent-weight.result (number_of c.list-list.result) x c.go_over.new.self c.post_core.ensures c.self.invariant c.is_sound.ensures calls
+    post_kept p c.take.new.self c.offer-place.new.self c.join-hint.new.self c.seat.new.self c.in-Ok.ticket c.args.rank c.args.comm plan bytes (arc_value c.args.sig) c.key-key.result c.offer-place.result c.member-member.result c.lent-weight.result (number_of c.list-list.result) x c.go_over.new.self c.post_core.ensures c.self.invariant c.is_sound.ensures calls
 
 pub unreachable-requires : goal.unreachable-requires
 unreachable-requires c =
@@ -82,22 +83,22 @@ returns-clause-posted c =
     let accepted : refused_in p (Post c.args.rank c.args.comm plan bytes) ≡ None = accepted_from p c.args.self.now (Post c.args.rank c.args.comm plan bytes) c.self.view_is c.requires.accepted in
     let key_is : c.key-key.result ≡ record { comm = c.args.comm; place = c.offer-place.result; start = 0 } = c.key-key.ensures in
     let x : Request = record { rank = c.args.rank; comm = c.args.comm; place = c.offer-place.result; hint = c.join-hint.result; plan = c.args.offer.plan; starts = 1; round = 0; index = 0; buffer = c.new.result } in
-    let calls : Calls p c.take.new.self c.offer-place.new.self c.join-hint.new.self c.seat.new.self c.in-Ok.ticket c.args.rank c.args.comm plan bytes c.sig.result c.key-key.result c.offer-place.result c.member-member.result c.lent-weight.result (number_of c.list-list.result) x c.go_over.new.self = record {
+    let calls : Calls p c.take.new.self c.offer-place.new.self c.join-hint.new.self c.seat.new.self c.in-Ok.ticket c.args.rank c.args.comm plan bytes (arc_value c.args.sig) c.key-key.result c.offer-place.result c.member-member.result c.lent-weight.result (number_of c.list-list.result) x c.go_over.new.self = record {
       accepted = accepted;
       are = subst AreBytes c.deref.ensures.value c.are_bytes.ensures;
       free = record { first = c.in-Ok.ensures.slot; next = c.in-Ok.ensures.generation };
       offered = record { groups = c.offer-place.ensures.groups; places = c.offer-place.ensures.places; posted = c.offer-place.ensures.posts; signs = c.offer-place.ensures.signed };
-      sig_is = c.sig.ensures.sig;
+      sig_is = c.requires.sig;
       place_is = c.offer-place.ensures.place;
       key_is = key_is;
       member_is = c.member-member.ensures.member;
       joins = record { members_is = c.join-hint.ensures.members; given_is = c.join-hint.ensures.given; seats_is = c.join-hint.ensures.seats; mail_is = c.join-hint.ensures.mail; then_members = c.seat.ensures.members; then_given = c.seat.ensures.given; then_seats = c.seat.ensures.seats; then_mail = c.seat.ensures.mail };
       puts = c.in-Ok.ensures.puts;
-      weight_is = c.lent-weight.ensures ∙ lent_moved c.sig-2.result plan.sig c.n.result plan.n c.member-member.result plan.member c.sig-2.ensures.sig c.n.ensures.n c.member-member.ensures.member;
+      weight_is = c.lent-weight.ensures ∙ lent_moved c.sig.result.now plan.sig c.n.result plan.n c.member-member.result plan.member c.sig.ensures.sig c.n.ensures.n c.member-member.ensures.member;
       made_is = refl;
       over = c.go_over.ensures;
       buf = c.new.ensures ∙ c.requires.buffer;
       stands = c.list-list.ensures.stands;
     } in
     subst (λ (v : Parts). StepsTo (setting v) (seen v) (Post c.args.rank c.args.comm plan bytes) (Ticketed c.in-Ok.ticket) (seen (parts_of p c.take.new.self c.offer-place.new.self c.seat.new.self))) c.self.view_is
-    (post_steps p c.take.new.self c.offer-place.new.self c.join-hint.new.self c.seat.new.self c.in-Ok.ticket c.args.rank c.args.comm plan bytes c.sig.result c.key-key.result c.offer-place.result c.member-member.result c.lent-weight.result (number_of c.list-list.result) x c.go_over.new.self c.post_core.ensures c.self.invariant c.is_sound.ensures calls)
+    (post_steps p c.take.new.self c.offer-place.new.self c.join-hint.new.self c.seat.new.self c.in-Ok.ticket c.args.rank c.args.comm plan bytes (arc_value c.args.sig) c.key-key.result c.offer-place.result c.member-member.result c.lent-weight.result (number_of c.list-list.result) x c.go_over.new.self c.post_core.ensures c.self.invariant c.is_sound.ensures calls)

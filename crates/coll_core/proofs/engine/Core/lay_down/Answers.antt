@@ -1,5 +1,6 @@
 use Rattle.std.proofs.Common.{◌≡◌, ◌∙◌, Some, None, length, ap, refl, subst}
 use Rattle.coll_arena.specs.declared.list_name.ListName.TheVariants.{Idle}
+use Rattle.std.specs.Arc.{arc_value}
 use Rattle.coll_arena.specs.ListNames.{number_of}
 use Rattle.coll_lists.specs.Layouts.{sequence}
 use Rattle.coll_kinds.specs.declared.kind.Mode.TheVariants.{Persistent}
@@ -22,7 +23,7 @@ offer-place-requires-clause-judged c =
     let plan = planned c.args.plan in
     let accepted : refused_in p (Init c.args.rank c.args.comm plan) ≡ None = accepted_from p c.args.self.now (Init c.args.rank c.args.comm plan) c.self.view_is c.requires.accepted in
     let tested : MayEnter (setting p) p.arena p.queues c.args.rank c.args.comm Persistent plan = (c.entry_core.ensures shown (setting p) p.arena p.queues p.matches c.args.rank c.args.comm plan c.self.invariant c.is_sound.ensures).1 accepted in
-    ap (λ (s : Signature). judge_refusal c.self.inside.queues c.args.comm c.args.rank s) c.sig.ensures.sig ∙ tested.judged
+    ap (λ (s : Signature). judge_refusal c.self.inside.queues c.args.comm c.args.rank s) c.requires.sig ∙ tested.judged
 
 pub unreachable-requires : goal.unreachable-requires
 unreachable-requires c =
@@ -41,7 +42,7 @@ invariant_of-self c =
     let h : Initialises shown (setting p) (seen p).state p.arena c.take.new.self p.queues c.offer-place.new.self c.in-Ok.ticket c.args.rank c.args.comm plan y = record {
       accepted = accepted;
       free = record { first = c.in-Ok.ensures.slot; next = c.in-Ok.ensures.generation };
-      offered = offered_as p.queues c.offer-place.new.self c.args.comm c.args.rank c.sig.result plan c.sig.ensures.sig (record { groups = c.offer-place.ensures.groups; places = c.offer-place.ensures.places; posted = c.offer-place.ensures.posts; signs = c.offer-place.ensures.signed });
+      offered = offered_as p.queues c.offer-place.new.self c.args.comm c.args.rank (arc_value c.args.sig) plan c.requires.sig (record { groups = c.offer-place.ensures.groups; places = c.offer-place.ensures.places; posted = c.offer-place.ensures.posts; signs = c.offer-place.ensures.signed });
       puts = one_slot p.arena c.take.new.self c.in-Ok.ticket.slot c.in-Ok.ticket.generation 0 0 (Some y) (number_of (Idle c.args.comm)) refl c.in-Ok.ensures.puts;
       is = initialised_as p.queues c.args.rank c.args.comm c.offer-place.result plan c.new-2.result (c.new-2.ensures ∙ c.new.ensures.items) c.offer-place.ensures.place;
     } in
@@ -56,7 +57,7 @@ returns-clause-made c =
     let h : Initialises shown (setting p) (seen p).state p.arena c.take.new.self p.queues c.offer-place.new.self c.in-Ok.ticket c.args.rank c.args.comm plan y = record {
       accepted = accepted;
       free = record { first = c.in-Ok.ensures.slot; next = c.in-Ok.ensures.generation };
-      offered = offered_as p.queues c.offer-place.new.self c.args.comm c.args.rank c.sig.result plan c.sig.ensures.sig (record { groups = c.offer-place.ensures.groups; places = c.offer-place.ensures.places; posted = c.offer-place.ensures.posts; signs = c.offer-place.ensures.signed });
+      offered = offered_as p.queues c.offer-place.new.self c.args.comm c.args.rank (arc_value c.args.sig) plan c.requires.sig (record { groups = c.offer-place.ensures.groups; places = c.offer-place.ensures.places; posted = c.offer-place.ensures.posts; signs = c.offer-place.ensures.signed });
       puts = one_slot p.arena c.take.new.self c.in-Ok.ticket.slot c.in-Ok.ticket.generation 0 0 (Some y) (number_of (Idle c.args.comm)) refl c.in-Ok.ensures.puts;
       is = initialised_as p.queues c.args.rank c.args.comm c.offer-place.result plan c.new-2.result (c.new-2.ensures ∙ c.new.ensures.items) c.offer-place.ensures.place;
     } in

@@ -17,8 +17,8 @@ use Rattle.coll_core.proofs.engine.Core.make_room.Goals as goal
 laid_for : (r : Result (Vec ℕ Global) Refusal) (offer : Offer) (buffer : Vec ℕ Global) → IfOk r (λ b. IsLaid offer b.items) → r ≡ Ok buffer → IsLaid offer buffer.items
 laid_for r offer buffer all is = subst (λ x. IfOk x (λ b. IsLaid offer b.items)) is all
 
-pub returns-clause-buffer : goal.returns-clause-buffer
-returns-clause-buffer c =
+pub returns-in-Ok-shared_sig-clause-buffer : goal.returns-in-Ok-shared_sig-clause-buffer
+returns-in-Ok-shared_sig-clause-buffer c =
     let p : Parts = record { ranks = c.self.inside.ranks; starts = c.self.inside.starts; trace = c.self.inside.trace; arena = c.self.inside.arena; queues = c.self.inside.queues; matches = c.self.inside.matches } in
     let plan = planned c.args.offer.now.plan in
     let bytes = c.args.offer.now.bytes.items in
@@ -39,8 +39,8 @@ make_instance-requires-clause-members c =
 low : (a b c d : ℕ) → a < b → c ≡ b → c ≡ d → a < d
 low a b c d h e f = omega arith
 
-pub returns-clause-room : goal.returns-clause-room
-returns-clause-room c =
+pub returns-in-Ok-shared_sig-clause-room : goal.returns-in-Ok-shared_sig-clause-room
+returns-in-Ok-shared_sig-clause-room c =
     let p : Parts = record { ranks = c.self.inside.ranks; starts = c.self.inside.starts; trace = c.self.inside.trace; arena = c.self.inside.arena; queues = c.self.inside.queues; matches = c.self.inside.matches } in
     let plan = planned c.args.offer.now.plan in
     let bytes = c.args.offer.now.bytes.items in

@@ -7,7 +7,7 @@ use Rattle.coll_core.proofs.engine.Core.may_start.Goals as goal
 
 pub returns-then-bytes-want-clause-refused : goal.returns-then-bytes-want-clause-refused
 returns-then-bytes-want-clause-refused c =
-    let is = c.given_len-want.ensures ∙ (λ z. given_len (c.sig-sig.ensures.sig z) (c.n.ensures.n z) (c.member.ensures.member z)) in
+    let is = c.given_len-want.ensures.len ∙ (λ z. given_len (c.sig-sig.ensures.sig z) (c.n.ensures.n z) (c.member.ensures.member z)) in
     let found = ap (λ p. record_in p.arena c.args.ticket.slot) (sym c.self.view_is) ∙ c.in-Ok.ensures.found in
     let rest = start_refused c.args.self.now c.args.rank c.args.ticket c.args.bytes.now c.in-Ok.request.now
     (subst IsCore c.self.view_is c.self.invariant) c.in_default.ensures.refused c.in_default.ensures.named found in
@@ -15,7 +15,7 @@ returns-then-bytes-want-clause-refused c =
 
 pub returns-then-request-self-clause-refused : goal.returns-then-request-self-clause-refused
 returns-then-request-self-clause-refused c =
-    let is = c.given_len-want.ensures ∙ (λ z. given_len (c.sig-sig.ensures.sig z) (c.n.ensures.n z) (c.member.ensures.member z)) in
+    let is = c.given_len-want.ensures.len ∙ (λ z. given_len (c.sig-sig.ensures.sig z) (c.n.ensures.n z) (c.member.ensures.member z)) in
     let found = ap (λ p. record_in p.arena c.args.ticket.slot) (sym c.self.view_is) ∙ c.in-Ok.ensures.found in
     let rest = start_refused c.args.self.now c.args.rank c.args.ticket c.args.bytes.now c.in-Ok.request.now
     (subst IsCore c.self.view_is c.self.invariant) c.in_default.ensures.refused c.in_default.ensures.named found in
@@ -24,7 +24,7 @@ returns-then-request-self-clause-refused c =
 
 pub returns-clause-refused : goal.returns-clause-refused
 returns-clause-refused c =
-    let is = c.given_len-want.ensures ∙ (λ z. given_len (c.sig-sig.ensures.sig z) (c.n.ensures.n z) (c.member.ensures.member z)) in
+    let is = c.given_len-want.ensures.len ∙ (λ z. given_len (c.sig-sig.ensures.sig z) (c.n.ensures.n z) (c.member.ensures.member z)) in
     let found = ap (λ p. record_in p.arena c.args.ticket.slot) (sym c.self.view_is) ∙ c.in-Ok.ensures.found in
     let rest = start_refused c.args.self.now c.args.rank c.args.ticket c.args.bytes.now c.in-Ok.request.now
     (subst IsCore c.self.view_is c.self.invariant) c.in_default.ensures.refused c.in_default.ensures.named found in

@@ -7,13 +7,13 @@ use Rattle.coll_core.proofs.engine.posting.fits.Goals as goal
 pub returns-in-Err : goal.returns-in-Err
 returns-in-Err c =
     sym (faulty (planned c.args.plan.now) c.args.size c.args.member c.args.mode c.in-Err.why
-    (fault_is c.sig.result c.args.plan.now.sig c.args.size c.check.result c.in-Err.why c.sig.ensures.sig c.check.ensures c.in-Err.is))
+    (fault_is c.sig.result.now c.args.plan.now.sig c.args.size c.check.result c.in-Err.why c.sig.ensures.sig c.check.ensures c.in-Err.is))
 
 pub returns-then-ne : goal.returns-then-ne
 returns-then-ne c =
     sym (wrong_mode (planned c.args.plan.now) c.args.size c.args.member c.args.mode
-    (faultless c.sig.result c.args.plan.now.sig c.args.size c.check.result c.in_default.field-0 c.sig.ensures.sig c.check.ensures c.in_default.is)
-    (mode_is c.sig-2.result c.args.plan.now.sig c.args.mode c.ne.result true c.sig-2.ensures.sig c.ne.ensures c.if-ne.true))
+    (faultless c.sig.result.now c.args.plan.now.sig c.args.size c.check.result c.in_default.field-0 c.sig.ensures.sig c.check.ensures c.in_default.is)
+    (mode_is c.sig-2.result.now c.args.plan.now.sig c.args.mode c.ne.result true c.sig-2.ensures.sig c.ne.ensures c.if-ne.true))
 
 pub returns-then-n-size : goal.returns-then-n-size
 returns-then-n-size c =
@@ -23,5 +23,5 @@ returns-then-n-size c =
       | then-n-size-via-else-n-size+then-member w ↦ another_member p.n c.args.size p.member c.args.member (λ e. w.if-member.true (w.member.ensures.member ∙ e))
     ] in
     sym (wrong_group (planned p) c.args.size c.args.member c.args.mode
-    (faultless c.sig.result p.sig c.args.size c.check.result c.in_default.field-0 c.sig.ensures.sig c.check.ensures c.in_default.is)
-    (mode_is c.sig-2.result p.sig c.args.mode c.ne.result false c.sig-2.ensures.sig c.ne.ensures c.if-ne.false) other)
+    (faultless c.sig.result.now p.sig c.args.size c.check.result c.in_default.field-0 c.sig.ensures.sig c.check.ensures c.in_default.is)
+    (mode_is c.sig-2.result.now p.sig c.args.mode c.ne.result false c.sig-2.ensures.sig c.ne.ensures c.if-ne.false) other)

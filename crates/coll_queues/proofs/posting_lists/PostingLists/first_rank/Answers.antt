@@ -1,5 +1,5 @@
 use Rattle.std.proofs.Common.{◌≡◌, ◌∙◌, ap, sym, subst, ltb, length, ℕ, List, Some, arith}
-use Rattle.std.specs.Prelude.{vec_capacity, IsSome, option_map, slice_index}
+use Rattle.std.specs.Prelude.{IsSome, option_map, slice_index}
 use Rattle.std.specs.List.{position}
 use Rattle.std.proofs.lemmas.List.{get_or_default}
 use Rattle.std.proofs.lemmas.Option.{none-some, same_Some}
@@ -10,12 +10,12 @@ use Rattle.coll_queues.proofs.posting_lists.PostingLists.first_rank.Goals as goa
 
 pub unreachable-requires : goal.unreachable-requires
 unreachable-requires c =
-    let found = stood _ _ _ (vec_capacity c.self.inside.signatures) c.self.invariant c.args.place (subst (λ v. IsSome (signed_in v c.args.place)) (sym c.self.view_is) c.requires) in
+    let found = stood _ _ _ c.self.inside.signatures.room c.self.invariant c.args.place (subst (λ v. IsSome (signed_in v c.args.place)) (sym c.self.view_is) c.requires) in
     none-some found.1.member (sym c.in-None.is ∙ c.first_beyond.ensures ∙ ap (λ (xs : List ℕ). position (λ n. ltb c.args.place n) xs) c.deref.ensures.value ∙ found.1.beyond)
 
 pub returns : goal.returns
 returns c =
-    let found = stood _ _ _ (vec_capacity c.self.inside.signatures) c.self.invariant c.args.place (subst (λ v. IsSome (signed_in v c.args.place)) (sym c.self.view_is) c.requires) in
+    let found = stood _ _ _ c.self.inside.signatures.room c.self.invariant c.args.place (subst (λ v. IsSome (signed_in v c.args.place)) (sym c.self.view_is) c.requires) in
     let member : found.1.member ≡ c.in-Some.member =
     same_Some _ _ (sym found.1.beyond ∙ ap (λ (xs : List ℕ). position (λ n. ltb c.args.place n) xs) (sym c.deref.ensures.value) ∙ sym c.first_beyond.ensures ∙ c.in-Some.is) in
     let rank : slice_index c.self.inside.group.items found.1.member ≡ c.index.result.now =

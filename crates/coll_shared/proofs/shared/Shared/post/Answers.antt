@@ -20,13 +20,13 @@ invariant_of-self-2 g c =
     kept s.config s.core _ _ _ _ _ _ _ c.self.invariant c.in-Ok-post_laid.ensures.setting (
     posted_hall s.core c.post_laid.new.self s.trace.entries c.begin-receipt.new.self.entries s.trace.reserved c.begin-receipt.new.self.reserved s.config.trace s.spaces.slots.items c.put.new.self.slots.items c.args.rank c.args.comm (planned c.args.offer.plan) c.args.offer.bytes.items c.in-Ok-post_laid.ticket c.live-place.result _ _ (hall_in c.self.invariant) c.in-Ok-post_laid.ensures.setting
     c.in-Ok-post_laid.ensures.posted c.live-place.ensures fits keeps.len_is keeps.filled c.put.ensures
-    (posted_entry _ _ _ _ _ _ _ _ _ _ _ c.make_room.ensures.entries c.begin-receipt.ensures.entries c.sig-sig.ensures.sig keeps.copied) (c.begin-receipt.ensures.reserved ∙ ap (λ n. n + 1) c.make_room.ensures.reserved)
+    (posted_entry _ _ _ _ _ _ _ _ _ _ _ c.make_room.ensures.entries c.begin-receipt.ensures.entries c.in-Ok-shared_sig.ensures.same keeps.copied) (c.begin-receipt.ensures.reserved ∙ ap (λ n. n + 1) c.make_room.ensures.reserved)
     )
 
 pub returns-clause-receipt : goal.returns-clause-receipt
 returns-clause-receipt g c =
     let keeps = keeps_for c.args.kept c.args.offer c.in-Ok.kept c.requires.kept c.in-Ok.is in
-    (c.live-place.result.place, c.begin-receipt.ensures.receipt ∙ (λ z. Posted c.args.rank c.in-Ok-post_laid.ticket c.args.comm c.live-place.result.place (c.sig-sig.ensures.sig z) (keeps.copied z)))
+    (c.live-place.result.place, c.begin-receipt.ensures.receipt ∙ (λ z. Posted c.args.rank c.in-Ok-post_laid.ticket c.args.comm c.live-place.result.place (c.in-Ok-shared_sig.ensures.same z) (keeps.copied z)))
 
 pub returns-then-is_full-clause-refused : goal.returns-then-is_full-clause-refused
 returns-then-is_full-clause-refused g c = denies_full c.self.invariant c.self.view_is c.is_full.ensures c.if-is_full.true
@@ -42,3 +42,6 @@ returns-in-Err-post_laid-clause-refused g c = denies_core c.self.invariant c.sel
 
 pub post_laid-requires-clause-laid : goal.post_laid-requires-clause-laid
 post_laid-requires-clause-laid g c = (keeps_for c.args.kept c.args.offer c.in-Ok.kept c.requires.kept c.in-Ok.is).laid_in
+
+pub returns-in-Err-shared_sig-clause-refused : goal.returns-in-Err-shared_sig-clause-refused
+returns-in-Err-shared_sig-clause-refused g c = denies_memory c.self.invariant c.self.view_is c.is_full.ensures c.if-is_full.false c.in-Err-shared_sig.ensures.refused
