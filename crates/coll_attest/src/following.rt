@@ -57,12 +57,12 @@ fn shown(command: &Command) -> Shown<'_>
     match command {
         Command::Post { comm, sig, given } => Shown::Post {
             comm: u32::from(*comm),
-            sig: *sig,
+            sig: *sig.sig(),
             given: given.as_slice(),
         },
         Command::Init { comm, sig } => Shown::Init {
             comm: u32::from(*comm),
-            sig: *sig,
+            sig: *sig.sig(),
         },
         Command::Start { req, given } => Shown::Start {
             request: *req,

@@ -67,6 +67,14 @@ pub(crate) fn differences(
             number(alloc, there.count)?,
         )?;
     }
+    if here.each != there.each {
+        push(
+            &mut all,
+            "counts",
+            counts(alloc, here)?,
+            counts(alloc, there)?,
+        )?;
+    }
     Ok(all)
 }
 
@@ -86,6 +94,23 @@ fn word(alloc: Global, word: &str) -> Result<String, AllocError> {
 
 fn number(alloc: Global, number: u32) -> Result<String, AllocError> {
     format!(in alloc; "{number}")
+}
+
+/// The counts of an allgatherv, up to the last that isn't 0.
+fn counts(alloc: Global, sig: &Signature) -> Result<String, AllocError> {
+    let Some(counts) = &sig.each else {
+        return word(alloc, "none");
+    };
+    let told = match counts.iter().rposition(|count| *count != 0) {
+        Some(last) => last,
+        None => 0,
+    };
+    let mut text = String::new(alloc);
+    for count in counts.iter().take(told) {
+        text.push_str(&format!(in alloc; "{count} ")?)?;
+    }
+    text.push_str(&number(alloc, counts.get(told).copied().unwrap_or(0))?)?;
+    Ok(text)
 }
 
 fn operation(sig: &Signature) -> &'static str {

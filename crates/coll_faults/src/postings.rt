@@ -46,8 +46,8 @@ fn note(
     command: &Command,
 ) -> Result<(), AllocError> {
     let (comm, sig, is_started) = match command {
-        Command::Post { comm, sig, .. } => (*comm, *sig, true),
-        Command::Init { comm, sig } => (*comm, *sig, false),
+        Command::Post { comm, sig, .. } => (*comm, *sig.sig(), true),
+        Command::Init { comm, sig } => (*comm, *sig.sig(), false),
         Command::Start { req, .. } => {
             if let Some(request) = posted.get_mut(*req as usize) {
                 request.starts.push(line)?;

@@ -95,7 +95,7 @@ fn note<'s>(made: &mut Vec<Made<'s>>, line: u32, command: &'s Command) -> Result
         Command::Post { comm, sig, .. } | Command::Init { comm, sig } => made.push(Made {
             line,
             comm: *comm,
-            sig,
+            sig: sig.sig(),
             active: None,
             freed: None,
         })?,

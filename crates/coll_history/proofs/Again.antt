@@ -1,6 +1,6 @@
 -- What is written is read again.
-use Rattle.std.proofs.Common.{◌≡◌, ℕ, suc, ◌+◌, ◌^◌, ◌<◌, ◌≤◌, Bool, true, false, not, cond, eqb, ltb, leb, List, [], ◌∷◌, ◌++◌, length, take, drop, map, Option, Some, None, Ok, refl, sym, ap, subst, ◌∙◌, append_assoc, arith, inl, inr}
-use Rattle.std.specs.Prelude.{ℤ, pos, negsuc, ◌&&◌, MatchBool, flat_map, slice_index, unwrap_or, is_some, ok_or, decimal}
+use Rattle.std.proofs.Common.{◌≡◌, ℕ, suc, ◌+◌, ◌-◌, ◌^◌, ◌<◌, ◌≤◌, Bool, true, false, not, cond, eqb, ltb, leb, List, [], ◌∷◌, ◌++◌, length, take, drop, replicate, map, Option, Some, None, Ok, refl, sym, ap, subst, ◌∙◌, append_assoc, arith, inl, inr}
+use Rattle.std.specs.Prelude.{ℤ, pos, negsuc, ◌&&◌, ◌||◌, MatchBool, flat_map, slice_index, unwrap_or, is_some, ok_or, decimal}
 use Rattle.std.specs.List.{AllByRecursion, list_all, position, position_or_len}
 use Rattle.std.specs.Char.{is_ascii_digit}
 use Rattle.std.specs.Fmt.{signed_decimal}
@@ -16,16 +16,17 @@ use Rattle.coll_kinds.specs.declared.datatype.Datatype.TheVariants.{I8, I16, I32
 use Rattle.coll_kinds.specs.declared.operation.Op.{Op}
 use Rattle.coll_kinds.specs.declared.operation.Op.TheVariants.{Max, Min, Sum, Prod, Land, Lor, Lxor, Band, Bor, Bxor, LastNz, MaxLoc, MinLoc}
 use Rattle.coll_kinds.specs.declared.kind.Kind.{Kind}
-use Rattle.coll_kinds.specs.declared.kind.Kind.TheVariants.{Barrier, Bcast, Gather, Scatter, Allgather, Alltoall, Reduce, Allreduce, Rsblock, Scan, Exscan}
+use Rattle.coll_kinds.specs.declared.kind.Kind.TheVariants.{Barrier, Bcast, Gather, Scatter, Allgather, Allgatherv, Alltoall, Reduce, Allreduce, Rsblock, Scan, Exscan}
 use Rattle.coll_kinds.specs.declared.signature.Signature.{Signature}
-use Rattle.coll_kinds.specs.Checks.{has_root, has_operation, is_barrier, broken}
+use Rattle.coll_kinds.specs.Checks.{has_root, has_operation, is_barrier, has_counts, broken}
+use Rattle.coll_kinds.specs.Limits.{max_ranks}
 use Rattle.coll_kinds.specs.Elements.{Element, whole, pair, is_signed, is_pair, limit, in_range, IsElement, element_bytes}
 use Rattle.coll_kinds.specs.Texts.{number_of, number_in, pair_of, value_of, text_of}
 use Rattle.coll_history.specs.declared.cause.Cause.TheVariants.{BadSignature, NamedTwice}
 use Rattle.coll_kinds.specs.Words.{kind_word, operation_word, datatype_word, kind_of, operation_of, datatype_of}
-use Rattle.coll_history.specs.Reading.{Reading, and_then, ◌>>=◌, give, numbers_from}
-use Rattle.coll_history.specs.Lines.{number_within, request_in, next, values, fields, signature}
-use Rattle.coll_history.specs.Writing.{NoneTwice, AreValues, value_words, operation_words, signature_words, HasWords}
+use Rattle.coll_history.specs.Reading.{and_then, ◌>>=◌, give, numbers_from}
+use Rattle.coll_history.specs.Lines.{number_within, request_in, next, values, count_in, counts_from, some_counts, fields, signature}
+use Rattle.coll_history.specs.Writing.{NoneTwice, AreValues, value_words, operation_words, count_words, signature_words, AreCounts, HasWords}
 
 -- ---- numbers
 
@@ -59,6 +60,7 @@ kind-again Bcast = refl
 kind-again Gather = refl
 kind-again Scatter = refl
 kind-again Allgather = refl
+kind-again Allgatherv = refl
 kind-again Alltoall = refl
 kind-again Reduce = refl
 kind-again Allreduce = refl
@@ -232,26 +234,56 @@ op-again : (b : Bool) (op : Option Op) (rest : List (List ℕ)) → MatchBool b 
 op-again true op rest fits = rw (fits.1, operation-again fits.0) refl
 op-again false op rest fits = rw fits refl
 
-tail-again : {A : Type 0} (b : Bool) (ty : Datatype) (count : ℕ) (rest : List (List ℕ)) (k : Datatype → ℕ → Reading A) → MatchBool b ((ty ≡ Byte) × (count ≡ 0)) (count < 2 ^ 32)
-    → (cond b (give Byte) (next (λ w. ok_or (datatype_of w) BadSignature)) >>= λ t. cond b (give 0) (next (λ w. ok_or (number_within 0 (2 ^ 32) w) BadSignature)) >>= λ n. k t n) (cond b [] (datatype_word ty ∷ decimal count ∷ []) ++ rest) ≡ k ty count rest
-tail-again true ty count rest k fits = rw (fits.0, fits.1) refl
-tail-again false ty count rest k fits = rw (datatype-again ty, within-again 0 (2 ^ 32) count (omega arith) fits (omega (arith, fits))) refl
+counts-again : (before cs : List ℕ) (rest : List (List ℕ)) → AllByRecursion (λ c. c < 2 ^ 32) cs → counts_from before (length cs) (map decimal cs ++ rest) ≡ Ok (before ++ cs, rest)
+counts-again before [] rest fit = ap (λ (x : List ℕ). Ok (x, rest)) (sym (append-nil before))
+counts-again before (c ∷ cs) rest fit =
+    rw (within-again 0 (2 ^ 32) c (omega arith) fit.0 (omega (arith, fit.0))) (counts-again (before ++ c ∷ []) cs rest fit.1 ∙ ap (λ (x : List ℕ). Ok (x, rest)) (append_assoc before (c ∷ []) cs))
 
-fields-again : (sig : Signature) (rest : List (List ℕ)) → HasWords sig
-    → fields sig.mode sig.kind (cond (has_root sig.kind) (decimal sig.root ∷ []) [] ++ (operation_words sig.op ++ (cond (is_barrier sig.kind) [] (datatype_word sig.ty ∷ decimal sig.count ∷ []) ++ rest))) ≡ Ok (sig, rest)
+each-again : (n : ℕ) (cs : List ℕ) (rest : List (List ℕ)) → length cs ≡ n → AllByRecursion (λ c. c < 2 ^ 32) cs
+    → some_counts n (map decimal (take n (cs ++ replicate (max_ranks - n) 0)) ++ rest) ≡ Ok (Some (cs ++ replicate (max_ranks - n) 0), rest)
+each-again n cs rest count fit =
+    let read : counts_from [] n (map decimal cs ++ rest) ≡ Ok (cs, rest) = subst (λ m. counts_from [] m (map decimal cs ++ rest) ≡ Ok (cs, rest)) count (counts-again [] cs rest fit) in
+    rw (take_at cs (replicate (max_ranks - n) 0) n count, read) refl
+
+-- no kind has both no elements and a count for each member
+not-both : (kind : Kind) → is_barrier kind ≡ true → has_counts kind ≡ true → ⊥
+not-both Barrier none counted = absurd cc
+not-both Bcast none counted = absurd cc
+not-both Gather none counted = absurd cc
+not-both Scatter none counted = absurd cc
+not-both Allgather none counted = absurd cc
+not-both Allgatherv none counted = absurd cc
+not-both Alltoall none counted = absurd cc
+not-both Reduce none counted = absurd cc
+not-both Allreduce none counted = absurd cc
+not-both Rsblock none counted = absurd cc
+not-both Scan none counted = absurd cc
+not-both Exscan none counted = absurd cc
+
+module _ (n : ℕ) (ty : Datatype) (count : ℕ) (each : Option (List ℕ)) (rest : List (List ℕ)) (sig : Datatype → ℕ → Option (List ℕ) → Signature) where
+  tail-again : (b c : Bool) → (b ≡ true → c ≡ true → ⊥) → (b ≡ true → ty ≡ Byte) → MatchBool (b || c) (count ≡ 0) (count < 2 ^ 32) → MatchBool c (AreCounts n each) (each ≡ None)
+      → (cond b (give Byte) (next (λ w. ok_or (datatype_of w) BadSignature)) >>= λ t. cond (b || c) (give 0) (next count_in) >>= λ m. cond c (some_counts n) (give None) >>= λ e. give (sig t m e))
+      (cond b [] (datatype_word ty ∷ count_words n count each) ++ rest) ≡ Ok (sig ty count each, rest)
+  tail-again true true apart byte fits are = absurd (apart refl refl)
+  tail-again true false apart byte fits are = rw (byte refl, fits, are) refl
+  tail-again false true apart byte fits are = rw (datatype-again ty, fits, are.all, each-again n are.counts rest are.count are.fit) refl
+  tail-again false false apart byte fits are = rw (datatype-again ty, are, within-again 0 (2 ^ 32) count (omega arith) fits (omega (arith, fits))) refl
+
+fields-again : (sig : Signature) (n : ℕ) (rest : List (List ℕ)) → HasWords n sig
+    → fields sig.mode n sig.kind (cond (has_root sig.kind) (decimal sig.root ∷ []) [] ++ (operation_words sig.op ++ (cond (is_barrier sig.kind) [] (datatype_word sig.ty ∷ count_words n sig.count sig.each) ++ rest))) ≡ Ok (sig, rest)
 unfolding fields
-fields-again sig rest has =
+fields-again sig n rest has =
     rw (
-      root-again (has_root sig.kind) sig.root (operation_words sig.op ++ (cond (is_barrier sig.kind) [] (datatype_word sig.ty ∷ decimal sig.count ∷ []) ++ rest)) has.root,
-      op-again (has_operation sig.kind) sig.op (cond (is_barrier sig.kind) [] (datatype_word sig.ty ∷ decimal sig.count ∷ []) ++ rest) has.operation,
+      root-again (has_root sig.kind) sig.root (operation_words sig.op ++ (cond (is_barrier sig.kind) [] (datatype_word sig.ty ∷ count_words n sig.count sig.each) ++ rest)) has.root,
+      op-again (has_operation sig.kind) sig.op (cond (is_barrier sig.kind) [] (datatype_word sig.ty ∷ count_words n sig.count sig.each) ++ rest) has.operation,
     )
-    (tail-again (is_barrier sig.kind) sig.ty sig.count rest (λ t n. give (record { kind = sig.kind; mode = sig.mode; root = sig.root; op = sig.op; ty = t; count = n })) has.elements)
+    (tail-again n sig.ty sig.count sig.each rest (λ t m e. record { kind = sig.kind; mode = sig.mode; root = sig.root; op = sig.op; ty = t; count = m; each = e }) (is_barrier sig.kind) (has_counts sig.kind) (not-both sig.kind) has.datatype has.count has.each)
 
-pub signature-again : (sig : Signature) (n : ℕ) (rest : List (List ℕ)) → HasWords sig → broken sig n ≡ None → signature sig.mode n (signature_words sig ++ rest) ≡ Ok (sig, rest)
+pub signature-again : (sig : Signature) (n : ℕ) (rest : List (List ℕ)) → HasWords n sig → broken sig n ≡ None → signature sig.mode n (signature_words n sig ++ rest) ≡ Ok (sig, rest)
 unfolding signature
 signature-again sig n rest has checked =
     let roots = cond (has_root sig.kind) (decimal sig.root ∷ []) [] in
-    let tail = cond (is_barrier sig.kind) [] (datatype_word sig.ty ∷ decimal sig.count ∷ []) in
-    let regrouped : signature_words sig ++ rest ≡ kind_word sig.kind ∷ (roots ++ (operation_words sig.op ++ (tail ++ rest))) =
+    let tail = cond (is_barrier sig.kind) [] (datatype_word sig.ty ∷ count_words n sig.count sig.each) in
+    let regrouped : signature_words n sig ++ rest ≡ kind_word sig.kind ∷ (roots ++ (operation_words sig.op ++ (tail ++ rest))) =
     simp append_assoc in
-    ap (signature sig.mode n) regrouped ∙ rw (kind-again sig.kind, fields-again sig rest has, checked) refl
+    ap (signature sig.mode n) regrouped ∙ rw (kind-again sig.kind, fields-again sig n rest has, checked) refl

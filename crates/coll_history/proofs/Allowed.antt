@@ -116,8 +116,8 @@ none-is (Some x) e = absurd cc
 pub signature-checked : (mode : Mode) (n : ℕ) (words : List (List ℕ)) (a : Signature × List (List ℕ)) → signature mode n words ≡ Ok a → broken a.0 n ≡ None
 unfolding signature
 signature-checked mode n words a e =
-    let first = bind-is (next (λ w. ok_or (kind_of w) BadSignature)) (λ kind. fields mode kind >>= λ sig. must (is_none (broken sig n)) BadSignature >>= λ checked. give sig) words a e in
-    let second = bind-is (fields mode first.0.0) (λ sig. must (is_none (broken sig n)) BadSignature >>= λ checked. give sig) first.0.1 a first.2 in
+    let first = bind-is (next (λ w. ok_or (kind_of w) BadSignature)) (λ kind. fields mode n kind >>= λ sig. must (is_none (broken sig n)) BadSignature >>= λ checked. give sig) words a e in
+    let second = bind-is (fields mode n first.0.0) (λ sig. must (is_none (broken sig n)) BadSignature >>= λ checked. give sig) first.0.1 a first.2 in
     let sig = second.0.0 in
     let third = bind-is (must (is_none (broken sig n)) BadSignature) (λ checked. give sig) second.0.1 a second.2 in
     let same : sig ≡ a.0 = cc in

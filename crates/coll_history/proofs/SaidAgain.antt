@@ -1,5 +1,5 @@
 -- A command that is written so is read so.
-use Rattle.std.proofs.Common.{◌≡◌, ℕ, ◌/◌, true, List, [], ◌∷◌, ◌++◌, length, map, Some, Result, Ok, refl, sym, ap, subst, ◌∙◌, inl, inr}
+use Rattle.std.proofs.Common.{◌≡◌, ℕ, ◌/◌, true, List, [], ◌∷◌, ◌++◌, length, map, Some, None, Result, Ok, refl, sym, ap, subst, ◌∙◌, inl, inr}
 use Rattle.std.specs.Prelude.{codes, nat_lt, decimal}
 use Rattle.std.specs.List.{range_with_len}
 use Rattle.std.proofs.lemmas.Bool.{lt-ltb}
@@ -8,6 +8,7 @@ use Rattle.std.proofs.lemmas.List.{append-nil}
 use Rattle.coll_kinds.specs.declared.kind.Mode.{Mode}
 use Rattle.coll_kinds.specs.declared.kind.Mode.TheVariants.{Once, Persistent}
 use Rattle.coll_kinds.specs.declared.signature.Signature.{Signature}
+use Rattle.coll_kinds.specs.Checks.{broken}
 use Rattle.coll_kinds.specs.Elements.{Element, width}
 use Rattle.coll_history.specs.declared.cause.Cause.{Cause}
 use Rattle.coll_history.specs.declared.command.Command.{Command}
@@ -15,7 +16,7 @@ use Rattle.coll_history.specs.declared.command.Command.TheVariants.{Post, Init, 
 use Rattle.coll_history.specs.Reading.{and_then}
 use Rattle.coll_history.specs.Histories.{History, group_of, Posting, total}
 use Rattle.coll_history.specs.Lines.{communicator, signature, due, made, post, init, startable, start, free, some, all, command, tell, line}
-use Rattle.coll_history.specs.Writing.{AreValues, value_words, signature_words, MayPost, MayStart, IsMade, MayName, IsSome, Writes}
+use Rattle.coll_history.specs.Writing.{AreValues, value_words, signature_words, members, MayPost, MayStart, IsMade, MayName, IsSome, Writes}
 use Rattle.coll_history.proofs.Again.{number-again, request-again, numbers-again, values-again, signature-again}
 
 -- what the words behind the first one are read as, a line is read as
@@ -69,33 +70,33 @@ module _ (number rank n : ℕ) (h : History) (ranks : h.ranks ≡ Some n) (opene
   communicator-again : (mode : Mode) (comm : ℕ) (sig : Signature) (rest : List (List ℕ)) → MayPost h rank mode comm sig → communicator h.groups rank (decimal comm ∷ rest) ≡ Ok (comm, rest)
   communicator-again mode comm sig rest may = rw (number-again comm may.small, may.known, may.is_member) refl
 
-  sig-again : (mode : Mode) (comm : ℕ) (sig : Signature) (rest : List (List ℕ)) → MayPost h rank mode comm sig → signature mode (length (group_of h.groups comm)) (signature_words sig ++ rest) ≡ Ok (sig, rest)
+  sig-again : (mode : Mode) (comm : ℕ) (sig : Signature) (rest : List (List ℕ)) → MayPost h rank mode comm sig → signature mode (length (group_of h.groups comm)) (signature_words (members h comm) sig ++ rest) ≡ Ok (sig, rest)
   sig-again mode comm sig rest may =
-      let group : group_of h.groups comm ≡ may.group = get_or_from_slice_get h.groups comm may.group [] may.known in
-      let here : signature sig.mode (length (group_of h.groups comm)) (signature_words sig ++ rest) ≡ Ok (sig, rest) = rw group (signature-again sig (length may.group) rest may.words may.checked) in
-      subst (λ (m : Mode). signature m (length (group_of h.groups comm)) (signature_words sig ++ rest) ≡ Ok (sig, rest)) may.mode_is here
+      let checked : broken sig (length (group_of h.groups comm)) ≡ None = ap (λ (g : List ℕ). broken sig (length g)) (get_or_from_slice_get h.groups comm may.group [] may.known) ∙ may.checked in
+      let here : signature sig.mode (length (group_of h.groups comm)) (signature_words (members h comm) sig ++ rest) ≡ Ok (sig, rest) = signature-again sig (length (group_of h.groups comm)) rest may.words checked in
+      subst (λ (m : Mode). signature m (length (group_of h.groups comm)) (signature_words (members h comm) sig ++ rest) ≡ Ok (sig, rest)) may.mode_is here
 
   pub post-line : (comm : ℕ) (sig : Signature) (elements : List Element) (given : List ℕ) → MayPost h rank Once comm sig → AreValues sig.ty (due h.groups rank comm sig / width sig.ty) elements given
-      → line number h (codes "post" ∷ decimal comm ∷ (signature_words sig ++ value_words elements)) ≡ Ok (tell number rank (Post comm sig given) h)
+      → line number h (codes "post" ∷ decimal comm ∷ (signature_words (members h comm) sig ++ value_words elements)) ≡ Ok (tell number rank (Post comm sig given) h)
   unfolding line command post
   post-line comm sig elements given may are =
       let room : nat_lt (total h.told) 4096 ≡ true = lt-ltb (total h.told) 4096 may.room in
       rw (
         ranks,
         opened,
-        communicator-again Once comm sig (signature_words sig ++ value_words elements) may,
+        communicator-again Once comm sig (signature_words (members h comm) sig ++ value_words elements) may,
         sig-again Once comm sig (value_words elements) may,
         values-again sig.ty (due h.groups rank comm sig / width sig.ty) elements given are,
         room,
       ) refl
 
-  pub init-line : (comm : ℕ) (sig : Signature) → MayPost h rank Persistent comm sig → line number h (codes "init" ∷ decimal comm ∷ signature_words sig) ≡ Ok (tell number rank (Init comm sig) h)
+  pub init-line : (comm : ℕ) (sig : Signature) → MayPost h rank Persistent comm sig → line number h (codes "init" ∷ decimal comm ∷ signature_words (members h comm) sig) ≡ Ok (tell number rank (Init comm sig) h)
   unfolding line command init
   init-line comm sig may =
       let room : nat_lt (total h.told) 4096 ≡ true = lt-ltb (total h.told) 4096 may.room in
-      let sig-is : signature Persistent (length (group_of h.groups comm)) (signature_words sig) ≡ Ok (sig, []) =
-      ap (signature Persistent (length (group_of h.groups comm))) (sym (append-nil (signature_words sig))) ∙ sig-again Persistent comm sig [] may in
-      rw (ranks, opened, communicator-again Persistent comm sig (signature_words sig) may, sig-is, room) refl
+      let sig-is : signature Persistent (length (group_of h.groups comm)) (signature_words (members h comm) sig) ≡ Ok (sig, []) =
+      ap (signature Persistent (length (group_of h.groups comm))) (sym (append-nil (signature_words (members h comm) sig))) ∙ sig-again Persistent comm sig [] may in
+      rw (ranks, opened, communicator-again Persistent comm sig (signature_words (members h comm) sig) may, sig-is, room) refl
 
   -- what is written is read
   pub command-again : (c : Command) (words : List (List ℕ)) → Writes h rank c words → line number h words ≡ Ok (tell number rank c h)

@@ -1,6 +1,6 @@
 -- A command that is accepted could have been written: the words that write it.
-use Rattle.std.proofs.Common.{◌≡◌, ℕ, ◌+◌, ◌/◌, ◌^◌, ◌<◌, ◌≤◌, Bool, true, false, cond, ltb, leb, eqb, List, [], ◌∷◌, ◌++◌, length, take, drop, map, Option, Some, None, Result, Ok, Err, refl, sym, ap, subst, ◌∙◌, append_assoc, arith, inl, inr}
-use Rattle.std.specs.Prelude.{ℤ, pos, MatchBool, codes, decimal, flat_map, is_some, is_none, ok_or, unwrap_or, option_and_then, ◌&&◌}
+use Rattle.std.proofs.Common.{◌≡◌, ℕ, zero, suc, ◌+◌, ◌-◌, ◌/◌, ◌^◌, ◌<◌, ◌≤◌, Bool, true, false, cond, ltb, leb, eqb, List, [], ◌∷◌, ◌++◌, length, take, drop, replicate, map, Option, Some, None, Result, Ok, Err, refl, sym, ap, subst, ◌∙◌, append_assoc, arith, inl, inr}
+use Rattle.std.specs.Prelude.{ℤ, pos, MatchBool, codes, decimal, flat_map, is_some, is_none, ok_or, unwrap_or, option_and_then, ◌&&◌, ◌||◌, IsTrue}
 use Rattle.std.specs.Option.{option_map}
 use Rattle.std.specs.List.{AllByRecursion, list_all, position, range_with_len}
 use Rattle.std.specs.Str.{bytes_eq}
@@ -15,7 +15,8 @@ use Rattle.coll_kinds.specs.declared.kind.Mode.{Mode}
 use Rattle.coll_kinds.specs.declared.kind.Mode.TheVariants.{Once, Persistent}
 use Rattle.coll_kinds.specs.declared.operation.Op.{Op}
 use Rattle.coll_kinds.specs.declared.signature.Signature.{Signature}
-use Rattle.coll_kinds.specs.Checks.{has_root, has_operation, is_barrier, broken}
+use Rattle.coll_kinds.specs.Checks.{has_root, has_operation, is_barrier, has_counts, broken}
+use Rattle.coll_kinds.specs.Limits.{max_ranks}
 use Rattle.coll_kinds.specs.Elements.{Element, whole, pair, width, is_pair, in_range, element_bytes, IsElement}
 use Rattle.coll_kinds.specs.Groups.{is_among}
 use Rattle.coll_kinds.specs.Texts.{number_of, whole_number_of, number_in, pair_of, value_of}
@@ -26,9 +27,9 @@ use Rattle.coll_history.specs.declared.command.Command.{Command}
 use Rattle.coll_history.specs.declared.command.Command.TheVariants.{Post, Init, Start, Wait, Test, Free, WaitAny, WaitSome, WaitAll}
 use Rattle.coll_history.specs.Reading.{Reading, and_then, ◌>>=◌, give, must, end, numbers_from, numbers}
 use Rattle.coll_history.specs.Histories.{History, Posting, group_of, total}
-use Rattle.coll_history.specs.Lines.{number_within, request_in, next, communicator, fields, signature, due, colon, values, room, post, init, made, startable, start, free, one, some, all, wait, test, waitany, waitsome, waitall, command_of}
+use Rattle.coll_history.specs.Lines.{number_within, request_in, next, communicator, count_in, counts_from, counts, some_counts, fields, signature, due, colon, values, room, post, init, made, startable, start, free, one, some, all, wait, test, waitany, waitsome, waitall, command_of}
 use Rattle.coll_history.specs.Sound.{IsPosting}
-use Rattle.coll_history.specs.Writing.{AreValues, value_words, signature_words, HasWords, MayPost, MayStart, IsMade, NoneTwice, MayName, IsSome, Writes}
+use Rattle.coll_history.specs.Writing.{AreValues, value_words, signature_words, AreCounts, HasWords, members, MayPost, MayStart, IsMade, NoneTwice, MayName, IsSome, Writes}
 use Rattle.coll_history.proofs.Allowed.{then-is, bind-is, must-is, room-is, communicator-is, signature-checked, one-below, twice-not, next-is, request-below, startable-is}
 use Rattle.coll_history.proofs.Readers.{count-le}
 
@@ -190,55 +191,97 @@ op-is true words a e =
     (found.0, cc)
 op-is false words a e = cc
 
-elements-is : (b : Bool) (words others : List (List ℕ)) (ty : Datatype × List (List ℕ)) (count : ℕ × List (List ℕ)) → cond b (give Byte) (next (λ w. ok_or (datatype_of w) BadSignature)) words ≡ Ok ty
-    → cond b (give 0) (next (λ w. ok_or (number_within 0 (2 ^ 32) w) BadSignature)) others ≡ Ok count → MatchBool b ((ty.0 ≡ Byte) × (count.0 ≡ 0)) (count.0 < 2 ^ 32)
-elements-is true words others ty count e f = (cc, cc)
-elements-is false words others ty count e f =
-    let read = next-is (λ w. ok_or (number_within 0 (2 ^ 32) w) BadSignature) others count f in (number-within 0 (2 ^ 32) BadSignature read.0 count.0 read.1).1
+datatype-is : (b : Bool) (words : List (List ℕ)) (a : Datatype × List (List ℕ)) → cond b (give Byte) (next (λ w. ok_or (datatype_of w) BadSignature)) words ≡ Ok a → IsTrue b → a.0 ≡ Byte
+datatype-is true words a e is = cc
+datatype-is false words a e is = absurd cc
 
-abbrev IsWritten : Mode → Signature → Type 0
-IsWritten mode sig = (sig.mode ≡ mode) × HasWords sig
+count-is : (b : Bool) (words : List (List ℕ)) (a : ℕ × List (List ℕ)) → cond b (give 0) (next count_in) words ≡ Ok a → MatchBool b (a.0 ≡ 0) (a.0 < 2 ^ 32)
+count-is true words a e = cc
+count-is false words a e = let read = next-is count_in words a e in (number-within 0 (2 ^ 32) BadSignature read.0 a.0 read.1).1
+
+-- so many counts that were read, behind those before
+record AreMore (k : ℕ) (before all : List ℕ) : Type 0 where
+  pub more : List ℕ
+  pub parts : all ≡ before ++ more
+  pub count : length more ≡ k
+  pub fit : AllByRecursion (λ c. c < 2 ^ 32) more
+
+counts-are : (before : List ℕ) (k : ℕ) (words : List (List ℕ)) (a : List ℕ × List (List ℕ)) → counts_from before k words ≡ Ok a → AreMore k before a.0
+counts-are before zero words a e = let same : before ≡ a.0 = cc in record { more = []; parts = sym same ∙ sym (append-nil before); count = refl; fit = tt }
+counts-are before (suc k) words a e =
+    let first = bind-is (next count_in) (λ c. counts_from (before ++ c ∷ []) k) words a e in
+    let c = first.0.0 in
+    let rest = counts-are (before ++ c ∷ []) k first.0.1 a first.2 in
+    let read = next-is count_in words first.0 first.1 in
+    record {
+      more = c ∷ rest.more;
+      parts = rest.parts ∙ append_assoc before (c ∷ []) rest.more;
+      count = ap suc rest.count;
+      fit = ((number-within 0 (2 ^ 32) BadSignature read.0 c read.1).1, rest.fit);
+    }
+
+each-is : (b : Bool) (n : ℕ) (words : List (List ℕ)) (a : Option (List ℕ) × List (List ℕ)) → cond b (some_counts n) (give None) words ≡ Ok a → MatchBool b (AreCounts n a.0) (a.0 ≡ None)
+each-is true n words a e =
+    let first = bind-is (counts n) (λ all. give (Some all)) words a e in
+    let second = bind-is (counts_from [] n) (λ read. give (read ++ replicate (max_ranks - n) 0)) words first.0 first.1 in
+    let are = counts-are [] n words second.0 second.1 in
+    let padded : second.0.0 ++ replicate (max_ranks - n) 0 ≡ first.0.0 = cc in
+    let same : Some first.0.0 ≡ a.0 = cc in
+    record {
+      counts = are.more;
+      count = are.count;
+      fit = are.fit;
+      all = sym same ∙ ap Some (sym padded ∙ ap (λ (cs : List ℕ). cs ++ replicate (max_ranks - n) 0) are.parts);
+    }
+each-is false n words a e = cc
+
+abbrev IsWritten : Mode → ℕ → Signature → Type 0
+IsWritten mode n sig = (sig.mode ≡ mode) × HasWords n sig
 
 given-is : {A : Type 0} (x : A) (words : List (List ℕ)) (a : A × List (List ℕ)) → give x words ≡ Ok a → x ≡ a.0
 given-is x words a e = cc
 
-fields-are : (mode : Mode) (kind : Kind) (words : List (List ℕ)) (a : Signature × List (List ℕ)) → fields mode kind words ≡ Ok a → IsWritten mode a.0
+fields-are : (mode : Mode) (n : ℕ) (kind : Kind) (words : List (List ℕ)) (a : Signature × List (List ℕ)) → fields mode n kind words ≡ Ok a → IsWritten mode n a.0
 unfolding fields
-fields-are mode kind words a e =
+fields-are mode n kind words a e =
     let roots = cond (has_root kind) (next (λ w. ok_or (number_within 0 256 w) BadSignature)) (give 0) in
     let ops = cond (has_operation kind) (next (λ w. and_then (ok_or (operation_of w) BadSignature) (λ op. Ok (Some op)))) (give None) in
     let types = cond (is_barrier kind) (give Byte) (next (λ w. ok_or (datatype_of w) BadSignature)) in
-    let counts = cond (is_barrier kind) (give 0) (next (λ w. ok_or (number_within 0 (2 ^ 32) w) BadSignature)) in
-    let sig : ℕ → Option Op → Datatype → ℕ → Signature = λ root op ty count. record { kind = kind; mode = mode; root = root; op = op; ty = ty; count = count } in
-    let first = bind-is roots (λ root. ops >>= λ op. types >>= λ ty. counts >>= λ count. give (sig root op ty count)) words a e in
-    let second = bind-is ops (λ op. types >>= λ ty. counts >>= λ count. give (sig first.0.0 op ty count)) first.0.1 a first.2 in
-    let third = bind-is types (λ ty. counts >>= λ count. give (sig first.0.0 second.0.0 ty count)) second.0.1 a second.2 in
-    let fourth = bind-is counts (λ count. give (sig first.0.0 second.0.0 third.0.0 count)) third.0.1 a third.2 in
-    let same : sig first.0.0 second.0.0 third.0.0 fourth.0.0 ≡ a.0 = given-is (sig first.0.0 second.0.0 third.0.0 fourth.0.0) fourth.0.1 a fourth.2 in
-    subst (IsWritten mode) same (
+    let count = cond (is_barrier kind || has_counts kind) (give 0) (next count_in) in
+    let each = cond (has_counts kind) (some_counts n) (give None) in
+    let sig : ℕ → Option Op → Datatype → ℕ → Option (List ℕ) → Signature = λ root op ty count each. record { kind = kind; mode = mode; root = root; op = op; ty = ty; count = count; each = each } in
+    let first = bind-is roots (λ root. ops >>= λ op. types >>= λ ty. count >>= λ m. each >>= λ cs. give (sig root op ty m cs)) words a e in
+    let second = bind-is ops (λ op. types >>= λ ty. count >>= λ m. each >>= λ cs. give (sig first.0.0 op ty m cs)) first.0.1 a first.2 in
+    let third = bind-is types (λ ty. count >>= λ m. each >>= λ cs. give (sig first.0.0 second.0.0 ty m cs)) second.0.1 a second.2 in
+    let fourth = bind-is count (λ m. each >>= λ cs. give (sig first.0.0 second.0.0 third.0.0 m cs)) third.0.1 a third.2 in
+    let fifth = bind-is each (λ cs. give (sig first.0.0 second.0.0 third.0.0 fourth.0.0 cs)) fourth.0.1 a fourth.2 in
+    let same : sig first.0.0 second.0.0 third.0.0 fourth.0.0 fifth.0.0 ≡ a.0 = given-is (sig first.0.0 second.0.0 third.0.0 fourth.0.0 fifth.0.0) fifth.0.1 a fifth.2 in
+    subst (IsWritten mode n) same (
       refl,
       record {
         root = root-is (has_root kind) words first.0 first.1;
         operation = op-is (has_operation kind) first.0.1 second.0 second.1;
-        elements = elements-is (is_barrier kind) second.0.1 third.0.1 third.0 fourth.0 third.1 fourth.1;
+        datatype = datatype-is (is_barrier kind) second.0.1 third.0 third.1;
+        count = count-is (is_barrier kind || has_counts kind) third.0.1 fourth.0 fourth.1;
+        each = each-is (has_counts kind) n fourth.0.1 fifth.0 fifth.1;
       },
     )
 
-signature-is : (mode : Mode) (n : ℕ) (words : List (List ℕ)) (a : Signature × List (List ℕ)) → signature mode n words ≡ Ok a → IsWritten mode a.0
+signature-is : (mode : Mode) (n : ℕ) (words : List (List ℕ)) (a : Signature × List (List ℕ)) → signature mode n words ≡ Ok a → IsWritten mode n a.0
 unfolding signature
 signature-is mode n words a e =
-    let first = bind-is (next (λ w. ok_or (kind_of w) BadSignature)) (λ kind. fields mode kind >>= λ sig. must (is_none (broken sig n)) BadSignature >>= λ checked. give sig) words a e in
-    let second = bind-is (fields mode first.0.0) (λ sig. must (is_none (broken sig n)) BadSignature >>= λ checked. give sig) first.0.1 a first.2 in
+    let first = bind-is (next (λ w. ok_or (kind_of w) BadSignature)) (λ kind. fields mode n kind >>= λ sig. must (is_none (broken sig n)) BadSignature >>= λ checked. give sig) words a e in
+    let second = bind-is (fields mode n first.0.0) (λ sig. must (is_none (broken sig n)) BadSignature >>= λ checked. give sig) first.0.1 a first.2 in
     let third = bind-is (must (is_none (broken second.0.0 n)) BadSignature) (λ checked. give second.0.0) second.0.1 a second.2 in
     let same : second.0.0 ≡ a.0 = cc in
-    subst (IsWritten mode) same (fields-are mode first.0.0 first.0.1 second.0 second.1)
+    subst (IsWritten mode n) same (fields-are mode n first.0.0 first.0.1 second.0 second.1)
 
 -- ---- commands
 
 abbrev pub CanSay : History → ℕ → Command → Type 0
 CanSay h rank c = (words : List (List ℕ)) × Writes h rank c words
 
-may-post : (h : History) (rank : ℕ) (mode : Mode) (comm : ℕ) (sig : Signature) → IsSmall h → IsPosting h.groups rank comm sig → IsWritten mode sig → total h.told < 4096 → MayPost h rank mode comm sig
+may-post : (h : History) (rank : ℕ) (mode : Mode) (comm : ℕ) (sig : Signature) → IsSmall h → IsPosting h.groups rank comm sig → IsWritten mode (members h comm) sig → total h.told < 4096 → MayPost h rank mode comm sig
 may-post h rank mode comm sig small is written room = record {
   small = (let within = slice_get_within h.groups comm is.group is.known in omega (arith, within, small.groups));
   group = is.group;
@@ -267,7 +310,7 @@ module _ (h : History) (rank : ℕ) (small : IsSmall h) where
       let is = communicator-is h.groups rank words first.0 sig first.1 (signature-checked Once size first.0.1 second.0 second.1) in
       let may = may-post h rank Once comm sig small is (signature-is Once size first.0.1 second.0 second.1) last.1 in
       let valued = values-given count sig.ty second.0.1 third.0 third.1 in
-      subst (CanSay h rank) last.0 (codes "post" ∷ decimal comm ∷ signature_words sig ++ value_words valued.0, (may, valued.0, valued.1, refl))
+      subst (CanSay h rank) last.0 (codes "post" ∷ decimal comm ∷ signature_words (members h comm) sig ++ value_words valued.0, (may, valued.0, valued.1, refl))
 
   init-sayable : (words : List (List ℕ)) (a : Command × List (List ℕ)) → init h rank words ≡ Ok a → CanSay h rank a.0
   unfolding init
@@ -281,7 +324,7 @@ module _ (h : History) (rank : ℕ) (small : IsSmall h) where
       let last = room-is h (Init comm sig) third.0.1 a third.2 in
       let is = communicator-is h.groups rank words first.0 sig first.1 (signature-checked Persistent size first.0.1 second.0 second.1) in
       let may = may-post h rank Persistent comm sig small is (signature-is Persistent size first.0.1 second.0 second.1) last.1 in
-      subst (CanSay h rank) last.0 (codes "init" ∷ decimal comm ∷ signature_words sig, (may, refl))
+      subst (CanSay h rank) last.0 (codes "init" ∷ decimal comm ∷ signature_words (members h comm) sig, (may, refl))
 
   startable-may : (words : List (List ℕ)) (a : (ℕ × Posting) × List (List ℕ))
       → startable h rank words ≡ Ok a → MayStart h rank a.0.0 a.0.1

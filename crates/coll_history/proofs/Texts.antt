@@ -1,19 +1,20 @@
 -- A text that is written so is read so.
-use Rattle.std.proofs.Common.{◌≡◌, ℕ, suc, ◌+◌, ◌^◌, ◌<◌, ◌≤◌, Bool, true, false, cond, List, [], ◌∷◌, ◌++◌, length, map, Option, Some, None, Result, Ok, refl, sym, ap, ◌∙◌, append_assoc, arith, inl, inr}
-use Rattle.std.specs.Prelude.{ℤ, pos, negsuc, not, ◌&&◌, MatchBool, codes, decimal}
+use Rattle.std.proofs.Common.{◌≡◌, ℕ, suc, ◌+◌, ◌-◌, ◌^◌, ◌<◌, ◌≤◌, Bool, true, false, cond, List, [], ◌∷◌, ◌++◌, length, take, replicate, map, Option, Some, None, Result, Ok, refl, sym, ap, ◌∙◌, append_assoc, arith, inl, inr}
+use Rattle.std.specs.Prelude.{ℤ, pos, negsuc, not, ◌&&◌, ◌||◌, MatchBool, codes, decimal}
 use Rattle.std.specs.List.{AllByRecursion, list_all}
 use Rattle.std.specs.Fmt.{signed_decimal}
 use Rattle.std.proofs.lemmas.Bool.{eq-eqb, lt-ltb, and_parts}
-use Rattle.std.proofs.lemmas.List.{append-nil, length-append}
+use Rattle.std.proofs.lemmas.List.{append-nil, length-append, take_at}
 use Rattle.std.proofs.lemmas.Fmt.{digits_decimal, decimal_nonempty}
 use Rattle.coll_kinds.specs.declared.datatype.Datatype.{Datatype}
 use Rattle.coll_kinds.specs.declared.datatype.Datatype.TheVariants.{I8, I16, I32, I64, U8, U16, U32, U64, Byte, Pair}
 use Rattle.coll_kinds.specs.declared.operation.Op.{Op}
 use Rattle.coll_kinds.specs.declared.operation.Op.TheVariants.{Max, Min, Sum, Prod, Land, Lor, Lxor, Band, Bor, Bxor, LastNz, MaxLoc, MinLoc}
 use Rattle.coll_kinds.specs.declared.kind.Kind.{Kind}
-use Rattle.coll_kinds.specs.declared.kind.Kind.TheVariants.{Barrier, Bcast, Gather, Scatter, Allgather, Alltoall, Reduce, Allreduce, Rsblock, Scan, Exscan}
+use Rattle.coll_kinds.specs.declared.kind.Kind.TheVariants.{Barrier, Bcast, Gather, Scatter, Allgather, Allgatherv, Alltoall, Reduce, Allreduce, Rsblock, Scan, Exscan}
 use Rattle.coll_kinds.specs.declared.signature.Signature.{Signature}
-use Rattle.coll_kinds.specs.Checks.{has_root, is_barrier}
+use Rattle.coll_kinds.specs.Checks.{has_root, is_barrier, has_counts}
+use Rattle.coll_kinds.specs.Limits.{max_ranks}
 use Rattle.coll_kinds.specs.Elements.{Element, whole, pair, is_pair, in_range, IsElement}
 use Rattle.coll_kinds.specs.Texts.{text_of as element_text}
 use Rattle.coll_history.specs.declared.cause.Cause.{Cause}
@@ -26,7 +27,7 @@ use Rattle.coll_history.specs.Reading.{and_then, numbers_from, numbers}
 use Rattle.coll_history.specs.Histories.{History, beginning}
 use Rattle.coll_history.specs.Lines.{rank_in, ranks, comm, section, line}
 use Rattle.coll_history.specs.Judging.{judged}
-use Rattle.coll_history.specs.Writing.{is_plain, IsWord, IsSkipped, skipped_line, operation_words, signature_words, value_words, HasWords, IsMade, IsSome, NoneTwice, Writes, Says, ranks_line, comm_line, rank_line, command_line, Tells, spaced, text_of}
+use Rattle.coll_history.specs.Writing.{is_plain, IsWord, IsSkipped, skipped_line, operation_words, count_words, signature_words, value_words, AreCounts, HasWords, members, IsMade, IsSome, NoneTwice, Writes, Says, ranks_line, comm_line, rank_line, command_line, Tells, spaced, text_of}
 use Rattle.coll_history.proofs.Again.{numerals, small-positive, small-negative, within-again}
 use Rattle.coll_history.proofs.SaidAgain.{command-again}
 use Rattle.coll_history.proofs.Cuts.{plain-digits, AllByRecursion-append, words_of-spaced, lines_of-text}
@@ -67,6 +68,7 @@ kind-word Bcast = record { some = omega arith; plain = refl }
 kind-word Gather = record { some = omega arith; plain = refl }
 kind-word Scatter = record { some = omega arith; plain = refl }
 kind-word Allgather = record { some = omega arith; plain = refl }
+kind-word Allgatherv = record { some = omega arith; plain = refl }
 kind-word Alltoall = record { some = omega arith; plain = refl }
 kind-word Reduce = record { some = omega arith; plain = refl }
 kind-word Allreduce = record { some = omega arith; plain = refl }
@@ -123,18 +125,27 @@ op-words : (op : Option Op) → AreWords (operation_words op)
 op-words None = tt
 op-words (Some op) = (operation-word op, tt)
 
-tail-words : (b : Bool) (ty : Datatype) (count : ℕ) → MatchBool b ((ty ≡ Byte) × (count ≡ 0)) (count < 2 ^ 32) → AreWords (cond b [] (datatype_word ty ∷ decimal count ∷ []))
-tail-words true ty count fits = tt
-tail-words false ty count fits = (datatype-word ty, (number-word count (omega (arith, fits)), tt))
+counts-words : (cs : List ℕ) → AllByRecursion (λ c. c < 2 ^ 32) cs → AreWords (map decimal cs)
+counts-words [] fit = tt
+counts-words (c ∷ cs) fit = (number-word c (omega (arith, fit.0)), counts-words cs fit.1)
 
-signature-words : (sig : Signature) → HasWords sig → AreWords (signature_words sig)
-signature-words sig has =
+each-words : (n : ℕ) (cs : List ℕ) → length cs ≡ n → AllByRecursion (λ c. c < 2 ^ 32) cs → AreWords (map decimal (take n (cs ++ replicate (max_ranks - n) 0)))
+each-words n cs count fit = rw (take_at cs (replicate (max_ranks - n) 0) n count) (counts-words cs fit)
+
+tail-words : (n : ℕ) (b c : Bool) (ty : Datatype) (count : ℕ) (each : Option (List ℕ)) → MatchBool (b || c) (count ≡ 0) (count < 2 ^ 32) → MatchBool c (AreCounts n each) (each ≡ None)
+    → AreWords (cond b [] (datatype_word ty ∷ count_words n count each))
+tail-words n true c ty count each fits are = tt
+tail-words n false true ty count each fits are = rw are.all (datatype-word ty, each-words n are.counts are.count are.fit)
+tail-words n false false ty count each fits are = rw are (datatype-word ty, (number-word count (omega (arith, fits)), tt))
+
+signature-words : (n : ℕ) (sig : Signature) → HasWords n sig → AreWords (signature_words n sig)
+signature-words n sig has =
     let roots = cond (has_root sig.kind) (decimal sig.root ∷ []) [] in
-    let tail = cond (is_barrier sig.kind) [] (datatype_word sig.ty ∷ decimal sig.count ∷ []) in (
+    let tail = cond (is_barrier sig.kind) [] (datatype_word sig.ty ∷ count_words n sig.count sig.each) in (
       kind-word sig.kind,
       AllByRecursion-append IsWord (roots ++ operation_words sig.op) tail
           (AllByRecursion-append IsWord roots (operation_words sig.op) (root-words (has_root sig.kind) sig.root has.root) (op-words sig.op))
-          (tail-words (is_barrier sig.kind) sig.ty sig.count has.elements),
+          (tail-words n (is_barrier sig.kind) (has_counts sig.kind) sig.ty sig.count sig.each has.count has.each),
     )
 
 abbrev plain_word : (w : List ℕ) → 0 < length w → list_all is_plain w ≡ true → IsWord w
@@ -146,8 +157,8 @@ made-small h rank (q ∷ qs) are = (are.0.0, made-small h rank qs are.1)
 
 command-words : (h : History) (rank : ℕ) (c : Command) (words : List (List ℕ)) → Writes h rank c words → AreWords words
 command-words h rank (Post comm sig given) words w =
-    rw w.3 (plain_word (codes "post") (omega arith) refl, (number-word comm w.0.small, AllByRecursion-append IsWord (signature_words sig) (value_words w.1) (signature-words sig w.0.words) (values-words sig.ty w.1 w.2.1)))
-command-words h rank (Init comm sig) words w = rw w.1 (plain_word (codes "init") (omega arith) refl, (number-word comm w.0.small, signature-words sig w.0.words))
+    rw w.3 (plain_word (codes "post") (omega arith) refl, (number-word comm w.0.small, AllByRecursion-append IsWord (signature_words (members h comm) sig) (value_words w.1) (signature-words (members h comm) sig w.0.words) (values-words sig.ty w.1 w.2.1)))
+command-words h rank (Init comm sig) words w = rw w.1 (plain_word (codes "init") (omega arith) refl, (number-word comm w.0.small, signature-words (members h comm) sig w.0.words))
 command-words h rank (Start q given) words w = rw w.4 (plain_word (codes "start") (omega arith) refl, (number-word q w.1.small, values-words w.0.sig.ty w.2 w.3.1))
 command-words h rank (Wait q) words w = rw w.1 (plain_word (codes "wait") (omega arith) refl, (number-word q w.0.0, tt))
 command-words h rank (Test q) words w = rw w.1 (plain_word (codes "test") (omega arith) refl, (number-word q w.0.0, tt))

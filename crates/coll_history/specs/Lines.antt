@@ -1,6 +1,6 @@
 -- The lines of the format: what each kind of line says, and which rules it keeps, in the order they are judged in.
-use Rattle.std.specs.Prelude.{ℕ, ◌/◌, ◌^◌, ◌==◌, nat_le, nat_lt, ◌&&◌, pos, if◌then◌else◌}
-use Rattle.std.specs.Prelude.{List, [], ◌∷◌, ◌++◌, length, flat_map, slice_get, slice_index, codes}
+use Rattle.std.specs.Prelude.{ℕ, zero, suc, ◌-◌, ◌/◌, ◌^◌, ◌==◌, nat_le, nat_lt, ◌&&◌, ◌||◌, pos, if◌then◌else◌}
+use Rattle.std.specs.Prelude.{List, [], ◌∷◌, ◌++◌, length, replicate, flat_map, slice_get, slice_index, codes}
 use Rattle.std.specs.Prelude.{Option, Some, None, is_none, is_some, option_and_then, unwrap_or, Result, Ok, Err, ok_or}
 use Rattle.std.specs.List.{list_all, range_with_len}
 use Rattle.std.specs.Str.{bytes_eq}
@@ -14,7 +14,8 @@ use Rattle.coll_kinds.specs.declared.signature.Signature.{Signature}
 use Rattle.coll_kinds.specs.Elements.{whole, width, element_bytes}
 use Rattle.coll_kinds.specs.Texts.{number_of, value_of}
 use Rattle.coll_kinds.specs.Lengths.{given_len}
-use Rattle.coll_kinds.specs.Checks.{has_root, has_operation, is_barrier, broken}
+use Rattle.coll_kinds.specs.Checks.{has_root, has_operation, is_barrier, has_counts, broken}
+use Rattle.coll_kinds.specs.Limits.{max_ranks}
 use Rattle.coll_history.specs.declared.cause.Cause.{Cause}
 use Rattle.coll_history.specs.declared.cause.Cause.TheVariants.{MissingRanks, UnknownCommand, OutOfPlace, BadWords}
 use Rattle.coll_history.specs.declared.cause.Cause.TheVariants.{BadNumber, BadRank, BadCommunicator, BadSignature}
@@ -61,20 +62,39 @@ communicator groups rank = do
 abbrev pub some_operation : List ℕ → Result (Option Op) Cause
 some_operation w = and_then (ok_or (operation_of w) BadSignature) (λ op. Ok (Some op))
 
--- what stands behind the word of a kind; a barrier has type byte and count 0
-unfoldable pub fields : Mode → Kind → Reading Signature
-fields mode kind = do
+-- COUNT
+abbrev pub count_in : List ℕ → Result ℕ Cause
+count_in w = ok_or (number_within 0 (2 ^ 32) w) BadSignature
+
+-- so many counts, behind those read before
+abbrev pub counts_from : List ℕ → ℕ → Reading (List ℕ)
+counts_from before zero = give before
+counts_from before (suc k) = next count_in >>= λ c. counts_from (before ++ c ∷ []) k
+
+-- C0 .. C(n-1): a count for each of n members, and 0 behind them
+abbrev pub counts : ℕ → Reading (List ℕ)
+counts n = counts_from [] n >>= λ read. give (read ++ replicate (max_ranks - n) 0)
+
+-- those counts, as a field
+abbrev pub some_counts : ℕ → Reading (Option (List ℕ))
+some_counts n = counts n >>= λ all. give (Some all)
+
+-- what stands behind the word of a kind, for n members; a barrier has type byte and count 0, and where each member's
+-- elements are counted there is no count of all
+unfoldable pub fields : Mode → ℕ → Kind → Reading Signature
+fields mode n kind = do
   root ← if has_root kind then next (λ w. ok_or (number_within 0 256 w) BadSignature) else give 0
   op ← if has_operation kind then next some_operation else give None
   ty ← if is_barrier kind then give Byte else next (λ w. ok_or (datatype_of w) BadSignature)
-  count ← if is_barrier kind then give 0 else next (λ w. ok_or (number_within 0 (2 ^ 32) w) BadSignature)
-  give (record { kind = kind; mode = mode; root = root; op = op; ty = ty; count = count })
+  count ← if is_barrier kind || has_counts kind then give 0 else next count_in
+  each ← if has_counts kind then some_counts n else give None
+  give (record { kind = kind; mode = mode; root = root; op = op; ty = ty; count = count; each = each })
 
 -- SIG: a signature that n members may use
 unfoldable pub signature : Mode → ℕ → Reading Signature
 signature mode n = do
   kind ← next (λ w. ok_or (kind_of w) BadSignature)
-  sig ← fields mode kind
+  sig ← fields mode n kind
   checked ← must (is_none (broken sig n)) BadSignature
   give sig
 

@@ -169,6 +169,25 @@ pairs : HaveFaults (codes "ranks 1" ∷ codes "rank 0" ∷ []) pairs_rows
 unfolding line ranks comm section command post init start startable free signature fields values
 pairs = refl
 
+-- each of three members has a count
+abbrev counts_rows : List Row
+counts_rows =
+    (codes "post 0 allgatherv", fault 3 BadWords)
+    ∷ (codes "post 0 allgatherv u8 1 1", fault 3 BadWords)
+    ∷ (codes "post 0 allgatherv u8 1 1 : 7", fault 3 BadSignature)
+    ∷ (codes "post 0 allgatherv u8 1 x", fault 3 BadSignature)
+    ∷ (codes "post 0 allgatherv u8 1 1 4294967296", fault 3 BadSignature)
+    ∷ (codes "post 0 allgatherv u8 1 1 65537 : 7", fault 3 BadSignature)
+    ∷ (codes "post 0 allgatherv u8 1 1 1 1 : 7", fault 3 BadWords)
+    ∷ (codes "post 0 allgatherv u8 2 1 1 : 7", fault 3 WrongValueCount)
+    ∷ (codes "post 0 allgatherv u8 2 0 1 : 7 8", None)
+    ∷ (codes "post 0 allgatherv u8 0 9 9", None)
+    ∷ []
+
+counts : HaveFaults (codes "ranks 3" ∷ codes "rank 0" ∷ []) counts_rows
+unfolding line ranks comm section command post init start startable free signature fields values
+counts = refl
+
 -- an `init` ends with its signature
 abbrev inits_rows : List Row
 inits_rows =
@@ -243,7 +262,7 @@ start_while_active = refl
 -- ---- what lines tell
 
 abbrev sum : Signature
-sum = record { kind = Allreduce; mode = Persistent; root = 0; op = Some Sum; ty = I8; count = 2 }
+sum = record { kind = Allreduce; mode = Persistent; root = 0; op = Some Sum; ty = I8; count = 2; each = None }
 
 abbrev told_lines : List (List ℕ)
 told_lines =

@@ -1,8 +1,8 @@
 -- How commands are written, and which ones a section may say next. Nothing here reads words: what is written so is read
 -- so.
-use Rattle.std.specs.Prelude.{◌≡◌, ◌⊎◌, ℕ, ◌+◌, ◌/◌, ◌<◌, ◌≤◌, ◌^◌, Bool, true, false, not, ◌&&◌, IsTrue}
+use Rattle.std.specs.Prelude.{◌≡◌, ◌⊎◌, ℕ, ◌+◌, ◌-◌, ◌/◌, ◌<◌, ◌≤◌, ◌^◌, Bool, true, false, not, ◌&&◌, ◌||◌, IsTrue}
 use Rattle.std.specs.Prelude.{MatchBool, if◌then◌else◌, Option, Some, None}
-use Rattle.std.specs.Prelude.{List, [], ◌∷◌, ◌++◌, length, map, flat_map, slice_get, slice_index, codes}
+use Rattle.std.specs.Prelude.{List, [], ◌∷◌, ◌++◌, length, take, replicate, map, flat_map, slice_get, slice_index, codes}
 use Rattle.std.specs.List.{AllByRecursion, list_all, range_with_len}
 use Rattle.std.specs.Fmt.{decimal}
 use Rattle.coll_history.specs.Cutting.{is_blank, is_line_feed}
@@ -14,13 +14,14 @@ use Rattle.coll_kinds.specs.declared.operation.Op.{Op}
 use Rattle.coll_kinds.specs.declared.signature.Signature.{Signature}
 use Rattle.coll_kinds.specs.Elements.{Element, width, element_bytes, IsElement}
 use Rattle.coll_kinds.specs.Texts.{text_of as element_text}
-use Rattle.coll_kinds.specs.Checks.{has_root, has_operation, is_barrier, broken}
+use Rattle.coll_kinds.specs.Checks.{has_root, has_operation, is_barrier, has_counts, broken}
+use Rattle.coll_kinds.specs.Limits.{max_ranks}
 use Rattle.coll_history.specs.declared.command.Command.{Command}
 use Rattle.coll_history.specs.declared.command.Command.TheVariants.{Post, Init, Start, Wait, Test, Free}
 use Rattle.coll_history.specs.declared.command.Command.TheVariants.{WaitAny, WaitSome, WaitAll}
 use Rattle.coll_kinds.specs.Words.{kind_word, operation_word, datatype_word}
 use Rattle.coll_kinds.specs.Groups.{member_of, is_among}
-use Rattle.coll_history.specs.Histories.{History, Posting, said_by, is_startable, total}
+use Rattle.coll_history.specs.Histories.{History, group_of, Posting, said_by, is_startable, total}
 use Rattle.coll_history.specs.Lines.{due, made, tell}
 
 -- ---- words
@@ -30,11 +31,16 @@ abbrev pub operation_words : Option Op → List (List ℕ)
 operation_words None = []
 operation_words (Some op) = operation_word op ∷ []
 
--- SIG
-abbrev pub signature_words : Signature → List (List ℕ)
-signature_words sig =
+-- C0 .. C(n-1), where each of n members' elements are counted, else COUNT
+abbrev pub count_words : ℕ → ℕ → Option (List ℕ) → List (List ℕ)
+count_words n count None = decimal count ∷ []
+count_words n count (Some counts) = map decimal (take n counts)
+
+-- SIG, of n members
+abbrev pub signature_words : ℕ → Signature → List (List ℕ)
+signature_words n sig =
     kind_word sig.kind ∷ (if has_root sig.kind then decimal sig.root ∷ [] else []) ++ operation_words sig.op
-    ++ (if is_barrier sig.kind then [] else datatype_word sig.ty ∷ decimal sig.count ∷ [])
+    ++ (if is_barrier sig.kind then [] else datatype_word sig.ty ∷ count_words n sig.count sig.each)
 
 -- : v ..
 abbrev pub value_words : List Element → List (List ℕ)
@@ -52,13 +58,26 @@ abbrev pub AreDue : History → ℕ → ℕ → Signature → List Element → L
 AreDue h rank comm sig elements given =
     AreValues sig.ty (due h.groups rank comm sig / width sig.ty) elements given
 
--- a signature has what its kind has words for, and fits its fields
-pub record HasWords (sig : Signature) : Type 0 where
+-- counts of n members, and 0 behind them
+pub record AreCounts (n : ℕ) (each : Option (List ℕ)) : Type 0 where
+  pub counts : List ℕ
+  pub count : length counts ≡ n
+  pub fit : AllByRecursion (λ c. c < 2 ^ 32) counts
+  pub all : each ≡ Some (counts ++ replicate (max_ranks - n) 0)
+
+-- a signature has what its kind has words for, with n members, and fits its fields
+pub record HasWords (n : ℕ) (sig : Signature) : Type 0 where
   pub root : MatchBool (has_root sig.kind) (sig.root < 256) (sig.root ≡ 0)
   pub operation : MatchBool (has_operation sig.kind) ((op : Op) × (sig.op ≡ Some op)) (sig.op ≡ None)
-  pub elements : MatchBool (is_barrier sig.kind) ((sig.ty ≡ Byte) × (sig.count ≡ 0)) (sig.count < 2 ^ 32)
+  pub datatype : IsTrue (is_barrier sig.kind) → sig.ty ≡ Byte
+  pub count : MatchBool (is_barrier sig.kind || has_counts sig.kind) (sig.count ≡ 0) (sig.count < 2 ^ 32)
+  pub each : MatchBool (has_counts sig.kind) (AreCounts n sig.each) (sig.each ≡ None)
 
 -- ---- what a section may say
+
+-- the number of members of a communicator
+abbrev pub members : History → ℕ → ℕ
+members h comm = length (group_of h.groups comm)
 
 -- a rank may post this on a communicator of which it is a member
 pub record MayPost (h : History) (rank : ℕ) (mode : Mode) (comm : ℕ) (sig : Signature) : Type 0 where
@@ -68,7 +87,7 @@ pub record MayPost (h : History) (rank : ℕ) (mode : Mode) (comm : ℕ) (sig : 
   pub member : ℕ
   pub is_member : member_of rank group ≡ Some member
   pub mode_is : sig.mode ≡ mode
-  pub words : HasWords sig
+  pub words : HasWords (members h comm) sig
   pub checked : broken sig (length group) ≡ None
   pub room : total h.told < 4096
 
@@ -102,10 +121,10 @@ Writes h rank (Post comm sig given) words =
     MayPost h rank Once comm sig
     × (elements : List Element)
     × AreDue h rank comm sig elements given
-    × (words ≡ codes "post" ∷ decimal comm ∷ signature_words sig ++ value_words elements)
+    × (words ≡ codes "post" ∷ decimal comm ∷ signature_words (members h comm) sig ++ value_words elements)
 Writes h rank (Init comm sig) words =
     MayPost h rank Persistent comm sig
-    × (words ≡ codes "init" ∷ decimal comm ∷ signature_words sig)
+    × (words ≡ codes "init" ∷ decimal comm ∷ signature_words (members h comm) sig)
 Writes h rank (Start q given) words =
     (p : Posting)
     × MayStart h rank q p

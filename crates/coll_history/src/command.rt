@@ -3,28 +3,18 @@ ghost use Rattle.coll_history.specs.Histories.{posting, postings, is_start};
 
 use crate::given::Given;
 use crate::named::Named;
-use coll_kinds::Signature;
+use crate::posted::Posted;
 use std::alloc::{AllocError, Global};
 
 /// What a line of a section says.
 #[derive(Debug, Drop)]
 pub enum Command {
     /// A nonblocking collective on a communicator, with what the rank gives.
-    Post {
-        comm: u8,
-        sig: Signature,
-        given: Given,
-    },
+    Post { comm: u8, sig: Posted, given: Given },
     /// A persistent collective on a communicator.
-    Init {
-        comm: u8,
-        sig: Signature,
-    },
+    Init { comm: u8, sig: Posted },
     /// The start of a persistent request, with what the rank gives this time.
-    Start {
-        req: u32,
-        given: Given,
-    },
+    Start { req: u32, given: Given },
     /// Completion of one request.
     Wait(u32),
     /// A look whether one request is complete.
@@ -47,12 +37,12 @@ impl Command {
         match self {
             Command::Post { comm, sig, given } => Ok(Command::Post {
                 comm: *comm,
-                sig: *sig,
+                sig: sig.copied(alloc)?,
                 given: given.copied(alloc)?,
             }),
             Command::Init { comm, sig } => Ok(Command::Init {
                 comm: *comm,
-                sig: *sig,
+                sig: sig.copied(alloc)?,
             }),
             Command::Start { req, given } => Ok(Command::Start {
                 req: *req,

@@ -11,6 +11,7 @@ use crate::communicators::{communicator, group_of, values_due};
 use crate::fault::LineFault;
 use crate::given::Given;
 use crate::named::Named;
+use crate::posted::Posted;
 use crate::reader::Reader;
 use crate::requests::{one, requests, startable};
 use crate::section::Entry;
@@ -40,7 +41,7 @@ pub(crate) fn command(
 {
     match verb {
         Verb::Post => post(alloc, reader, number, rank, words),
-        Verb::Init => init(reader, number, rank, words),
+        Verb::Init => init(alloc, reader, number, rank, words),
         Verb::Start => start(alloc, reader, number, rank, words),
         Verb::Free => free(reader, number, rank, words),
         Verb::Wait => Ok(Command::Wait(one_of(reader, number, rank, words)?)),
@@ -67,19 +68,25 @@ fn post(
     let comm = communicator(&reader.groups, rank, words)?;
     let n = group_of(&reader.groups, comm).len() as u8;
     let sig = signature(Mode::Once, n, words)?;
-    let count = values_due(&reader.groups, rank, comm, sig);
+    let count = values_due(&reader.groups, rank, comm, &sig);
     let given = values(alloc, count, sig.ty, words)?;
     room(reader, number)?;
     Ok(Command::Post {
         comm,
-        sig,
+        sig: Posted::new(alloc, sig)?,
         given: Given::from_vec(given),
     })
 }
 
 /// A persistent collective.
 #[tactic(auto, unfolding(crate::specs::Lines::init))]
-fn init(reader: &Reader, number: u32, rank: u8, words: &mut Words) -> Result<Command, LineFault>
+fn init(
+    alloc: Global,
+    reader: &Reader,
+    number: u32,
+    rank: u8,
+    words: &mut Words,
+) -> Result<Command, LineFault>
     requires { IsReader number reader.now }
     ensures { ReadsSo (λ c. c) result words.new (init (history_of reader.now) rank words.old) }
 {
@@ -88,7 +95,10 @@ fn init(reader: &Reader, number: u32, rank: u8, words: &mut Words) -> Result<Com
     let sig = signature(Mode::Persistent, n, words)?;
     words.end()?;
     room(reader, number)?;
-    Ok(Command::Init { comm, sig })
+    Ok(Command::Init {
+        comm,
+        sig: Posted::new(alloc, sig)?,
+    })
 }
 
 /// Asks that there is room for one more request.
@@ -117,7 +127,7 @@ fn start(
     ensures { ReadsSo (λ c. c) result words.new (start (history_of reader.now) rank words.old) }
 {
     let (req, entry) = startable_of(reader, number, rank, words)?;
-    let count = values_due(&reader.groups, rank, entry.comm, entry.sig);
+    let count = values_due(&reader.groups, rank, entry.comm, &entry.sig);
     let given = values(alloc, count, entry.sig.ty, words)?;
     Ok(Command::Start {
         req,

@@ -76,17 +76,17 @@ pub(crate) fn group_of(groups: &[Vec<u8>], comm: u8) -> &[u8]
 }
 
 /// How many values a rank gives to a request with that signature.
-pub(crate) fn values_due(groups: &[Vec<u8>], rank: u8, comm: u8, sig: Signature) -> usize
+pub(crate) fn values_due(groups: &[Vec<u8>], rank: u8, comm: u8, sig: &Signature) -> usize
     requires { AllByRecursion (λ group. length group ≤ 64) (rows_view groups.now) }
-    ensures { result ≡ due (rows_view groups.now) rank comm sig / width sig.ty }
+    ensures { result ≡ due (rows_view groups.now) rank comm sig.now / width sig.now.ty }
 {
     due(groups, rank, comm, sig) / sig.ty.width()
 }
 
 /// How many bytes these are.
-fn due(groups: &[Vec<u8>], rank: u8, comm: u8, sig: Signature) -> usize
+fn due(groups: &[Vec<u8>], rank: u8, comm: u8, sig: &Signature) -> usize
     requires { AllByRecursion (λ group. length group ≤ 64) (rows_view groups.now) }
-    ensures { result ≡ due (rows_view groups.now) rank comm sig }
+    ensures { result ≡ due (rows_view groups.now) rank comm sig.now }
 {
     let group = group_of(groups, comm);
     let member = member_of(rank, group).unwrap_or(0);

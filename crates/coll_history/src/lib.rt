@@ -11,7 +11,7 @@
 //! | `cause` | `Cause`, which rule a text breaks |
 //! | `fault` | `Fault`, a cause and its line; `ScriptFault`, and the fault of a line |
 //! | `cutting`, `words` | lines and words; `Words`, the words of a line that are still to be read |
-//! | `command`, `given`, `named` | `Command`, what it gives and which requests it names; `Told`, a command in its line |
+//! | `command`, `posted`, `given`, `named` | `Command`, its signature, what it gives and which requests it names; `Told`, a command in its line |
 //! | `signatures`, `communicators`, `values`, `requests` | readers of a line's words, from the left |
 //! | `verb`, `commands`, `lines` | what a line says |
 //! | `section`, `reader` | what is kept of a section and of a text while its lines are read |
@@ -30,6 +30,7 @@ mod history;
 pub mod laws;
 mod lines;
 mod named;
+mod posted;
 mod reader;
 mod request;
 mod requests;
@@ -46,4 +47,5 @@ pub use fault::{Fault, ScriptFault};
 pub use given::Given;
 pub use history::History;
 pub use named::Named;
+pub use posted::Posted;
 pub use request::Request;

@@ -82,12 +82,12 @@ pub(crate) fn note<'a>(
 {
     match &told.command {
         Command::Post { comm, sig, given } => {
-            let mut made = Request::new(alloc, groups, told.line, told.rank, *comm, *sig);
+            let mut made = Request::new(alloc, groups, told.line, told.rank, *comm, *sig.sig());
             made.start(given.as_slice())?;
             requests.push(made)?;
         }
         Command::Init { comm, sig } => {
-            requests.push(Request::new(alloc, groups, told.line, told.rank, *comm, *sig))?;
+            requests.push(Request::new(alloc, groups, told.line, told.rank, *comm, *sig.sig()))?;
         }
         Command::Start { req, given } => requests[*req as usize].start(given.as_slice())?,
         Command::Wait(_) => {}

@@ -48,8 +48,8 @@ impl Section {
             → IsKept (line + 1) (commands ++ command.now ∷ []) self.new) }
     {
         match command {
-            Command::Post { comm, sig, .. } => self.make(*comm, *sig)?,
-            Command::Init { comm, sig } => self.make(*comm, *sig)?,
+            Command::Post { comm, sig, .. } => self.make(*comm, *sig.sig())?,
+            Command::Init { comm, sig } => self.make(*comm, *sig.sig())?,
             Command::Start { req, .. } => self.start(line, *req),
             Command::Wait(q) => self.wait(*q),
             Command::Free(q) => self.free(*q),

@@ -1,33 +1,37 @@
 //! The words of a signature.
 
-ghost use Rattle.std.specs.Prelude.{◌≡◌, ◌^◌, ok_or, cond, is_none, None, Some, Ok};
-ghost use Rattle.coll_kinds.specs.Checks.{is_barrier, broken};
+ghost use Rattle.std.specs.Prelude.{◌≡◌, ◌≤◌, ◌||◌, [], ok_or, cond, is_none, None, Some, Ok};
+ghost use Rattle.coll_kinds.specs.Checks.{is_barrier, has_counts, broken};
 ghost use Rattle.coll_kinds.specs.declared.datatype.Datatype.TheVariants.{Byte};
 ghost use Rattle.coll_history.specs.declared.cause.Cause.TheVariants.{BadSignature};
 ghost use Rattle.coll_kinds.specs.Words.{kind_of, operation_of, datatype_of};
 ghost use Rattle.coll_history.specs.Reading.{and_then, give, must};
-ghost use Rattle.coll_history.specs.Lines.{next, number_within, fields, signature};
+ghost use Rattle.coll_history.specs.Lines.{next, number_within, count_in, counts, some_counts, fields, signature};
 ghost use Rattle.coll_history.specs.Code.{Asks, Reads};
 
 use crate::cause::Cause;
 use crate::words::Words;
-use coll_kinds::{Datatype, Kind, Mode, Op, Signature};
+use coll_kinds::{Datatype, Kind, MAX_RANKS, Mode, Op, Signature};
+
+/// The number above the greatest count that a field has.
+const COUNT_LIMIT: u64 = 1 << 32;
 
 /// A signature that `n` members may use, for a request of that mode. Of the rules that the words break it
 /// tells the first.
 #[tactic(auto, unfolding(crate::specs::Lines::signature))]
 pub(crate) fn signature(mode: Mode, n: u8, words: &mut Words) -> Result<Signature, Cause>
+    requires { n ≤ 64 }
     ensures { Reads (λ sig. sig) result words.new (signature mode n words.old) }
 {
     let kind = Kind::from_word(words.next()?).ok_or(Cause::BadSignature)?;
-    let sig = fields(mode, kind, words)?;
-    check(sig, n)?;
+    let sig = fields(mode, n, kind, words)?;
+    check(&sig, n)?;
     Ok(sig)
 }
 
 /// Asks that `n` members may use the signature.
-fn check(sig: Signature, n: u8) -> Result<(), Cause>
-    ensures { Asks result (must (is_none (broken sig n)) BadSignature) }
+fn check(sig: &Signature, n: u8) -> Result<(), Cause>
+    ensures { Asks result (must (is_none (broken sig.now n)) BadSignature) }
 {
     match sig.check(n) {
         Ok(()) => Ok(()),
@@ -35,15 +39,17 @@ fn check(sig: Signature, n: u8) -> Result<(), Cause>
     }
 }
 
-/// What stands behind the word of a kind.
+/// What stands behind the word of a kind, for `n` members.
 #[tactic(auto, unfolding(crate::specs::Lines::fields))]
-fn fields(mode: Mode, kind: Kind, words: &mut Words) -> Result<Signature, Cause>
-    ensures { Reads (λ sig. sig) result words.new (fields mode kind words.old) }
+fn fields(mode: Mode, n: u8, kind: Kind, words: &mut Words) -> Result<Signature, Cause>
+    requires { n ≤ 64 }
+    ensures { Reads (λ sig. sig) result words.new (fields mode n kind words.old) }
 {
     let root = root(kind.has_root(), words)?;
     let op = operation(kind.has_operation(), words)?;
     let ty = datatype(is_barrier(kind), words)?;
-    let count = count(is_barrier(kind), words)?;
+    let count = count(is_barrier(kind) || kind.has_counts(), words)?;
+    let each = each(kind.has_counts(), n, words)?;
     Ok(Signature {
         kind,
         mode,
@@ -51,6 +57,7 @@ fn fields(mode: Mode, kind: Kind, words: &mut Words) -> Result<Signature, Cause>
         op,
         ty,
         count,
+        each,
     })
 }
 
@@ -82,13 +89,35 @@ fn datatype(is_barrier: bool, words: &mut Words) -> Result<Datatype, Cause>
     Datatype::from_word(words.next()?).ok_or(Cause::BadSignature)
 }
 
-fn count(is_barrier: bool, words: &mut Words) -> Result<u32, Cause>
-    ensures { Reads (λ count. count) result words.new (cond is_barrier (give 0) (next (λ w. ok_or (number_within 0 (2 ^ 32) w) BadSignature)) words.old) }
+fn count(has_none: bool, words: &mut Words) -> Result<u32, Cause>
+    ensures { Reads (λ count. count) result words.new (cond has_none (give 0) (next count_in) words.old) }
 {
-    if is_barrier {
+    if has_none {
         return Ok(0);
     }
-    words.number_within(0, 1 << 32, Cause::BadSignature)
+    words.number_within(0, COUNT_LIMIT, Cause::BadSignature)
+}
+
+fn each(has_counts: bool, n: u8, words: &mut Words) -> Result<Option<[u32; MAX_RANKS]>, Cause>
+    requires { n ≤ 64 }
+    ensures { Reads (λ each. each) result words.new (cond has_counts (some_counts n) (give None) words.old) }
+{
+    if !has_counts {
+        return Ok(None);
+    }
+    Ok(Some(counts(n, words)?))
+}
+
+/// The counts of `n` members, and 0 behind them.
+fn counts(n: u8, words: &mut Words) -> Result<[u32; MAX_RANKS], Cause>
+    requires { n ≤ 64 }
+    ensures { Reads (λ counts. counts) result words.new (counts n words.old) }
+{
+    let mut counts = [0; MAX_RANKS];
+    for i in 0..usize::from(n) {
+        counts[i] = words.number_within(0, COUNT_LIMIT, Cause::BadSignature)?;
+    }
+    Ok(counts)
 }
 
 fn is_barrier(kind: Kind) -> bool

@@ -42,9 +42,9 @@ impl<L: Entries> Caller<L> {
     ) -> Result<(), Refusal> {
         match command {
             Command::Post { comm, sig, given } => {
-                self.post(rt, u32::from(comm), sig, given.into_vec())
+                self.post(rt, u32::from(comm), sig.sig(), given.into_vec())
             }
-            Command::Init { comm, sig } => self.init(rt, u32::from(comm), sig),
+            Command::Init { comm, sig } => self.init(rt, u32::from(comm), sig.sig()),
             Command::Start { req, given } => self.start(rt, req as usize, given.into_vec()),
             Command::Wait(req) => self.wait(rt, gate, req as usize),
             Command::Test(req) => self.test(rt, req as usize),
@@ -65,7 +65,7 @@ impl<L: Entries> Caller<L> {
         &mut self,
         rt: &R,
         comm: u32,
-        sig: Signature,
+        sig: &Signature,
         bytes: Vec<u8>,
     ) -> Result<(), Refusal> {
         self.requests.reserve(1)?;
@@ -78,7 +78,7 @@ impl<L: Entries> Caller<L> {
         Ok(())
     }
 
-    fn init<R: Wait>(&mut self, rt: &R, comm: u32, sig: Signature) -> Result<(), Refusal> {
+    fn init<R: Wait>(&mut self, rt: &R, comm: u32, sig: &Signature) -> Result<(), Refusal> {
         self.requests.reserve(1)?;
         let plan = self.port.ready_plan(comm, sig)?;
         let (request, _receipt) = match self.port.init(rt, comm, plan) {

@@ -11,6 +11,7 @@ mod Differing
 mod Lacking
 mod Ending
 mod Valued
+mod Shared
 mod Printing
 mod Finding
 mod Printed

@@ -4,7 +4,7 @@ use Rattle.std.specs.Prelude.{List, [], ◌∷◌, length, map, slice_get, Vec}
 use Rattle.std.specs.List.{range_with_len, AllByRecursion}
 use Rattle.std.specs.Global.{Global}
 use Rattle.coll_kinds.specs.declared.kind.Kind.{Kind}
-use Rattle.coll_kinds.specs.declared.kind.Kind.TheVariants.{Barrier, Bcast, Allgather, Allreduce}
+use Rattle.coll_kinds.specs.declared.kind.Kind.TheVariants.{Barrier, Bcast, Allgather, Allgatherv, Allreduce}
 use Rattle.coll_kinds.specs.Lengths.{given_len}
 use Rattle.coll_kinds.specs.Checks.{broken}
 use Rattle.coll_ops.specs.Values.{value}
@@ -38,6 +38,7 @@ abbrev pub is_shared : Kind → Bool
 is_shared Barrier = true
 is_shared Bcast = true
 is_shared Allgather = true
+is_shared Allgatherv = true
 is_shared Allreduce = true
 is_shared kind = false
 

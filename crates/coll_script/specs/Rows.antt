@@ -68,6 +68,29 @@ pairs_printed : meaning (text two_places)
 unfolding digits int_wrap script_of line ranks comm section command post init start startable signature fields values
 pairs_printed = refl
 
+abbrev rows_of_three : List (List ℕ)
+rows_of_three =
+    codes "ranks 3"
+    ∷ codes "rank 0"
+    ∷ codes "post 0 allgatherv i16 2 0 1 : 1 2"
+    ∷ codes "rank 1"
+    ∷ codes "post 0 allgatherv i16 2 0 1"
+    ∷ codes "rank 2"
+    ∷ codes "post 0 allgatherv i16 2 0 1 : 9"
+    ∷ []
+
+abbrev all_rows_for_each : List (List ℕ)
+all_rows_for_each =
+    codes "rank 0 req 0 start 0 : 1 2 9"
+    ∷ codes "rank 1 req 0 start 0 : 1 2 9"
+    ∷ codes "rank 2 req 0 start 0 : 1 2 9"
+    ∷ []
+
+-- rows of two, no and one element
+rows_gathered : meaning (text rows_of_three) ≡ Ok (text all_rows_for_each)
+unfolding digits int_wrap script_of line ranks comm section command post init start startable signature fields values
+rows_gathered = refl
+
 abbrev ranks_swapped : List (List ℕ)
 ranks_swapped =
     codes "ranks 2"
@@ -111,6 +134,16 @@ signatures_differ =
     ∷ codes "post 0 allreduce sum i32 1 : 7"
     ∷ []
 
+-- the same kind and type, but other counts at one place
+abbrev counts_differ : List (List ℕ)
+counts_differ =
+    codes "ranks 2"
+    ∷ codes "rank 0"
+    ∷ codes "post 0 allgatherv u8 1 1 : 7"
+    ∷ codes "rank 1"
+    ∷ codes "post 0 allgatherv u8 1 2 : 8 9"
+    ∷ []
+
 -- an initialisation and a post at one place
 abbrev modes_differ : List (List ℕ)
 modes_differ =
@@ -143,6 +176,7 @@ start_missing =
 abbrev end_rows : List (List (List ℕ) × Result (List ℕ) Fault)
 end_rows =
     (signatures_differ, fault 5 PlaceMismatch)
+    ∷ (counts_differ, fault 5 PlaceMismatch)
     ∷ (modes_differ, fault 5 PlaceMismatch)
     ∷ (place_missing, fault 3 PlaceMissing)
     ∷ (start_missing, fault 6 StartMissing)

@@ -78,14 +78,14 @@ fn differing_in(firsts: &[First], list: &[Request], line: Option<u32>) -> Option
 {
     let mut line = line;
     for (place, request) in list.iter().enumerate() {
-        line = lower_unless(agrees(firsts, place, request.sig), line, request.line);
+        line = lower_unless(agrees(firsts, place, &request.sig), line, request.line);
     }
     line
 }
 
 /// Whether the first request at a place has this signature.
-fn agrees(firsts: &[First], place: usize, sig: Signature) -> bool
-    ensures { result ≡ agrees (slice_get firsts.now place) sig }
+fn agrees(firsts: &[First], place: usize, sig: &Signature) -> bool
+    ensures { result ≡ agrees (slice_get firsts.now place) sig.now }
 {
     match firsts.get(place) {
         Some(first) => first.sig.is_same(sig),

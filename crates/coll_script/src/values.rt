@@ -62,6 +62,7 @@ fn is_shared(kind: Kind) -> bool
         Kind::Barrier => true,
         Kind::Bcast => true,
         Kind::Allgather => true,
+        Kind::Allgatherv => true,
         Kind::Allreduce => true,
         Kind::Gather => false,
         Kind::Scatter => false,

@@ -19,7 +19,7 @@ accepted-breaks None r done e h = refl
 accepted-breaks (Some rule) r done e h = absurd cc
 
 pub returns-in-Err : goal.returns-in-Err
-returns-in-Err c = λ words. ap (λ holds. must holds cause.BadSignature words) (refused-breaks (broken c.args.sig c.args.n) c.check.result c.in-Err.field-0 c.in-Err.is c.check.ensures)
+returns-in-Err c = λ words. ap (λ holds. must holds cause.BadSignature words) (refused-breaks (broken c.args.sig.now c.args.n) c.check.result c.in-Err.field-0 c.in-Err.is c.check.ensures)
 
 pub returns-in-Ok : goal.returns-in-Ok
-returns-in-Ok c = λ words. ap (λ (found : Option SignatureFault). must (is_none found) cause.BadSignature words) (accepted-breaks (broken c.args.sig c.args.n) c.check.result c.in-Ok.field-0 c.in-Ok.is c.check.ensures)
+returns-in-Ok c = λ words. ap (λ (found : Option SignatureFault). must (is_none found) cause.BadSignature words) (accepted-breaks (broken c.args.sig.now c.args.n) c.check.result c.in-Ok.field-0 c.in-Ok.is c.check.ensures)

@@ -4,10 +4,10 @@ use Rattle.coll_history.proofs.Keeping.{nothing-kept}
 use Rattle.coll_history.proofs.section.Section.note.Goals as goal
 
 pub returns-in_ok-make-in-Post : goal.returns-in_ok-make-in-Post
-returns-in_ok-make-in-Post c = λ commands is. c.in_ok-make-in-Post.ensures c.args.line commands c.args.command.now is (rw c.in-Post.is refl)
+returns-in_ok-make-in-Post c = λ commands is. c.in_ok-make-in-Post.ensures c.args.line commands c.args.command.now is (rw (c.in-Post.is, c.sig.ensures) refl)
 
 pub returns-in_ok-make-in-Init : goal.returns-in_ok-make-in-Init
-returns-in_ok-make-in-Init c = λ commands is. c.in_ok-make-in-Init.ensures c.args.line commands c.args.command.now is (rw c.in-Init.is refl)
+returns-in_ok-make-in-Init c = λ commands is. c.in_ok-make-in-Init.ensures c.args.line commands c.args.command.now is (rw (c.in-Init.is, c.sig-in-Init.ensures) refl)
 
 pub returns-in-Wait : goal.returns-in-Wait
 returns-in-Wait c = λ commands is. rw c.in-Wait.is (c.wait.ensures c.args.line commands is)
