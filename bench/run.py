@@ -23,9 +23,9 @@ OPERATIONS = ["max", "min", "sum", "prod", "land", "lor", "lxor", "band", "bor",
 # those of pairs of a value and an index
 LOCATIONS = ["maxloc", "minloc"]
 TYPES = ["i8", "i16", "i32", "i64", "u8", "u16", "u32", "u64"]
-# how many values each member gives, as a multiple of the count; where only the root gives, in ROOTED
-GIVEN = {"barrier": "none", "bcast": "root", "gather": "own", "scatter": "root all", "allgather": "own", "alltoall": "all",
-         "reduce": "own", "allreduce": "own", "rsblock": "all", "scan": "own", "exscan": "own"}
+# how many values each member gives, as a multiple of the count, or each a count of its own; where only the root gives, in ROOTED
+GIVEN = {"barrier": "none", "bcast": "root", "gather": "own", "scatter": "root all", "allgather": "own", "allgatherv": "counted",
+         "alltoall": "all", "reduce": "own", "allreduce": "own", "rsblock": "all", "scan": "own", "exscan": "own"}
 ROOTED = ["bcast", "gather", "scatter", "reduce"]
 REDUCING = ["reduce", "allreduce", "rsblock", "scan", "exscan"]
 SECONDS = 120
@@ -48,14 +48,17 @@ class Collective:
             self.type = "2int" if words[-1] in LOCATIONS else dice.choice(TYPES)
         else:
             self.type = dice.choice(TYPES + ["2int"])
+        self.counts = [dice.randint(0, 4) for _ in members]
         if self.kind != "barrier":
-            words += [self.type, str(self.count)]
+            words += [self.type, *map(str, self.counts if GIVEN[self.kind] == "counted" else [self.count])]
         self.words = " ".join(words)
 
     def given(self, dice, rank):
         """What the rank gives at a start."""
         rule = GIVEN[self.kind]
         n = 0 if rule == "none" else self.count
+        if rule == "counted":
+            n = self.counts[self.members.index(rank)]
         if rule.endswith("all"):
             n *= len(self.members)
         if rule.startswith("root") and self.members[self.root] != rank:
@@ -121,7 +124,7 @@ def answer(words, text):
 
 
 def repeat(runs):
-    text, requests = mixed(random.Random(2026))
+    text, requests = mixed(random.Random(1))
     wanted, _ = answer(["plain"], text)
     times, unlike, hanging = [], 0, 0
     for run in range(runs):

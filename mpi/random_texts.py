@@ -3,6 +3,7 @@
 
     mpi/random_texts.py FOLDER [COUNT [SEED]]    COUNT texts, 1000 where none is said, of numbers from SEED, 1 where none is said
     mpi/random_texts.py FOLDER COUNT SEED pairs    some of them over the type 2int
+    mpi/random_texts.py FOLDER COUNT SEED counts   some of them allgathervs, with a count for each member
 
 All ranks post and start in one common order, so each wait ends: of all requests that ranks wait for, the members of the first one have
 all come to it, or go on. Starts that follow one another without a wait between them change places now and then.
@@ -21,20 +22,22 @@ OPERATIONS = ["max", "min", "sum", "prod", "land", "lor", "lxor", "band", "bor",
 
 # The types on which few operations are allowed.
 NARROW = {"byte": ["band", "bor", "bxor"], "2int": ["maxloc", "minloc"]}
+COUNTS = [0, 1, 1, 2, 3, 5, 8, 17, 40]
 
 
 class Collective:
     """A signature on a communicator, and the number of the request at each member."""
 
-    def __init__(self, draw, communicator, members, persistent, pairs):
+    def __init__(self, draw, communicator, members, persistent, extras):
         self.communicator, self.members, self.persistent = communicator, members, persistent
-        self.kind = draw.choice(KINDS)
+        self.kind = draw.choice([*KINDS, *(["allgatherv"] if "counts" in extras else [])])
         self.root = draw.randrange(len(members)) if self.kind in ROOTED else None
-        self.type = draw.choice([*INTEGERS, "byte", *(["2int"] if pairs else [])])
+        self.type = draw.choice([*INTEGERS, "byte", *(["2int"] if "pairs" in extras else [])])
         self.operation = None
         if self.kind in COMBINING:
             self.operation = draw.choice(NARROW.get(self.type, OPERATIONS))
-        self.count = draw.choice([0, 1, 1, 2, 3, 5, 8, 17, 40])
+        self.count = draw.choice(COUNTS)
+        self.counts = [draw.choice(COUNTS) for _ in members] if self.kind == "allgatherv" else None
         self.numbers = {}
 
     def words(self):
@@ -43,7 +46,7 @@ class Collective:
             words.append(str(self.root))
         if self.operation:
             words.append(self.operation)
-        return words if self.kind == "barrier" else [*words, self.type, str(self.count)]
+        return words if self.kind == "barrier" else [*words, self.type, *map(str, self.counts or [self.count])]
 
     def given(self, draw, rank):
         """The words of what a rank gives."""
@@ -51,6 +54,8 @@ class Collective:
         count = {"barrier": 0, "bcast": self.count * (member == self.root), "scatter": self.count * size * (member == self.root)}.get(self.kind, self.count)
         if self.kind in ("alltoall", "rsblock"):
             count *= size
+        if self.counts:
+            count = self.counts[member]
         return [":", *(str(self.value(draw)) for _ in range(count))] if count else []
 
     def value(self, draw):
@@ -64,8 +69,8 @@ class Writer:
     """The sections of a text under way. ACTIVE has the requests of a rank that may be under way, WAITED what it still has to wait for
     before a start."""
 
-    def __init__(self, draw, pairs):
-        self.draw, self.pairs = draw, pairs
+    def __init__(self, draw, extras):
+        self.draw, self.extras = draw, extras
         self.ranks = draw.choice([1, 2, 2, 3, 3, 3, 4, 4])
         self.groups = [list(range(self.ranks))]
         for _ in range(draw.choice([0, 0, 1, 2])):
@@ -80,7 +85,7 @@ class Writer:
 
     def make(self, persistent):
         group = self.draw.randrange(len(self.groups))
-        it = Collective(self.draw, group, self.groups[group], persistent, self.pairs)
+        it = Collective(self.draw, group, self.groups[group], persistent, self.extras)
         for rank in it.members:
             it.numbers[rank] = self.requests[rank]
             self.requests[rank] += 1
@@ -151,7 +156,7 @@ def main():
     os.makedirs(folder, exist_ok=True)
     for number in range(seed, seed + count):
         with open(os.path.join(folder, f"{number:05}.job"), "w") as file:
-            file.write(Writer(random.Random(number), sys.argv[4:] == ["pairs"]).text())
+            file.write(Writer(random.Random(number), sys.argv[4:]).text())
 
 
 if __name__ == "__main__":

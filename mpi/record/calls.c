@@ -184,6 +184,18 @@ static void write_remark(const char *remark) {
     log_text("\n");
 }
 
+/* The words behind the type. A rank that is wrong by itself has a count of its own that no other rank tells. */
+static void write_counts(const struct call *call, const struct signature *signature) {
+    int members = call->counts ? call->members : 1;
+    bool wrong = sides_differ(call, element_of(call->type));
+    for (int member = 0; member < members; member++) {
+        bool own = !call->counts || member == call->member;
+        long theirs = own ? 0 : wrong ? bytes_of(call->counted_type, call->counts[member]) : call->counts[member] * element_of(call->counted_type).each;
+        log_text(" ");
+        log_signed(own ? signature->count : theirs);
+    }
+}
+
 struct gift write_call(const char *word, const char *communicator, const struct call *call) {
     bool barrier = !strcmp(call->kind, "barrier");
     struct signature signature = {.why = NULL};
@@ -207,8 +219,7 @@ struct gift write_call(const char *word, const char *communicator, const struct 
     if (!barrier) {
         log_text(" ");
         log_text(signature.element.word);
-        log_text(" ");
-        log_signed(signature.count);
+        write_counts(call, &signature);
     }
     bool values_stand = signature.element.exact && call->given != MPI_IN_PLACE && signature.count <= MOST_VALUES;
     return (struct gift){values_stand ? signature.element.word : NULL, call->given, signature.count, barrier ? 0 : call->blocks};

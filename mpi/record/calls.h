@@ -19,6 +19,10 @@ struct call {
     /* The other side of a call that sends and receives: an element type and a count, or MPI_DATATYPE_NULL. */
     MPI_Datatype other_type;
     long other_count;
+    /* Of an allgatherv the counts of all members, in elements of the type received, and how many there are; else null. */
+    const int *counts;
+    MPI_Datatype counted_type;
+    int members, member;
     const char *remark; /* what the signature can't say, or null */
 };
 

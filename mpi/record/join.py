@@ -136,7 +136,7 @@ class Job:
         self.places = Places(records)
         self.notes = []
         self.choose_communicators()
-        self.counts = sorted({self.count(command.words) for command in self.posts() if self.count(command.words) is not None})
+        self.used = {count for command in self.posts() for count in self.counts(command.words)}
 
     def posts(self):
         for record in self.records.values():
@@ -163,22 +163,39 @@ class Job:
             self.notes.append(f"left out: {left} calls on communicators whose makers aren't recorded")
 
     @staticmethod
-    def count(words):
-        """The count of a post or an init line, or None."""
-        end = next((place for place, word in enumerate(words) if word in (":", "~")), len(words))
-        return None if words[2] == "barrier" or not words[end - 1].isdigit() else int(words[end - 1])
+    def end(words):
+        """Where the signature of a post or an init line ends."""
+        return next((place for place, word in enumerate(words) if word in (":", "~")), len(words))
 
-    def is_long(self, words, count, longest):
-        members = len(self.known[words[1]][1].members) if words[1] in self.known else self.size
-        end = next((place for place, word in enumerate(words) if word in (":", "~")), len(words))
-        return count > longest or count > MOST_COUNT or count * members * WIDTHS.get(words[end - 2], 1) > MOST_BYTES
+    def counts(self, words):
+        """The counts of a post or an init line: one for each member of an allgatherv, none of a barrier."""
+        end = self.end(words)
+        first = {"barrier": end, "allgatherv": 4}.get(words[2], end - 1)
+        return [int(word) for word in words[first:end] if word.isdigit()]
+
+    def members(self, key):
+        return self.known[key][1].members if key in self.known else list(range(self.size))
+
+    def own_count(self, record, words):
+        """The count by which the rank gives, or None."""
+        counts = self.counts(words)
+        member = self.members(words[1]).index(record.rank) if words[2] == "allgatherv" else 0
+        return counts[member] if member < len(counts) else None
+
+    def long_counts(self, words, longest):
+        """Those of the counts that are too long, or too long together."""
+        counts = self.counts(words)
+        width = WIDTHS.get(words[self.end(words) - len(counts) - 1], 1)
+        blocks = 1 if words[2] == "allgatherv" else len(self.members(words[1]))
+        too_much = sum(counts) * blocks * width > MOST_BYTES
+        return [count for count in counts if count > min(longest, MOST_COUNT) or (too_much and count > 0)]
 
     def choose_counts(self, longest):
         """Each count that is too long stands for itself by a small one that the program doesn't have."""
-        long = sorted({count for words in (command.words for command in self.posts()) if (count := self.count(words)) is not None and self.is_long(words, count, longest)})
+        long = sorted({count for command in self.posts() for count in self.long_counts(command.words, longest)})
         self.stand_ins, free = {}, 1
         for count in long:
-            while free in self.counts:
+            while free in self.used:
                 free += 1
             self.stand_ins[count] = free
             free += 1
@@ -204,11 +221,10 @@ class Job:
             if not self.is_kept(record.requests[request], window):
                 return None
             self.renumbered[request] = len(self.renumbered)
-            self.started[request], self.count_of[request] = 0, self.count(words)
-            end = next((place for place, it in enumerate(words) if it in (":", "~")), len(words))
-            signature, count = words[2:end], self.count(words)
-            if count in self.stand_ins:
-                signature[-1] = str(self.stand_ins[count])
+            count = self.own_count(record, words)
+            self.started[request], self.count_of[request] = 0, count
+            end, counts = self.end(words), self.counts(words)
+            signature = words[2:end - len(counts)] + [str(self.stand_ins.get(it, it)) for it in counts]
             return [word, str(self.number[words[1]]), *signature, *self.values(words[end:], count)]
         if word == "start":
             request = int(words[1])
@@ -235,8 +251,9 @@ class Job:
                 lines.append(f"# {self.places.name(record, command.place) or 'place unknown'}")
             lines += command.remarks
             # A count that stands for a longer one is said where the call is.
-            if words and words[0] in ("post", "init") and self.count(command.words) in self.stand_ins:
-                lines.append(f"# the count {self.count(command.words)} stands as {self.stand_ins[self.count(command.words)]}, with zeros")
+            if words and words[0] in ("post", "init"):
+                long = sorted({count for count in self.counts(command.words) if count in self.stand_ins})
+                lines += [f"# the count {count} stands as {self.stand_ins[count]}, with zeros" for count in long]
             if words:
                 lines.append(" ".join(words))
         if not record.ended:

@@ -366,8 +366,17 @@ static struct call describe_Scatterv(const void *sent, const int *counts, const 
 
 static struct call describe_Allgatherv(const void *sent, int sent_count, MPI_Datatype sent_type, void *got, const int *counts,
                                        const int *places, MPI_Datatype got_type, MPI_Comm comm) {
-    (void)sent, (void)sent_count, (void)sent_type, (void)got, (void)counts, (void)places, (void)got_type;
-    return uneven("allgather", NO_ROOT, comm, COUNTED "MPI_Allgatherv");
+    struct call call = plain("allgatherv", comm);
+    communicator_place(comm, &call.member, &call.members);
+    call.counts = counts;
+    call.counted_type = got_type;
+    if (sent == MPI_IN_PLACE) {
+        give(&call, got_type, counts[call.member], block(got, got_type, 1, places[call.member]), 1);
+        return call;
+    }
+    give(&call, sent_type, sent_count, sent, 1);
+    has_other_side(&call, got_type, counts[call.member]);
+    return call;
 }
 
 static struct call describe_Alltoallv(const void *sent, const int *sent_counts, const int *sent_places, MPI_Datatype sent_type, void *got,

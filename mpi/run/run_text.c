@@ -23,7 +23,7 @@
 #error "this MPI library has no persistent collectives"
 #endif
 
-enum { MOST_COMMUNICATORS = 16, MOST_RANKS = 64, LINES_TAG = 1 };
+enum { MOST_COMMUNICATORS = 16, MOST_RANKS = 64, MOST_COUNT = 65536, LINES_TAG = 1 };
 
 /* A line of the text, cut into words. */
 struct line {
@@ -39,16 +39,16 @@ struct text {
     struct line *lines;
 };
 
-enum kind { BARRIER, BCAST, GATHER, SCATTER, ALLGATHER, ALLTOALL, REDUCE, ALLREDUCE, RSBLOCK, SCAN, EXSCAN, KINDS };
+enum kind { BARRIER, BCAST, GATHER, SCATTER, ALLGATHER, ALLGATHERV, ALLTOALL, REDUCE, ALLREDUCE, RSBLOCK, SCAN, EXSCAN, KINDS };
 
 static const struct {
     const char *word;
     bool root, op;
 } kinds[KINDS] = {
     [BARRIER] = {"barrier", false, false}, [BCAST] = {"bcast", true, false},       [GATHER] = {"gather", true, false},
-    [SCATTER] = {"scatter", true, false},  [ALLGATHER] = {"allgather", false, false}, [ALLTOALL] = {"alltoall", false, false},
-    [REDUCE] = {"reduce", true, true},     [ALLREDUCE] = {"allreduce", false, true}, [RSBLOCK] = {"rsblock", false, true},
-    [SCAN] = {"scan", false, true},        [EXSCAN] = {"exscan", false, true},
+    [SCATTER] = {"scatter", true, false},  [ALLGATHER] = {"allgather", false, false}, [ALLGATHERV] = {"allgatherv", false, false},
+    [ALLTOALL] = {"alltoall", false, false}, [REDUCE] = {"reduce", true, true},     [ALLREDUCE] = {"allreduce", false, true},
+    [RSBLOCK] = {"rsblock", false, true},  [SCAN] = {"scan", false, true},        [EXSCAN] = {"exscan", false, true},
 };
 
 struct type {
@@ -68,6 +68,7 @@ struct request {
     MPI_Request handle;
     enum kind kind;
     int root, count, rank, size; /* the last two within the communicator */
+    int counts[MOST_RANKS], places[MOST_RANKS], total; /* of an allgatherv: each member's row, where it lies, all rows */
     const struct type *type;
     MPI_Op op;
     MPI_Comm comm;
@@ -261,6 +262,16 @@ static enum kind find_kind(const char *word) {
     return kind;
 }
 
+/* Reads a count for each member, and packs their rows. */
+static void read_counts(const struct text *text, const struct line *line, int *next, struct request *request) {
+    for (int member = 0; member < request->size; member++) {
+        request->counts[member] = number_of(text, line, (*next)++, MOST_COUNT + 1);
+        request->places[member] = request->total;
+        request->total += request->counts[member];
+    }
+    request->count = request->counts[request->rank];
+}
+
 /* Reads `C SIG` behind the first word. The place of the word behind it goes to END. */
 static struct request read_request(struct player *player, int *end) {
     const struct text *text = player->text;
@@ -286,7 +297,10 @@ static struct request read_request(struct player *player, int *end) {
         request.type = next < line->count ? find_type(line->words[next++]) : NULL;
         if (!request.type)
             stop(text->name, line->number, "there is no such type");
-        request.count = number_of(text, line, next++, 65537);
+        if (request.kind == ALLGATHERV)
+            read_counts(text, line, &next, &request);
+        else
+            request.count = number_of(text, line, next++, MOST_COUNT + 1);
     }
     *end = next;
     return request;
@@ -313,6 +327,7 @@ static int elements_got(const struct request *it) {
     case REDUCE: return root ? it->count : 0;
     case ALLGATHER:
     case ALLTOALL: return it->count * it->size;
+    case ALLGATHERV: return it->total;
     case EXSCAN: return it->rank ? it->count : 0;
     default: return it->count;
     }
@@ -373,13 +388,14 @@ static void finish(const struct player *player, struct request *it) {
 
 /* Room for what the rank gives and gets; a bcast has one buffer for both. What comes is unlike what came before. */
 static void make_buffers(struct request *it) {
-    size_t width = it->type ? (size_t)it->type->width : 1, most = (size_t)it->count * (size_t)it->size + 1;
+    size_t width = it->type ? (size_t)it->type->width : 1, most = (size_t)it->count * (size_t)it->size + (size_t)it->total + 1;
     it->given = must(calloc(most, width));
     it->got = must(malloc(most * width));
     memset(it->got, 0x5a, most * width);
 }
 
 #define MOVED it->given, it->count, it->type->type, it->got, it->count, it->type->type
+#define COUNTED it->given, it->count, it->type->type, it->got, it->counts, it->places, it->type->type
 #define COMBINED it->given, it->got, it->count, it->type->type, it->op
 
 static int post(struct request *it) {
@@ -389,6 +405,7 @@ static int post(struct request *it) {
     case GATHER: return MPI_Igather(MOVED, it->root, it->comm, &it->handle);
     case SCATTER: return MPI_Iscatter(MOVED, it->root, it->comm, &it->handle);
     case ALLGATHER: return MPI_Iallgather(MOVED, it->comm, &it->handle);
+    case ALLGATHERV: return MPI_Iallgatherv(COUNTED, it->comm, &it->handle);
     case ALLTOALL: return MPI_Ialltoall(MOVED, it->comm, &it->handle);
     case REDUCE: return MPI_Ireduce(COMBINED, it->root, it->comm, &it->handle);
     case ALLREDUCE: return MPI_Iallreduce(COMBINED, it->comm, &it->handle);
@@ -407,6 +424,7 @@ static int initialise(struct request *it) {
     case GATHER: return INIT(Gather)(MOVED, it->root, it->comm, info, &it->handle);
     case SCATTER: return INIT(Scatter)(MOVED, it->root, it->comm, info, &it->handle);
     case ALLGATHER: return INIT(Allgather)(MOVED, it->comm, info, &it->handle);
+    case ALLGATHERV: return INIT(Allgatherv)(COUNTED, it->comm, info, &it->handle);
     case ALLTOALL: return INIT(Alltoall)(MOVED, it->comm, info, &it->handle);
     case REDUCE: return INIT(Reduce)(COMBINED, it->root, it->comm, info, &it->handle);
     case ALLREDUCE: return INIT(Allreduce)(COMBINED, it->comm, info, &it->handle);
