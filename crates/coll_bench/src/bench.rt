@@ -16,8 +16,17 @@ pub struct Bench {
     tickets: Vec<Ticket>,
 }
 
-/// A signature of the kind, of one i32 value.
-fn signature(kind: Kind) -> Signature {
+/// One element of each member.
+fn ones(members: u8) -> [u32; 64] {
+    let mut counts = [0; 64];
+    for count in counts.iter_mut().take(usize::from(members)) {
+        *count = 1;
+    }
+    counts
+}
+
+/// A signature of the kind, of one i32 value of each of so many members.
+fn signature(kind: Kind, members: u8) -> Signature {
     Signature {
         kind,
         mode: Mode::Once,
@@ -28,7 +37,16 @@ fn signature(kind: Kind) -> Signature {
             None
         },
         ty: Datatype::I32,
-        count: if matches!(kind, Kind::Barrier) { 0 } else { 1 },
+        count: if matches!(kind, Kind::Barrier | Kind::Allgatherv) {
+            0
+        } else {
+            1
+        },
+        each: if kind.has_counts() {
+            Some(ones(members))
+        } else {
+            None
+        },
     }
 }
 
@@ -99,7 +117,7 @@ fn open(alloc: Global, members: u8) -> Result<Core, Refusal> {
 
 /// A barrier of two, at one of them.
 fn waiting(alloc: Global) -> Result<Offer, Refusal> {
-    let plan = plan(alloc, signature(Kind::Barrier), 2, 0)?;
+    let plan = plan(alloc, signature(Kind::Barrier, 2), 2, 0)?;
     Ok(Offer {
         plan,
         bytes: Vec::new(alloc),
@@ -118,7 +136,7 @@ impl Bench {
         Ok(Bench {
             alloc,
             core,
-            sig: signature(kind),
+            sig: signature(kind, members),
             members,
             offers: Vec::new(alloc),
             tickets: Vec::new(alloc),

@@ -54,6 +54,7 @@ impl Measure {
             },
             ty,
             count,
+            each: None,
         }
     }
 

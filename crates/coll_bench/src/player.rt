@@ -17,7 +17,7 @@ fn post<L: Entries, R: Wait>(
     port: &mut Port<L>,
     measure: Measure,
 ) -> Result<Request, Refusal> {
-    let plan = port.ready_plan(0, measure.signature())?;
+    let plan = port.ready_plan(0, &measure.signature())?;
     let bytes = vec![in alloc; 1; plan.given_len()]?;
     match port.post(rt, 0, Offer { plan, bytes }) {
         Ok((request, _receipt)) => Ok(request),
@@ -31,7 +31,7 @@ fn init<L: Entries, R: Wait>(
     port: &mut Port<L>,
     measure: Measure,
 ) -> Result<Request, Refusal> {
-    let plan = port.ready_plan(0, measure.signature())?;
+    let plan = port.ready_plan(0, &measure.signature())?;
     match port.init(rt, 0, plan) {
         Ok((request, _receipt)) => Ok(request),
         Err(refused) => Err(refused.why),

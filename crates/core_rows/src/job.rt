@@ -30,9 +30,18 @@ pub struct Job {
     outcomes: u32,
 }
 
+/// Random counts for that many members.
+fn counts(random: &mut Random, size: u8) -> [u32; 64] {
+    let mut counts = [0; 64];
+    for count in counts.iter_mut().take(usize::from(size)) {
+        *count = element_count(random);
+    }
+    counts
+}
+
 /// A random signature for that many members.
 fn signature(random: &mut Random, size: u8) -> Signature {
-    let kind = Kind::ALL[random.below(11) % 11];
+    let kind = Kind::ALL[random.below(12) % 12];
     let (op, ty) = OPERATIONS[random.below(5) % 5];
     Signature {
         kind,
@@ -48,10 +57,15 @@ fn signature(random: &mut Random, size: u8) -> Signature {
         },
         op: if kind.has_operation() { Some(op) } else { None },
         ty,
-        count: if matches!(kind, Kind::Barrier) {
+        count: if matches!(kind, Kind::Barrier | Kind::Allgatherv) {
             0
         } else {
             element_count(random)
+        },
+        each: if kind.has_counts() {
+            Some(counts(random, size))
+        } else {
+            None
         },
     }
 }

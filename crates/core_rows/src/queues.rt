@@ -5,6 +5,7 @@ ghost use Rattle.std.specs.Prelude.{◌<◌, ◌≤◌, All, IfOk, length};
 use coll_kinds::{Datatype, Kind, Mode, Op, Refusal, Signature};
 use coll_queues::Queues;
 use std::alloc::{AllocError, Global};
+use std::sync::Arc;
 use std::test::Fail;
 
 const RANKS: u8 = 16;
@@ -14,10 +15,17 @@ const COMMS: u32 = 4;
 const PLACES: u32 = 6;
 
 /// Judges a signature, makes room and enters it, as an engine does.
-fn post(queues: &mut Queues, comm: u32, rank: u8, sig: Signature) -> Result<u32, Refusal> {
+fn post(
+    alloc: Global,
+    queues: &mut Queues,
+    comm: u32,
+    rank: u8,
+    sig: Signature,
+) -> Result<u32, Refusal> {
     queues.judge(comm, rank, &sig)?;
     queues.room(comm, rank)?;
-    Ok(queues.offer(comm, rank, sig))
+    let shared = Arc::new(alloc, sig)?;
+    Ok(queues.offer(comm, rank, shared))
 }
 
 /// A generator of numbers, the same in each run.
@@ -70,12 +78,8 @@ fn expected(calls: &[Call], comm: u32, rank: u8, sig: Signature) -> Result<u32, 
     let place = u32::try_from(place).unwrap_or(PLACES);
     for first in (0..RANKS).rev() {
         if let Some(known) = called(calls, comm, first, place as usize) {
-            if !known.is_same(sig) {
-                return Err(Refusal::Mismatch {
-                    place,
-                    first,
-                    sig: known,
-                });
+            if !known.is_same(&sig) {
+                return Err(Refusal::mismatch_at(place, first, &known));
             }
         }
     }
@@ -112,6 +116,7 @@ fn signature(number: u64) -> Signature {
         op: Some(Op::Sum),
         ty: Datatype::I32,
         count: 1,
+        each: None,
     };
     match number {
         0 => Signature {
@@ -140,7 +145,7 @@ fn random_postings(rt: HostRuntime) -> Result<(), Fail> {
         let sig = signature(next_below(&mut seed, 12));
         let want = expected(&calls, comm, rank, sig);
         assert_eq!(rt; queues.judge(comm, rank, &sig), want);
-        assert_eq!(rt; post(&mut queues, comm, rank, sig), want);
+        assert_eq!(rt; post(alloc, &mut queues, comm, rank, sig), want);
         if want.is_ok() {
             calls.push(Call { comm, rank, sig })?;
         }
@@ -150,7 +155,7 @@ fn random_postings(rt: HostRuntime) -> Result<(), Fail> {
             let known = (0..RANKS)
                 .filter_map(|rank| called(&calls, comm, rank, place as usize))
                 .next();
-            assert_eq!(rt; queues.signature(comm, place), known);
+            assert_eq!(rt; queues.signature(comm, place).copied(), known);
         }
     }
     Ok(())

@@ -14,6 +14,7 @@
 //! | `refusal_tests` | rows of refusals |
 //! | `work_tests` | rows of combinations that were handed out |
 
+mod allgatherv_tests;
 mod answer;
 mod call;
 mod calls;

@@ -69,14 +69,30 @@ const SMALL_JOBS: &[Row] = &[
     (MINLOC, PAIRS, 1, &[7, 0, 0, 0, 2, 0, 0, 0]),
 ];
 
-fn signature((kind, root, op, ty): What, count: u32) -> Signature {
+/// Counts of `n` members that differ, some of them 0.
+fn counts(count: u32, n: u8) -> [u32; 64] {
+    let mut counts = [0; 64];
+    let mut next = 0;
+    for here in counts.iter_mut().take(usize::from(n)) {
+        *here = next % 4;
+        next = next % 4 + count % 4;
+    }
+    counts
+}
+
+fn signature((kind, root, op, ty): What, count: u32, n: u8) -> Signature {
     Signature {
         kind,
         mode: Mode::Once,
         root,
         op,
         ty,
-        count,
+        count: if kind.has_counts() { 0 } else { count },
+        each: if kind.has_counts() {
+            Some(counts(count, n))
+        } else {
+            None
+        },
     }
 }
 
@@ -86,7 +102,8 @@ fn got(alloc: Global, (what, given, member, _): &Row) -> Result<Vec<u8>, Refusal
     for row in *given {
         rows.push(Vec::from_slice(alloc, row)?)?;
     }
-    value_of(alloc, signature(*what, 1), &rows, *member)
+    let n = u8::try_from(given.len()).unwrap_or(0);
+    value_of(alloc, signature(*what, 1, n), &rows, *member)
 }
 
 #[test]
@@ -142,7 +159,7 @@ fn first_misfit(alloc: Global, kind: Kind, n: u8) -> Result<Option<(What, u8)>, 
         ] {
             let op = if kind.has_operation() { Some(op) } else { None };
             let what = (kind, root, op, ty);
-            if let Some(member) = first_difference(alloc, signature(what, count), n)? {
+            if let Some(member) = first_difference(alloc, signature(what, count, n), n)? {
                 return Ok(Some((what, member)));
             }
         }

@@ -166,6 +166,7 @@ fn sum(comm: u32, size: u8) -> Collective {
             op: Some(Op::Sum),
             ty: Datatype::I32,
             count: 1,
+            each: None,
         },
     }
 }

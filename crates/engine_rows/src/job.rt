@@ -33,9 +33,18 @@ pub struct Job {
     pub commands: Vec<Vec<Command>>,
 }
 
+/// Random counts for that many members.
+fn counts(random: &mut Random, size: u8) -> [u32; 64] {
+    let mut counts = [0; 64];
+    for count in counts.iter_mut().take(usize::from(size)) {
+        *count = random.below(6) as u32;
+    }
+    counts
+}
+
 /// The signature of a collective of that many members.
 fn signature(random: &mut Random, number: usize, size: u8) -> Signature {
-    let kind = Kind::ALL[number % 11];
+    let kind = Kind::ALL[number % 12];
     let (op, ty) = OPERATIONS[random.below(9) % 9];
     Signature {
         kind,
@@ -51,12 +60,17 @@ fn signature(random: &mut Random, number: usize, size: u8) -> Signature {
         },
         op: if kind.has_operation() { Some(op) } else { None },
         ty,
-        count: if matches!(kind, Kind::Barrier) {
+        count: if matches!(kind, Kind::Barrier | Kind::Allgatherv) {
             0
         } else if random.below(50) == 0 {
             LONG
         } else {
             random.below(6) as u32
+        },
+        each: if kind.has_counts() {
+            Some(counts(random, size))
+        } else {
+            None
         },
     }
 }

@@ -64,7 +64,7 @@ impl<L: Entries> Player<'_, L> {
 
     fn post<R: Wait>(&mut self, rt: &R, number: usize) -> Result<(), Refusal> {
         let collective = self.collective(number)?;
-        let plan = self.port.ready_plan(collective.comm, collective.sig)?;
+        let plan = self.port.ready_plan(collective.comm, &collective.sig)?;
         let bytes = self.given(&collective, 0)?;
         let offer = Offer { plan, bytes };
         let request = calls::post(rt, &mut self.port, collective.comm, offer)?;
@@ -76,7 +76,7 @@ impl<L: Entries> Player<'_, L> {
 
     fn init<R: Wait>(&mut self, rt: &R, number: usize) -> Result<(), Refusal> {
         let collective = self.collective(number)?;
-        let plan = self.port.ready_plan(collective.comm, collective.sig)?;
+        let plan = self.port.ready_plan(collective.comm, &collective.sig)?;
         let request = calls::init(rt, &mut self.port, collective.comm, plan)?;
         let seat = self.seats.get_mut(number).ok_or(Refusal::Torn)?;
         seat.request = request;

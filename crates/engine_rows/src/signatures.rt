@@ -10,6 +10,7 @@ pub const BCAST: Signature = Signature {
     op: None,
     ty: Datatype::U8,
     count: 1,
+    each: None,
 };
 
 /// A bcast of two bytes.

@@ -106,6 +106,27 @@ const KINDS: &[Row] = &[
          rank 4 req 0 start 0 : 10 20 30 40 50\n",
     ),
     (
+        "ranks 3\nrank 0\npost 0 allgatherv i16 2 0 1 : 1 2\nrank 1\npost 0 allgatherv i16 2 0 1\n\
+         rank 2\npost 0 allgatherv i16 2 0 1 : 9\n",
+        "rank 0 req 0 start 0 : 1 2 9\nrank 1 req 0 start 0 : 1 2 9\nrank 2 req 0 start 0 : 1 2 9\n",
+    ),
+    (
+        "ranks 1\nrank 0\npost 0 allgatherv u8 1 : 5\n",
+        "rank 0 req 0 start 0 : 5\n",
+    ),
+    (
+        "ranks 2\nrank 0\npost 0 allgatherv u8 1 1 : 7\nrank 1\npost 0 allgatherv u8 1 2 : 8 9\n",
+        "2: line 5: place mismatch\n",
+    ),
+    (
+        "ranks 3\nrank 0\npost 0 allgatherv u8 1 1",
+        "2: line 3: bad words\n",
+    ),
+    (
+        "ranks 3\nrank 0\npost 0 allgatherv u8 1 1 : 7",
+        "2: line 3: bad signature\n",
+    ),
+    (
         "ranks 2\nrank 0\npost 0 rsblock sum i16 1 : 1 2\nrank 1\npost 0 rsblock sum i16 1 : 10 20\n",
         "rank 0 req 0 start 0 : 11\nrank 1 req 0 start 0 : 22\n",
     ),

@@ -14,6 +14,7 @@ use coll_report::laws::rows_are_closed;
 use coll_report::{Bytes, Entry, Report};
 use coll_script::Script;
 use std::alloc::{AllocError, Global};
+use std::sync::Arc;
 use std::test::Fail;
 
 const BCAST: Signature = Signature {
@@ -23,6 +24,7 @@ const BCAST: Signature = Signature {
     op: None,
     ty: Datatype::I32,
     count: 1,
+    each: None,
 };
 
 const FIRST: Ticket = Ticket {
@@ -35,17 +37,17 @@ const SECOND: Ticket = Ticket {
     generation: 2,
 };
 
-fn posted(rank: u8, ticket: Ticket, bytes: Bytes) -> Entry
-    ensures { seen result ≡ Posted rank ticket 0 0 bcast bytes }
+fn posted(alloc: Global, rank: u8, ticket: Ticket, bytes: Bytes) -> Result<Entry, AllocError>
+    ensures { IfOk result (λ entry. seen entry ≡ Posted rank ticket 0 0 bcast bytes) }
 {
-    Entry::Posted {
+    Ok(Entry::Posted {
         rank,
         ticket,
         comm: 0,
         place: 0,
-        sig: BCAST,
+        sig: Arc::new(alloc, BCAST)?,
         bytes,
-    }
+    })
 }
 
 fn retired(rank: u8, ticket: Ticket, bytes: Bytes) -> Entry
@@ -73,9 +75,9 @@ fn late_bcast(alloc: Global) -> Result<Vec<Entry>, AllocError>
     ensures { IfOk result (λ trace. trace_seen trace.items ≡ late_bcast) }
 {
     let mut trace = Vec::new(alloc);
-    trace.push(posted(0, FIRST, seven(alloc)?))?;
+    trace.push(posted(alloc, 0, FIRST, seven(alloc)?)?)?;
     trace.push(retired(0, FIRST, seven(alloc)?))?;
-    trace.push(posted(1, SECOND, Bytes::new(alloc, Vec::new(alloc))))?;
+    trace.push(posted(alloc, 1, SECOND, Bytes::new(alloc, Vec::new(alloc)))?)?;
     trace.push(retired(1, SECOND, seven(alloc)?))?;
     Ok(trace)
 }

@@ -1,16 +1,7 @@
 //! The number and the name of each refusal.
 
-use coll_kinds::{ConfigField, Datatype, Kind, Mode, Refusal, Signature, SignatureFault};
+use coll_kinds::{ConfigField, Datatype, Kind, Mode, Refusal, SignatureFault};
 use std::test::Fail;
-
-const SIG: Signature = Signature {
-    kind: Kind::Barrier,
-    mode: Mode::Once,
-    root: 0,
-    op: None,
-    ty: Datatype::Byte,
-    count: 0,
-};
 
 const REFUSALS: [(Refusal, u8, &str); 18] = [
     (Refusal::BadComm { comm: 1 }, 1, "BadComm"),
@@ -27,7 +18,12 @@ const REFUSALS: [(Refusal, u8, &str); 18] = [
         Refusal::Mismatch {
             place: 0,
             first: 0,
-            sig: SIG,
+            kind: Kind::Barrier,
+            mode: Mode::Once,
+            root: 0,
+            op: None,
+            ty: Datatype::Byte,
+            count: 0,
         },
         5,
         "Mismatch",

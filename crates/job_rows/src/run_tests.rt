@@ -71,6 +71,25 @@ const MINLOC_OF_THREE: (&str, &str) = (
     "rank 0 req 0 start 0 : -3,0\nrank 1 req 0 start 0 : -3,0\nrank 2 req 0 start 0 : -3,0\n",
 );
 
+const ALLGATHERV_OF_THREE: (&str, &str) = (
+    "ranks 3\nrank 0\npost 0 allgatherv i16 2 0 1 : 1 2\nrank 1\npost 0 allgatherv i16 2 0 1\n\
+     rank 2\npost 0 allgatherv i16 2 0 1 : 9\n",
+    "rank 0 req 0 start 0 : 1 2 9\nrank 1 req 0 start 0 : 1 2 9\nrank 2 req 0 start 0 : 1 2 9\n",
+);
+
+const ALLGATHERV_OF_ONE: (&str, &str) = (
+    "ranks 1\nrank 0\npost 0 allgatherv u8 1 : 5\n",
+    "rank 0 req 0 start 0 : 5\n",
+);
+
+/// A persistent one on a communicator of two of three ranks, in the other order.
+const ALLGATHERV_STARTED_TWICE: (&str, &str) = (
+    "ranks 3\ncomm 2 0\nrank 0\ninit 1 allgatherv u8 1 2\nstart 0 : 3 4\nwait 0\nstart 0 : 5 6\n\
+     rank 2\ninit 1 allgatherv u8 1 2\nstart 0 : 1\nwaitall\nstart 0 : 2\n",
+    "rank 0 req 0 start 0 : 1 3 4\nrank 0 req 0 start 1 : 2 5 6\n\
+     rank 2 req 0 start 0 : 1 3 4\nrank 2 req 0 start 1 : 2 5 6\n",
+);
+
 const EMPTY_BCAST: (&str, &str) = (
     "ranks 2\nrank 0\npost 0 bcast 1 i32 0\nrank 1\npost 0 bcast 1 i32 0\n",
     "rank 0 req 0 start 0 :\nrank 1 req 0 start 0 :\n",
@@ -141,6 +160,9 @@ fn texts_and_their_lines(rt: HostRuntime) -> Result<(), Fail> {
         ALLGATHER_OF_FIVE,
         MAXLOC_OF_THREE,
         MINLOC_OF_THREE,
+        ALLGATHERV_OF_THREE,
+        ALLGATHERV_OF_ONE,
+        ALLGATHERV_STARTED_TWICE,
         EMPTY_BCAST,
         STARTS_OUT_OF_ORDER,
         COMMENTS_AND_LEADING_ZEROS,

@@ -78,6 +78,7 @@ const SUM_OF_TWO: Signature = Signature {
     op: Some(Op::Sum),
     ty: Datatype::I32,
     count: 2,
+    each: None,
 };
 
 /// The line of start 2 of request 4095 of rank 63.

@@ -15,6 +15,7 @@ const SUM: Signature = Signature {
     op: Some(Op::Sum),
     ty: Datatype::I32,
     count: 1,
+    each: None,
 };
 
 /// `MPI_Iallreduce` and its `MPI_Wait`: gives a number, and gets the sum of what all ranks give.
@@ -24,7 +25,7 @@ fn sum_of_all<L: Entries, R: Wait>(
     port: &mut Port<L>,
     number: i32,
 ) -> Result<i32, Refusal> {
-    let plan = port.ready_plan(0, SUM)?;
+    let plan = port.ready_plan(0, &SUM)?;
     let bytes = Vec::from_slice(alloc, &number.to_le_bytes())?;
     let (mut request, _receipt) = match port.post(rt, 0, Offer { plan, bytes }) {
         Ok(posted) => posted,

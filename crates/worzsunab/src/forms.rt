@@ -48,6 +48,21 @@ const MISFIT: Refusal = Refusal::BadConfig {
 
 const NO_OPERATION: u8 = 255;
 
+/// The collectives by their numbers. An allgatherv has none, since a call from C has no counts.
+const KINDS: [Kind; 11] = [
+    Kind::Barrier,
+    Kind::Bcast,
+    Kind::Gather,
+    Kind::Scatter,
+    Kind::Allgather,
+    Kind::Alltoall,
+    Kind::Reduce,
+    Kind::Allreduce,
+    Kind::Rsblock,
+    Kind::Scan,
+    Kind::Exscan,
+];
+
 impl Call {
     /// The signature; none where a number names nothing.
     pub fn signature(&self, mode: Mode) -> Option<Signature>
@@ -58,12 +73,13 @@ impl Call {
             number => Some(*Op::ALL.get(usize::from(number))?),
         };
         Some(Signature {
-            kind: *Kind::ALL.get(usize::from(self.kind))?,
+            kind: *KINDS.get(usize::from(self.kind))?,
             mode,
             root: self.root,
             op,
             ty: *Datatype::ALL.get(usize::from(self.ty))?,
             count: self.count,
+            each: None,
         })
     }
 }

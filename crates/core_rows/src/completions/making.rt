@@ -28,6 +28,7 @@ fn sum(mode: Mode) -> Signature {
         op: Some(Op::Sum),
         ty: Datatype::U8,
         count: 1,
+        each: None,
     }
 }
 

@@ -13,6 +13,7 @@ const SUM: Signature = Signature {
     op: Some(Op::Sum),
     ty: Datatype::I32,
     count: 5,
+    each: None,
 };
 
 const ALLTOALL: Signature = Signature {
@@ -150,7 +151,7 @@ impl Part {
     /// Whether it is the member's plan.
     pub fn is_plan(self, plan: &Plan) -> bool {
         let whose = (plan.n(), plan.member()) == (2, self.member);
-        whose && plan.sig() == self.which.signature()
+        whose && *plan.sig() == self.which.signature()
     }
 
     /// What the member gives.

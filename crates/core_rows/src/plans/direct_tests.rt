@@ -2,34 +2,31 @@
 
 ghost use Rattle.std.specs.Prelude.{◌<◌, ◌≤◌};
 
-use coll_kinds::{Datatype, Kind, Mode, Op, Refusal, Signature};
-use coll_plans::{alltoall, gather, rsblock, scatter};
+use super::family_tests::signature_among;
+use coll_kinds::{Datatype, Kind, Op, Refusal};
+use coll_plans::{allgatherv, alltoall, gather, rsblock, scatter};
 use coll_sched::{Action, Region, Schedule};
 use std::alloc::Global;
 
-const KINDS: [Kind; 4] = [Kind::Gather, Kind::Scatter, Kind::Alltoall, Kind::Rsblock];
+const KINDS: [Kind; 5] = [
+    Kind::Gather,
+    Kind::Scatter,
+    Kind::Allgatherv,
+    Kind::Alltoall,
+    Kind::Rsblock,
+];
 
-// Blocks of two bytes.
+// Blocks of two bytes; of an allgatherv rows of two bytes, none and one.
 fn build(alloc: Global, kind: Kind, root: u8, n: u8, r: u8) -> Result<Schedule, Refusal>
     requires member { r < n }
     requires few { n ≤ 64 }
 {
-    let sig = Signature {
-        kind,
-        mode: Mode::Once,
-        root,
-        op: if kind.has_operation() {
-            Some(Op::LastNz)
-        } else {
-            None
-        },
-        ty: Datatype::I8,
-        count: 2,
-    };
+    let sig = signature_among(n, kind, root, Op::LastNz, Datatype::I8, 2);
     sig.check(n)?;
-    match kind {
+    match sig.kind {
         Kind::Gather => gather(alloc, sig, n, r),
         Kind::Scatter => scatter(alloc, sig, n, r),
+        Kind::Allgatherv => allgatherv(alloc, sig, n, r),
         Kind::Alltoall => alltoall(alloc, sig, n, r),
         Kind::Rsblock => rsblock(alloc, sig, n, r),
         _ => Err(Refusal::Full),
@@ -75,6 +72,39 @@ fn gather_at_the_root(rt: HostRuntime) {
         },
     ];
     assert_eq!(rt; schedule.size(), 8);
+    let rounds = schedule.rounds();
+    assert_eq!(rt; rounds.len(), 1);
+    assert!(rt; !rounds.is_empty());
+    assert_eq!(rt; rounds[0].actions(), &round[..]);
+}
+
+// Member 2 of three sends its byte to both, copies it behind the two of member 0, and receives also the empty row.
+#[test]
+fn allgatherv_at_the_last(rt: HostRuntime) {
+    let Ok(schedule) = build(rt.alloc(), Kind::Allgatherv, 0, 3, 2) else {
+        return assert!(rt; false);
+    };
+    let own = Region { at: 3, len: 1 };
+    let place = Region { at: 2, len: 1 };
+    let round = [
+        Action::Send { to: 0, from: own },
+        Action::Send { to: 1, from: own },
+        Action::Copy {
+            from: own,
+            into: place,
+        },
+        Action::Recv {
+            of: 0,
+            into: pair(0),
+        },
+        Action::Recv {
+            of: 1,
+            into: Region { at: 2, len: 0 },
+        },
+    ];
+    assert_eq!(rt; schedule.size(), 4);
+    assert_eq!(rt; schedule.input(), own);
+    assert_eq!(rt; schedule.output(), Region { at: 0, len: 3 });
     let rounds = schedule.rounds();
     assert_eq!(rt; rounds.len(), 1);
     assert!(rt; !rounds.is_empty());

@@ -2,7 +2,7 @@
 
 ghost use Rattle.std.specs.Prelude.{◌<◌, ◌≤◌};
 
-use super::family_tests::{compare, plans_of, schedules_of, signature};
+use super::family_tests::{compare, plans_of, schedules_of, signature, signature_among};
 use super::lock_step::run;
 use coll_kinds::{Datatype, Kind, Mode, Op, Refusal, Signature};
 use coll_plans::{Plan, allgather, plan};
@@ -67,6 +67,7 @@ fn allgather_of(alloc: Global, n: u8, r: u8) -> Result<Schedule, Refusal>
         op: None,
         ty: Datatype::I32,
         count: 5,
+        each: None,
     };
     sig.check(n)?;
     allgather(alloc, sig, n, r)
@@ -95,6 +96,15 @@ fn allgather_exchanges(rt: HostRuntime) {
                 assert!(rt; round.actions().len() == 2, "{r} of {n}");
             }
         }
+    }
+}
+
+// All rows go out at once.
+#[test]
+fn allgatherv_exchanges(rt: HostRuntime) {
+    for (n, want) in [(1, 0), (2, 1), (5, 1), (64, 1)] {
+        let sig = signature_among(n, Kind::Allgatherv, 0, Op::Sum, Datatype::I32, 5);
+        assert_exchanges(&rt, rt.alloc(), sig, n, want);
     }
 }
 

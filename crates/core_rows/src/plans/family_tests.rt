@@ -5,7 +5,7 @@ ghost use Rattle.std.specs.Prelude.{◌≤◌};
 
 use super::lock_step::run;
 use crate::plain::value_of;
-use coll_kinds::{Datatype, Kind, Mode, Op, Refusal, Signature, SignatureFault};
+use coll_kinds::{Datatype, Kind, MAX_RANKS, Mode, Op, Refusal, Signature, SignatureFault};
 use coll_plans::{Plan, plan};
 use coll_sched::{Action, Schedule};
 use std::alloc::Global;
@@ -30,7 +30,42 @@ pub(super) fn signature(kind: Kind, root: u8, op: Op, ty: Datatype, count: u32) 
         } else {
             count
         },
+        each: None,
     }
+}
+
+// The same for n members: the rows of an allgatherv have the count, no elements, half the count, and so on.
+pub(super) fn signature_among(
+    n: u8,
+    kind: Kind,
+    root: u8,
+    op: Op,
+    ty: Datatype,
+    count: u32,
+) -> Signature {
+    let sig = signature(kind, root, op, ty, count);
+    if !kind.has_counts() {
+        return sig;
+    }
+    Signature {
+        count: 0,
+        each: Some(counts_among(n, count)),
+        ..sig
+    }
+}
+
+fn counts_among(n: u8, count: u32) -> [u32; MAX_RANKS] {
+    let mut counts = [0; MAX_RANKS];
+    for i in 0..64 {
+        if i < usize::from(n) {
+            counts[i] = match i % 3 {
+                0 => count,
+                1 => 0,
+                _ => count / 2,
+            };
+        }
+    }
+    counts
 }
 
 // The least number of doublings that reach n.
@@ -71,7 +106,7 @@ fn most_exchanges(kind: Kind, n: u8) -> usize {
         Kind::Reduce => doublings(n) + hop,
         Kind::Allreduce if doublings(n) == dimension(n) => dimension(n),
         Kind::Allreduce => dimension(n) + 2,
-        Kind::Gather | Kind::Scatter | Kind::Alltoall | Kind::Rsblock => hop,
+        Kind::Gather | Kind::Scatter | Kind::Allgatherv | Kind::Alltoall | Kind::Rsblock => hop,
     }
 }
 
@@ -179,7 +214,7 @@ fn compare_kind(
             Datatype::U64
         };
         for count in [3, 1, 0] {
-            compare(rt, alloc, signature(kind, root, op, ty, count), n)?;
+            compare(rt, alloc, signature_among(n, kind, root, op, ty, count), n)?;
         }
         if !kind.has_operation() {
             break;
@@ -222,16 +257,16 @@ fn lock_step_of_sixty_four(rt: HostRuntime) {
 #[test]
 fn plan_exchanges(rt: HostRuntime) {
     for kind in Kind::ALL {
-        let sig = signature(kind, 0, Op::Sum, Datatype::I32, 1);
         let direct = matches!(
             kind,
-            Kind::Gather | Kind::Scatter | Kind::Alltoall | Kind::Rsblock
+            Kind::Gather | Kind::Scatter | Kind::Allgatherv | Kind::Alltoall | Kind::Rsblock
         );
         let doubling = matches!(
             kind,
             Kind::Barrier | Kind::Bcast | Kind::Allgather | Kind::Scan | Kind::Exscan
         );
         for (n, most) in [(1, 0), (5, 3), (64, 6)] {
+            let sig = signature_among(n, kind, 0, Op::Sum, Datatype::I32, 1);
             for r in 0..n {
                 let exchanges = plan(rt.alloc(), sig, n, r).map(|plan| plan.schedule().exchanges());
                 let bound = if direct {
@@ -262,7 +297,7 @@ fn messages_and_rounds(kind: Kind, n: u8, root: u8) -> (usize, usize)
         Kind::Bcast => (others, steps),
         Kind::Gather | Kind::Scatter => (others, 1),
         Kind::Allgather => (many * steps, steps + 1),
-        Kind::Alltoall => (many * others, 1),
+        Kind::Allgatherv | Kind::Alltoall => (many * others, 1),
         Kind::Reduce if root == 0 => (others, 2 * steps + 1),
         Kind::Reduce => (many, 2 * steps + 1),
         Kind::Allreduce => {
@@ -278,26 +313,31 @@ fn messages_and_rounds(kind: Kind, n: u8, root: u8) -> (usize, usize)
     }
 }
 
-// How many blocks the buffer of a member has, which is the root or another.
-fn blocks_of_buffer(kind: Kind, n: u8, is_root: bool) -> usize {
+// The bytes of member r's buffer.
+fn size_of_buffer(sig: &Signature, n: u8, r: u8) -> usize {
     let many = n as usize;
-    match kind {
+    let blocks = match sig.kind {
         Kind::Barrier => 0,
-        Kind::Gather | Kind::Scatter if is_root => many + 1,
+        Kind::Gather | Kind::Scatter if r == sig.root => many + 1,
         Kind::Bcast | Kind::Gather | Kind::Scatter => 1,
         Kind::Reduce | Kind::Allreduce | Kind::Scan => 2,
         Kind::Exscan => 3,
         Kind::Allgather | Kind::Alltoall | Kind::Rsblock => 2 * many,
-    }
+        Kind::Allgatherv => return sig.got_len(n, r).wrapping_add(sig.given_len(n, r)),
+    };
+    blocks.wrapping_mul(sig.block_len())
 }
 
-// How many blocks all messages carry together: one each, save where the blocks that a member holds double.
-fn blocks_sent(kind: Kind, n: u8, messages: usize) -> usize
+// The bytes that all messages carry together: a block each, save where the blocks that a member holds double, and where
+// rows differ, of which each goes to all others.
+fn bytes_sent(sig: &Signature, n: u8, messages: usize) -> usize
     requires { n ≤ 64 }
 {
-    match kind {
-        Kind::Allgather => n as usize * (n as usize).saturating_sub(1),
-        _ => messages,
+    let others = (n as usize).saturating_sub(1);
+    match sig.kind {
+        Kind::Allgather => (n as usize * others).wrapping_mul(sig.block_len()),
+        Kind::Allgatherv => sig.rows_len(n).wrapping_mul(others),
+        _ => messages.wrapping_mul(sig.block_len()),
     }
 }
 
@@ -325,12 +365,8 @@ fn count_messages(rt: &impl Abort, alloc: Global, sig: Signature, n: u8) -> Resu
     for r in 0..n {
         let plan = plan(alloc, sig, n, r)?;
         let schedule = plan.schedule();
-        let blocks = blocks_of_buffer(sig.kind, n, r == sig.root);
         assert_eq!(rt; schedule.rounds().len(), rounds);
-        assert_eq!(rt;
-            schedule.size() as usize,
-            blocks.wrapping_mul(sig.block_len())
-        );
+        assert_eq!(rt; schedule.size() as usize, size_of_buffer(&sig, n, r));
         assert!(rt; count < 1000000);
         let (sent, sent_bytes) = sends(rt, &plan);
         assert!(rt; sent < 1000000);
@@ -343,10 +379,9 @@ fn count_messages(rt: &impl Abort, alloc: Global, sig: Signature, n: u8) -> Resu
         "{:?} of {n} with root {}",
         sig.kind, sig.root
     );
-    let blocks = blocks_sent(sig.kind, n, messages);
     assert_eq!(rt;
         bytes,
-        blocks.wrapping_mul(sig.block_len()),
+        bytes_sent(&sig, n, messages),
         "{:?} of {n}",
         sig.kind
     );
@@ -360,7 +395,7 @@ fn messages_of_each_kind(rt: HostRuntime) {
         for n in [1, 2, 3, 4, 5, 6, 7, 8, 9, 17, 33, 63, 64] {
             let roots = if kind.has_root() { n } else { 1 };
             for root in 0..roots {
-                let sig = signature(kind, root, Op::Sum, Datatype::I32, 2);
+                let sig = signature_among(n, kind, root, Op::Sum, Datatype::I32, 2);
                 assert_eq!(rt; count_messages(&rt, rt.alloc(), sig, n), Ok(()));
             }
         }
@@ -387,7 +422,7 @@ fn plan_of_a_root_that_is_no_member(rt: HostRuntime) {
 #[test]
 fn plans_of_the_greatest_count(rt: HostRuntime) {
     for kind in Kind::ALL {
-        let sig = signature(kind, 0, Op::Sum, Datatype::I64, 65_536);
+        let sig = signature_among(2, kind, 0, Op::Sum, Datatype::I64, 65_536);
         let Ok(plan) = plan(rt.alloc(), sig, 2, 1) else {
             return assert!(rt; false, "{kind}");
         };
@@ -403,6 +438,6 @@ fn plan_tells_its_parts(rt: HostRuntime) {
     let Ok(plan) = plan(rt.alloc(), sig, 5, 4) else {
         return assert!(rt; false);
     };
-    assert_eq!(rt; plan.sig(), sig);
+    assert_eq!(rt; *plan.sig(), sig);
     assert_eq!(rt; (plan.n(), plan.member()), (5, 4));
 }

@@ -11,6 +11,7 @@ const BARRIER: Signature = Signature {
     op: None,
     ty: Datatype::Byte,
     count: 0,
+    each: None,
 };
 
 #[test]

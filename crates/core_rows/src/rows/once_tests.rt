@@ -5,7 +5,7 @@ use crate::rows::signatures::{BARRIER, BCAST, LAST, SUM, SUM_OF_THREE};
 use crate::rows::values::Values;
 use crate::rows::{Row, first_misfit};
 use coll_core::Phase;
-use coll_kinds::Refusal;
+use coll_kinds::{Datatype, Kind, Mode, Refusal};
 use std::test::Fail;
 
 // The refusal tells the lowest member that has the place; the bytes come back, and no place was taken.
@@ -20,7 +20,12 @@ const MISMATCH: &[Row] = &[
 const FIRST_BCASTS: Refusal = Refusal::Mismatch {
     place: 0,
     first: 0,
-    sig: BCAST,
+    kind: Kind::Bcast,
+    mode: Mode::Once,
+    root: 0,
+    op: None,
+    ty: Datatype::I32,
+    count: 1,
 };
 
 #[test]

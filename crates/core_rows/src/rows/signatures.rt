@@ -9,6 +9,7 @@ pub const BARRIER: Signature = Signature {
     op: None,
     ty: Datatype::Byte,
     count: 0,
+    each: None,
 };
 
 /// A bcast of one i32 value from member 0.
@@ -19,6 +20,7 @@ pub const BCAST: Signature = Signature {
     op: None,
     ty: Datatype::I32,
     count: 1,
+    each: None,
 };
 
 /// An allreduce of one i32 value.
@@ -29,6 +31,7 @@ pub const SUM: Signature = Signature {
     op: Some(Op::Sum),
     ty: Datatype::I32,
     count: 1,
+    each: None,
 };
 
 pub const SUM_OF_THREE: Signature = Signature { count: 3, ..SUM };

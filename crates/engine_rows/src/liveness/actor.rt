@@ -25,6 +25,7 @@ const SUM: Signature = Signature {
     op: Some(Op::Sum),
     ty: Datatype::I32,
     count: 1,
+    each: None,
 };
 
 const BARRIER: Signature = Signature {
@@ -34,6 +35,7 @@ const BARRIER: Signature = Signature {
     op: None,
     ty: Datatype::Byte,
     count: 0,
+    each: None,
 };
 
 /// A number as an i32, the least byte first.
@@ -62,7 +64,7 @@ pub struct Actor<'x, L: Entries, R> {
 impl<L: Entries, R: Wait + Clock> Actor<'_, L, R> {
     fn post(&mut self, comm: u32, sig: Signature, bytes: &[u8]) -> Result<bool, Refusal> {
         let port = self.port.as_mut().ok_or(Refusal::Torn)?;
-        let plan = port.ready_plan(comm, sig)?;
+        let plan = port.ready_plan(comm, &sig)?;
         let bytes = Vec::from_slice(self.alloc, bytes)?;
         let offer = Offer { plan, bytes };
         let request = calls::post(self.site.rt, port, comm, offer)?;

@@ -58,8 +58,9 @@ fn posted<L: Entries, R: Wait>(
         op: Some(Op::Sum),
         ty: Datatype::I32,
         count: 1,
+        each: None,
     };
-    let plan = port.ready_plan(0, sum)?;
+    let plan = port.ready_plan(0, &sum)?;
     let bytes = Vec::from_slice(alloc, &[1u8, 0, 0, 0])?;
     calls::post(rt, port, 0, Offer { plan, bytes })
 }

@@ -179,7 +179,7 @@ impl<L: Entries> Driver<L> {
     ) -> Result<Request, Refusal> {
         self.room_for_one()?;
         let port = self.ports.get_mut(usize::from(rank)).ok_or(Refusal::Torn)?;
-        let plan = port.ready_plan(comm, sig)?;
+        let plan = port.ready_plan(comm, &sig)?;
         let offer = Offer {
             plan,
             bytes: Vec::from_slice(self.alloc, bytes)?,
@@ -200,7 +200,7 @@ impl<L: Entries> Driver<L> {
     ) -> Result<Answer, Refusal> {
         self.room_for_one()?;
         let port = self.ports.get_mut(usize::from(rank)).ok_or(Refusal::Torn)?;
-        let plan = port.ready_plan(comm, sig)?;
+        let plan = port.ready_plan(comm, &sig)?;
         let request = calls::init(rt, port, comm, plan)?;
         self.number(request)
     }

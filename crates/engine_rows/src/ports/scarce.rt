@@ -188,7 +188,7 @@ impl<L: Entries> Scarce<L> {
         for attempt in 0..self.memory.attempts() {
             let port = self.driver.port(rank)?;
             let rest = self.memory.lend(self.alloc, attempt);
-            let made = port.ready_plan(comm, sig);
+            let made = port.ready_plan(comm, &sig);
             self.memory.close(rest);
             match made {
                 Err(Refusal::NoMemory) => {
@@ -221,7 +221,7 @@ impl<L: Entries> Scarce<L> {
         bytes: &[u8],
     ) -> Result<Answer, Refusal> {
         self.room()?;
-        let sig = offer.plan.sig();
+        let sig = *offer.plan.sig();
         let mut offer = offer;
         for attempt in 0..self.memory.attempts() {
             let port = self.driver.port(rank)?;
@@ -232,7 +232,7 @@ impl<L: Entries> Scarce<L> {
                 Ok((request, _receipt)) => return self.driver.number(request),
                 Err(Refused { why, back }) => {
                     self.refusals.posts = self.refusals.posts.saturating_add(1);
-                    let same = back.plan.sig() == sig && back.bytes.as_slice() == bytes;
+                    let same = *back.plan.sig() == sig && back.bytes.as_slice() == bytes;
                     judge(why, same)?;
                     offer = back;
                 }
@@ -249,7 +249,7 @@ impl<L: Entries> Scarce<L> {
         plan: Plan,
     ) -> Result<Answer, Refusal> {
         self.room()?;
-        let sig = plan.sig();
+        let sig = *plan.sig();
         let mut plan = plan;
         for attempt in 0..self.memory.attempts() {
             let port = self.driver.port(rank)?;
@@ -260,7 +260,7 @@ impl<L: Entries> Scarce<L> {
                 Ok((request, _receipt)) => return self.driver.number(request),
                 Err(Refused { why, back }) => {
                     self.refusals.inits = self.refusals.inits.saturating_add(1);
-                    judge(why, back.sig() == sig)?;
+                    judge(why, *back.sig() == sig)?;
                     plan = back;
                 }
             }

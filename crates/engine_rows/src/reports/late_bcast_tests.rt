@@ -11,6 +11,7 @@ use coll_core::{Config, Outcome};
 use coll_kinds::{Datatype, Kind, Mode, Signature, Ticket};
 use coll_report::{Bytes, Entry, Report, laws};
 use std::alloc::{AllocError, Global};
+use std::sync::Arc;
 use std::test::Fail;
 
 fn posted(alloc: Global, rank: u8, ticket: Ticket, bytes: &[u8]) -> Result<Entry, AllocError>
@@ -24,13 +25,14 @@ fn posted(alloc: Global, rank: u8, ticket: Ticket, bytes: &[u8]) -> Result<Entry
         op: None,
         ty: Datatype::I32,
         count: 1,
+        each: None,
     };
     Ok(Entry::Posted {
         rank,
         ticket,
         comm: 0,
         place: 0,
-        sig,
+        sig: Arc::new(alloc, sig)?,
         bytes,
     })
 }

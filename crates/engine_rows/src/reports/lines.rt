@@ -3,6 +3,7 @@
 use coll_kinds::{Signature, Ticket};
 use coll_report::{Bytes, Entry};
 use std::alloc::{AllocError, Global};
+use std::sync::Arc;
 
 /// An entry of a rank, with its request's ticket, at place 0 of a communicator. Persistent requests are of communicator 0.
 #[derive(Clone, Copy)]
@@ -24,7 +25,7 @@ impl Line {
                 ticket,
                 comm,
                 place: 0,
-                sig,
+                sig: Arc::new(alloc, sig)?,
                 bytes: Bytes::new(alloc, Vec::from_slice(alloc, bytes)?),
             },
             Line::Inited(rank, ticket, sig) => Entry::Inited {
@@ -32,7 +33,7 @@ impl Line {
                 ticket,
                 comm: 0,
                 place: 0,
-                sig,
+                sig: Arc::new(alloc, sig)?,
             },
             Line::Started(rank, ticket, start, bytes) => Entry::Started {
                 rank,
