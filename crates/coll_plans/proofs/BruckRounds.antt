@@ -12,10 +12,10 @@ use Rattle.coll_sched.proofs.Buffers.{flip}
 use Rattle.coll_sched.proofs.Rounds.{GivenFits}
 use Rattle.coll_sched.proofs.Builders.{Has, round_held, round_kept, message_is}
 use Rattle.coll_trees.proofs.Columns.{IsColumn, column_of, Costs, free, local_round, exchange}
-use Rattle.coll_plans.specs.Bruck.{blocks_at, block_count, bruck_step, bruck_rounds, rotation}
+use Rattle.coll_plans.specs.BruckAllgather.{blocks_at, block_count, bruck_step, bruck_rounds, rotation}
 use Rattle.coll_plans.proofs.LocalRounds.{local_column, is_local_column}
 use Rattle.coll_plans.proofs.Around.{meets, meets_back, two_steps, past_last, not_past}
-use Rattle.coll_plans.proofs.BlockRegions.{blocks_inside, blocks_apart, same_block}
+use Rattle.coll_plans.proofs.BruckRegions.{blocks_inside, blocks_apart, same_block}
 
 -- m blocks go to p, and m come of q behind the s that the member holds
 step_round : (b n s m p q : ℕ) → m ≤ s → s + m ≤ n → IsRound (n * b + n * b) (Send p (blocks_at b 0 m) ∷ Recv q (blocks_at b s m) ∷ [])

@@ -16,26 +16,26 @@ use Rattle.coll_sched.specs.declared.action.Action.{Action}
 use Rattle.coll_sched.specs.Points.{remaining}
 use Rattle.coll_trees.specs.Columns.{Column}
 use Rattle.coll_trees.specs.Depths.{depth}
-use Rattle.coll_trees.specs.Spreading.{from_root}
+use Rattle.coll_trees.specs.BinomialTreeBcast.{from_root}
 use Rattle.coll_trees.specs.Trees.{bcast_family}
-use Rattle.coll_trees.specs.Folding.{folding, last_hop}
-use Rattle.coll_trees.proofs.Counts.{all_in, all_in-append, cond-few, folding-few, last_hop-few, spreading-few}
+use Rattle.coll_trees.specs.BinomialTreeReduce.{folding, last_hop}
+use Rattle.coll_trees.proofs.BinomialTreeActions.{all_in, all_in-append, cond-few, folding-few, last_hop-few, spreading-few}
 use Rattle.coll_trees.proofs.Checked.{checked}
-use Rattle.coll_plans.specs.declared.blocks.Blocks.{Blocks}
-use Rattle.coll_plans.specs.declared.pairing.Pairing.{Pairing}
-use Rattle.coll_plans.specs.declared.pairing.Pairing.TheVariants.{Lower, Upper, Alone}
-use Rattle.coll_plans.specs.declared.pattern.Pattern.{Pattern}
-use Rattle.coll_plans.specs.declared.pattern.Pattern.TheVariants.{ToAll, ToRoot, FromRoot}
-use Rattle.coll_plans.specs.Barriers.{meetings}
-use Rattle.coll_plans.specs.Scans.{doubling, join, join_both, receipt, shift}
-use Rattle.coll_plans.specs.Bruck.{bruck_rounds}
-use Rattle.coll_plans.specs.Exchanges.{alike, carries, chosen, exchange_by, keeps, recvs, sends}
-use Rattle.coll_plans.specs.Directs.{blocks_from, combines_below, one_block, own_row, row_at}
-use Rattle.coll_plans.specs.Corners.{corner, dimension, extra, mate, pairing}
-use Rattle.coll_plans.specs.Trades.{exchanging, give, gives, joins_by, pair_up, pairs, tell, tells, trade, trade_joins, trades, trading}
-use Rattle.coll_plans.specs.Relays.{chain_family, is_long, is_passing, receipt_of, relay_count, relay_of, relaying, segment_count}
+use Rattle.coll_plans.specs.declared.direct_blocks.Blocks.{Blocks}
+use Rattle.coll_plans.specs.declared.recursive_doubling_fold.FoldPart.{FoldPart}
+use Rattle.coll_plans.specs.declared.recursive_doubling_fold.FoldPart.TheVariants.{Lower, Upper, Alone}
+use Rattle.coll_plans.specs.declared.direct_pattern.Pattern.{Pattern}
+use Rattle.coll_plans.specs.declared.direct_pattern.Pattern.TheVariants.{ToAll, ToRoot, FromRoot}
+use Rattle.coll_plans.specs.DisseminationBarrier.{meetings}
+use Rattle.coll_plans.specs.PrefixDoubling.{doubling, join, join_both, receipt, shift}
+use Rattle.coll_plans.specs.BruckAllgather.{bruck_rounds}
+use Rattle.coll_plans.specs.DirectExchange.{alike, carries, chosen, exchange_by, keeps, recvs, sends}
+use Rattle.coll_plans.specs.DirectFamilies.{blocks_from, combines_below, one_block, own_row, row_at}
+use Rattle.coll_plans.specs.RecursiveDoublingHypercube.{corner, dimension, extra, mate, pairing}
+use Rattle.coll_plans.specs.RecursiveDoubling.{exchanging, give, gives, joins_by, pair_up, pairs, tell, tells, trade, trade_joins, trades, trading}
+use Rattle.coll_plans.specs.ChainBcast.{chain_family, is_long, is_passing, receipt_of, relay_count, relay_of, relaying, segment_count}
 use Rattle.coll_plans.specs.Plans.{family_by, most_actions}
-use Rattle.coll_plans.proofs.Corners.{dimension-most}
+use Rattle.coll_plans.proofs.RecursiveDoublingHypercube.{dimension-most}
 
 receipt-few : (b s r : ℕ) → length (receipt b s r) ≤ 1
 receipt-few b s r = cond-few (leb s r) _ [] 1 (omega arith) (omega arith)
@@ -89,27 +89,27 @@ alone : (column : Column) (r most : ℕ) → length (column r) ≤ most → all_
 alone column r most few = omega arith
 
 -- of an allreduce
-gives-few : (b r : ℕ) (o : Pairing) → length (gives b r o) ≤ 1
+gives-few : (b r : ℕ) (o : FoldPart) → length (gives b r o) ≤ 1
 gives-few b r Lower = omega arith
 gives-few b r Upper = omega arith
 gives-few b r Alone = omega arith
 
-pairs-few : (op : Op) (ty : Datatype) (b : ℕ) (o : Pairing) → length (pairs op ty b o) ≤ 1
+pairs-few : (op : Op) (ty : Datatype) (b : ℕ) (o : FoldPart) → length (pairs op ty b o) ≤ 1
 pairs-few op ty b Lower = omega arith
 pairs-few op ty b Upper = omega arith
 pairs-few op ty b Alone = omega arith
 
-trades-few : (b p : ℕ) (o : Pairing) → length (trades b p o) ≤ 2
+trades-few : (b p : ℕ) (o : FoldPart) → length (trades b p o) ≤ 2
 trades-few b p Lower = omega arith
 trades-few b p Upper = omega arith
 trades-few b p Alone = omega arith
 
-joins_by-few : (op : Op) (ty : Datatype) (b q s : ℕ) (o : Pairing) → length (joins_by op ty b q s o) ≤ 1
+joins_by-few : (op : Op) (ty : Datatype) (b q s : ℕ) (o : FoldPart) → length (joins_by op ty b q s o) ≤ 1
 joins_by-few op ty b q s Lower = cond-few (ltb (q % (s + s)) s) _ _ 1 (omega arith) (omega arith)
 joins_by-few op ty b q s Upper = omega arith
 joins_by-few op ty b q s Alone = cond-few (ltb (q % (s + s)) s) _ _ 1 (omega arith) (omega arith)
 
-tells-few : (b r : ℕ) (o : Pairing) → length (tells b r o) ≤ 1
+tells-few : (b r : ℕ) (o : FoldPart) → length (tells b r o) ≤ 1
 tells-few b r Lower = omega arith
 tells-few b r Upper = omega arith
 tells-few b r Alone = omega arith

@@ -15,23 +15,23 @@ use Rattle.coll_sched.specs.Served.{Serves}
 use Rattle.coll_trees.specs.Depths.{depth}
 use Rattle.coll_trees.specs.Trees.{IsNarrowFor, bcast_family}
 use Rattle.coll_trees.proofs.Depths.{depth-most}
-use Rattle.coll_trees.proofs.Bcasts.{bcast_serves}
-use Rattle.coll_trees.proofs.Reduces.{reduce_serves}
-use Rattle.coll_plans.specs.Directs.{IsDirectFor}
-use Rattle.coll_plans.specs.Relays.{chain_family, is_long, relay_count}
+use Rattle.coll_trees.proofs.BinomialTreeBcast.{bcast_serves}
+use Rattle.coll_trees.proofs.BinomialTreeReduce.{reduce_serves}
+use Rattle.coll_plans.specs.DirectFamilies.{IsDirectFor}
+use Rattle.coll_plans.specs.ChainBcast.{chain_family, is_long, relay_count}
 use Rattle.coll_plans.specs.Plans.{family_by, family, is_direct, most_exchanges_by, IsPlanned, FamiliesServe, Planned}
 use Rattle.coll_plans.proofs.Counts.{short_by}
-use Rattle.coll_plans.proofs.Meetings.{barrier_serves}
-use Rattle.coll_plans.proofs.Scans.{scan_serves}
-use Rattle.coll_plans.proofs.Exscans.{exscan_serves}
-use Rattle.coll_plans.proofs.Allreduces.{allreduce_serves}
-use Rattle.coll_plans.proofs.Chains.{chain_serves}
-use Rattle.coll_plans.proofs.Gathers.{gather_serves}
-use Rattle.coll_plans.proofs.Scatters.{scatter_serves}
-use Rattle.coll_plans.proofs.Allgathers.{allgather_serves}
-use Rattle.coll_plans.proofs.Allgathervs.{allgatherv_serves}
-use Rattle.coll_plans.proofs.Alltoalls.{alltoall_serves}
-use Rattle.coll_plans.proofs.Rsblocks.{rsblock_serves}
+use Rattle.coll_plans.proofs.DisseminationBarrier.{barrier_serves}
+use Rattle.coll_plans.proofs.PrefixDoublingScan.{scan_serves}
+use Rattle.coll_plans.proofs.PrefixDoublingExscan.{exscan_serves}
+use Rattle.coll_plans.proofs.RecursiveDoublingAllreduce.{allreduce_serves}
+use Rattle.coll_plans.proofs.ChainBcast.{chain_serves}
+use Rattle.coll_plans.proofs.DirectGather.{gather_serves}
+use Rattle.coll_plans.proofs.DirectScatter.{scatter_serves}
+use Rattle.coll_plans.proofs.BruckAllgather.{allgather_serves}
+use Rattle.coll_plans.proofs.DirectAllgatherv.{allgatherv_serves}
+use Rattle.coll_plans.proofs.DirectAlltoall.{alltoall_serves}
+use Rattle.coll_plans.proofs.DirectRsblock.{rsblock_serves}
 
 -- a narrow family of the kind, and a direct one
 of_narrow : (sig : Signature) (n : ℕ) (k : Kind) → broken sig n ≡ None → n ≤ 64 → sig.kind ≡ k → IsNarrowFor sig n (family_by k sig n) (most_exchanges_by k sig n) → IsPlanned sig n (family_by sig.kind sig n)

@@ -4,7 +4,7 @@ use Rattle.coll_ops.specs.Values.{row_of}
 use Rattle.coll_sched.specs.declared.action.Action.TheVariants.{Send, Copy, Recv}
 use Rattle.coll_sched.specs.Families.{result_at, family_exchanges}
 use Rattle.coll_trees.specs.Depths.{depth}
-use Rattle.coll_plans.specs.Bruck.{blocks_at, bruck_step, rotation, allgather_by}
+use Rattle.coll_plans.specs.BruckAllgather.{blocks_at, bruck_step, rotation, allgather_by}
 
 -- of five members, member 1 sends two blocks to 4 and receives two of 3, and then one to 2 and one of 0
 two_blocks : bruck_step 1 5 2 1 ≡ Send 4 (blocks_at 1 0 2) ∷ Recv 3 (blocks_at 1 2 2) ∷ []

@@ -5,9 +5,9 @@ use Rattle.coll_kinds.specs.declared.datatype.Datatype.TheVariants.{I8}
 use Rattle.coll_ops.specs.Values.{row_of}
 use Rattle.coll_sched.specs.declared.action.Action.TheVariants.{Send, Copy, Recv}
 use Rattle.coll_sched.specs.Families.{result_at, family_exchanges}
-use Rattle.coll_plans.specs.declared.pattern.Pattern.TheVariants.{ToRoot}
-use Rattle.coll_plans.specs.Exchanges.{exchange}
-use Rattle.coll_plans.specs.Directs.{one_block, blocks_from, gather_by, scatter_by, alltoall_by, allgatherv_by, row_exchange, rsblock_by}
+use Rattle.coll_plans.specs.declared.direct_pattern.Pattern.TheVariants.{ToRoot}
+use Rattle.coll_plans.specs.DirectExchange.{exchange}
+use Rattle.coll_plans.specs.DirectFamilies.{one_block, blocks_from, gather_by, scatter_by, alltoall_by, allgatherv_by, row_exchange, rsblock_by}
 
 -- the root of a gather, member 1, copies its own block and receives the others
 root_gathers :

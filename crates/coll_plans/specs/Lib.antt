@@ -1,17 +1,17 @@
 -- the family of a signature and a number of members
 pub mod Plans
 -- the families of each kind
-pub mod Barriers
-pub mod Exchanges
-pub mod Directs
-pub mod Scans
-pub mod Bruck
-pub mod Corners
-pub mod Trades
-pub mod Relays
+pub mod DisseminationBarrier
+pub mod DirectExchange
+pub mod DirectFamilies
+pub mod PrefixDoubling
+pub mod BruckAllgather
+pub mod RecursiveDoublingHypercube
+pub mod RecursiveDoubling
+pub mod ChainBcast
 -- worked rows
-pub mod Rows
+pub mod PlanRows
 pub mod DirectRows
-pub mod TradeRows
-pub mod RelayRows
+pub mod RecursiveDoublingRows
+pub mod ChainRows
 pub mod BruckRows

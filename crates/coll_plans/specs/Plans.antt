@@ -11,12 +11,12 @@ use Rattle.coll_sched.specs.Points.{remaining}
 use Rattle.coll_sched.specs.Served.{Serves}
 use Rattle.coll_trees.specs.Depths.{depth, direct_bound}
 use Rattle.coll_trees.specs.Trees.{bcast_family, reduce_family}
-use Rattle.coll_plans.specs.Barriers.{barrier_family}
-use Rattle.coll_plans.specs.Scans.{scan_family, exscan_family}
-use Rattle.coll_plans.specs.Trades.{allreduce_family, most_trades}
-use Rattle.coll_plans.specs.Relays.{chain_family, is_long, relay_count}
-use Rattle.coll_plans.specs.Bruck.{allgather_family}
-use Rattle.coll_plans.specs.Directs.{gather_family, scatter_family, allgatherv_family, alltoall_family, rsblock_family}
+use Rattle.coll_plans.specs.DisseminationBarrier.{barrier_family}
+use Rattle.coll_plans.specs.PrefixDoubling.{scan_family, exscan_family}
+use Rattle.coll_plans.specs.RecursiveDoubling.{allreduce_family, most_trades}
+use Rattle.coll_plans.specs.ChainBcast.{chain_family, is_long, relay_count}
+use Rattle.coll_plans.specs.BruckAllgather.{allgather_family}
+use Rattle.coll_plans.specs.DirectFamilies.{gather_family, scatter_family, allgatherv_family, alltoall_family, rsblock_family}
 
 -- by kind; a bcast also by its length
 abbrev pub family_by : Kind → Signature → ℕ → Family

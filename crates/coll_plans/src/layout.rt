@@ -2,7 +2,7 @@ ghost use Rattle.std.specs.Prelude.{◌≡◌, ◌+◌, ◌*◌, ◌∷◌, [], 
 ghost use Rattle.coll_kinds.specs.Checks.{broken};
 ghost use Rattle.coll_kinds.specs.Lengths.{block_len};
 ghost use Rattle.coll_sched.specs.Regions.{nothing};
-ghost use Rattle.coll_plans.specs.Directs.{all_blocks};
+ghost use Rattle.coll_plans.specs.DirectFamilies.{all_blocks};
 
 use coll_kinds::{Refusal, Signature};
 use coll_sched::{Region, Round};

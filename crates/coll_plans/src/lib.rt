@@ -1,70 +1,73 @@
 //! Plans of all collectives, for 1 to 64 members and every root, and the builders of schedules of the barrier, of
 //! the allreduce, of the allgather, of long bcasts, of the scans and of the direct collectives.
 //!
+//! A file's name begins with its algorithm's. The bcast and the reduce by a binomial tree are in `coll_trees`.
+//!
 //! | Module | Has |
 //! |---|---|
 //! | `planning` | `plan`, one member's plan of any collective |
 //! | `planned` | `Plan`, what `plan` answers |
 //! | `laws` | what is known of every plan's family, as a contract |
-//! | `barrier_builder` | `barrier`, by dissemination |
-//! | `allreduce_builder` | `allreduce`, by recursive doubling |
-//! | `allgather_builder` | `allgather`, by the algorithm of J. Bruck et al. |
-//! | `chain_builder` | `chain_bcast`, of a long block along a chain |
-//! | `gather_builder` | `gather`, by a direct exchange |
-//! | `scatter_builder` | `scatter`, likewise |
-//! | `allgatherv_builder` | `allgatherv`, likewise |
-//! | `alltoall_builder` | `alltoall`, likewise |
-//! | `rsblock_builder` | `rsblock`, likewise, and then the blocks are combined |
-//! | `scan_builder` | `scan`, by doubling of ranges |
-//! | `exscan_builder` | `exscan`, by the same |
-//! | `scanning` | `Scanning`, the rounds of the two |
-//! | `trading` | `Trading`, the rounds of an allreduce |
-//! | `bruck` | `Bruck`, the rounds of an allgather |
-//! | `cube`, `pairing` | which members trade, and which act for two |
-//! | `relay` | `Relay`, the rounds of a chain |
-//! | `exchange` | `Exchange`, the round of a direct exchange |
-//! | `row_exchange` | the same of rows that differ in length |
-//! | `pattern` | `Pattern`, which members have bytes for which others |
-//! | `blocks` | `Blocks`, where a member's blocks lie |
-//! | `layout` | the buffers of direct exchanges, and the schedule of a list of rounds |
+//! | `dissemination_barrier` | `barrier` |
+//! | `recursive_doubling_allreduce` | `allreduce` |
+//! | `recursive_doubling_rounds` | `RecursiveDoubling`, its rounds: the fold, the exchanges, and the result told |
+//! | `recursive_doubling_fold` | `FoldPart`, which members fold, and which act for two |
+//! | `recursive_doubling_hypercube` | `Hypercube`, which members exchange in a step |
+//! | `bruck_allgather` | `allgather`, by the algorithm of J. Bruck et al. |
+//! | `bruck_rounds` | `Bruck`, its rounds |
+//! | `chain_pipelined_bcast` | `chain_bcast`, of a long block in segments |
+//! | `chain_rounds` | `Chain`, its rounds |
+//! | `prefix_doubling_scan` | `scan` |
+//! | `prefix_doubling_exscan` | `exscan` |
+//! | `prefix_doubling_rounds` | `PrefixDoubling`, the rounds of the two |
+//! | `direct_gather` | `gather` |
+//! | `direct_scatter` | `scatter` |
+//! | `direct_alltoall` | `alltoall` |
+//! | `direct_rsblock` | `rsblock`: an alltoall, and then the blocks are combined |
+//! | `direct_allgatherv` | `allgatherv` |
+//! | `direct_exchange` | `Exchange`, the one round of a direct exchange |
+//! | `direct_row_exchange` | the same of rows that differ in length |
+//! | `direct_pattern` | `Pattern`, which members have bytes for which others |
+//! | `direct_blocks` | `Blocks`, where a member's blocks lie |
+//! | `layout` | the bytes of blocks and buffers, and a list of one round |
 #![tactic(auto)]
 
-mod allgather_builder;
-mod allgatherv_builder;
-mod allreduce_builder;
-mod alltoall_builder;
-mod barrier_builder;
-mod blocks;
-mod bruck;
-mod chain_builder;
-mod cube;
-mod exchange;
-mod exscan_builder;
-mod gather_builder;
+mod bruck_allgather;
+mod bruck_rounds;
+mod chain_pipelined_bcast;
+mod chain_rounds;
+mod direct_allgatherv;
+mod direct_alltoall;
+mod direct_blocks;
+mod direct_exchange;
+mod direct_gather;
+mod direct_pattern;
+mod direct_row_exchange;
+mod direct_rsblock;
+mod direct_scatter;
+mod dissemination_barrier;
 pub mod laws;
 mod layout;
-mod pairing;
-mod pattern;
 mod planned;
 mod planning;
-mod relay;
-mod row_exchange;
-mod rsblock_builder;
-mod scan_builder;
-mod scanning;
-mod scatter_builder;
-mod trading;
+mod prefix_doubling_exscan;
+mod prefix_doubling_rounds;
+mod prefix_doubling_scan;
+mod recursive_doubling_allreduce;
+mod recursive_doubling_fold;
+mod recursive_doubling_hypercube;
+mod recursive_doubling_rounds;
 
-pub use allgather_builder::allgather;
-pub use allgatherv_builder::allgatherv;
-pub use allreduce_builder::allreduce;
-pub use alltoall_builder::alltoall;
-pub use barrier_builder::barrier;
-pub use chain_builder::chain_bcast;
-pub use exscan_builder::exscan;
-pub use gather_builder::gather;
+pub use bruck_allgather::allgather;
+pub use chain_pipelined_bcast::chain_bcast;
+pub use direct_allgatherv::allgatherv;
+pub use direct_alltoall::alltoall;
+pub use direct_gather::gather;
+pub use direct_rsblock::rsblock;
+pub use direct_scatter::scatter;
+pub use dissemination_barrier::barrier;
 pub use planned::Plan;
 pub use planning::plan;
-pub use rsblock_builder::rsblock;
-pub use scan_builder::scan;
-pub use scatter_builder::scatter;
+pub use prefix_doubling_exscan::exscan;
+pub use prefix_doubling_scan::scan;
+pub use recursive_doubling_allreduce::allreduce;

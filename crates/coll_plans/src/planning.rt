@@ -4,7 +4,7 @@ ghost use Rattle.coll_kinds.specs.Checks.{broken};
 ghost use Rattle.coll_kinds.specs.declared.kind.Kind.TheVariants.{Bcast};
 ghost use Rattle.coll_plans.specs.Plans.{family, family_by, IsPlanned};
 
-use crate::chain_builder::is_long;
+use crate::chain_pipelined_bcast::is_long;
 use crate::layout::block_bytes;
 use crate::planned::Plan;
 use crate::{

@@ -8,8 +8,8 @@ use Rattle.coll_sched.specs.Served.{Serves}
 use Rattle.coll_trees.specs.Columns.{family_of}
 use Rattle.coll_trees.specs.Depths.{depth}
 use Rattle.coll_sched.specs.Regions.{front, nothing}
-use Rattle.coll_trees.specs.Spreading.{spreading}
-use Rattle.coll_trees.specs.Folding.{folding, last_hop}
+use Rattle.coll_trees.specs.BinomialTreeBcast.{spreading}
+use Rattle.coll_trees.specs.BinomialTreeReduce.{folding, last_hop}
 
 -- from the root to all
 abbrev pub bcast_family : Signature → ℕ → Family

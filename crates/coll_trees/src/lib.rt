@@ -1,31 +1,32 @@
-//! Schedules of bcast, reduce and allreduce by binomial trees, for 1 to 64 members and every root.
+//! Schedules of bcast and reduce by binomial trees, for 1 to 64 members and every root, and of an allreduce by both.
 //!
 //! | Module | Has |
 //! |---|---|
-//! | `bcast_builder` | `bcast`: from the root to all |
-//! | `reduce_builder` | `reduce`: from all to member 0, and from there to the root |
-//! | `allreduce_builder` | `allreduce`: from all to member 0, and from there to all |
-//! | `spreading` | `Spreading`, the tree from a root to all |
-//! | `folding` | `Folding`, the tree from all to member 0 |
+//! | `binomial_tree_bcast` | `bcast`: a binomial tree from the root to all |
+//! | `binomial_tree_bcast_rounds` | `BcastTree`, its rounds |
+//! | `binomial_tree_bcast_step` | `BcastStep`, what a member does in a step of it |
+//! | `binomial_tree_reduce` | `reduce`: a binomial tree from all to member 0, and a hop to the root |
+//! | `binomial_tree_reduce_rounds` | `ReduceTree`, the rounds of the tree |
+//! | `binomial_tree_reduce_step` | `ReduceStep`, what a member does in a step of it |
+//! | `reduce_then_bcast` | `allreduce`: one tree after the other; `plan` of `coll_plans` doesn't use it |
 //! | `numbering` | members counted round from the root |
-//! | `way`, `role` | what a member does in a step of the one and of the other |
 //! | `depth` | how many steps a tree takes |
-//! | `rounds` | rounds, and the schedule of a list of them |
+//! | `rounds` | rounds of one action, and the first block of a buffer |
 #![tactic(auto)]
 
-mod allreduce_builder;
-mod bcast_builder;
+mod binomial_tree_bcast;
+mod binomial_tree_bcast_rounds;
+mod binomial_tree_bcast_step;
+mod binomial_tree_reduce;
+mod binomial_tree_reduce_rounds;
+mod binomial_tree_reduce_step;
 mod depth;
-mod folding;
 mod numbering;
-mod reduce_builder;
-mod role;
+mod reduce_then_bcast;
 mod rounds;
-mod spreading;
-mod way;
 
-pub use allreduce_builder::allreduce;
-pub use bcast_builder::bcast;
+pub use binomial_tree_bcast::bcast;
+pub use binomial_tree_reduce::reduce;
 pub use depth::depth_of;
 pub use numbering::{from_root, member_at};
-pub use reduce_builder::reduce;
+pub use reduce_then_bcast::allreduce;

@@ -1,5 +1,5 @@
 ghost use Rattle.std.specs.Prelude.{◌≡◌, ◌<◌, ◌≤◌};
-ghost use Rattle.coll_trees.specs.Spreading.{from_root, member_at};
+ghost use Rattle.coll_trees.specs.BinomialTreeBcast.{from_root, member_at};
 
 /// Member `r`'s number among `n` members, counted round from the root, which has number 0.
 pub fn from_root(n: u8, root: u8, r: u8) -> u8

@@ -1,0 +1,22 @@
+-- the family serves the signature, so its schedules are accepted
+use Rattle.std.proofs.Common.{sym, subst, ◌∙◌}
+use Rattle.coll_sched.specs.Schedules.{IsSchedule}
+use Rattle.coll_plans.proofs.PrefixDoublingScan.{scan_serves, scan_parts}
+use Rattle.coll_plans.proofs.prefix_doubling_scan.scan.Goals as goal
+
+pub returns-in_err-rounds-clause-family : goal.returns-in_err-rounds-clause-family
+returns-in_err-rounds-clause-family c = scan_serves c.args.sig c.args.n c.requires.checked c.requires.kind c.requires.few
+
+pub of_lawful_rounds-requires : goal.of_lawful_rounds-requires
+of_lawful_rounds-requires c =
+    subst IsSchedule
+    (sym (scan_parts c.args.sig c.args.n c.args.r c.block_bytes-len.result c.in-Some.op c.in_ok-rounds.rounds.items c.block_bytes-len.ensures.length c.in-Some.is c.in_ok-rounds.ensures.ok))
+    ((scan_serves c.args.sig c.args.n c.requires.checked c.requires.kind c.requires.few).serves.lawful.schedules c.args.r c.requires.member)
+
+pub returns-clause-schedule : goal.returns-clause-schedule
+returns-clause-schedule c =
+    c.of_lawful_rounds.ensures
+    ∙ scan_parts c.args.sig c.args.n c.args.r c.block_bytes-len.result c.in-Some.op c.in_ok-rounds.rounds.items c.block_bytes-len.ensures.length c.in-Some.is c.in_ok-rounds.ensures.ok
+
+pub returns-clause-family : goal.returns-clause-family
+returns-clause-family c = scan_serves c.args.sig c.args.n c.requires.checked c.requires.kind c.requires.few

@@ -1,8 +1,0 @@
-use Rattle.std.proofs.Common.{◌≡◌, ◌++◌, ◌-◌}
-use Rattle.coll_plans.specs.declared.pattern.Pattern.TheVariants.{ToAll}
-use Rattle.coll_plans.specs.Exchanges.{sends}
-use Rattle.coll_plans.proofs.row_exchange.push_sends.Given as goal
-
--- the actions so far with those that remain are all
-abbrev pub invariant-loop-p : goal.invariant-loop-p
-invariant-loop-p l = l.round ++ sends ToAll (λ p. l.own) l.r l.p (l.n - l.p) ≡ l.initial.round ++ sends ToAll (λ p. l.own) l.r 0 l.n

@@ -1,0 +1,34 @@
+ghost use Rattle.std.specs.Prelude.{◌≡◌, ◌<◌, ◌≤◌};
+
+/// What a member does in a step of the binomial tree from all to member 0.
+#[derive(Clone, Copy, Debug, PartialEq, Eq)]
+pub(crate) enum ReduceStep {
+    /// It gives what it holds to its parent, the member below.
+    Gives,
+    /// It takes what its child, the member above, holds, and combines it behind its own.
+    Takes,
+    /// It does nothing.
+    Rests,
+}
+
+impl ReduceStep {
+    ghost use Rattle.coll_trees.specs.BinomialTreeReduce.{role};
+
+    /// What member `r` of `n` does in the step at that distance.
+    pub fn new(n: u8, r: u8, distance: u8) -> Self
+        requires member { r < n }
+        requires few { n ≤ 64 }
+        requires some { 0 < distance }
+        requires near { distance ≤ 64 }
+        ensures { result ≡ role n r distance }
+    {
+        let place = r % (distance + distance);
+        if place == distance {
+            ReduceStep::Gives
+        } else if place == 0 && r + distance < n {
+            ReduceStep::Takes
+        } else {
+            ReduceStep::Rests
+        }
+    }
+}
