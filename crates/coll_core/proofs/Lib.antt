@@ -26,3 +26,4 @@ pub mod Opening
 pub mod Abandoning
 pub mod Committing
 pub mod Restarting
+pub mod NumberBytes

@@ -4,6 +4,7 @@ pub mod Cores
 pub mod Phases
 pub mod Calls
 pub mod Posts
+pub mod Numbers
 pub mod Starts
 pub mod Steps
 pub mod Works

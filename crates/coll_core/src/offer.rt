@@ -1,5 +1,6 @@
 ghost use Rattle.std.specs.Prelude.{◌≡◌, IfErr, IfOk};
 ghost use Rattle.coll_core.specs.Posts.{IsLaid};
+ghost use Rattle.coll_core.specs.Numbers.{number_bytes};
 
 use coll_kinds::Refusal;
 use coll_plans::Plan;
@@ -14,6 +15,23 @@ pub struct Offer {
 }
 
 impl Offer {
+    /// The offer of these numbers, of which each has four bytes.
+    ///
+    /// # Errors
+    ///
+    /// NoMemory. The plan is then gone; a member's plan can be made again at any time.
+    pub fn of_i32s(alloc: Global, plan: Plan, numbers: &[i32]) -> Result<Offer, Refusal>
+        ensures plan { IfOk result (λ offer. offer.plan ≡ plan) }
+        ensures bytes { IfOk result (λ offer. offer.bytes.items ≡ number_bytes numbers.now) }
+        ensures refused { IfErr result (λ why. why ≡ Refusal.NoMemory) }
+    {
+        let mut bytes = Vec::new(alloc);
+        for number in numbers {
+            bytes.extend_from_slice(&number.to_le_bytes())?;
+        }
+        Ok(Offer { plan, bytes })
+    }
+
     /// The schedule's buffer with the contribution laid in, which `Core::post_laid` takes. It needs no engine, so it can be made
     /// before a lock is taken. Where the contribution hasn't the length that the plan's member gives, which a post refuses, it
     /// has no bytes.

@@ -1,3 +1,9 @@
+ghost use Rattle.std.specs.Prelude.{◌≡◌, ◌⊎◌, length, IfErr, IfOk};
+ghost use Rattle.coll_core.specs.Numbers.{number_bytes, IsUneven};
+
+use coll_kinds::Refusal;
+use std::alloc::Global;
+
 /// What the completion of a request hands out.
 #[derive(Debug, Drop)]
 pub struct Outcome {
@@ -10,4 +16,33 @@ pub struct Outcome {
     pub start: u32,
     /// The collective's value at the member.
     pub bytes: Vec<u8>,
+}
+
+impl Outcome {
+    /// The numbers whose bytes the outcome has, in order, where the collective's type is `i32`.
+    ///
+    /// # Errors
+    ///
+    /// BadLength, where the length is no multiple of four, so that the bytes aren't numbers: the last number wants four bytes,
+    /// and has got those that are left. NoMemory.
+    pub fn i32s(&self, alloc: Global) -> Result<Vec<i32>, Refusal>
+        ensures numbers { IfOk result (λ numbers. number_bytes numbers.items ≡ self.now.bytes.items) }
+        ensures refused { IfErr result (λ why.
+            (why ≡ Refusal.NoMemory) ⊎ IsUneven (length self.now.bytes.items) why) }
+    {
+        let mut numbers = Vec::new(alloc);
+        let mut rest = self.bytes.as_slice();
+        while let Some((first, behind)) = rest.split_first_chunk::<4>() {
+            numbers.push(u32::from_le_bytes(*first).cast_signed())?;
+            rest = behind;
+        }
+        if rest.is_empty() {
+            Ok(numbers)
+        } else {
+            Err(Refusal::BadLength {
+                want: 4,
+                got: rest.len(),
+            })
+        }
+    }
 }

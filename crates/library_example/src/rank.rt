@@ -2,21 +2,10 @@
 
 use coll_core::{Offer, Outcome};
 use coll_crew::RankTask;
-use coll_kinds::{Datatype, Kind, Mode, Op, Refusal, Signature};
+use coll_kinds::{Datatype, Op, Refusal, Signature};
 use coll_shared::{Entries, NoGate, Port};
 use std::alloc::Global;
 use std::sync::Wait;
-
-/// An allreduce of one `i32` by sum: what all ranks post.
-const SUM: Signature = Signature {
-    kind: Kind::Allreduce,
-    mode: Mode::Once,
-    root: 0,
-    op: Some(Op::Sum),
-    ty: Datatype::I32,
-    count: 1,
-    each: None,
-};
 
 /// `MPI_Iallreduce` and its `MPI_Wait`: gives a number, and gets the sum of what all ranks give.
 fn sum_of_all<L: Entries, R: Wait>(
@@ -25,24 +14,25 @@ fn sum_of_all<L: Entries, R: Wait>(
     port: &mut Port<L>,
     number: i32,
 ) -> Result<i32, Refusal> {
-    let plan = port.ready_plan(0, &SUM)?;
-    let bytes = Vec::from_slice(alloc, &number.to_le_bytes())?;
-    let (mut request, _receipt) = match port.post(rt, 0, Offer { plan, bytes }) {
+    let sum = Signature::allreduce(Op::Sum, Datatype::I32, 1);
+    let plan = port.ready_plan(0, &sum)?;
+    let offer = Offer::of_i32s(alloc, plan, &[number])?;
+    let (mut request, _receipt) = match port.post(rt, 0, offer) {
         Ok(posted) => posted,
         Err(refused) => return Err(refused.why),
     };
     // The call is under way: here the rank computes something else.
     let (outcome, _receipts) = port.wait(rt, &NoGate, &mut request)?;
-    number_of(outcome)
+    number_of(alloc, outcome)
 }
 
-/// The number that an outcome's bytes are.
-fn number_of(outcome: Option<Outcome>) -> Result<i32, Refusal> {
+/// The number that an outcome has. There is none for a null request, which a rank that has posted doesn't wait for.
+fn number_of(alloc: Global, outcome: Option<Outcome>) -> Result<i32, Refusal> {
     let Some(outcome) = outcome else {
         return Err(Refusal::Torn);
     };
-    match outcome.bytes.first_chunk::<4>() {
-        Some(bytes) => Ok(i32::from_le_bytes(*bytes)),
+    match outcome.i32s(alloc)?.first() {
+        Some(number) => Ok(*number),
         None => Err(Refusal::Torn),
     }
 }
