@@ -1,7 +1,7 @@
 ghost use Rattle.std.specs.Prelude.{◌≡◌, ◌<◌, ◌≤◌, ℕ, Some, length, IfErr, IfOk};
 ghost use Rattle.std.specs.Result.{result_err};
 ghost use Rattle.coll_kinds.specs.Groups.{member_of};
-ghost use Rattle.coll_core.specs.Configs.{setting_by};
+ghost use Rattle.coll_core.specs.Configs.{Fits, setting_by};
 ghost use Rattle.coll_report.specs.Views.{groups_seen};
 ghost use Rattle.coll_shared.specs.Ports.{group_at, unseated};
 
@@ -37,10 +37,11 @@ pub(crate) fn copied_config(alloc: Global, config: &Config) -> Result<Config, Re
     })
 }
 
-/// What an engine is opened with that is to have as much room as one can have.
+/// What an engine is opened with that is to have as much room as one can have. Its sizes are in range.
 pub fn roomy(ranks: u8, groups: Vec<Vec<u8>>) -> Config
     ensures ranks { result.ranks ≡ ranks }
     ensures groups { result.groups ≡ groups }
+    ensures sizes { Fits result ConfigField.Slots × Fits result ConfigField.Places × Fits result ConfigField.Wear × Fits result ConfigField.Starts × Fits result ConfigField.Trace }
 {
     Config {
         ranks,
