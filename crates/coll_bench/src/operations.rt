@@ -6,9 +6,8 @@ ghost use Rattle.std.specs.Prelude.{◌≡◌, ◌≤◌, ◌*◌};
 
 use crate::measure::Measure;
 use crate::running::{Task, run_task};
-use coll_crew::roomy;
 use coll_kinds::Refusal;
-use coll_shared::{Entries, ledger_for, open};
+use coll_shared::{Entries, ledger_for, open, roomy};
 use std::alloc::Global;
 use std::marker::Brand;
 use std::rt::Clock;
@@ -18,7 +17,7 @@ use std::thread::Threads;
 
 /// How many threads a row has.
 #[derive(Clone, Copy, Debug)]
-struct Crew {
+struct ThreadCounts {
     ranks: u8,
     workers: u8,
 }
@@ -37,30 +36,30 @@ fn world(alloc: Global, ranks: u8) -> Result<Vec<Vec<u8>>, Refusal> {
 fn measured_in<L: Entries + Send + Sync, R: Threads + Wait + Clock + Sync>(
     rt: &R,
     alloc: Global,
-    crew: Crew,
+    threads: ThreadCounts,
     task: Task,
     entries: Blank,
 ) -> Result<Vec<u128>, Refusal>
     requires name { entries.name ≡ L.name }
-    requires parts { (entries.parts ≡ L.parts) × (L.parts ≡ 2 * L.ranks) × (L.ranks ≡ crew.ranks) }
+    requires parts { (entries.parts ≡ L.parts) × (L.parts ≡ 2 * L.ranks) × (L.ranks ≡ threads.ranks) }
 {
-    let mut config = roomy(crew.ranks, world(alloc, crew.ranks)?);
-    config.slots = task.measure.slots(crew.ranks);
+    let mut config = roomy(threads.ranks, world(alloc, threads.ranks)?);
+    config.slots = task.measure.slots(threads.ranks);
     let (engine, ports) = open::<L>(alloc, config, entries)?;
-    run_task(rt, alloc, &engine, ports, task, crew.workers)
+    run_task(rt, alloc, &engine, ports, task, threads.workers)
 }
 
 /// What the samples of the first rank took, in nanoseconds.
 fn measured<R: Threads + Wait + Clock + Sync>(
     rt: &R,
     alloc: Global,
-    crew: Crew,
+    threads: ThreadCounts,
     task: Task,
 ) -> Result<Vec<u128>, Refusal> {
-    measured_in::<Brand, R>(rt, alloc, crew, task, ledger_for(crew.ranks))
+    measured_in::<Brand, R>(rt, alloc, threads, task, ledger_for(threads.ranks))
 }
 
-/// Prints a row: the median of a measure for each crew.
+/// Prints a row: the median of a measure for each threads.
 fn row<R: Threads + Wait + Clock + Print + Sync>(
     rt: &R,
     alloc: Global,
@@ -74,7 +73,7 @@ fn row<R: Threads + Wait + Clock + Print + Sync>(
                 samples: measure.samples(),
                 turns: measure.turns(ranks),
             };
-            let mut times = measured(rt, alloc, Crew { ranks, workers }, task)?;
+            let mut times = measured(rt, alloc, ThreadCounts { ranks, workers }, task)?;
             times.sort_unstable();
             let median = times.get(times.len() / 2).copied().unwrap_or(0);
             let turns = u128::from(task.turns);
@@ -96,11 +95,11 @@ fn once<R: Threads + Wait + Clock + Print + Sync>(
         samples: 1,
         turns: 1,
     };
-    let crew = Crew {
+    let threads = ThreadCounts {
         ranks: 2,
         workers: 1,
     };
-    let times = measured(rt, alloc, crew, task)?;
+    let times = measured(rt, alloc, threads, task)?;
     println!(rt; "{measure}: {} sample", times.len())?;
     Ok(())
 }

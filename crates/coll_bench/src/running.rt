@@ -2,9 +2,8 @@
 
 use crate::measure::Measure;
 use crate::player::play;
-use coll_crew::{RankTask, run_crew};
 use coll_kinds::Refusal;
-use coll_shared::{Engine, Entries, NoGate, Port};
+use coll_shared::{Engine, Entries, NoGate, Port, RankTask, run_rank_threads};
 use std::alloc::Global;
 use std::rt::Clock;
 use std::sync::Wait;
@@ -73,7 +72,7 @@ pub fn run_task<L: Entries + Send + Sync, R: Threads + Wait + Clock + Sync>(
             port,
         })?;
     }
-    let mut ranks = run_crew(rt, alloc, &NoGate, engine, tasks, workers)?.into_ranks()?;
+    let mut ranks = run_rank_threads(rt, alloc, &NoGate, engine, tasks, workers)?.into_ranks()?;
     ranks.truncate(1);
     ranks.pop().unwrap_or(Err(Refusal::Torn))
 }

@@ -2,10 +2,9 @@
 
 use crate::caller::Caller;
 use coll_core::Outcome;
-use coll_crew::{Ends, RankTask, run_crew};
 use coll_kinds::Refusal;
 use coll_script::Script;
-use coll_shared::{Engine, Entries, Gate, Port, Spent};
+use coll_shared::{Ends, Engine, Entries, Gate, Port, RankTask, Spent, run_rank_threads};
 use std::alloc::{AllocError, Global};
 use std::sync::Wait;
 use std::thread::Threads;
@@ -102,5 +101,5 @@ pub(crate) fn run_ranks<L: Entries + Send + Sync, R: Threads + Wait + Sync, G: G
             port,
         })?;
     }
-    run_crew(rt, alloc, gate, engine, tasks, workers)
+    run_rank_threads(rt, alloc, gate, engine, tasks, workers)
 }

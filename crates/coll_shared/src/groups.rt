@@ -1,7 +1,7 @@
 ghost use Rattle.std.specs.Prelude.{◌≡◌, ◌<◌, ◌≤◌, ℕ, Some, length, IfErr, IfOk};
 ghost use Rattle.std.specs.Result.{result_err};
 ghost use Rattle.coll_kinds.specs.Groups.{member_of};
-ghost use Rattle.coll_core.specs.Configs.{setting_by};
+ghost use Rattle.coll_core.specs.Configs.{Fits, setting_by};
 ghost use Rattle.coll_report.specs.Views.{groups_seen};
 ghost use Rattle.coll_shared.specs.Ports.{group_at, unseated};
 
@@ -10,7 +10,7 @@ use coll_kinds::{Refusal, member_of};
 use std::alloc::Global;
 
 /// The communicators once more.
-pub(crate) fn copied_groups(alloc: Global, groups: &[Vec<u8>]) -> Result<Vec<Vec<u8>>, Refusal>
+pub fn copied_groups(alloc: Global, groups: &[Vec<u8>]) -> Result<Vec<Vec<u8>>, Refusal>
     ensures groups { IfOk result (λ copy. groups_seen copy.items ≡ groups_seen groups.now) }
     ensures refused { IfErr result (λ why. why ≡ Refusal.NoMemory) }
 {
@@ -35,6 +35,23 @@ pub(crate) fn copied_config(alloc: Global, config: &Config) -> Result<Config, Re
         starts: config.starts,
         trace: config.trace,
     })
+}
+
+/// What an engine is opened with that is to have as much room as one can have. Its sizes are in range.
+pub fn roomy(ranks: u8, groups: Vec<Vec<u8>>) -> Config
+    ensures ranks { result.ranks ≡ ranks }
+    ensures groups { result.groups ≡ groups }
+    ensures sizes { Fits result ConfigField.Slots × Fits result ConfigField.Places × Fits result ConfigField.Wear × Fits result ConfigField.Starts × Fits result ConfigField.Trace }
+{
+    Config {
+        ranks,
+        groups,
+        slots: 4_096,
+        places: 65_536,
+        wear: 4_294_967_295,
+        starts: 1_048_576,
+        trace: 1_048_576,
+    }
 }
 
 /// The member number of a rank.

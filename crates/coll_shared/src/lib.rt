@@ -6,7 +6,8 @@
 //! | `receipt` | `Receipt`, which shows the entry that a call made |
 //! | `receipts` | `Receipts`, which shows those of a completion call |
 //! | `trace` | `Trace`, the entries so far, with room for those that they speak for |
-//! | `groups` | copies of what an engine is opened with |
+//! | `groups` | what an engine is opened with, and copies of it |
+//! | `rank_threads` | `run_rank_threads`, which runs a task for each rank in a thread of its own |
 //! | `spaces` | `Spaces`, memory for the outcomes of live requests |
 //! | `recent` | `Recent`, long bytes that further entries can share |
 //! | `gate` | `Gate`, which may hold a thread up before and after a combination |
@@ -59,6 +60,7 @@ mod parcel;
 mod plans;
 mod port;
 mod post_order;
+mod rank_threads;
 mod ranks;
 mod receipt;
 mod receipts;
@@ -78,9 +80,11 @@ mod wish;
 pub use closing::close;
 pub use engine::{Engine, open};
 pub use gate::{Gate, NoGate};
+pub use groups::{copied_groups, roomy};
 pub use inspect::Inspect;
 pub use kept::Kept;
 pub use port::Port;
+pub use rank_threads::{Ends, RankTask, run_rank_threads};
 pub use receipt::Receipt;
 pub use receipts::Receipts;
 pub use shared::Shared;

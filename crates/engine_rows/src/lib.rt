@@ -11,7 +11,7 @@
 //! | `pace` | `Pace`, a gate that may hold ranks up too |
 //! | `calls` | the calls of a port |
 //! | `player` | what the thread of a rank does |
-//! | `crew` | a thread for each rank, and progress threads |
+//! | `rank_threads` | a thread for each rank, and progress threads |
 //! | `judge` | whether the outcomes are the values, and attested |
 //! | `running` | `run`, a job from the opening of its engine to the last outcome |
 //! | `gate_tests` | two threads that really run at one time |
@@ -28,8 +28,6 @@ mod calls;
 mod collective;
 #[cfg(test)]
 mod command;
-#[cfg(test)]
-mod crew;
 #[cfg(test)]
 mod draft;
 #[cfg(test)]
@@ -48,6 +46,8 @@ mod player;
 mod ports;
 #[cfg(test)]
 mod random;
+#[cfg(test)]
+mod rank_threads;
 #[cfg(test)]
 mod reports;
 #[cfg(test)]

@@ -2,16 +2,15 @@
 
 ghost use Rattle.std.specs.Prelude.{◌≡◌, ◌<◌, ◌≤◌, ◌*◌};
 
-use crate::crew::carry_out;
 use crate::job::Job;
 use crate::judge::Judge;
 use crate::pace::Pace;
 use crate::player::End;
+use crate::rank_threads::carry_out;
 use coll_core::Outcome;
-use coll_crew::{copied_groups, roomy};
 use coll_kinds::Refusal;
 use coll_report::Report;
-use coll_shared::{Engine, Entries, Spent, close, ledger_for, open};
+use coll_shared::{Engine, Entries, Spent, close, copied_groups, ledger_for, open, roomy};
 use std::alloc::Global;
 use std::marker::Brand;
 use std::sync::Wait;

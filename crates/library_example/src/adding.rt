@@ -3,9 +3,8 @@
 ghost use Rattle.std.specs.Prelude.{◌≡◌, ◌*◌};
 
 use crate::rank::Adding;
-use coll_crew::{roomy, run_crew};
 use coll_kinds::Refusal;
-use coll_shared::{Entries, NoGate, ledger_for, open};
+use coll_shared::{Entries, NoGate, ledger_for, open, roomy, run_rank_threads};
 use std::alloc::Global;
 use std::marker::Brand;
 use std::sync::Wait;
@@ -48,7 +47,7 @@ fn sums_in<L: Entries + Send + Sync, R: Threads + Wait + Sync>(
         })?;
     }
     let mut sums = Vec::new(alloc);
-    for sum in run_crew(rt, alloc, &NoGate, &engine, tasks, 0)?.into_ranks()? {
+    for sum in run_rank_threads(rt, alloc, &NoGate, &engine, tasks, 0)?.into_ranks()? {
         sums.push(sum?)?;
     }
     Ok(sums)

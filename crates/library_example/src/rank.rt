@@ -1,9 +1,8 @@
 //! What one rank does.
 
 use coll_core::{Offer, Outcome};
-use coll_crew::RankTask;
 use coll_kinds::{Datatype, Op, Refusal, Signature};
-use coll_shared::{Entries, NoGate, Port};
+use coll_shared::{Entries, NoGate, Port, RankTask};
 use std::alloc::Global;
 use std::sync::Wait;
 

@@ -5,9 +5,8 @@ ghost use Rattle.std.specs.Prelude.{◌≡◌, ◌*◌};
 use super::act::{Act, Event};
 use super::actor::Actor;
 use super::site::{Marks, Site};
-use coll_crew::{roomy, run_crew};
 use coll_kinds::Refusal;
-use coll_shared::{Engine, Entries, Port, ledger_for, open};
+use coll_shared::{Engine, Entries, Port, ledger_for, open, roomy, run_rank_threads};
 use std::alloc::Global;
 use std::marker::Brand;
 use std::sync::Wait;
@@ -69,7 +68,7 @@ fn ends_of<L: Entries + Send + Sync, R: Threads + Wait + Clock + Sync>(
             acts: *acts,
         })?;
     }
-    run_crew(rt, alloc, &site, engine, actors, workers)?.into_ranks()
+    run_rank_threads(rt, alloc, &site, engine, actors, workers)?.into_ranks()
 }
 
 fn played_in<L: Entries + Send + Sync, R: Threads + Wait + Clock + Sync>(

@@ -2,7 +2,7 @@ ghost use Rattle.std.specs.Prelude.{◌≡◌, All, IfErr, IfOk, None, true};
 
 use coll_kinds::Refusal;
 
-/// How the threads of a crew ended.
+/// How an engine's threads ended.
 #[derive(Drop)]
 pub struct Ends<T> {
     /// Whether each of them could be started. Else no rank made a call.

@@ -9,14 +9,14 @@ enum Signal {
 
 /// Holds threads back until it is known whether all of them could be started.
 #[derive(Drop)]
-pub(crate) struct Start {
+pub(super) struct Start {
     signal: Mutex<Signal>,
     given: Condvar,
 }
 
 impl Start {
     /// Threads are held back.
-    pub(crate) fn new() -> Start {
+    pub(super) fn new() -> Start {
         Start {
             signal: Mutex::new(Signal::Hold),
             given: Condvar::new(),
@@ -24,7 +24,7 @@ impl Start {
     }
 
     /// Lets the threads begin, or lets them end at once.
-    pub(crate) fn give<R: Wait>(&self, rt: &R, all_started: bool) {
+    pub(super) fn give<R: Wait>(&self, rt: &R, all_started: bool) {
         let signal = if all_started {
             Signal::Go
         } else {
@@ -35,7 +35,7 @@ impl Start {
     }
 
     /// Waits until it is known. Answers whether all threads have been started.
-    pub(crate) fn wait<R: Wait>(&self, rt: &R) -> bool {
+    pub(super) fn wait<R: Wait>(&self, rt: &R) -> bool {
         let mut signal = self.signal.lock(rt);
         for _ in rt.forever() {
             match *signal {

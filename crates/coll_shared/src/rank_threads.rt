@@ -1,25 +1,31 @@
-//! The threads of a crew, started and joined.
+//! Threads that begin together: one for each rank of an engine, and progress threads for all. They are started and joined here.
 
 ghost use Rattle.std.specs.Prelude.{◌+◌, ◌≤◌, vec_capacity, vec_len};
 
-use crate::ends::Ends;
-use crate::start::Start;
-use crate::task::RankTask;
+mod ends;
+mod start;
+mod task;
+
+use crate::engine::Engine;
+use crate::gate::Gate;
+use crate::tally::Entries;
 use coll_kinds::Refusal;
-use coll_shared::{Engine, Entries, Gate};
+pub use ends::Ends;
+use start::Start;
 use std::alloc::{AllocError, Global};
 use std::sync::Wait;
 use std::thread;
 use std::thread::{JoinHandle, Scope, Threads};
+pub use task::RankTask;
 
-/// Runs each rank's task in a thread of its own, with so many progress threads beside them, and joins them all. They
+/// Runs each rank's task in a thread of its own, with `workers` progress threads beside them, and joins them all. They
 /// begin together, once all have been started. `tasks` are in rising rank. `gate` may hold a progress thread up at a
 /// combination.
 ///
 /// # Errors
 ///
 /// Memory was refused, before the first thread was started.
-pub fn run_crew<
+pub fn run_rank_threads<
     L: Entries + Send + Sync,
     R: Threads + Wait + Sync,
     G: Gate + Sync,
@@ -102,7 +108,7 @@ fn start_ranks<
     true
 }
 
-/// Starts so many progress threads, up to one that can't be started. Answers whether there was none.
+/// Starts `workers` progress threads, up to one that can't be started. Answers whether there was none.
 fn start_workers<'s, E, L: Entries + Send + Sync, R: Threads + Wait + Sync, G: Gate + Sync>(
     rt: &'s R,
     scope: &Scope<'s, E>,

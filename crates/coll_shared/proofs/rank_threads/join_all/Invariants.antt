@@ -1,5 +1,5 @@
 use Rattle.std.proofs.Common.{◌+◌, ◌≤◌, vec_capacity, vec_len}
-use Rattle.coll_crew.proofs.crew.join_all.Given as goal
+use Rattle.coll_shared.proofs.rank_threads.join_all.Given as goal
 
 abbrev pub invariant-loop-thread : goal.invariant-loop-thread
 invariant-loop-thread g l = vec_len l.ends + vec_len l.threads ≤ vec_capacity l.ends

@@ -1,5 +1,5 @@
 use Rattle.std.proofs.Common.{◌≡◌, ◌+◌, ◌≤◌, vec_capacity, vec_len}
-use Rattle.coll_crew.proofs.crew.start_workers.Given as goal
+use Rattle.coll_shared.proofs.rank_threads.start_workers.Given as goal
 
 abbrev pub invariant-loop : goal.invariant-loop
 invariant-loop g l =

@@ -3,9 +3,8 @@
 use crate::job::Job;
 use crate::pace::Pace;
 use crate::player::{End, play};
-use coll_crew::{RankTask, run_crew};
 use coll_kinds::Refusal;
-use coll_shared::{Engine, Entries, Port};
+use coll_shared::{Engine, Entries, Port, RankTask, run_rank_threads};
 use std::alloc::Global;
 use std::sync::Wait;
 use std::thread::Threads;
@@ -63,5 +62,5 @@ pub fn carry_out<L: Entries + Send + Sync, R: Threads + Wait + Sync, G: Pace + S
             port,
         })?;
     }
-    run_crew(rt, alloc, pace, engine, tasks, workers)?.into_ranks()
+    run_rank_threads(rt, alloc, pace, engine, tasks, workers)?.into_ranks()
 }
