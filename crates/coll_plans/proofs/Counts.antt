@@ -18,21 +18,21 @@ use Rattle.coll_trees.specs.Columns.{Column}
 use Rattle.coll_trees.specs.Depths.{depth}
 use Rattle.coll_trees.specs.BinomialTreeBcast.{from_root}
 use Rattle.coll_trees.specs.Trees.{bcast_family}
-use Rattle.coll_trees.specs.BinomialTreeReduce.{folding, last_hop}
-use Rattle.coll_trees.proofs.BinomialTreeActions.{all_in, all_in-append, cond-few, folding-few, last_hop-few, spreading-few}
+use Rattle.coll_trees.specs.BinomialTreeReduce.{reduce_tree_rounds, last_hop}
+use Rattle.coll_trees.proofs.BinomialTreeActions.{all_in, all_in-append, cond-few, reduce_tree_rounds-few, last_hop-few, bcast_tree_rounds-few}
 use Rattle.coll_trees.proofs.Checked.{checked}
 use Rattle.coll_plans.specs.declared.direct_blocks.Blocks.{Blocks}
 use Rattle.coll_plans.specs.declared.recursive_doubling_fold.FoldPart.{FoldPart}
 use Rattle.coll_plans.specs.declared.recursive_doubling_fold.FoldPart.TheVariants.{Lower, Upper, Alone}
 use Rattle.coll_plans.specs.declared.direct_pattern.Pattern.{Pattern}
 use Rattle.coll_plans.specs.declared.direct_pattern.Pattern.TheVariants.{ToAll, ToRoot, FromRoot}
-use Rattle.coll_plans.specs.DisseminationBarrier.{meetings}
+use Rattle.coll_plans.specs.DisseminationBarrier.{barrier_rounds}
 use Rattle.coll_plans.specs.PrefixDoubling.{doubling, join, join_both, receipt, shift}
 use Rattle.coll_plans.specs.BruckAllgather.{bruck_rounds}
 use Rattle.coll_plans.specs.DirectExchange.{alike, carries, chosen, exchange_by, keeps, recvs, sends}
 use Rattle.coll_plans.specs.DirectFamilies.{blocks_from, combines_below, one_block, own_row, row_at}
-use Rattle.coll_plans.specs.RecursiveDoublingHypercube.{corner, dimension, extra, mate, pairing}
-use Rattle.coll_plans.specs.RecursiveDoubling.{exchanging, give, gives, joins_by, pair_up, pairs, tell, tells, trade, trade_joins, trades, trading}
+use Rattle.coll_plans.specs.RecursiveDoublingHypercube.{corner, dimension, extra, mate, fold_part}
+use Rattle.coll_plans.specs.RecursiveDoubling.{recursive_doubling, give, fold_gives, joins_by, pair_up, fold_joins, tell, tells, exchange_at, exchange_joins, exchanges, hypercube_rounds}
 use Rattle.coll_plans.specs.ChainBcast.{chain_family, is_long, is_passing, receipt_of, relay_count, relay_of, relaying, segment_count}
 use Rattle.coll_plans.specs.Plans.{family_by, most_actions}
 use Rattle.coll_plans.proofs.RecursiveDoublingHypercube.{dimension-most}
@@ -59,9 +59,9 @@ doubling-few b n second few k (suc c) r =
     let rest : all_in (doubling b n second (suc k) c) r ≤ 4 * c = doubling-few b n second few (suc k) c r in
     omega arith
 
-meetings-few : (n k c r : ℕ) → all_in (meetings n k c) r ≤ c + c
-meetings-few n k zero r = omega arith
-meetings-few n k (suc c) r = let rest : all_in (meetings n (suc k) c) r ≤ c + c = meetings-few n (suc k) c r in omega arith
+barrier_rounds-few : (n k c r : ℕ) → all_in (barrier_rounds n k c) r ≤ c + c
+barrier_rounds-few n k zero r = omega arith
+barrier_rounds-few n k (suc c) r = let rest : all_in (barrier_rounds n (suc k) c) r ≤ c + c = barrier_rounds-few n (suc k) c r in omega arith
 
 -- of an allgather, two in each round
 bruck_rounds-few : (b n k c r : ℕ) → all_in (bruck_rounds b n k c) r ≤ c + c + 2
@@ -89,20 +89,20 @@ alone : (column : Column) (r most : ℕ) → length (column r) ≤ most → all_
 alone column r most few = omega arith
 
 -- of an allreduce
-gives-few : (b r : ℕ) (o : FoldPart) → length (gives b r o) ≤ 1
-gives-few b r Lower = omega arith
-gives-few b r Upper = omega arith
-gives-few b r Alone = omega arith
+fold_gives-few : (b r : ℕ) (o : FoldPart) → length (fold_gives b r o) ≤ 1
+fold_gives-few b r Lower = omega arith
+fold_gives-few b r Upper = omega arith
+fold_gives-few b r Alone = omega arith
 
-pairs-few : (op : Op) (ty : Datatype) (b : ℕ) (o : FoldPart) → length (pairs op ty b o) ≤ 1
-pairs-few op ty b Lower = omega arith
-pairs-few op ty b Upper = omega arith
-pairs-few op ty b Alone = omega arith
+fold_joins-few : (op : Op) (ty : Datatype) (b : ℕ) (o : FoldPart) → length (fold_joins op ty b o) ≤ 1
+fold_joins-few op ty b Lower = omega arith
+fold_joins-few op ty b Upper = omega arith
+fold_joins-few op ty b Alone = omega arith
 
-trades-few : (b p : ℕ) (o : FoldPart) → length (trades b p o) ≤ 2
-trades-few b p Lower = omega arith
-trades-few b p Upper = omega arith
-trades-few b p Alone = omega arith
+exchanges-few : (b p : ℕ) (o : FoldPart) → length (exchanges b p o) ≤ 2
+exchanges-few b p Lower = omega arith
+exchanges-few b p Upper = omega arith
+exchanges-few b p Alone = omega arith
 
 joins_by-few : (op : Op) (ty : Datatype) (b q s : ℕ) (o : FoldPart) → length (joins_by op ty b q s o) ≤ 1
 joins_by-few op ty b q s Lower = cond-few (ltb (q % (s + s)) s) _ _ 1 (omega arith) (omega arith)
@@ -114,21 +114,21 @@ tells-few b r Lower = omega arith
 tells-few b r Upper = omega arith
 tells-few b r Alone = omega arith
 
-trading-few : (op : Op) (ty : Datatype) (b e k c r : ℕ) → all_in (trading op ty b e k c) r ≤ 3 * c
-trading-few op ty b e k zero r = omega arith
-trading-few op ty b e k (suc c) r =
-    let first : length (trade b e (2 ^ k) r) ≤ 2 = trades-few b (mate e (2 ^ k) r) (pairing e r) in
-    let then : length (trade_joins op ty b e (2 ^ k) r) ≤ 1 = joins_by-few op ty b (corner e r) (2 ^ k) (pairing e r) in
-    let rest : all_in (trading op ty b e (suc k) c) r ≤ 3 * c = trading-few op ty b e (suc k) c r in
+hypercube_rounds-few : (op : Op) (ty : Datatype) (b e k c r : ℕ) → all_in (hypercube_rounds op ty b e k c) r ≤ 3 * c
+hypercube_rounds-few op ty b e k zero r = omega arith
+hypercube_rounds-few op ty b e k (suc c) r =
+    let first : length (exchange_at b e (2 ^ k) r) ≤ 2 = exchanges-few b (mate e (2 ^ k) r) (fold_part e r) in
+    let then : length (exchange_joins op ty b e (2 ^ k) r) ≤ 1 = joins_by-few op ty b (corner e r) (2 ^ k) (fold_part e r) in
+    let rest : all_in (hypercube_rounds op ty b e (suc k) c) r ≤ 3 * c = hypercube_rounds-few op ty b e (suc k) c r in
     omega arith
 
-exchanging-few : (op : Op) (ty : Datatype) (b e d r : ℕ) → all_in (exchanging op ty b e d) r ≤ 3 * d + 3
-exchanging-few op ty b e d r =
-    let first : length (give b e r) ≤ 1 = gives-few b r (pairing e r) in
-    let then : length (pair_up op ty b e r) ≤ 1 = pairs-few op ty b (pairing e r) in
-    let last : all_in (tell b e ∷ []) r ≤ 1 = alone (tell b e) r 1 (tells-few b r (pairing e r)) in
-    let all : all_in (trading op ty b e 0 d ++ (tell b e ∷ [])) r ≡ all_in (trading op ty b e 0 d) r + all_in (tell b e ∷ []) r = all_in-append (trading op ty b e 0 d) (tell b e ∷ []) r in
-    let trades : all_in (trading op ty b e 0 d) r ≤ 3 * d = trading-few op ty b e 0 d r in
+recursive_doubling-few : (op : Op) (ty : Datatype) (b e d r : ℕ) → all_in (recursive_doubling op ty b e d) r ≤ 3 * d + 3
+recursive_doubling-few op ty b e d r =
+    let first : length (give b e r) ≤ 1 = fold_gives-few b r (fold_part e r) in
+    let then : length (pair_up op ty b e r) ≤ 1 = fold_joins-few op ty b (fold_part e r) in
+    let last : all_in (tell b e ∷ []) r ≤ 1 = alone (tell b e) r 1 (tells-few b r (fold_part e r)) in
+    let all : all_in (hypercube_rounds op ty b e 0 d ++ (tell b e ∷ [])) r ≡ all_in (hypercube_rounds op ty b e 0 d) r + all_in (tell b e ∷ []) r = all_in-append (hypercube_rounds op ty b e 0 d) (tell b e ∷ []) r in
+    let exchanges : all_in (hypercube_rounds op ty b e 0 d) r ≤ 3 * d = hypercube_rounds-few op ty b e 0 d r in
     omega arith
 
 -- of a long bcast, whose block has at most 32 segments
@@ -168,11 +168,11 @@ block_len-most sig n h = mul-le-mul (count_is-most (is_barrier sig.kind || has_c
 
 -- the actions of each kind's schedules
 pub short_by : (k : Kind) (sig : Signature) (n : ℕ) → broken sig n ≡ None → n ≤ 64 → depth n ≤ 6 → (r : ℕ) → remaining (family_by k sig n r) 0 0 ≤ most_actions
-short_by Barrier sig n h few d r = omega (arith, meetings-few n 0 (depth n) r)
+short_by Barrier sig n h few d r = omega (arith, barrier_rounds-few n 0 (depth n) r)
 short_by Bcast sig n h few d r =
     cond_both (is_long n (block_len sig)) (chain_family sig n) (bcast_family sig n) (λ f. remaining (f r) 0 0 ≤ most_actions)
     (λ e. let short : block_len sig ≤ 524288 = block_len-most sig n h in omega (arith, relaying-few (block_len sig) n sig.root 0 (relay_count n (block_len sig)) r))
-    (λ e. omega (arith, spreading-few (block_len sig) n sig.root 0 (depth n) r))
+    (λ e. omega (arith, bcast_tree_rounds-few (block_len sig) n sig.root 0 (depth n) r))
 short_by Gather sig n h few d r = omega (arith, exchange-few (ToRoot sig.root) (alike (one_block (block_len sig))) (alike (blocks_from (block_len sig) (block_len sig))) n r)
 short_by Scatter sig n h few d r = omega (arith, exchange-few (FromRoot sig.root) (alike (blocks_from (block_len sig) (block_len sig))) (alike (one_block (block_len sig))) n r)
 short_by Allgather sig n h few d r = omega (arith, bruck_rounds-few (block_len sig) n 0 (depth n) r)
@@ -181,13 +181,13 @@ short_by Alltoall sig n h few d r = omega (arith, exchange-few ToAll (alike (blo
 short_by Reduce sig n h few d r =
     omega (
       arith,
-      all_in-append (folding (unwrap_or sig.op Sum) sig.ty (block_len sig) n 0 (depth n)) (last_hop (block_len sig) sig.root ∷ []) r,
-      folding-few (unwrap_or sig.op Sum) sig.ty (block_len sig) n 0 (depth n) r,
+      all_in-append (reduce_tree_rounds (unwrap_or sig.op Sum) sig.ty (block_len sig) n 0 (depth n)) (last_hop (block_len sig) sig.root ∷ []) r,
+      reduce_tree_rounds-few (unwrap_or sig.op Sum) sig.ty (block_len sig) n 0 (depth n) r,
       alone (last_hop (block_len sig) sig.root) r 1 (last_hop-few (block_len sig) sig.root r),
     )
 short_by Allreduce sig n h few d r =
     let most : dimension n ≤ 6 = dimension-most n in
-    omega (arith, exchanging-few (unwrap_or sig.op Sum) sig.ty (block_len sig) (extra n) (dimension n) r)
+    omega (arith, recursive_doubling-few (unwrap_or sig.op Sum) sig.ty (block_len sig) (extra n) (dimension n) r)
 short_by Rsblock sig n h few d r =
     omega (
       arith,

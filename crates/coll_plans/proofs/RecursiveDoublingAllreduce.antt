@@ -25,9 +25,9 @@ use Rattle.coll_trees.proofs.Checked.{checked, operation_allowed, block_whole, I
 use Rattle.coll_trees.proofs.Columns.{IsColumn, Costs, column_of, round-column, length-rounds, lawful_family, narrow_family, few_exchanges}
 use Rattle.coll_trees.proofs.Spans.{span, span_all, associates}
 use Rattle.coll_plans.specs.RecursiveDoublingHypercube.{dimension, extra}
-use Rattle.coll_plans.specs.RecursiveDoubling.{tell, trading, exchanging, allreduce_family, most_trades}
+use Rattle.coll_plans.specs.RecursiveDoubling.{tell, hypercube_rounds, recursive_doubling, allreduce_family, most_trades}
 use Rattle.coll_plans.proofs.RecursiveDoublingHypercube.{extra_below, extra_whole}
-use Rattle.coll_plans.proofs.RecursiveDoublingRounds.{length-trading, exchanging_columns, even_costs, exchanging_costs}
+use Rattle.coll_plans.proofs.RecursiveDoublingRounds.{length-hypercube_rounds, exchanging_columns, even_costs, exchanging_costs}
 use Rattle.coll_plans.proofs.RecursiveDoublingRanges.{all_heard, all_hold}
 
 module _ (sig : Signature) (n : ℕ) (kind : sig.kind ≡ Allreduce) (pos : 0 < n) (top : n ≤ 64) (may : IsTrue (allowed (unwrap_or sig.op Sum) sig.ty)) where
@@ -41,7 +41,7 @@ module _ (sig : Signature) (n : ℕ) (kind : sig.kind ≡ Allreduce) (pos : 0 < 
   d = dimension n
 
   abbrev columns : List Column
-  columns = exchanging op sig.ty b (extra n) d
+  columns = recursive_doubling op sig.ty b (extra n) d
 
   few_extra : extra n ≤ 2 ^ d
   few_extra = let z : extra n < 2 ^ d = extra_below n pos top in omega arith
@@ -58,7 +58,7 @@ module _ (sig : Signature) (n : ℕ) (kind : sig.kind ≡ Allreduce) (pos : 0 < 
   allreduce_length : (r : ℕ) → length (allreduce_family sig n r).rounds ≡ suc (suc (suc (d + d)))
   allreduce_length r =
       length-rounds columns r
-      ∙ omega (arith, length-append {A = Column} (trading op sig.ty b (extra n) 0 d) (tell b (extra n) ∷ []), length-trading op sig.ty b (extra n) 0 d)
+      ∙ omega (arith, length-append {A = Column} (hypercube_rounds op sig.ty b (extra n) 0 d) (tell b (extra n) ∷ []), length-hypercube_rounds op sig.ty b (extra n) 0 d)
 
   takes : (r : ℕ) → b ≡ given_len sig n r
   takes r = sym (ap (λ k. given_by k sig.root n r b (row_len sig)) kind)
@@ -92,7 +92,7 @@ module _ (sig : Signature) (n : ℕ) (kind : sig.kind ≡ Allreduce) (pos : 0 < 
       (λ e. few_exchanges n (b + b) (λ r. front b) (λ r. front b) columns (d + 2) (exchanging_costs op sig.ty b (extra n) d))
     where
       even : n ≡ 2 ^ dimension n → Costs columns (dimension n)
-      even e = subst (λ k. Costs (exchanging op sig.ty b k (dimension n)) (dimension n)) (let z : 0 ≡ n - 2 ^ dimension n = omega arith in z) (even_costs op sig.ty b (dimension n))
+      even e = subst (λ k. Costs (recursive_doubling op sig.ty b k (dimension n)) (dimension n)) (let z : 0 ≡ n - 2 ^ dimension n = omega arith in z) (even_costs op sig.ty b (dimension n))
 
   allreduce_narrow : IsNarrowFor sig n (allreduce_family sig n) (most_trades n)
   allreduce_narrow = record {
@@ -112,10 +112,10 @@ pub allreduce_serves : (sig : Signature) (n : ℕ) → broken sig n ≡ None →
 allreduce_serves sig n h kind pos top = allreduce_narrow sig n kind pos top (operation_allowed sig n (checked sig n h) (ap has_operation kind))
 
 -- the parts that the builder makes are the family's
-pub allreduce_parts : (sig : Signature) (n r len e d : ℕ) (op : Op) (rounds : List (List Action)) → len ≡ block_len sig → sig.op ≡ Some op → e ≡ extra n → d ≡ dimension n → rounds ≡ rounds_of (exchanging op sig.ty len e d) r → ◌≡◌ {A = Parts} (record { size = len + len; input = front len; output = front len; rounds = rounds }) (allreduce_family sig n r)
+pub allreduce_parts : (sig : Signature) (n r len e d : ℕ) (op : Op) (rounds : List (List Action)) → len ≡ block_len sig → sig.op ≡ Some op → e ≡ extra n → d ≡ dimension n → rounds ≡ rounds_of (recursive_doubling op sig.ty len e d) r → ◌≡◌ {A = Parts} (record { size = len + len; input = front len; output = front len; rounds = rounds }) (allreduce_family sig n r)
 allreduce_parts sig n r len e d op rounds l o x y s =
     let op_is : op ≡ unwrap_or sig.op Sum = sym (ap (λ z. unwrap_or z Sum) o) in
-    let s2 : rounds ≡ rounds_of (exchanging (unwrap_or sig.op Sum) sig.ty (block_len sig) (extra n) (dimension n)) r =
-    s ∙ (ap (λ z. rounds_of (exchanging op sig.ty z e d) r) l ∙ (ap (λ z. rounds_of (exchanging z sig.ty (block_len sig) e d) r) op_is
-    ∙ (ap (λ z. rounds_of (exchanging (unwrap_or sig.op Sum) sig.ty (block_len sig) z d) r) x ∙ ap (λ z. rounds_of (exchanging (unwrap_or sig.op Sum) sig.ty (block_len sig) (extra n) z) r) y))) in
+    let s2 : rounds ≡ rounds_of (recursive_doubling (unwrap_or sig.op Sum) sig.ty (block_len sig) (extra n) (dimension n)) r =
+    s ∙ (ap (λ z. rounds_of (recursive_doubling op sig.ty z e d) r) l ∙ (ap (λ z. rounds_of (recursive_doubling z sig.ty (block_len sig) e d) r) op_is
+    ∙ (ap (λ z. rounds_of (recursive_doubling (unwrap_or sig.op Sum) sig.ty (block_len sig) z d) r) x ∙ ap (λ z. rounds_of (recursive_doubling (unwrap_or sig.op Sum) sig.ty (block_len sig) (extra n) z) r) y))) in
     λ k. record { size = l k + l k; input = front (l k); output = front (l k); rounds = s2 k }

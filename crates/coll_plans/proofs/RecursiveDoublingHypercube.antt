@@ -4,7 +4,7 @@ use Rattle.std.proofs.lemmas.Bool.{cases_eq, cases_lt, cond-true, cond-false, co
 use Rattle.std.proofs.lemmas.Nat.{mod-mul-add, div-add-mod', pow-add}
 use Rattle.coll_plans.specs.declared.recursive_doubling_fold.FoldPart.{FoldPart}
 use Rattle.coll_plans.specs.declared.recursive_doubling_fold.FoldPart.TheVariants.{Lower, Upper, Alone}
-use Rattle.coll_plans.specs.RecursiveDoublingHypercube.{dimension_from, dimension, extra, pairing, corner, lowest, across, mate}
+use Rattle.coll_plans.specs.RecursiveDoublingHypercube.{dimension_from, dimension, extra, fold_part, corner, lowest, across, mate}
 
 -- the dimension is the greatest that members reach
 dimension_beyond : (fuel k n : ℕ) → n < 2 ^ suc (k + fuel) → n < 2 ^ suc (dimension_from fuel k n)
@@ -76,18 +76,18 @@ lowest_in e c q h k = go (cases_lt q e)
     go (inl a) = omega (arith, lowest_double e q a)
     go (inr a) = omega (arith, lowest_single e q a)
 
-pub pairing_lower : (e q : ℕ) → q < e → pairing e (q + q) ≡ Lower
-pairing_lower e q h =
+pub fold_part_lower : (e q : ℕ) → q < e → fold_part e (q + q) ≡ Lower
+fold_part_lower e q h =
     cond-true (ltb (q + q) (e + e)) (cond (eqb ((q + q) % 2) 0) Lower Upper) Alone (lt-ltb (q + q) (e + e) (omega arith))
     ∙ cond-true (eqb ((q + q) % 2) 0) Lower Upper (eq-eqb ((q + q) % 2) 0 (omega arith))
 
-pub pairing_upper : (e q : ℕ) → q < e → pairing e (suc (q + q)) ≡ Upper
-pairing_upper e q h =
+pub fold_part_upper : (e q : ℕ) → q < e → fold_part e (suc (q + q)) ≡ Upper
+fold_part_upper e q h =
     cond-true (ltb (suc (q + q)) (e + e)) (cond (eqb (suc (q + q) % 2) 0) Lower Upper) Alone (lt-ltb (suc (q + q)) (e + e) (omega arith))
     ∙ cond-false (eqb (suc (q + q) % 2) 0) Lower Upper (ne_eqb (suc (q + q) % 2) 0 (λ k. absurd (omega arith)))
 
-pub pairing_alone : (e r : ℕ) → e + e ≤ r → pairing e r ≡ Alone
-pairing_alone e r h = cond-false (ltb r (e + e)) (cond (eqb (r % 2) 0) Lower Upper) Alone (le-ltb r (e + e) h)
+pub fold_part_alone : (e r : ℕ) → e + e ≤ r → fold_part e r ≡ Alone
+fold_part_alone e r h = cond-false (ltb r (e + e)) (cond (eqb (r % 2) 0) Lower Upper) Alone (le-ltb r (e + e) h)
 
 corner_double : (e r : ℕ) → r < e + e → corner e r ≡ r / 2
 corner_double e r h = cond-true (ltb r (e + e)) (r / 2) (r - e) (lt-ltb r (e + e) h)
@@ -101,13 +101,13 @@ pub data FoldPartIs (e r q : ℕ) : FoldPart → Type 0 where
   is_upper : q < e → r ≡ suc (q + q) → FoldPartIs e r q Upper
   is_alone : e ≤ q → r ≡ q + e → FoldPartIs e r q Alone
 
-pub pairing_is : (e r : ℕ) → FoldPartIs e r (corner e r) (pairing e r)
-pairing_is e r = go (cases_lt r (e + e)) (cases_eq (r % 2) 0)
+pub fold_part_is : (e r : ℕ) → FoldPartIs e r (corner e r) (fold_part e r)
+fold_part_is e r = go (cases_lt r (e + e)) (cases_eq (r % 2) 0)
   where
-    first : r < e + e → pairing e r ≡ cond (eqb (r % 2) 0) Lower Upper
+    first : r < e + e → fold_part e r ≡ cond (eqb (r % 2) 0) Lower Upper
     first h = cond-true (ltb r (e + e)) (cond (eqb (r % 2) 0) Lower Upper) Alone (lt-ltb r (e + e) h)
 
-    go : (r < e + e) ⊎ (e + e ≤ r) → (r % 2 ≡ 0) ⊎ (r % 2 ≡ 0 → ⊥) → FoldPartIs e r (corner e r) (pairing e r)
+    go : (r < e + e) ⊎ (e + e ≤ r) → (r % 2 ≡ 0) ⊎ (r % 2 ≡ 0 → ⊥) → FoldPartIs e r (corner e r) (fold_part e r)
     go (inl h) (inl k) =
         let c : corner e r ≡ r / 2 = corner_double e r h in
         subst (FoldPartIs e r (corner e r)) (sym (first h ∙ cond-true (eqb (r % 2) 0) Lower Upper (eq-eqb (r % 2) 0 k))) (is_lower (omega arith) (omega arith))
@@ -116,10 +116,10 @@ pairing_is e r = go (cases_lt r (e + e)) (cases_eq (r % 2) 0)
         subst (FoldPartIs e r (corner e r)) (sym (first h ∙ cond-false (eqb (r % 2) 0) Lower Upper (ne_eqb (r % 2) 0 k))) (is_upper (omega arith) (omega arith))
     go (inr h) k =
         let c : corner e r ≡ r - e = corner_single e r h in
-        subst (FoldPartIs e r (corner e r)) (sym (pairing_alone e r h)) (is_alone (omega arith) (omega arith))
+        subst (FoldPartIs e r (corner e r)) (sym (fold_part_alone e r h)) (is_alone (omega arith) (omega arith))
 
 pub corner_in : (e c r : ℕ) → e ≤ c → r < e + c → corner e r < c
-corner_in e c r h k = go (pairing_is e r)
+corner_in e c r h k = go (fold_part_is e r)
   where
     go : {o : FoldPart} → FoldPartIs e r (corner e r) o → corner e r < c
     go (is_lower a b) = omega arith
@@ -132,8 +132,8 @@ Leads Lower = Unit {0}
 Leads Upper = ⊥
 Leads Alone = Unit {0}
 
-pub lowest-corner : (e r : ℕ) → Leads (pairing e r) → lowest e (corner e r) ≡ r
-lowest-corner e r h = go (pairing_is e r) h
+pub lowest-corner : (e r : ℕ) → Leads (fold_part e r) → lowest e (corner e r) ≡ r
+lowest-corner e r h = go (fold_part_is e r) h
   where
     go : {o : FoldPart} → FoldPartIs e r (corner e r) o → Leads o → lowest e (corner e r) ≡ r
     go (is_lower a b) k = lowest_double e (corner e r) a ∙ sym b
@@ -147,12 +147,12 @@ corner-lowest e q = go (cases_lt q e)
     go (inl h) = let l : lowest e q ≡ q + q = lowest_double e q h in corner_double e (lowest e q) (omega arith) ∙ omega arith
     go (inr h) = let l : lowest e q ≡ q + e = lowest_single e q h in corner_single e (lowest e q) (omega arith) ∙ omega arith
 
-pub lowest_leads : (e q : ℕ) → Leads (pairing e (lowest e q))
+pub lowest_leads : (e q : ℕ) → Leads (fold_part e (lowest e q))
 lowest_leads e q = go (cases_lt q e)
   where
-    go : (q < e) ⊎ (e ≤ q) → Leads (pairing e (lowest e q))
-    go (inl h) = subst Leads (sym (ap (pairing e) (lowest_double e q h) ∙ pairing_lower e q h)) tt
-    go (inr h) = subst Leads (sym (ap (pairing e) (lowest_single e q h) ∙ pairing_alone e (q + e) (omega arith))) tt
+    go : (q < e) ⊎ (e ≤ q) → Leads (fold_part e (lowest e q))
+    go (inl h) = subst Leads (sym (ap (fold_part e) (lowest_double e q h) ∙ fold_part_lower e q h)) tt
+    go (inr h) = subst Leads (sym (ap (fold_part e) (lowest_single e q h) ∙ fold_part_alone e (q + e) (omega arith))) tt
 
 -- the corner across, of the lower half of a block of s + s corners and of the upper
 pub side_low : (m s x : ℕ) → x < s → (m * (s + s) + x) % (s + s) ≡ x
@@ -219,11 +219,11 @@ across_in i d q low h = go (side q (2 ^ i) (pow_pos i))
         omega arith
 
 -- an exchange is of two members, each of which acts for its corner
-pub mate_back : (e s r : ℕ) → 0 < s → Leads (pairing e r) → mate e s (mate e s r) ≡ r
+pub mate_back : (e s r : ℕ) → 0 < s → Leads (fold_part e r) → mate e s (mate e s r) ≡ r
 mate_back e s r h k =
     ap (λ q. lowest e (across q s)) (corner-lowest e (across (corner e r) s)) ∙ (ap (lowest e) (across_back (corner e r) s h) ∙ lowest-corner e r k)
 
-pub mate_leads : (e s r : ℕ) → Leads (pairing e (mate e s r))
+pub mate_leads : (e s r : ℕ) → Leads (fold_part e (mate e s r))
 mate_leads e s r = lowest_leads e (across (corner e r) s)
 
 pub mate_in : (e i d r : ℕ) → i < d → e ≤ 2 ^ d → r < e + 2 ^ d → mate e (2 ^ i) r < e + 2 ^ d

@@ -16,16 +16,16 @@ use Rattle.coll_trees.proofs.Columns.{column_of}
 use Rattle.coll_trees.proofs.Spans.{span, Associates, span_join}
 use Rattle.coll_plans.specs.declared.recursive_doubling_fold.FoldPart.{FoldPart}
 use Rattle.coll_plans.specs.declared.recursive_doubling_fold.FoldPart.TheVariants.{Lower, Upper, Alone}
-use Rattle.coll_plans.specs.RecursiveDoublingHypercube.{pairing, corner, lowest, across, mate}
-use Rattle.coll_plans.specs.RecursiveDoubling.{gives, pairs, swap, trades, joined, joins_by, tells, exchanging}
-use Rattle.coll_plans.proofs.RecursiveDoublingHypercube.{lowest_double, lowest_single, lowest_rises, lowest_in, pairing_lower, pairing_upper, pairing_alone, FoldPartIs, is_upper, pairing_is, corner_in, Leads, lowest-corner, corner-lowest, lowest_leads, side_low, side_high, across_low, across_high, across_in, across_back}
-use Rattle.coll_plans.proofs.RecursiveDoublingRounds.{exchanging-trade, exchanging-join, exchanging-tell}
+use Rattle.coll_plans.specs.RecursiveDoublingHypercube.{fold_part, corner, lowest, across, mate}
+use Rattle.coll_plans.specs.RecursiveDoubling.{fold_gives, fold_joins, swap, exchanges, joined, joins_by, tells, recursive_doubling}
+use Rattle.coll_plans.proofs.RecursiveDoublingHypercube.{lowest_double, lowest_single, lowest_rises, lowest_in, fold_part_lower, fold_part_upper, fold_part_alone, FoldPartIs, is_upper, fold_part_is, corner_in, Leads, lowest-corner, corner-lowest, lowest_leads, side_low, side_high, across_low, across_high, across_in, across_back}
+use Rattle.coll_plans.proofs.RecursiveDoublingRounds.{recursive_doubling-exchange_at, recursive_doubling-join, recursive_doubling-tell}
 
 -- who acts for a corner exchanges and joins as one alone
-trades_leads : (b p : ℕ) (o : FoldPart) → Leads o → trades b p o ≡ swap b p
-trades_leads b p Lower h = refl
-trades_leads b p Upper h = absurd h
-trades_leads b p Alone h = refl
+exchanges_leads : (b p : ℕ) (o : FoldPart) → Leads o → exchanges b p o ≡ swap b p
+exchanges_leads b p Lower h = refl
+exchanges_leads b p Upper h = absurd h
+exchanges_leads b p Alone h = refl
 
 joins_leads : (op : Op) (ty : Datatype) (b q s : ℕ) (o : FoldPart) → Leads o → joins_by op ty b q s o ≡ joined op ty b q s
 joins_leads op ty b q s Lower h = refl
@@ -33,7 +33,7 @@ joins_leads op ty b q s Upper h = absurd h
 joins_leads op ty b q s Alone h = refl
 
 -- a family of n members with these rounds, of which the first e corners stand for two
-module _ (f : Family) (op : Op) (ty : Datatype) (b n e d : ℕ) (room : e ≤ 2 ^ d) (whole : e + 2 ^ d ≡ n) (is : (j r : ℕ) → actions_at f j r ≡ column_of (exchanging op ty b e d) j r) where
+module _ (f : Family) (op : Op) (ty : Datatype) (b n e d : ℕ) (room : e ≤ 2 ^ d) (whole : e + 2 ^ d ≡ n) (is : (j r : ℕ) → actions_at f j r ≡ column_of (recursive_doubling op ty b e d) j r) where
   -- the first member of corner q is below n
   lowest_low : (q : ℕ) → q < 2 ^ d → lowest e q < n
   lowest_low q h = subst (λ m. lowest e q < m) whole (lowest_in e (2 ^ d) q room h)
@@ -42,29 +42,29 @@ module _ (f : Family) (op : Op) (ty : Datatype) (b n e d : ℕ) (room : e ≤ 2 
   pow_twice i = omega (arith, pow-suc 2 i)
 
   -- what the first member of corner q does in exchange i
-  trades_with : (i q : ℕ) → i < d → actions_at f (suc (suc (i + i))) (lowest e q) ≡ swap b (lowest e (across q (2 ^ i)))
-  trades_with i q h =
+  exchanges_with : (i q : ℕ) → i < d → actions_at f (suc (suc (i + i))) (lowest e q) ≡ swap b (lowest e (across q (2 ^ i)))
+  exchanges_with i q h =
       is (suc (suc (i + i))) (lowest e q)
-      ∙ (exchanging-trade op ty b e d i (lowest e q) h
-      ∙ (trades_leads b (mate e (2 ^ i) (lowest e q)) (pairing e (lowest e q)) (lowest_leads e q)
+      ∙ (recursive_doubling-exchange_at op ty b e d i (lowest e q) h
+      ∙ (exchanges_leads b (mate e (2 ^ i) (lowest e q)) (fold_part e (lowest e q)) (lowest_leads e q)
       ∙ ap (λ c. swap b (lowest e (across c (2 ^ i)))) (corner-lowest e q)))
 
   joins_there : (i q : ℕ) → i < d → actions_at f (suc (suc (suc (i + i)))) (lowest e q) ≡ joined op ty b q (2 ^ i)
   joins_there i q h =
       is (suc (suc (suc (i + i)))) (lowest e q)
-      ∙ (exchanging-join op ty b e d i (lowest e q) h
-      ∙ (joins_leads op ty b (corner e (lowest e q)) (2 ^ i) (pairing e (lowest e q)) (lowest_leads e q)
+      ∙ (recursive_doubling-join op ty b e d i (lowest e q) h
+      ∙ (joins_leads op ty b (corner e (lowest e q)) (2 ^ i) (fold_part e (lowest e q)) (lowest_leads e q)
       ∙ ap (λ c. joined op ty b c (2 ^ i)) (corner-lowest e q)))
 
   -- at the beginning and in the end, by how the member stands
-  gives_at : (r : ℕ) (o : FoldPart) → pairing e r ≡ o → actions_at f 0 r ≡ gives b r o
-  gives_at r o h = is 0 r ∙ ap (gives b r) h
+  gives_at : (r : ℕ) (o : FoldPart) → fold_part e r ≡ o → actions_at f 0 r ≡ fold_gives b r o
+  gives_at r o h = is 0 r ∙ ap (fold_gives b r) h
 
-  pairs_at : (r : ℕ) (o : FoldPart) → pairing e r ≡ o → actions_at f 1 r ≡ pairs op ty b o
-  pairs_at r o h = is 1 r ∙ ap (pairs op ty b) h
+  pairs_at : (r : ℕ) (o : FoldPart) → fold_part e r ≡ o → actions_at f 1 r ≡ fold_joins op ty b o
+  pairs_at r o h = is 1 r ∙ ap (fold_joins op ty b) h
 
-  tells_at : (r : ℕ) (o : FoldPart) → pairing e r ≡ o → actions_at f (suc (suc (d + d))) r ≡ tells b r o
-  tells_at r o h = is (suc (suc (d + d))) r ∙ (exchanging-tell op ty b e d r ∙ ap (tells b r) h)
+  tells_at : (r : ℕ) (o : FoldPart) → fold_part e r ≡ o → actions_at f (suc (suc (d + d))) r ≡ tells b r o
+  tells_at r o h = is (suc (suc (d + d))) r ∙ (recursive_doubling-tell op ty b e d r ∙ ap (tells b r) h)
 
   -- a corner has heard its members
   pair_heard : (q u : ℕ) → lowest e q ≤ u → u < lowest e (suc q) → Heard f 2 (lowest e q) u
@@ -82,7 +82,7 @@ module _ (f : Family) (op : Op) (ty : Datatype) (b n e d : ℕ) (room : e ≤ 2 
               let near : lowest e (suc q) ≤ suc (suc (q + q)) = bound (cases_lt (suc q) e) in
               inr (
                 lowest e q + 1,
-                subst (λ xs. Receives xs (lowest e q + 1)) (sym (gives_at (lowest e q) Lower (ap (pairing e) (lowest_double e q h) ∙ pairing_lower e q h))) (inl refl),
+                subst (λ xs. Receives xs (lowest e q + 1)) (sym (gives_at (lowest e q) Lower (ap (fold_part e) (lowest_double e q h) ∙ fold_part_lower e q h))) (inl refl),
                 omega (arith, lowest_double e q h),
               )
             where
@@ -102,7 +102,7 @@ module _ (f : Family) (op : Op) (ty : Datatype) (b n e d : ℕ) (room : e ≤ 2 
   told : (i q u : ℕ) → i < d → Heard f (suc (suc (i + i))) (lowest e (across q (2 ^ i))) u → Heard f (suc (suc (suc (i + i)))) (lowest e q) u
   told i q u h k = inr (
     lowest e (across q (2 ^ i)),
-    subst (λ xs. Receives xs (lowest e (across q (2 ^ i)))) (sym (trades_with i q h)) (inr (inl refl)),
+    subst (λ xs. Receives xs (lowest e (across q (2 ^ i)))) (sym (exchanges_with i q h)) (inr (inl refl)),
     k,
   )
 
@@ -160,25 +160,25 @@ module _ (f : Family) (op : Op) (ty : Datatype) (b n e d : ℕ) (room : e ≤ 2 
       go (inl k) = omega (arith, lowest_double e c k)
       go (inr k) = omega (arith, lowest_single e c k)
 
-  lead_heard : (r u : ℕ) → r < n → Leads (pairing e r) → u < n → Heard f (suc (suc (d + d))) r u
+  lead_heard : (r u : ℕ) → r < n → Leads (fold_part e r) → u < n → Heard f (suc (suc (d + d))) r u
   lead_heard r u hr lead hu =
       subst (λ p. Heard f (suc (suc (d + d))) p u) (ap (lowest e) (let z : 0 + corner e r ≡ corner e r = omega arith in z) ∙ lowest-corner e r lead)
       (block_heard d 0 0 (corner e r) u (omega arith) (omega arith) (corner_in e (2 ^ d) r room (omega arith)) (omega (arith, lowest_first)) (omega (arith, lowest_last)))
 
-  leads : (r : ℕ) (o : FoldPart) → pairing e r ≡ o → Leads o → Leads (pairing e r)
+  leads : (r : ℕ) (o : FoldPart) → fold_part e r ≡ o → Leads o → Leads (fold_part e r)
   leads r o h k = subst Leads (sym h) k
 
   -- in the end each member has heard all
   pub all_heard : (r u : ℕ) → r < n → u < n → Heard f (suc (suc (suc (d + d)))) r u
-  all_heard r u hr hu = go (pairing e r) refl (pairing_is e r)
+  all_heard r u hr hu = go (fold_part e r) refl (fold_part_is e r)
     where
-      go : (o : FoldPart) → pairing e r ≡ o → FoldPartIs e r (corner e r) o → Heard f (suc (suc (suc (d + d)))) r u
+      go : (o : FoldPart) → fold_part e r ≡ o → FoldPartIs e r (corner e r) o → Heard f (suc (suc (suc (d + d)))) r u
       go Lower h k = inl (lead_heard r u hr (leads r Lower h tt) hu)
       go Alone h k = inl (lead_heard r u hr (leads r Alone h tt) hu)
       go Upper h (is_upper x y) = inr (
         r - 1,
         subst (λ xs. Receives xs (r - 1)) (sym (tells_at r Upper h)) (inl refl),
-        lead_heard (r - 1) u (omega arith) (leads (r - 1) Lower (ap (pairing e) (let z : r - 1 ≡ corner e r + corner e r = omega arith in z) ∙ pairing_lower e (corner e r) x) tt) hu,
+        lead_heard (r - 1) u (omega arith) (leads (r - 1) Lower (ap (fold_part e) (let z : r - 1 ≡ corner e r + corner e r = omega arith in z) ∙ fold_part_lower e (corner e r) x) tt) hu,
       )
 
   module _ (lawful : IsLawful n f) (assoc : Associates op ty) (given : ℕ → List ℕ) (laid : GivenFits n f given)
@@ -209,15 +209,15 @@ module _ (f : Family) (op : Op) (ty : Datatype) (b n e d : ℕ) (room : e ≤ 2 
       where
         go : (q < e) ⊎ (e ≤ q) → read_of (lock_step f given 2 (lowest e q)) (front b) ≡ span op ty given (lowest e q) (lowest e (suc q) - lowest e q)
         go (inr h) =
-            let alone : pairing e (lowest e q) ≡ Alone = ap (pairing e) (lowest_single e q h) ∙ pairing_alone e (q + e) (omega arith) in
+            let alone : fold_part e (lowest e q) ≡ Alone = ap (fold_part e) (lowest_single e q h) ∙ fold_part_alone e (q + e) (omega arith) in
             round_kept n f lawful given laid 1 (lowest e q) (front b) (lowest_low q low) (front_in (lowest e q) (lowest_low q low)) (subst (AllByRecursion (λ a. AllApart (writes a) (front b ∷ []))) (sym (pairs_at (lowest e q) Alone alone)) tt)
             ∙ (round_kept n f lawful given laid 0 (lowest e q) (front b) (lowest_low q low) (front_in (lowest e q) (lowest_low q low)) (subst (AllByRecursion (λ a. AllApart (writes a) (front b ∷ []))) (sym (gives_at (lowest e q) Alone alone)) tt)
             ∙ (start (lowest e q) (lowest_low q low)
             ∙ ap (span op ty given (lowest e q)) (let z : 1 ≡ lowest e (suc q) - lowest e q = omega (arith, lowest_single e q h, lowest_single e (suc q) (let y : e ≤ suc q = omega arith in y)) in z)))
         go (inl h) =
             let l : lowest e q ≡ q + q = lowest_double e q h in
-            let lower : pairing e (lowest e q) ≡ Lower = ap (pairing e) l ∙ pairing_lower e q h in
-            let upper : pairing e (lowest e q + 1) ≡ Upper = ap (pairing e) (let z : lowest e q + 1 ≡ suc (q + q) = omega arith in z) ∙ pairing_upper e q h in
+            let lower : fold_part e (lowest e q) ≡ Lower = ap (fold_part e) l ∙ fold_part_lower e q h in
+            let upper : fold_part e (lowest e q + 1) ≡ Upper = ap (fold_part e) (let z : lowest e q + 1 ≡ suc (q + q) = omega arith in z) ∙ fold_part_upper e q h in
             round_held n f lawful given laid 1 (lowest e q) (Combine op ty (front b) (behind b) (front b)) (front b) (lowest_low q low)
             (subst (λ xs. Has xs (Combine op ty (front b) (behind b) (front b))) (sym (pairs_at (lowest e q) Lower lower)) (inl refl)) refl
             ∙ (ap (λ x. combined op ty x (read_of (lock_step f given 1 (lowest e q)) (behind b)))
@@ -238,17 +238,17 @@ module _ (f : Family) (op : Op) (ty : Datatype) (b n e d : ℕ) (room : e ≤ 2 
             two (inr k) = omega (arith, lowest_double e q h, lowest_single e (suc q) k)
 
     -- an exchange keeps what the corner holds, and brings what the corner across holds
-    trade_kept : (i q : ℕ) → i < d → q < 2 ^ d → held_at (suc (suc (suc (i + i)))) (lowest e q) ≡ held_at (suc (suc (i + i))) (lowest e q)
-    trade_kept i q h low =
+    exchange_kept : (i q : ℕ) → i < d → q < 2 ^ d → held_at (suc (suc (suc (i + i)))) (lowest e q) ≡ held_at (suc (suc (i + i))) (lowest e q)
+    exchange_kept i q h low =
         round_kept n f lawful given laid (suc (suc (i + i))) (lowest e q) (front b) (lowest_low q low) (front_in (lowest e q) (lowest_low q low))
-        (subst (AllByRecursion (λ a. AllApart (writes a) (front b ∷ []))) (sym (trades_with i q h)) (tt, ((((λ k x y z w. omega arith), tt), tt), tt)))
+        (subst (AllByRecursion (λ a. AllApart (writes a) (front b ∷ []))) (sym (exchanges_with i q h)) (tt, ((((λ k x y z w. omega arith), tt), tt), tt)))
 
-    trade_brings : (i q : ℕ) → i < d → q < 2 ^ d → read_of (lock_step f given (suc (suc (suc (i + i)))) (lowest e q)) (behind b) ≡ held_at (suc (suc (i + i))) (lowest e (across q (2 ^ i)))
-    trade_brings i q h low =
+    exchange_brings : (i q : ℕ) → i < d → q < 2 ^ d → read_of (lock_step f given (suc (suc (suc (i + i)))) (lowest e q)) (behind b) ≡ held_at (suc (suc (i + i))) (lowest e (across q (2 ^ i)))
+    exchange_brings i q h low =
         round_held n f lawful given laid (suc (suc (i + i))) (lowest e q) (Recv (lowest e (across q (2 ^ i))) (behind b)) (behind b) (lowest_low q low)
-        (subst (λ xs. Has xs (Recv (lowest e (across q (2 ^ i))) (behind b))) (sym (trades_with i q h)) (inr (inl refl))) refl
+        (subst (λ xs. Has xs (Recv (lowest e (across q (2 ^ i))) (behind b))) (sym (exchanges_with i q h)) (inr (inl refl))) refl
         ∙ message_is n f lawful given laid (suc (suc (i + i))) (lowest e q) (lowest e (across q (2 ^ i))) (front b) (lowest_low (across q (2 ^ i)) (across_in i d q h low))
-        (subst (λ xs. Has xs (Send (lowest e q) (front b))) (sym (trades_with i (across q (2 ^ i)) h)) (inl (ap (λ c. Send (lowest e c) (front b)) (across_back q (2 ^ i) (pow_pos i)))))
+        (subst (λ xs. Has xs (Send (lowest e q) (front b))) (sym (exchanges_with i (across q (2 ^ i)) h)) (inl (ap (λ c. Send (lowest e c) (front b)) (across_back q (2 ^ i) (pow_pos i)))))
 
     -- and then the two are combined in member order
     joins_behind : (i q : ℕ) → i < d → q < 2 ^ d → q % (2 ^ i + 2 ^ i) < 2 ^ i → held_at (suc (suc (suc (suc (i + i))))) (lowest e q) ≡ combined op ty (held_at (suc (suc (i + i))) (lowest e q)) (held_at (suc (suc (i + i))) (lowest e (across q (2 ^ i))))
@@ -256,16 +256,16 @@ module _ (f : Family) (op : Op) (ty : Datatype) (b n e d : ℕ) (room : e ≤ 2 
         round_held n f lawful given laid (suc (suc (suc (i + i)))) (lowest e q) (Combine op ty (front b) (behind b) (front b)) (front b) (lowest_low q low)
         (subst (λ xs. Has xs (Combine op ty (front b) (behind b) (front b)))
         (sym (joins_there i q h ∙ cond-true (ltb (q % (2 ^ i + 2 ^ i)) (2 ^ i)) (Combine op ty (front b) (behind b) (front b) ∷ []) (Combine op ty (behind b) (front b) (front b) ∷ []) (lt-ltb _ _ half))) (inl refl)) refl
-        ∙ (ap (λ x. combined op ty x (read_of (lock_step f given (suc (suc (suc (i + i)))) (lowest e q)) (behind b))) (trade_kept i q h low)
-        ∙ ap (combined op ty (read_of (lock_step f given (suc (suc (i + i))) (lowest e q)) (front b))) (trade_brings i q h low))
+        ∙ (ap (λ x. combined op ty x (read_of (lock_step f given (suc (suc (suc (i + i)))) (lowest e q)) (behind b))) (exchange_kept i q h low)
+        ∙ ap (combined op ty (read_of (lock_step f given (suc (suc (i + i))) (lowest e q)) (front b))) (exchange_brings i q h low))
 
     joins_before : (i q : ℕ) → i < d → q < 2 ^ d → 2 ^ i ≤ q % (2 ^ i + 2 ^ i) → held_at (suc (suc (suc (suc (i + i))))) (lowest e q) ≡ combined op ty (held_at (suc (suc (i + i))) (lowest e (across q (2 ^ i)))) (held_at (suc (suc (i + i))) (lowest e q))
     joins_before i q h low half =
         round_held n f lawful given laid (suc (suc (suc (i + i)))) (lowest e q) (Combine op ty (behind b) (front b) (front b)) (front b) (lowest_low q low)
         (subst (λ xs. Has xs (Combine op ty (behind b) (front b) (front b)))
         (sym (joins_there i q h ∙ cond-false (ltb (q % (2 ^ i + 2 ^ i)) (2 ^ i)) (Combine op ty (front b) (behind b) (front b) ∷ []) (Combine op ty (behind b) (front b) (front b) ∷ []) (le-ltb _ _ half))) (inl refl)) refl
-        ∙ (ap (λ x. combined op ty x (read_of (lock_step f given (suc (suc (suc (i + i)))) (lowest e q)) (front b))) (trade_brings i q h low)
-        ∙ ap (combined op ty (read_of (lock_step f given (suc (suc (i + i))) (lowest e (across q (2 ^ i)))) (front b))) (trade_kept i q h low))
+        ∙ (ap (λ x. combined op ty x (read_of (lock_step f given (suc (suc (suc (i + i)))) (lowest e q)) (front b))) (exchange_brings i q h low)
+        ∙ ap (combined op ty (read_of (lock_step f given (suc (suc (i + i))) (lowest e (across q (2 ^ i)))) (front b))) (exchange_kept i q h low))
 
     -- after i exchanges a corner holds the rows of its block
     block_holds : (i m a x : ℕ) → i ≤ d → a ≡ m * 2 ^ i → x < 2 ^ i → a + 2 ^ i ≤ 2 ^ d → held_at (suc (suc (i + i))) (lowest e (a + x)) ≡ part a (a + 2 ^ i)
@@ -310,7 +310,7 @@ module _ (f : Family) (op : Op) (ty : Datatype) (b n e d : ℕ) (room : e ≤ 2 
                 ∙ (ap (combined op ty (part a (a + 2 ^ i))) (more (suc (m + m)) (a + 2 ^ i) (x - 2 ^ i) second_half l t)
                 ∙ part_join a (a + 2 ^ i) (a + 2 ^ i + 2 ^ i) (omega arith) (omega arith) t))
 
-    lead_holds : (r : ℕ) → r < n → Leads (pairing e r) → held_at (suc (suc (d + d))) r ≡ span op ty given 0 n
+    lead_holds : (r : ℕ) → r < n → Leads (fold_part e r) → held_at (suc (suc (d + d))) r ≡ span op ty given 0 n
     lead_holds r hr lead =
         ap (held_at (suc (suc (d + d)))) (sym (ap (lowest e) (let z : 0 + corner e r ≡ corner e r = omega arith in z) ∙ lowest-corner e r lead))
         ∙ (block_holds d 0 0 (corner e r) (omega arith) (omega arith) (corner_in e (2 ^ d) r room (omega arith)) (omega arith)
@@ -318,18 +318,18 @@ module _ (f : Family) (op : Op) (ty : Datatype) (b n e d : ℕ) (room : e ≤ 2 
 
     -- in the end each member holds all rows' combination
     pub all_hold : (r : ℕ) → r < n → read_of (lock_step f given (suc (suc (suc (d + d)))) r) (front b) ≡ span op ty given 0 n
-    all_hold r hr = go (pairing e r) refl (pairing_is e r)
+    all_hold r hr = go (fold_part e r) refl (fold_part_is e r)
       where
-        kept : (o : FoldPart) → pairing e r ≡ o → Leads o → AllByRecursion (λ a. AllApart (writes a) (front b ∷ [])) (tells b r o) → read_of (lock_step f given (suc (suc (suc (d + d)))) r) (front b) ≡ span op ty given 0 n
+        kept : (o : FoldPart) → fold_part e r ≡ o → Leads o → AllByRecursion (λ a. AllApart (writes a) (front b ∷ [])) (tells b r o) → read_of (lock_step f given (suc (suc (suc (d + d)))) r) (front b) ≡ span op ty given 0 n
         kept o h k quiet =
             round_kept n f lawful given laid (suc (suc (d + d))) r (front b) hr (front_in r hr) (subst (AllByRecursion (λ a. AllApart (writes a) (front b ∷ []))) (sym (tells_at r o h)) quiet)
             ∙ lead_holds r hr (leads r o h k)
 
-        go : (o : FoldPart) → pairing e r ≡ o → FoldPartIs e r (corner e r) o → read_of (lock_step f given (suc (suc (suc (d + d)))) r) (front b) ≡ span op ty given 0 n
+        go : (o : FoldPart) → fold_part e r ≡ o → FoldPartIs e r (corner e r) o → read_of (lock_step f given (suc (suc (suc (d + d)))) r) (front b) ≡ span op ty given 0 n
         go Lower h k = kept Lower h tt (tt, tt)
         go Alone h k = kept Alone h tt tt
         go Upper h (is_upper x y) =
-            let lower : pairing e (r - 1) ≡ Lower = ap (pairing e) (let z : r - 1 ≡ corner e r + corner e r = omega arith in z) ∙ pairing_lower e (corner e r) x in
+            let lower : fold_part e (r - 1) ≡ Lower = ap (fold_part e) (let z : r - 1 ≡ corner e r + corner e r = omega arith in z) ∙ fold_part_lower e (corner e r) x in
             round_held n f lawful given laid (suc (suc (d + d))) r (Recv (r - 1) (front b)) (front b) hr (subst (λ xs. Has xs (Recv (r - 1) (front b))) (sym (tells_at r Upper h)) (inl refl)) refl
             ∙ (message_is n f lawful given laid (suc (suc (d + d))) r (r - 1) (front b) (omega arith)
             (subst (λ xs. Has xs (Send r (front b))) (sym (tells_at (r - 1) Lower lower)) (inl (ap (λ p. Send p (front b)) (let z : r - 1 + 1 ≡ r = omega arith in z))))

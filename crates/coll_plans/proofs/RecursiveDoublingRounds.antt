@@ -16,16 +16,16 @@ use Rattle.coll_trees.specs.Columns.{Column}
 use Rattle.coll_trees.proofs.Columns.{IsColumn, IsLocalColumn, column_of, column-left, column-right, all_append, Costs, free, local_round, exchange, costs_append, costs_more}
 use Rattle.coll_plans.specs.declared.recursive_doubling_fold.FoldPart.{FoldPart}
 use Rattle.coll_plans.specs.declared.recursive_doubling_fold.FoldPart.TheVariants.{Lower, Upper, Alone}
-use Rattle.coll_plans.specs.RecursiveDoublingHypercube.{pairing, corner, mate}
-use Rattle.coll_plans.specs.RecursiveDoubling.{gives, pairs, swap, trades, joins_by, tells, give, pair_up, trade, trade_joins, tell, trading, exchanging}
-use Rattle.coll_plans.proofs.RecursiveDoublingHypercube.{FoldPartIs, is_lower, is_upper, is_alone, pairing_is, pairing_alone, Leads, mate_back, mate_leads, mate_in}
+use Rattle.coll_plans.specs.RecursiveDoublingHypercube.{fold_part, corner, mate}
+use Rattle.coll_plans.specs.RecursiveDoubling.{fold_gives, fold_joins, swap, exchanges, joins_by, tells, give, pair_up, exchange_at, exchange_joins, tell, hypercube_rounds, recursive_doubling}
+use Rattle.coll_plans.proofs.RecursiveDoublingHypercube.{FoldPartIs, is_lower, is_upper, is_alone, fold_part_is, fold_part_alone, Leads, mate_back, mate_leads, mate_in}
 use Rattle.coll_plans.proofs.LocalRounds.{AreLocal, local_column, is_local_column}
 
 -- each round of one member by itself
-gives_round : (b r : ℕ) (o : FoldPart) → IsRound (b + b) (gives b r o)
-gives_round b r Lower = record { fits = (omega arith, tt); follows = (tt, tt) }
-gives_round b r Upper = record { fits = (omega arith, tt); follows = (tt, tt) }
-gives_round b r Alone = record { fits = tt; follows = tt }
+fold_gives_round : (b r : ℕ) (o : FoldPart) → IsRound (b + b) (fold_gives b r o)
+fold_gives_round b r Lower = record { fits = (omega arith, tt); follows = (tt, tt) }
+fold_gives_round b r Upper = record { fits = (omega arith, tt); follows = (tt, tt) }
+fold_gives_round b r Alone = record { fits = tt; follows = tt }
 
 tells_round : (b r : ℕ) (o : FoldPart) → IsRound (b + b) (tells b r o)
 tells_round b r Lower = record { fits = (omega arith, tt); follows = (tt, tt) }
@@ -38,32 +38,32 @@ swap_round b p = record {
   follows = ((record { in_order = omega arith; other_peer = tt; read_later = tt; read_before = (((λ k x y z w. omega arith), tt), tt); both_written = tt }, tt), (tt, tt));
 }
 
-trades_round : (b p : ℕ) (o : FoldPart) → IsRound (b + b) (trades b p o)
-trades_round b p Lower = swap_round b p
-trades_round b p Upper = record { fits = tt; follows = tt }
-trades_round b p Alone = swap_round b p
+exchanges_round : (b p : ℕ) (o : FoldPart) → IsRound (b + b) (exchanges b p o)
+exchanges_round b p Lower = swap_round b p
+exchanges_round b p Upper = record { fits = tt; follows = tt }
+exchanges_round b p Alone = swap_round b p
 
-gives_one : (b r : ℕ) (o : FoldPart) → (count_by is_send (gives b r o) ≤ 1) × (count_by is_recv (gives b r o) ≤ 1)
-gives_one b r Lower = (omega arith, omega arith)
-gives_one b r Upper = (omega arith, omega arith)
-gives_one b r Alone = (omega arith, omega arith)
+fold_gives_one : (b r : ℕ) (o : FoldPart) → (count_by is_send (fold_gives b r o) ≤ 1) × (count_by is_recv (fold_gives b r o) ≤ 1)
+fold_gives_one b r Lower = (omega arith, omega arith)
+fold_gives_one b r Upper = (omega arith, omega arith)
+fold_gives_one b r Alone = (omega arith, omega arith)
 
 tells_one : (b r : ℕ) (o : FoldPart) → (count_by is_send (tells b r o) ≤ 1) × (count_by is_recv (tells b r o) ≤ 1)
 tells_one b r Lower = (omega arith, omega arith)
 tells_one b r Upper = (omega arith, omega arith)
 tells_one b r Alone = (omega arith, omega arith)
 
-trades_one : (b p : ℕ) (o : FoldPart) → (count_by is_send (trades b p o) ≤ 1) × (count_by is_recv (trades b p o) ≤ 1)
-trades_one b p Lower = (omega arith, omega arith)
-trades_one b p Upper = (omega arith, omega arith)
-trades_one b p Alone = (omega arith, omega arith)
+exchanges_one : (b p : ℕ) (o : FoldPart) → (count_by is_send (exchanges b p o) ≤ 1) × (count_by is_recv (exchanges b p o) ≤ 1)
+exchanges_one b p Lower = (omega arith, omega arith)
+exchanges_one b p Upper = (omega arith, omega arith)
+exchanges_one b p Alone = (omega arith, omega arith)
 
 -- pairs: their peers, and that a Recv has its Send
 module _ (b n e : ℕ) (room : e + e ≤ n) where
-  gives_among : (r : ℕ) (o : FoldPart) → r < n → FoldPartIs e r (corner e r) o → AllByRecursion (IsAmong n) (gives b r o)
-  gives_among r Lower low (is_lower h k) = (omega arith, tt)
-  gives_among r Upper low (is_upper h k) = (omega arith, tt)
-  gives_among r Alone low (is_alone h k) = tt
+  fold_gives_among : (r : ℕ) (o : FoldPart) → r < n → FoldPartIs e r (corner e r) o → AllByRecursion (IsAmong n) (fold_gives b r o)
+  fold_gives_among r Lower low (is_lower h k) = (omega arith, tt)
+  fold_gives_among r Upper low (is_upper h k) = (omega arith, tt)
+  fold_gives_among r Alone low (is_alone h k) = tt
 
   tells_among : (r : ℕ) (o : FoldPart) → r < n → FoldPartIs e r (corner e r) o → AllByRecursion (IsAmong n) (tells b r o)
   tells_among r Lower low (is_lower h k) = (omega arith, tt)
@@ -86,16 +86,16 @@ module _ (b n e : ℕ) (room : e + e ≤ n) where
   pub none_linked : (m p l g : ℕ) → (m ≡ p → ⊥) → len_of (cond (eqb m p) (Some (record { at = g; len = l })) None) ≡ None
   none_linked m p l g k = ap (λ t. len_of (cond t (Some (record { at = g; len = l })) None)) (ne_eqb m p k)
 
-  gives_meet : (r p : ℕ) (o u : FoldPart) → FoldPartIs e r (corner e r) o → FoldPartIs e p (corner e p) u → len_of (in_link p (gives b r o)) ≡ len_of (out_link r (gives b p u))
-  gives_meet r p Lower Lower (is_lower h k) (is_lower x y) = none_linked (r + 1) p b b (λ z. omega arith)
-  gives_meet r p Lower Upper (is_lower h k) (is_upper x y) = links (r + 1) p (p - 1) r b b 0 (λ z. omega arith) (λ z. omega arith)
-  gives_meet r p Lower Alone (is_lower h k) (is_alone x y) = none_linked (r + 1) p b b (λ z. omega arith)
-  gives_meet r p Upper Lower (is_upper h k) (is_lower x y) = refl
-  gives_meet r p Upper Upper (is_upper h k) (is_upper x y) = sym (none_linked (p - 1) r b 0 (λ z. omega arith))
-  gives_meet r p Upper Alone (is_upper h k) (is_alone x y) = refl
-  gives_meet r p Alone Lower (is_alone h k) (is_lower x y) = refl
-  gives_meet r p Alone Upper (is_alone h k) (is_upper x y) = sym (none_linked (p - 1) r b 0 (λ z. omega arith))
-  gives_meet r p Alone Alone (is_alone h k) (is_alone x y) = refl
+  fold_gives_meet : (r p : ℕ) (o u : FoldPart) → FoldPartIs e r (corner e r) o → FoldPartIs e p (corner e p) u → len_of (in_link p (fold_gives b r o)) ≡ len_of (out_link r (fold_gives b p u))
+  fold_gives_meet r p Lower Lower (is_lower h k) (is_lower x y) = none_linked (r + 1) p b b (λ z. omega arith)
+  fold_gives_meet r p Lower Upper (is_lower h k) (is_upper x y) = links (r + 1) p (p - 1) r b b 0 (λ z. omega arith) (λ z. omega arith)
+  fold_gives_meet r p Lower Alone (is_lower h k) (is_alone x y) = none_linked (r + 1) p b b (λ z. omega arith)
+  fold_gives_meet r p Upper Lower (is_upper h k) (is_lower x y) = refl
+  fold_gives_meet r p Upper Upper (is_upper h k) (is_upper x y) = sym (none_linked (p - 1) r b 0 (λ z. omega arith))
+  fold_gives_meet r p Upper Alone (is_upper h k) (is_alone x y) = refl
+  fold_gives_meet r p Alone Lower (is_alone h k) (is_lower x y) = refl
+  fold_gives_meet r p Alone Upper (is_alone h k) (is_upper x y) = sym (none_linked (p - 1) r b 0 (λ z. omega arith))
+  fold_gives_meet r p Alone Alone (is_alone h k) (is_alone x y) = refl
 
   tells_meet : (r p : ℕ) (o u : FoldPart) → FoldPartIs e r (corner e r) o → FoldPartIs e p (corner e p) u → len_of (in_link p (tells b r o)) ≡ len_of (out_link r (tells b p u))
   tells_meet r p Lower Lower (is_lower h k) (is_lower x y) = sym (none_linked (p + 1) r b 0 (λ z. omega arith))
@@ -110,37 +110,37 @@ module _ (b n e : ℕ) (room : e + e ≤ n) where
 
   give_column : IsColumn n (b + b) (give b e)
   give_column = record {
-    is_round = λ r low. gives_round b r (pairing e r);
-    peers = λ r low. gives_among r (pairing e r) low (pairing_is e r);
-    aligned = λ r p hr hp. gives_meet r p (pairing e r) (pairing e p) (pairing_is e r) (pairing_is e p);
-    one_send = λ r low. (gives_one b r (pairing e r)).0;
-    one_recv = λ r low. (gives_one b r (pairing e r)).1;
+    is_round = λ r low. fold_gives_round b r (fold_part e r);
+    peers = λ r low. fold_gives_among r (fold_part e r) low (fold_part_is e r);
+    aligned = λ r p hr hp. fold_gives_meet r p (fold_part e r) (fold_part e p) (fold_part_is e r) (fold_part_is e p);
+    one_send = λ r low. (fold_gives_one b r (fold_part e r)).0;
+    one_recv = λ r low. (fold_gives_one b r (fold_part e r)).1;
   }
 
   tell_column : IsColumn n (b + b) (tell b e)
   tell_column = record {
-    is_round = λ r low. tells_round b r (pairing e r);
-    peers = λ r low. tells_among r (pairing e r) low (pairing_is e r);
-    aligned = λ r p hr hp. tells_meet r p (pairing e r) (pairing e p) (pairing_is e r) (pairing_is e p);
-    one_send = λ r low. (tells_one b r (pairing e r)).0;
-    one_recv = λ r low. (tells_one b r (pairing e r)).1;
+    is_round = λ r low. tells_round b r (fold_part e r);
+    peers = λ r low. tells_among r (fold_part e r) low (fold_part_is e r);
+    aligned = λ r p hr hp. tells_meet r p (fold_part e r) (fold_part e p) (fold_part_is e r) (fold_part_is e p);
+    one_send = λ r low. (tells_one b r (fold_part e r)).0;
+    one_recv = λ r low. (tells_one b r (fold_part e r)).1;
   }
 
   -- an exchange is mutual
-  trades_meet : (s r p : ℕ) (o u : FoldPart) → 0 < s → pairing e r ≡ o → pairing e p ≡ u → len_of (in_link p (trades b (mate e s r) o)) ≡ len_of (out_link r (trades b (mate e s p) u))
-  trades_meet s r p o u pos x y = go o u x y
+  exchanges_meet : (s r p : ℕ) (o u : FoldPart) → 0 < s → fold_part e r ≡ o → fold_part e p ≡ u → len_of (in_link p (exchanges b (mate e s r) o)) ≡ len_of (out_link r (exchanges b (mate e s p) u))
+  exchanges_meet s r p o u pos x y = go o u x y
     where
-      both : Leads (pairing e r) → Leads (pairing e p) → len_of (in_link p (swap b (mate e s r))) ≡ len_of (out_link r (swap b (mate e s p)))
+      both : Leads (fold_part e r) → Leads (fold_part e p) → len_of (in_link p (swap b (mate e s r))) ≡ len_of (out_link r (swap b (mate e s p)))
       both h k = links (mate e s r) p (mate e s p) r b b 0
           (λ z. ap (mate e s) (sym z) ∙ mate_back e s r pos h) (λ z. ap (mate e s) (sym z) ∙ mate_back e s p pos k)
 
-      never : (q w : ℕ) → pairing e w ≡ Upper → mate e s q ≡ w → ⊥
-      never q w h k = subst Leads (ap (pairing e) k ∙ h) (mate_leads e s q)
+      never : (q w : ℕ) → fold_part e w ≡ Upper → mate e s q ≡ w → ⊥
+      never q w h k = subst Leads (ap (fold_part e) k ∙ h) (mate_leads e s q)
 
-      leads : {v : FoldPart} (q : ℕ) → pairing e q ≡ v → Leads v → Leads (pairing e q)
+      leads : {v : FoldPart} (q : ℕ) → fold_part e q ≡ v → Leads v → Leads (fold_part e q)
       leads q h k = subst Leads (sym h) k
 
-      go : (o u : FoldPart) → pairing e r ≡ o → pairing e p ≡ u → len_of (in_link p (trades b (mate e s r) o)) ≡ len_of (out_link r (trades b (mate e s p) u))
+      go : (o u : FoldPart) → fold_part e r ≡ o → fold_part e p ≡ u → len_of (in_link p (exchanges b (mate e s r) o)) ≡ len_of (out_link r (exchanges b (mate e s p) u))
       go Lower Lower h k = both (leads r h tt) (leads p k tt)
       go Lower Upper h k = none_linked (mate e s r) p b b (never r p k)
       go Lower Alone h k = both (leads r h tt) (leads p k tt)
@@ -151,23 +151,23 @@ module _ (b n e : ℕ) (room : e + e ≤ n) where
       go Alone Upper h k = none_linked (mate e s r) p b b (never r p k)
       go Alone Alone h k = both (leads r h tt) (leads p k tt)
 
-  trades_among : (p : ℕ) (o : FoldPart) → p < n → AllByRecursion (IsAmong n) (trades b p o)
-  trades_among p Lower h = (h, (h, tt))
-  trades_among p Upper h = tt
-  trades_among p Alone h = (h, (h, tt))
+  exchanges_among : (p : ℕ) (o : FoldPart) → p < n → AllByRecursion (IsAmong n) (exchanges b p o)
+  exchanges_among p Lower h = (h, (h, tt))
+  exchanges_among p Upper h = tt
+  exchanges_among p Alone h = (h, (h, tt))
 
-  trade_column : (i d : ℕ) → i < d → e ≤ 2 ^ d → e + 2 ^ d ≡ n → IsColumn n (b + b) (trade b e (2 ^ i))
-  trade_column i d h k w = record {
-    is_round = λ r low. trades_round b (mate e (2 ^ i) r) (pairing e r);
-    peers = λ r low. trades_among (mate e (2 ^ i) r) (pairing e r) (subst (λ m. mate e (2 ^ i) r < m) w (mate_in e i d r h k (omega arith)));
-    aligned = λ r p hr hp. trades_meet (2 ^ i) r p (pairing e r) (pairing e p) (pow_pos i) refl refl;
-    one_send = λ r low. (trades_one b (mate e (2 ^ i) r) (pairing e r)).0;
-    one_recv = λ r low. (trades_one b (mate e (2 ^ i) r) (pairing e r)).1;
+  exchange_column : (i d : ℕ) → i < d → e ≤ 2 ^ d → e + 2 ^ d ≡ n → IsColumn n (b + b) (exchange_at b e (2 ^ i))
+  exchange_column i d h k w = record {
+    is_round = λ r low. exchanges_round b (mate e (2 ^ i) r) (fold_part e r);
+    peers = λ r low. exchanges_among (mate e (2 ^ i) r) (fold_part e r) (subst (λ m. mate e (2 ^ i) r < m) w (mate_in e i d r h k (omega arith)));
+    aligned = λ r p hr hp. exchanges_meet (2 ^ i) r p (fold_part e r) (fold_part e p) (pow_pos i) refl refl;
+    one_send = λ r low. (exchanges_one b (mate e (2 ^ i) r) (fold_part e r)).0;
+    one_recv = λ r low. (exchanges_one b (mate e (2 ^ i) r) (fold_part e r)).1;
   }
 
 -- the rounds in which members combine
 module _ (op : Op) (ty : Datatype) (b : ℕ) where
-  pairs_local : (o : FoldPart) → AreLocal (pairs op ty b o)
+  pairs_local : (o : FoldPart) → AreLocal (fold_joins op ty b o)
   pairs_local Lower = (tt, tt)
   pairs_local Upper = tt
   pairs_local Alone = tt
@@ -187,13 +187,13 @@ module _ (op : Op) (ty : Datatype) (b : ℕ) where
   joins_local q s Alone = joined_local (ltb (q % (s + s)) s)
 
   pair_up-free : (e : ℕ) → IsLocalColumn (pair_up op ty b e)
-  pair_up-free e = is_local_column (pair_up op ty b e) (λ r. pairs_local (pairing e r))
+  pair_up-free e = is_local_column (pair_up op ty b e) (λ r. pairs_local (fold_part e r))
 
-  trade_joins-free : (e s : ℕ) → IsLocalColumn (trade_joins op ty b e s)
-  trade_joins-free e s = is_local_column (trade_joins op ty b e s) (λ r. joins_local (corner e r) s (pairing e r))
+  exchange_joins-free : (e s : ℕ) → IsLocalColumn (exchange_joins op ty b e s)
+  exchange_joins-free e s = is_local_column (exchange_joins op ty b e s) (λ r. joins_local (corner e r) s (fold_part e r))
 
   module _ (fit : b % width ty ≡ 0) (may : IsTrue (allowed op ty)) where
-    pairs_round : (o : FoldPart) → IsRound (b + b) (pairs op ty b o)
+    pairs_round : (o : FoldPart) → IsRound (b + b) (fold_joins op ty b o)
     pairs_round Lower = record { fits = ((omega arith, omega arith, omega arith, refl, refl, may, fit), tt); follows = (tt, tt) }
     pairs_round Upper = record { fits = tt; follows = tt }
     pairs_round Alone = record { fits = tt; follows = tt }
@@ -210,73 +210,73 @@ module _ (op : Op) (ty : Datatype) (b : ℕ) where
     joins_round q s Alone = joined_round (ltb (q % (s + s)) s)
 
     module _ (n e d : ℕ) (room : e ≤ 2 ^ d) (whole : e + 2 ^ d ≡ n) where
-      trading_columns : (k c : ℕ) → k + c ≤ d → AllByRecursion (IsColumn n (b + b)) (trading op ty b e k c)
-      trading_columns k zero h = tt
-      trading_columns k (suc c) h = (
-        trade_column b n e (omega arith) k d (omega arith) room whole,
-        (local_column n (b + b) (trade_joins op ty b e (2 ^ k)) (λ r. joins_local (corner e r) (2 ^ k) (pairing e r)) (λ r low. joins_round (corner e r) (2 ^ k) (pairing e r)), trading_columns (suc k) c (omega arith)),
+      hypercube_columns : (k c : ℕ) → k + c ≤ d → AllByRecursion (IsColumn n (b + b)) (hypercube_rounds op ty b e k c)
+      hypercube_columns k zero h = tt
+      hypercube_columns k (suc c) h = (
+        exchange_column b n e (omega arith) k d (omega arith) room whole,
+        (local_column n (b + b) (exchange_joins op ty b e (2 ^ k)) (λ r. joins_local (corner e r) (2 ^ k) (fold_part e r)) (λ r low. joins_round (corner e r) (2 ^ k) (fold_part e r)), hypercube_columns (suc k) c (omega arith)),
       )
 
-      pub exchanging_columns : AllByRecursion (IsColumn n (b + b)) (exchanging op ty b e d)
+      pub exchanging_columns : AllByRecursion (IsColumn n (b + b)) (recursive_doubling op ty b e d)
       exchanging_columns = (
         give_column b n e (omega arith),
         (
-          local_column n (b + b) (pair_up op ty b e) (λ r. pairs_local (pairing e r)) (λ r low. pairs_round (pairing e r)),
-          all_append (IsColumn n (b + b)) (trading op ty b e 0 d) (tell b e ∷ []) (trading_columns 0 d (omega arith)) (tell_column b n e (omega arith), tt),
+          local_column n (b + b) (pair_up op ty b e) (λ r. pairs_local (fold_part e r)) (λ r low. pairs_round (fold_part e r)),
+          all_append (IsColumn n (b + b)) (hypercube_rounds op ty b e 0 d) (tell b e ∷ []) (hypercube_columns 0 d (omega arith)) (tell_column b n e (omega arith), tt),
         ),
       )
 
-  trading_costs : (e k c : ℕ) → Costs (trading op ty b e k c) c
-  trading_costs e k zero = free
-  trading_costs e k (suc c) = exchange (local_round (trade_joins-free e (2 ^ k)) (trading_costs e (suc k) c))
+  hypercube_costs : (e k c : ℕ) → Costs (hypercube_rounds op ty b e k c) c
+  hypercube_costs e k zero = free
+  hypercube_costs e k (suc c) = exchange (local_round (exchange_joins-free e (2 ^ k)) (hypercube_costs e (suc k) c))
 
   -- with as many members as corners there are no pairs
   no_gives : (r : ℕ) → list_any has_peer (give b 0 r) ≡ false
-  no_gives r = ap (λ o. list_any has_peer (gives b r o)) (pairing_alone 0 r (omega arith))
+  no_gives r = ap (λ o. list_any has_peer (fold_gives b r o)) (fold_part_alone 0 r (omega arith))
 
   no_tells : (r : ℕ) → list_any has_peer (tell b 0 r) ≡ false
-  no_tells r = ap (λ o. list_any has_peer (tells b r o)) (pairing_alone 0 r (omega arith))
+  no_tells r = ap (λ o. list_any has_peer (tells b r o)) (fold_part_alone 0 r (omega arith))
 
-  pub even_costs : (d : ℕ) → Costs (exchanging op ty b 0 d) d
-  even_costs d = local_round no_gives (local_round (pair_up-free 0) (costs_append (trading op ty b 0 0 d) (tell b 0 ∷ []) d 0 d (omega arith) (trading_costs 0 0 d) (local_round no_tells free)))
+  pub even_costs : (d : ℕ) → Costs (recursive_doubling op ty b 0 d) d
+  even_costs d = local_round no_gives (local_round (pair_up-free 0) (costs_append (hypercube_rounds op ty b 0 0 d) (tell b 0 ∷ []) d 0 d (omega arith) (hypercube_costs 0 0 d) (local_round no_tells free)))
 
-  pub exchanging_costs : (e d : ℕ) → Costs (exchanging op ty b e d) (d + 2)
+  pub exchanging_costs : (e d : ℕ) → Costs (recursive_doubling op ty b e d) (d + 2)
   exchanging_costs e d =
       costs_more (let z : suc (d + 1) ≤ d + 2 = omega arith in z)
-      (exchange (local_round (pair_up-free e) (costs_append (trading op ty b e 0 d) (tell b e ∷ []) d 1 (d + 1) refl (trading_costs e 0 d) (exchange free))))
+      (exchange (local_round (pair_up-free e) (costs_append (hypercube_rounds op ty b e 0 d) (tell b e ∷ []) d 1 (d + 1) refl (hypercube_costs e 0 d) (exchange free))))
 
   -- which round is which
-  pub length-trading : (e k c : ℕ) → length (trading op ty b e k c) ≡ c + c
-  length-trading e k zero = refl
-  length-trading e k (suc c) = let l : length (trading op ty b e (suc k) c) ≡ c + c = length-trading e (suc k) c in omega arith
+  pub length-hypercube_rounds : (e k c : ℕ) → length (hypercube_rounds op ty b e k c) ≡ c + c
+  length-hypercube_rounds e k zero = refl
+  length-hypercube_rounds e k (suc c) = let l : length (hypercube_rounds op ty b e (suc k) c) ≡ c + c = length-hypercube_rounds e (suc k) c in omega arith
 
-  trading-trades : (e k c i : ℕ) → i < c → column_of (trading op ty b e k c) (i + i) ≡ trade b e (2 ^ (k + i))
-  trading-trades e k zero i h = absurd (omega arith)
-  trading-trades e k (suc c) zero h = ap (λ j. trade b e (2 ^ j)) (let z : k ≡ k + 0 = omega arith in z)
-  trading-trades e k (suc c) (suc i) h =
-      ap (column_of (trading op ty b e k (suc c))) (let z : suc i + suc i ≡ suc (suc (i + i)) = omega arith in z)
-      ∙ (trading-trades e (suc k) c i (omega arith) ∙ ap (λ j. trade b e (2 ^ j)) (let z : suc k + i ≡ k + suc i = omega arith in z))
+  hypercube_rounds-exchanges : (e k c i : ℕ) → i < c → column_of (hypercube_rounds op ty b e k c) (i + i) ≡ exchange_at b e (2 ^ (k + i))
+  hypercube_rounds-exchanges e k zero i h = absurd (omega arith)
+  hypercube_rounds-exchanges e k (suc c) zero h = ap (λ j. exchange_at b e (2 ^ j)) (let z : k ≡ k + 0 = omega arith in z)
+  hypercube_rounds-exchanges e k (suc c) (suc i) h =
+      ap (column_of (hypercube_rounds op ty b e k (suc c))) (let z : suc i + suc i ≡ suc (suc (i + i)) = omega arith in z)
+      ∙ (hypercube_rounds-exchanges e (suc k) c i (omega arith) ∙ ap (λ j. exchange_at b e (2 ^ j)) (let z : suc k + i ≡ k + suc i = omega arith in z))
 
-  trading-joins : (e k c i : ℕ) → i < c → column_of (trading op ty b e k c) (suc (i + i)) ≡ trade_joins op ty b e (2 ^ (k + i))
-  trading-joins e k zero i h = absurd (omega arith)
-  trading-joins e k (suc c) zero h = ap (λ j. trade_joins op ty b e (2 ^ j)) (let z : k ≡ k + 0 = omega arith in z)
-  trading-joins e k (suc c) (suc i) h =
-      ap (column_of (trading op ty b e k (suc c))) (let z : suc (suc i + suc i) ≡ suc (suc (suc (i + i))) = omega arith in z)
-      ∙ (trading-joins e (suc k) c i (omega arith) ∙ ap (λ j. trade_joins op ty b e (2 ^ j)) (let z : suc k + i ≡ k + suc i = omega arith in z))
+  hypercube_rounds-joins : (e k c i : ℕ) → i < c → column_of (hypercube_rounds op ty b e k c) (suc (i + i)) ≡ exchange_joins op ty b e (2 ^ (k + i))
+  hypercube_rounds-joins e k zero i h = absurd (omega arith)
+  hypercube_rounds-joins e k (suc c) zero h = ap (λ j. exchange_joins op ty b e (2 ^ j)) (let z : k ≡ k + 0 = omega arith in z)
+  hypercube_rounds-joins e k (suc c) (suc i) h =
+      ap (column_of (hypercube_rounds op ty b e k (suc c))) (let z : suc (suc i + suc i) ≡ suc (suc (suc (i + i))) = omega arith in z)
+      ∙ (hypercube_rounds-joins e (suc k) c i (omega arith) ∙ ap (λ j. exchange_joins op ty b e (2 ^ j)) (let z : suc k + i ≡ k + suc i = omega arith in z))
 
-  pub exchanging-trade : (e d i r : ℕ) → i < d → column_of (exchanging op ty b e d) (suc (suc (i + i))) r ≡ trade b e (2 ^ i) r
-  exchanging-trade e d i r h =
-      let l : length (trading op ty b e 0 d) ≡ d + d = length-trading e 0 d in
-      ap (λ (c : Column). c r) (column-left (trading op ty b e 0 d) (tell b e ∷ []) (i + i) (omega arith)
-      ∙ (trading-trades e 0 d i h ∙ ap (λ j. trade b e (2 ^ j)) (let z : 0 + i ≡ i = omega arith in z)))
+  pub recursive_doubling-exchange_at : (e d i r : ℕ) → i < d → column_of (recursive_doubling op ty b e d) (suc (suc (i + i))) r ≡ exchange_at b e (2 ^ i) r
+  recursive_doubling-exchange_at e d i r h =
+      let l : length (hypercube_rounds op ty b e 0 d) ≡ d + d = length-hypercube_rounds e 0 d in
+      ap (λ (c : Column). c r) (column-left (hypercube_rounds op ty b e 0 d) (tell b e ∷ []) (i + i) (omega arith)
+      ∙ (hypercube_rounds-exchanges e 0 d i h ∙ ap (λ j. exchange_at b e (2 ^ j)) (let z : 0 + i ≡ i = omega arith in z)))
 
-  pub exchanging-join : (e d i r : ℕ) → i < d → column_of (exchanging op ty b e d) (suc (suc (suc (i + i)))) r ≡ trade_joins op ty b e (2 ^ i) r
-  exchanging-join e d i r h =
-      let l : length (trading op ty b e 0 d) ≡ d + d = length-trading e 0 d in
-      ap (λ (c : Column). c r) (column-left (trading op ty b e 0 d) (tell b e ∷ []) (suc (i + i)) (omega arith)
-      ∙ (trading-joins e 0 d i h ∙ ap (λ j. trade_joins op ty b e (2 ^ j)) (let z : 0 + i ≡ i = omega arith in z)))
+  pub recursive_doubling-join : (e d i r : ℕ) → i < d → column_of (recursive_doubling op ty b e d) (suc (suc (suc (i + i)))) r ≡ exchange_joins op ty b e (2 ^ i) r
+  recursive_doubling-join e d i r h =
+      let l : length (hypercube_rounds op ty b e 0 d) ≡ d + d = length-hypercube_rounds e 0 d in
+      ap (λ (c : Column). c r) (column-left (hypercube_rounds op ty b e 0 d) (tell b e ∷ []) (suc (i + i)) (omega arith)
+      ∙ (hypercube_rounds-joins e 0 d i h ∙ ap (λ j. exchange_joins op ty b e (2 ^ j)) (let z : 0 + i ≡ i = omega arith in z)))
 
-  pub exchanging-tell : (e d r : ℕ) → column_of (exchanging op ty b e d) (suc (suc (d + d))) r ≡ tell b e r
-  exchanging-tell e d r =
-      ap (λ (c : Column). c r) (ap (column_of (trading op ty b e 0 d ++ (tell b e ∷ []))) (let z : d + d ≡ length (trading op ty b e 0 d) + 0 = omega (arith, length-trading e 0 d) in z)
-      ∙ column-right (trading op ty b e 0 d) (tell b e ∷ []) 0)
+  pub recursive_doubling-tell : (e d r : ℕ) → column_of (recursive_doubling op ty b e d) (suc (suc (d + d))) r ≡ tell b e r
+  recursive_doubling-tell e d r =
+      ap (λ (c : Column). c r) (ap (column_of (hypercube_rounds op ty b e 0 d ++ (tell b e ∷ []))) (let z : d + d ≡ length (hypercube_rounds op ty b e 0 d) + 0 = omega (arith, length-hypercube_rounds e 0 d) in z)
+      ∙ column-right (hypercube_rounds op ty b e 0 d) (tell b e ∷ []) 0)

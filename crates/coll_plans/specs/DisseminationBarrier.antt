@@ -9,14 +9,14 @@ use Rattle.coll_trees.specs.Depths.{depth}
 use Rattle.coll_sched.specs.Regions.{nothing}
 
 -- the step at distance s
-abbrev pub meeting : ℕ → ℕ → Column
-meeting n s r = Send ((r + s) % n) nothing ∷ Recv ((r + (n - s)) % n) nothing ∷ []
+abbrev pub barrier_round : ℕ → ℕ → Column
+barrier_round n s r = Send ((r + s) % n) nothing ∷ Recv ((r + (n - s)) % n) nothing ∷ []
 
 -- c steps, the first at distance 2 ^ k
-abbrev pub meetings : ℕ → ℕ → ℕ → List Column
-meetings n k zero = []
-meetings n k (suc c) = meeting n (2 ^ k) ∷ meetings n (suc k) c
+abbrev pub barrier_rounds : ℕ → ℕ → ℕ → List Column
+barrier_rounds n k zero = []
+barrier_rounds n k (suc c) = barrier_round n (2 ^ k) ∷ barrier_rounds n (suc k) c
 
 -- the barrier of n members: all messages and buffers are empty
 abbrev pub barrier_family : Signature → ℕ → Family
-barrier_family sig n = family_of 0 (λ r. nothing) (λ r. nothing) (meetings n 0 (depth n))
+barrier_family sig n = family_of 0 (λ r. nothing) (λ r. nothing) (barrier_rounds n 0 (depth n))

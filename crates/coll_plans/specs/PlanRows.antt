@@ -11,15 +11,15 @@ use Rattle.coll_sched.specs.declared.action.Action.TheVariants.{Send, Copy, Comb
 use Rattle.coll_sched.specs.Families.{result_at, family_exchanges}
 use Rattle.coll_trees.specs.Depths.{depth}
 use Rattle.coll_sched.specs.Regions.{front, behind, nothing}
-use Rattle.coll_plans.specs.DisseminationBarrier.{meeting}
+use Rattle.coll_plans.specs.DisseminationBarrier.{barrier_round}
 use Rattle.coll_plans.specs.PrefixDoubling.{third, shift, join, join_both, scan_family, exscan_family}
 use Rattle.coll_plans.specs.Plans.{family, most_exchanges}
 
 -- of three members, member 0 sends to 1 and receives of 2, then sends to 2 and receives of 1
-first_of_three : meeting 3 1 0 ≡ Send 1 nothing ∷ Recv 2 nothing ∷ []
+first_of_three : barrier_round 3 1 0 ≡ Send 1 nothing ∷ Recv 2 nothing ∷ []
 first_of_three = refl
 
-second_of_three : meeting 3 2 0 ≡ Send 2 nothing ∷ Recv 1 nothing ∷ []
+second_of_three : barrier_round 3 2 0 ≡ Send 2 nothing ∷ Recv 1 nothing ∷ []
 second_of_three = refl
 
 -- of five members at distance 2: 1 has nobody below, 2 has both, 3 has nobody above

@@ -14,29 +14,29 @@ use Rattle.coll_sched.specs.Regions.{front, behind}
 use Rattle.coll_trees.specs.Columns.{Column, family_of}
 use Rattle.coll_plans.specs.declared.recursive_doubling_fold.FoldPart.{FoldPart}
 use Rattle.coll_plans.specs.declared.recursive_doubling_fold.FoldPart.TheVariants.{Lower, Upper, Alone}
-use Rattle.coll_plans.specs.RecursiveDoublingHypercube.{dimension, extra, pairing, corner, mate}
+use Rattle.coll_plans.specs.RecursiveDoublingHypercube.{dimension, extra, fold_part, corner, mate}
 
--- the upper member of a pair gives its row
-abbrev pub gives : ℕ → ℕ → FoldPart → List Action
-gives b r Lower = Recv (r + 1) (behind b) ∷ []
-gives b r Upper = Send (r - 1) (front b) ∷ []
-gives b r Alone = []
+-- the fold: the upper member of a pair, which is odd, gives its row
+abbrev pub fold_gives : ℕ → ℕ → FoldPart → List Action
+fold_gives b r Lower = Recv (r + 1) (behind b) ∷ []
+fold_gives b r Upper = Send (r - 1) (front b) ∷ []
+fold_gives b r Alone = []
 
 -- which the lower one combines behind its own
-abbrev pub pairs : Op → Datatype → ℕ → FoldPart → List Action
-pairs op ty b Lower = Combine op ty (front b) (behind b) (front b) ∷ []
-pairs op ty b Upper = []
-pairs op ty b Alone = []
+abbrev pub fold_joins : Op → Datatype → ℕ → FoldPart → List Action
+fold_joins op ty b Lower = Combine op ty (front b) (behind b) (front b) ∷ []
+fold_joins op ty b Upper = []
+fold_joins op ty b Alone = []
 
 -- what a corner holds goes to member p, and what p holds comes
 abbrev pub swap : ℕ → ℕ → List Action
 swap b p = Send p (front b) ∷ Recv p (behind b) ∷ []
 
 -- so do all but the upper members of pairs
-abbrev pub trades : ℕ → ℕ → FoldPart → List Action
-trades b p Lower = swap b p
-trades b p Upper = []
-trades b p Alone = swap b p
+abbrev pub exchanges : ℕ → ℕ → FoldPart → List Action
+exchanges b p Lower = swap b p
+exchanges b p Upper = []
+exchanges b p Alone = swap b p
 
 -- what came of a higher corner joins behind, of a lower one in front
 abbrev pub joined : Op → Datatype → ℕ → ℕ → ℕ → List Action
@@ -58,33 +58,33 @@ tells b r Alone = []
 
 -- these rounds, where the first e corners stand for two members
 abbrev pub give : ℕ → ℕ → Column
-give b e r = gives b r (pairing e r)
+give b e r = fold_gives b r (fold_part e r)
 
 abbrev pub pair_up : Op → Datatype → ℕ → ℕ → Column
-pair_up op ty b e r = pairs op ty b (pairing e r)
+pair_up op ty b e r = fold_joins op ty b (fold_part e r)
 
-abbrev pub trade : ℕ → ℕ → ℕ → Column
-trade b e s r = trades b (mate e s r) (pairing e r)
+abbrev pub exchange_at : ℕ → ℕ → ℕ → Column
+exchange_at b e s r = exchanges b (mate e s r) (fold_part e r)
 
-abbrev pub trade_joins : Op → Datatype → ℕ → ℕ → ℕ → Column
-trade_joins op ty b e s r = joins_by op ty b (corner e r) s (pairing e r)
+abbrev pub exchange_joins : Op → Datatype → ℕ → ℕ → ℕ → Column
+exchange_joins op ty b e s r = joins_by op ty b (corner e r) s (fold_part e r)
 
 abbrev pub tell : ℕ → ℕ → Column
-tell b e r = tells b r (pairing e r)
+tell b e r = tells b r (fold_part e r)
 
 -- c exchanges of two rounds each, the first at distance 2 ^ k
-abbrev pub trading : Op → Datatype → ℕ → ℕ → ℕ → ℕ → List Column
-trading op ty b e k zero = []
-trading op ty b e k (suc c) = trade b e (2 ^ k) ∷ trade_joins op ty b e (2 ^ k) ∷ trading op ty b e (suc k) c
+abbrev pub hypercube_rounds : Op → Datatype → ℕ → ℕ → ℕ → ℕ → List Column
+hypercube_rounds op ty b e k zero = []
+hypercube_rounds op ty b e k (suc c) = exchange_at b e (2 ^ k) ∷ exchange_joins op ty b e (2 ^ k) ∷ hypercube_rounds op ty b e (suc k) c
 
 -- all rounds, for a hypercube of d dimensions
-abbrev pub exchanging : Op → Datatype → ℕ → ℕ → ℕ → List Column
-exchanging op ty b e d = give b e ∷ pair_up op ty b e ∷ (trading op ty b e 0 d ++ (tell b e ∷ []))
+abbrev pub recursive_doubling : Op → Datatype → ℕ → ℕ → ℕ → List Column
+recursive_doubling op ty b e d = give b e ∷ pair_up op ty b e ∷ (hypercube_rounds op ty b e 0 d ++ (tell b e ∷ []))
 
 abbrev pub allreduce_family : Signature → ℕ → Family
 allreduce_family sig n =
     family_of (block_len sig + block_len sig) (λ r. front (block_len sig)) (λ r. front (block_len sig))
-    (exchanging (unwrap_or sig.op Sum) sig.ty (block_len sig) (extra n) (dimension n))
+    (recursive_doubling (unwrap_or sig.op Sum) sig.ty (block_len sig) (extra n) (dimension n))
 
 -- the most exchanges: one for each dimension, and two more where some corner stands for two members
 abbrev pub most_trades : ℕ → ℕ

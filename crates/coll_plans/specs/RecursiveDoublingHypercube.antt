@@ -19,8 +19,8 @@ abbrev pub extra : ℕ → ℕ
 extra n = n - 2 ^ dimension n
 
 -- member r, where the first e corners stand for two members
-abbrev pub pairing : ℕ → ℕ → FoldPart
-pairing e r = cond (nat_lt r (e + e)) (cond (r % 2 == 0) Lower Upper) Alone
+abbrev pub fold_part : ℕ → ℕ → FoldPart
+fold_part e r = cond (nat_lt r (e + e)) (cond (r % 2 == 0) Lower Upper) Alone
 
 -- the corner that stands for member r
 abbrev pub corner : ℕ → ℕ → ℕ

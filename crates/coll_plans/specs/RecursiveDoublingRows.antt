@@ -8,7 +8,7 @@ use Rattle.coll_sched.specs.declared.action.Action.TheVariants.{Combine}
 use Rattle.coll_sched.specs.Regions.{front, behind}
 use Rattle.coll_sched.specs.Families.{result_at, family_exchanges}
 use Rattle.coll_plans.specs.declared.recursive_doubling_fold.FoldPart.TheVariants.{Lower, Upper, Alone}
-use Rattle.coll_plans.specs.RecursiveDoublingHypercube.{dimension, extra, pairing, corner, lowest, across, mate}
+use Rattle.coll_plans.specs.RecursiveDoublingHypercube.{dimension, extra, fold_part, corner, lowest, across, mate}
 use Rattle.coll_plans.specs.RecursiveDoubling.{joined, allreduce_family, most_trades}
 use Rattle.coll_plans.specs.PlanRows.{last_nonzero}
 
@@ -25,13 +25,13 @@ cube_of_eight : dimension 8 ≡ 3
 unfolding dimension
 cube_of_eight = refl
 
-first_acts_for_two : pairing 2 0 ≡ Lower
+first_acts_for_two : fold_part 2 0 ≡ Lower
 first_acts_for_two = refl
 
-fourth_gives : pairing 2 3 ≡ Upper
+fourth_gives : fold_part 2 3 ≡ Upper
 fourth_gives = refl
 
-fifth_is_alone : pairing 2 4 ≡ Alone
+fifth_is_alone : fold_part 2 4 ≡ Alone
 fifth_is_alone = refl
 
 corner_of_the_last : corner 2 5 ≡ 3
@@ -47,8 +47,8 @@ across_the_first = refl
 across_the_second : across 3 2 ≡ 1
 across_the_second = refl
 
-last_trades_with_the_third : mate 2 2 5 ≡ 2
-last_trades_with_the_third = refl
+last_exchanges_with_the_third : mate 2 2 5 ≡ 2
+last_exchanges_with_the_third = refl
 
 -- what came of a lower corner is the left operand
 joins_in_front : joined LastNz I32 4 3 2 ≡ Combine LastNz I32 (behind 4) (front 4) (front 4) ∷ []

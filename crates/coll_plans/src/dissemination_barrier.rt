@@ -12,7 +12,7 @@ ghost use Rattle.coll_kinds.specs.declared.kind.Kind.TheVariants.{Barrier};
 ghost use Rattle.coll_trees.specs.Columns.{rounds_of};
 ghost use Rattle.coll_trees.specs.Depths.{depth};
 ghost use Rattle.coll_trees.specs.Trees.{IsNarrowFor};
-ghost use Rattle.coll_plans.specs.DisseminationBarrier.{meeting, meetings, barrier_family};
+ghost use Rattle.coll_plans.specs.DisseminationBarrier.{barrier_round, barrier_rounds, barrier_family};
 
 use coll_kinds::{Refusal, Signature};
 use coll_sched::{Action, Region, Round, Schedule};
@@ -31,32 +31,32 @@ pub fn barrier(alloc: Global, sig: Signature, n: u8, r: u8) -> Result<Schedule, 
     ensures refusal { IsOkUnless result Refusal.NoMemory }
 {
     let _ = sig;
-    let rounds = meetings(alloc, n, r)?;
+    let rounds = barrier_rounds(alloc, n, r)?;
     Ok(Schedule::of_lawful_rounds(0, Region::EMPTY, Region::EMPTY, rounds))
 }
 
 // The rounds of member r, one for each step.
-fn meetings(alloc: Global, n: u8, r: u8) -> Result<Vec<Round>, Refusal>
+fn barrier_rounds(alloc: Global, n: u8, r: u8) -> Result<Vec<Round>, Refusal>
     requires member { r < n }
     requires few { n ≤ 64 }
-    ensures ok { IfOk result (λ rounds. rounds.items ≡ rounds_of (meetings n 0 (depth n)) r) }
+    ensures ok { IfOk result (λ rounds. rounds.items ≡ rounds_of (barrier_rounds n 0 (depth n)) r) }
     ensures refusal { IsOkUnless result Refusal.NoMemory }
 {
     let steps = depth_of(n);
     let mut rounds = Vec::with_capacity(alloc, usize::from(steps))?;
     for step in 0..steps {
-        let round = meeting(alloc, n, r, 2u8.pow(u32::from(step)))?;
+        let round = barrier_round(alloc, n, r, 2u8.pow(u32::from(step)))?;
         rounds.push(round)?;
     }
     Ok(rounds)
 }
 
 // The round of member r in the step at that distance.
-fn meeting(alloc: Global, n: u8, r: u8, distance: u8) -> Result<Round, Refusal>
+fn barrier_round(alloc: Global, n: u8, r: u8, distance: u8) -> Result<Round, Refusal>
     requires member { r < n }
     requires few { n ≤ 64 }
     requires near { distance < n }
-    ensures ok { IfOk result (λ round. round ≡ meeting n distance r) }
+    ensures ok { IfOk result (λ round. round ≡ barrier_round n distance r) }
     ensures refusal { IsOkUnless result Refusal.NoMemory }
 {
     let mut round = Round::new(alloc);

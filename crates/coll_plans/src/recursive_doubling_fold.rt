@@ -13,12 +13,12 @@ pub(crate) enum FoldPart {
 }
 
 impl FoldPart {
-    ghost use Rattle.coll_plans.specs.RecursiveDoublingHypercube.{pairing};
+    ghost use Rattle.coll_plans.specs.RecursiveDoublingHypercube.{fold_part};
 
     /// How member `r` stands where the first `extra` pairs of neighbours are pairs.
     pub fn new(extra: u8, r: u8) -> Self
         requires { extra ≤ 64 }
-        ensures { result ≡ pairing extra r }
+        ensures { result ≡ fold_part extra r }
     {
         if r >= extra + extra {
             FoldPart::Alone

@@ -22,51 +22,51 @@ pub(crate) struct RecursiveDoubling {
 
 impl RecursiveDoubling {
     ghost use Rattle.coll_sched.specs.declared.action.Action.TheVariants.{Combine};
-    ghost use Rattle.coll_plans.specs.RecursiveDoublingHypercube.{pairing, lowest, across};
-    ghost use Rattle.coll_plans.specs.RecursiveDoubling.{gives, pairs, trades, joins_by, tells, trading, exchanging};
+    ghost use Rattle.coll_plans.specs.RecursiveDoublingHypercube.{fold_part, lowest, across};
+    ghost use Rattle.coll_plans.specs.RecursiveDoubling.{fold_gives, fold_joins, exchanges, joins_by, tells, hypercube_rounds, recursive_doubling};
 
-    /// The rounds of member `r`: two in which pairs become one, two for each dimension, and one in which the upper
+    /// The rounds of member `r`: two of the fold, two for each dimension, and one in which the odd
     /// members of pairs are told.
     pub fn rounds(self, alloc: Global, r: u8) -> Result<Vec<Round>, Refusal>
         requires { r < 64 }
-        ensures ok { IfOk result (λ rounds. rounds.items ≡ rounds_of (exchanging self.op self.ty self.len self.cube.extra self.cube.dimension) r) }
+        ensures ok { IfOk result (λ rounds. rounds.items ≡ rounds_of (recursive_doubling self.op self.ty self.len self.cube.extra self.cube.dimension) r) }
         ensures refusal { IsOkUnless result Refusal.NoMemory }
     {
         let part = FoldPart::new(self.cube.extra, r);
         let mut rounds = Vec::with_capacity(alloc, 2 * usize::from(self.cube.dimension) + 3)?;
-        let give = self.gives(alloc, r, part)?;
+        let give = self.fold_gives(alloc, r, part)?;
         rounds.push(give)?;
-        let pair = self.pairs(alloc, part)?;
-        rounds.push(pair)?;
-        self.push_trades(alloc, r, &mut rounds)?;
+        let join = self.fold_joins(alloc, part)?;
+        rounds.push(join)?;
+        self.push_exchanges(alloc, r, &mut rounds)?;
         let tell = self.tells(alloc, r, part)?;
         rounds.push(tell)?;
         Ok(rounds)
     }
 
     // Appends the rounds of the exchanges, two for each dimension.
-    fn push_trades(self, alloc: Global, r: u8, rounds: &mut Vec<Round>) -> Result<(), Refusal>
+    fn push_exchanges(self, alloc: Global, r: u8, rounds: &mut Vec<Round>) -> Result<(), Refusal>
         requires { r < 64 }
-        ensures ok { OnOk result (rounds.new.items ≡ rounds.old.items ++ rounds_of (trading self.op self.ty self.len self.cube.extra 0 self.cube.dimension) r) }
+        ensures ok { OnOk result (rounds.new.items ≡ rounds.old.items ++ rounds_of (hypercube_rounds self.op self.ty self.len self.cube.extra 0 self.cube.dimension) r) }
         ensures refusal { IsOkUnless result Refusal.NoMemory }
     {
         let part = FoldPart::new(self.cube.extra, r);
         let corner = self.cube.corner(r);
         for step in 0..self.cube.dimension {
             let distance = 2u8.pow(u32::from(step));
-            let trade = self.trades(alloc, corner, distance, part)?;
-            rounds.push(trade)?;
+            let exchange = self.exchanges(alloc, corner, distance, part)?;
+            rounds.push(exchange)?;
             let join = self.joins(alloc, corner, distance, part)?;
             rounds.push(join)?;
         }
         Ok(())
     }
 
-    // The upper member of a pair gives its row to the lower one.
-    fn gives(self, alloc: Global, r: u8, part: FoldPart) -> Result<Round, Refusal>
+    // The odd member of a pair, the upper one, gives its row to the even one.
+    fn fold_gives(self, alloc: Global, r: u8, part: FoldPart) -> Result<Round, Refusal>
         requires member { r < 64 }
-        requires is { part ≡ pairing self.cube.extra r }
-        ensures ok { IfOk result (λ round. round ≡ gives self.len r part) }
+        requires is { part ≡ fold_part self.cube.extra r }
+        ensures ok { IfOk result (λ round. round ≡ fold_gives self.len r part) }
         ensures refusal { IsOkUnless result Refusal.NoMemory }
     {
         let mut round = Round::new(alloc);
@@ -84,9 +84,9 @@ impl RecursiveDoubling {
         Ok(round)
     }
 
-    // The lower one combines it behind its own.
-    fn pairs(self, alloc: Global, part: FoldPart) -> Result<Round, Refusal>
-        ensures ok { IfOk result (λ round. round ≡ pairs self.op self.ty self.len part) }
+    // The even one combines it behind its own.
+    fn fold_joins(self, alloc: Global, part: FoldPart) -> Result<Round, Refusal>
+        ensures ok { IfOk result (λ round. round ≡ fold_joins self.op self.ty self.len part) }
         ensures refusal { IsOkUnless result Refusal.NoMemory }
     {
         let mut round = Round::new(alloc);
@@ -97,7 +97,7 @@ impl RecursiveDoubling {
     }
 
     // A corner gives what it holds, and gets what the corner across holds.
-    fn trades(
+    fn exchanges(
         self,
         alloc: Global,
         corner: u8,
@@ -107,7 +107,7 @@ impl RecursiveDoubling {
         requires low { corner ≤ 64 }
         requires some { 0 < distance }
         requires near { distance ≤ 32 }
-        ensures ok { IfOk result (λ round. round ≡ trades self.len (lowest self.cube.extra (across corner distance)) part) }
+        ensures ok { IfOk result (λ round. round ≡ exchanges self.len (lowest self.cube.extra (across corner distance)) part) }
         ensures refusal { IsOkUnless result Refusal.NoMemory }
     {
         let mut round = Round::new(alloc);
@@ -149,10 +149,10 @@ impl RecursiveDoubling {
         Ok(round)
     }
 
-    // The lower member of a pair tells the upper one the result.
+    // The even member of a pair tells the odd one the result.
     fn tells(self, alloc: Global, r: u8, part: FoldPart) -> Result<Round, Refusal>
         requires member { r < 64 }
-        requires is { part ≡ pairing self.cube.extra r }
+        requires is { part ≡ fold_part self.cube.extra r }
         ensures ok { IfOk result (λ round. round ≡ tells self.len r part) }
         ensures refusal { IsOkUnless result Refusal.NoMemory }
     {

@@ -5,12 +5,12 @@ use Rattle.coll_kinds.specs.declared.datatype.Datatype.{Datatype}
 use Rattle.coll_sched.specs.declared.action.Action.{Action}
 use Rattle.coll_sched.specs.Points.{left_in}
 use Rattle.coll_trees.specs.declared.binomial_tree_bcast_step.BcastStep.{BcastStep}
-use Rattle.coll_trees.specs.declared.binomial_tree_bcast_step.BcastStep.TheVariants.{Passes, Gets, Idles}
+use Rattle.coll_trees.specs.declared.binomial_tree_bcast_step.BcastStep.TheVariants.{SendsToChild, ReceivesFromParent, Idles}
 use Rattle.coll_trees.specs.declared.binomial_tree_reduce_step.ReduceStep.{ReduceStep}
-use Rattle.coll_trees.specs.declared.binomial_tree_reduce_step.ReduceStep.TheVariants.{Gives, Takes, Rests}
+use Rattle.coll_trees.specs.declared.binomial_tree_reduce_step.ReduceStep.TheVariants.{SendsToParent, ReceivesFromChild, Rests}
 use Rattle.coll_trees.specs.Columns.{Column, rounds_of}
-use Rattle.coll_trees.specs.BinomialTreeBcast.{from_root, hop, spreading, way}
-use Rattle.coll_trees.specs.BinomialTreeReduce.{combines, folding, last_hop, moves, role}
+use Rattle.coll_trees.specs.BinomialTreeBcast.{from_root, hop, bcast_tree_rounds, bcast_step}
+use Rattle.coll_trees.specs.BinomialTreeReduce.{combines, reduce_tree_rounds, last_hop, moves, reduce_step}
 
 -- all actions of member r in these rounds
 abbrev pub all_in : List Column → ℕ → ℕ
@@ -25,34 +25,34 @@ cond-few true xs ys most x y = x
 cond-few false xs ys most x y = y
 
 hop-few : (b n root v s : ℕ) (w : BcastStep) → length (hop b n root v s w) ≤ 1
-hop-few b n root v s Passes = omega arith
-hop-few b n root v s Gets = omega arith
+hop-few b n root v s SendsToChild = omega arith
+hop-few b n root v s ReceivesFromParent = omega arith
 hop-few b n root v s Idles = omega arith
 
-pub spreading-few : (b n root k c r : ℕ) → all_in (spreading b n root k c) r ≤ c
-spreading-few b n root k zero r = omega arith
-spreading-few b n root k (suc c) r =
-    let first : length (hop b n root (from_root n root r) (2 ^ k) (way n (from_root n root r) (2 ^ k))) ≤ 1 =
-    hop-few b n root (from_root n root r) (2 ^ k) (way n (from_root n root r) (2 ^ k)) in
-    let rest : all_in (spreading b n root (suc k) c) r ≤ c = spreading-few b n root (suc k) c r in
+pub bcast_tree_rounds-few : (b n root k c r : ℕ) → all_in (bcast_tree_rounds b n root k c) r ≤ c
+bcast_tree_rounds-few b n root k zero r = omega arith
+bcast_tree_rounds-few b n root k (suc c) r =
+    let first : length (hop b n root (from_root n root r) (2 ^ k) (bcast_step n (from_root n root r) (2 ^ k))) ≤ 1 =
+    hop-few b n root (from_root n root r) (2 ^ k) (bcast_step n (from_root n root r) (2 ^ k)) in
+    let rest : all_in (bcast_tree_rounds b n root (suc k) c) r ≤ c = bcast_tree_rounds-few b n root (suc k) c r in
     omega arith
 
 moves-few : (b r s : ℕ) (part : ReduceStep) → length (moves b r s part) ≤ 1
-moves-few b r s Gives = omega arith
-moves-few b r s Takes = omega arith
+moves-few b r s SendsToParent = omega arith
+moves-few b r s ReceivesFromChild = omega arith
 moves-few b r s Rests = omega arith
 
 combines-few : (op : Op) (ty : Datatype) (b : ℕ) (part : ReduceStep) → length (combines op ty b part) ≤ 1
-combines-few op ty b Gives = omega arith
-combines-few op ty b Takes = omega arith
+combines-few op ty b SendsToParent = omega arith
+combines-few op ty b ReceivesFromChild = omega arith
 combines-few op ty b Rests = omega arith
 
-pub folding-few : (op : Op) (ty : Datatype) (b n k c r : ℕ) → all_in (folding op ty b n k c) r ≤ c + c
-folding-few op ty b n k zero r = omega arith
-folding-few op ty b n k (suc c) r =
-    let first : length (moves b r (2 ^ k) (role n r (2 ^ k))) ≤ 1 = moves-few b r (2 ^ k) (role n r (2 ^ k)) in
-    let second : length (combines op ty b (role n r (2 ^ k))) ≤ 1 = combines-few op ty b (role n r (2 ^ k)) in
-    let rest : all_in (folding op ty b n (suc k) c) r ≤ c + c = folding-few op ty b n (suc k) c r in
+pub reduce_tree_rounds-few : (op : Op) (ty : Datatype) (b n k c r : ℕ) → all_in (reduce_tree_rounds op ty b n k c) r ≤ c + c
+reduce_tree_rounds-few op ty b n k zero r = omega arith
+reduce_tree_rounds-few op ty b n k (suc c) r =
+    let first : length (moves b r (2 ^ k) (reduce_step n r (2 ^ k))) ≤ 1 = moves-few b r (2 ^ k) (reduce_step n r (2 ^ k)) in
+    let second : length (combines op ty b (reduce_step n r (2 ^ k))) ≤ 1 = combines-few op ty b (reduce_step n r (2 ^ k)) in
+    let rest : all_in (reduce_tree_rounds op ty b n (suc k) c) r ≤ c + c = reduce_tree_rounds-few op ty b n (suc k) c r in
     omega arith
 
 pub last_hop-few : (b root r : ℕ) → length (last_hop b root r) ≤ 1

@@ -1,4 +1,4 @@
--- the family of reduce
+-- the family of reduce, by a binomial tree
 use Rattle.std.proofs.Common.{◌≡◌, ℕ, suc, ◌+◌, ◌<◌, ◌≤◌, ◌⊎◌, inl, inr, cond, eqb, true, false, eq-eqb, ne_eqb, eqb-true, ltb, List, [], ◌∷◌, ◌++◌, length, Some, None, IsTrue, refl, sym, ap, subst, ◌∙◌, arith, unwrap_or, ltb-true, length-append}
 use Rattle.std.proofs.lemmas.Bool.{and_parts, or_cases, cases_eq, cond-true, cond-false, cond_both}
 use Rattle.std.specs.List.{AllByRecursion, list_any}
@@ -26,18 +26,18 @@ use Rattle.coll_sched.proofs.Track.{heard_self}
 use Rattle.coll_sched.proofs.Builders.{Has, round_held, round_kept, message_is, input_held}
 use Rattle.coll_trees.specs.Columns.{Column, rounds_of}
 use Rattle.coll_trees.specs.Depths.{depth, direct_bound}
-use Rattle.coll_trees.specs.BinomialTreeReduce.{folding, last_hop}
+use Rattle.coll_trees.specs.BinomialTreeReduce.{reduce_tree_rounds, last_hop}
 use Rattle.coll_trees.specs.Trees.{reduce_family, IsNarrowFor}
 use Rattle.coll_trees.proofs.Checked.{checked, root_low, operation_allowed, block_whole, IsRow-block}
 use Rattle.coll_trees.proofs.Columns.{IsColumn, column_of, all_append, round-column, rounds-append, length-rounds, lawful_family, narrow_family, few_exchanges, costs_append, free, exchange, local_round}
-use Rattle.coll_trees.proofs.BinomialTreeReduceRounds.{folding_columns, folding_costs, length-folding}
+use Rattle.coll_trees.proofs.BinomialTreeReduceRounds.{reduce_tree_columns, reduce_tree_costs, length-reduce_tree_rounds}
 use Rattle.coll_trees.proofs.BinomialTreeReduceFirst.{later, first_hears, first_holds}
 use Rattle.coll_trees.proofs.BinomialTreeReduceHop.{hop-none, hop-sends, hop-gets, hop_column}
 
 module _ (sig : Signature) (n : ℕ) (kind : sig.kind ≡ Reduce) (low : sig.root < n) (top : n ≤ 64) (may : IsTrue (allowed (unwrap_or sig.op Sum) sig.ty)) where
-  reduce_columns : AllByRecursion (IsColumn n (block_len sig + block_len sig)) (folding (unwrap_or sig.op Sum) sig.ty (block_len sig) n 0 (depth n) ++ (last_hop (block_len sig) sig.root ∷ []))
-  reduce_columns = all_append (IsColumn n (block_len sig + block_len sig)) (folding (unwrap_or sig.op Sum) sig.ty (block_len sig) n 0 (depth n)) (last_hop (block_len sig) sig.root ∷ [])
-      (folding_columns (unwrap_or sig.op Sum) sig.ty (block_len sig) (block_whole sig) may n 0 (depth n))
+  reduce_columns : AllByRecursion (IsColumn n (block_len sig + block_len sig)) (reduce_tree_rounds (unwrap_or sig.op Sum) sig.ty (block_len sig) n 0 (depth n) ++ (last_hop (block_len sig) sig.root ∷ []))
+  reduce_columns = all_append (IsColumn n (block_len sig + block_len sig)) (reduce_tree_rounds (unwrap_or sig.op Sum) sig.ty (block_len sig) n 0 (depth n)) (last_hop (block_len sig) sig.root ∷ [])
+      (reduce_tree_columns (unwrap_or sig.op Sum) sig.ty (block_len sig) (block_whole sig) may n 0 (depth n))
       (hop_column (block_len sig) n sig.root low (block_len sig + block_len sig) (omega arith), tt)
 
   output_in : (r : ℕ) → Inside (block_len sig + block_len sig) (cond (eqb r sig.root) (front (block_len sig)) nothing)
@@ -45,16 +45,16 @@ module _ (sig : Signature) (n : ℕ) (kind : sig.kind ≡ Reduce) (low : sig.roo
 
   reduce_lawful : IsLawful n (reduce_family sig n)
   reduce_lawful =
-      lawful_family n (block_len sig + block_len sig) (λ r. front (block_len sig)) (λ r. cond (eqb r sig.root) (front (block_len sig)) nothing) (folding (unwrap_or sig.op Sum) sig.ty (block_len sig) n 0 (depth n) ++ (last_hop (block_len sig) sig.root ∷ []))
+      lawful_family n (block_len sig + block_len sig) (λ r. front (block_len sig)) (λ r. cond (eqb r sig.root) (front (block_len sig)) nothing) (reduce_tree_rounds (unwrap_or sig.op Sum) sig.ty (block_len sig) n 0 (depth n) ++ (last_hop (block_len sig) sig.root ∷ []))
       (λ r h. omega arith) (λ r h. output_in r) reduce_columns
 
-  is_at : (j r : ℕ) → actions_at (reduce_family sig n) j r ≡ column_of (folding (unwrap_or sig.op Sum) sig.ty (block_len sig) n 0 (depth n) ++ (last_hop (block_len sig) sig.root ∷ [])) j r
-  is_at j r = round-column (folding (unwrap_or sig.op Sum) sig.ty (block_len sig) n 0 (depth n) ++ (last_hop (block_len sig) sig.root ∷ [])) j r
+  is_at : (j r : ℕ) → actions_at (reduce_family sig n) j r ≡ column_of (reduce_tree_rounds (unwrap_or sig.op Sum) sig.ty (block_len sig) n 0 (depth n) ++ (last_hop (block_len sig) sig.root ∷ [])) j r
+  is_at j r = round-column (reduce_tree_rounds (unwrap_or sig.op Sum) sig.ty (block_len sig) n 0 (depth n) ++ (last_hop (block_len sig) sig.root ∷ [])) j r
 
   reduce_length : (r : ℕ) → length (reduce_family sig n r).rounds ≡ suc (depth n + depth n)
   reduce_length r =
-      length-rounds (folding (unwrap_or sig.op Sum) sig.ty (block_len sig) n 0 (depth n) ++ (last_hop (block_len sig) sig.root ∷ [])) r
-      ∙ omega (arith, length-append {A = Column} (folding (unwrap_or sig.op Sum) sig.ty (block_len sig) n 0 (depth n)) (last_hop (block_len sig) sig.root ∷ []), length-folding (unwrap_or sig.op Sum) sig.ty (block_len sig) n 0 (depth n))
+      length-rounds (reduce_tree_rounds (unwrap_or sig.op Sum) sig.ty (block_len sig) n 0 (depth n) ++ (last_hop (block_len sig) sig.root ∷ [])) r
+      ∙ omega (arith, length-append {A = Column} (reduce_tree_rounds (unwrap_or sig.op Sum) sig.ty (block_len sig) n 0 (depth n)) (last_hop (block_len sig) sig.root ∷ []), length-reduce_tree_rounds (unwrap_or sig.op Sum) sig.ty (block_len sig) n 0 (depth n))
 
   last_acts : (r : ℕ) → actions_at (reduce_family sig n) (depth n + depth n) r ≡ last_hop (block_len sig) sig.root r
   last_acts r =
@@ -134,10 +134,10 @@ module _ (sig : Signature) (n : ℕ) (kind : sig.kind ≡ Reduce) (low : sig.roo
       has_value = reduce_value;
       hears = reduce_hears;
     };
-    narrow = narrow_family n (block_len sig + block_len sig) (λ r. front (block_len sig)) (λ r. cond (eqb r sig.root) (front (block_len sig)) nothing) (folding (unwrap_or sig.op Sum) sig.ty (block_len sig) n 0 (depth n) ++ (last_hop (block_len sig) sig.root ∷ [])) reduce_columns;
-    few = few_exchanges n (block_len sig + block_len sig) (λ r. front (block_len sig)) (λ r. cond (eqb r sig.root) (front (block_len sig)) nothing) (folding (unwrap_or sig.op Sum) sig.ty (block_len sig) n 0 (depth n) ++ (last_hop (block_len sig) sig.root ∷ [])) (depth n + 1)
-        (costs_append (folding (unwrap_or sig.op Sum) sig.ty (block_len sig) n 0 (depth n)) (last_hop (block_len sig) sig.root ∷ []) (depth n) 1 (depth n + 1) refl
-        (folding_costs (unwrap_or sig.op Sum) sig.ty (block_len sig) (block_whole sig) may n 0 (depth n)) (exchange free));
+    narrow = narrow_family n (block_len sig + block_len sig) (λ r. front (block_len sig)) (λ r. cond (eqb r sig.root) (front (block_len sig)) nothing) (reduce_tree_rounds (unwrap_or sig.op Sum) sig.ty (block_len sig) n 0 (depth n) ++ (last_hop (block_len sig) sig.root ∷ [])) reduce_columns;
+    few = few_exchanges n (block_len sig + block_len sig) (λ r. front (block_len sig)) (λ r. cond (eqb r sig.root) (front (block_len sig)) nothing) (reduce_tree_rounds (unwrap_or sig.op Sum) sig.ty (block_len sig) n 0 (depth n) ++ (last_hop (block_len sig) sig.root ∷ [])) (depth n + 1)
+        (costs_append (reduce_tree_rounds (unwrap_or sig.op Sum) sig.ty (block_len sig) n 0 (depth n)) (last_hop (block_len sig) sig.root ∷ []) (depth n) 1 (depth n + 1) refl
+        (reduce_tree_costs (unwrap_or sig.op Sum) sig.ty (block_len sig) (block_whole sig) may n 0 (depth n)) (exchange free));
   }
 
 -- the one member of a reduce is the root, and has nobody to send to
@@ -169,12 +169,12 @@ reduce_serves sig n h kind top =
     }
 
 -- the parts that the builder makes are the family's
-pub reduce_parts : (sig : Signature) (n r len : ℕ) (op : Op) (output : Region) (rounds : List (List Action)) → len ≡ block_len sig → sig.op ≡ Some op → output ≡ cond (eqb r sig.root) (front len) nothing → rounds ≡ rounds_of (folding op sig.ty len n 0 (depth n)) r ++ (last_hop len sig.root r ∷ []) → ◌≡◌ {A = Parts} (record { size = len + len; input = front len; output = output; rounds = rounds }) (reduce_family sig n r)
+pub reduce_parts : (sig : Signature) (n r len : ℕ) (op : Op) (output : Region) (rounds : List (List Action)) → len ≡ block_len sig → sig.op ≡ Some op → output ≡ cond (eqb r sig.root) (front len) nothing → rounds ≡ rounds_of (reduce_tree_rounds op sig.ty len n 0 (depth n)) r ++ (last_hop len sig.root r ∷ []) → ◌≡◌ {A = Parts} (record { size = len + len; input = front len; output = output; rounds = rounds }) (reduce_family sig n r)
 reduce_parts sig n r len op output rounds e o g s =
     let op_is : op ≡ unwrap_or sig.op Sum = sym (ap (λ x. unwrap_or x Sum) o) in
     let o2 : output ≡ cond (eqb r sig.root) (front (block_len sig)) nothing = g ∙ ap (λ l. cond (eqb r sig.root) (front l) nothing) e in
-    let s2 : rounds ≡ rounds_of (folding (unwrap_or sig.op Sum) sig.ty (block_len sig) n 0 (depth n) ++ (last_hop (block_len sig) sig.root ∷ [])) r =
-    s ∙ (ap (λ l. rounds_of (folding op sig.ty l n 0 (depth n)) r ++ (last_hop l sig.root r ∷ [])) e
-    ∙ (ap (λ x. rounds_of (folding x sig.ty (block_len sig) n 0 (depth n)) r ++ (last_hop (block_len sig) sig.root r ∷ [])) op_is
-    ∙ sym (rounds-append (folding (unwrap_or sig.op Sum) sig.ty (block_len sig) n 0 (depth n)) (last_hop (block_len sig) sig.root ∷ []) r))) in
+    let s2 : rounds ≡ rounds_of (reduce_tree_rounds (unwrap_or sig.op Sum) sig.ty (block_len sig) n 0 (depth n) ++ (last_hop (block_len sig) sig.root ∷ [])) r =
+    s ∙ (ap (λ l. rounds_of (reduce_tree_rounds op sig.ty l n 0 (depth n)) r ++ (last_hop l sig.root r ∷ [])) e
+    ∙ (ap (λ x. rounds_of (reduce_tree_rounds x sig.ty (block_len sig) n 0 (depth n)) r ++ (last_hop (block_len sig) sig.root r ∷ [])) op_is
+    ∙ sym (rounds-append (reduce_tree_rounds (unwrap_or sig.op Sum) sig.ty (block_len sig) n 0 (depth n)) (last_hop (block_len sig) sig.root ∷ []) r))) in
     λ k. record { size = e k + e k; input = front (e k); output = o2 k; rounds = s2 k }

@@ -1,4 +1,4 @@
--- families that begin with the tree to member 0
+-- families that begin with the binomial tree to member 0
 use Rattle.std.proofs.Common.{◌≡◌, ℕ, suc, ◌+◌, ◌-◌, ◌^◌, ◌<◌, ◌≤◌, min, List, ◌++◌, length, IsTrue, sym, ap, ◌∙◌, arith}
 use Rattle.std.proofs.Math.Nat.{zero-mod}
 use Rattle.coll_kinds.specs.declared.datatype.Datatype.{Datatype}
@@ -12,32 +12,32 @@ use Rattle.coll_sched.specs.Families.{Family, actions_at, lock_step, Heard, IsLa
 use Rattle.coll_sched.proofs.Rounds.{GivenFits}
 use Rattle.coll_trees.specs.Columns.{Column}
 use Rattle.coll_trees.specs.Depths.{depth}
-use Rattle.coll_trees.specs.BinomialTreeReduce.{move_at, combine_at, folding}
+use Rattle.coll_trees.specs.BinomialTreeReduce.{move_at, combine_at, reduce_tree_rounds}
 use Rattle.coll_trees.proofs.Columns.{column_of, column-left, column-right}
 use Rattle.coll_trees.proofs.Depths.{depth_reaches}
 use Rattle.coll_trees.proofs.Spans.{span, span_all, associates}
-use Rattle.coll_trees.proofs.BinomialTreeReduceRounds.{length-folding, folding-moves, folding-combines, fold_hears, fold_holds}
+use Rattle.coll_trees.proofs.BinomialTreeReduceRounds.{length-reduce_tree_rounds, reduce_tree_rounds-moves, reduce_tree_rounds-combines, fold_hears, fold_holds}
 
 -- a family that begins with the tree to member 0 in buffers of two blocks
-module _ (op : Op) (ty : Datatype) (b n : ℕ) (f : Family) (rest : List Column) (is : (j r : ℕ) → actions_at f j r ≡ column_of (folding op ty b n 0 (depth n) ++ rest) j r) where
+module _ (op : Op) (ty : Datatype) (b n : ℕ) (f : Family) (rest : List Column) (is : (j r : ℕ) → actions_at f j r ≡ column_of (reduce_tree_rounds op ty b n 0 (depth n) ++ rest) j r) where
   pub first_moves : (i r : ℕ) → i < depth n → actions_at f (i + i) r ≡ move_at b n (2 ^ i) r
   first_moves i r h =
-      let l : length (folding op ty b n 0 (depth n)) ≡ depth n + depth n = length-folding op ty b n 0 (depth n) in
+      let l : length (reduce_tree_rounds op ty b n 0 (depth n)) ≡ depth n + depth n = length-reduce_tree_rounds op ty b n 0 (depth n) in
       is (i + i) r
-      ∙ ap (λ (c : Column). c r) (column-left (folding op ty b n 0 (depth n)) rest (i + i) (omega arith)
-      ∙ (folding-moves op ty b n 0 (depth n) i h ∙ ap (λ e. move_at b n (2 ^ e)) (let z : 0 + i ≡ i = omega arith in z)))
+      ∙ ap (λ (c : Column). c r) (column-left (reduce_tree_rounds op ty b n 0 (depth n)) rest (i + i) (omega arith)
+      ∙ (reduce_tree_rounds-moves op ty b n 0 (depth n) i h ∙ ap (λ e. move_at b n (2 ^ e)) (let z : 0 + i ≡ i = omega arith in z)))
 
   pub first_combines : (i r : ℕ) → i < depth n → actions_at f (suc (i + i)) r ≡ combine_at op ty b n (2 ^ i) r
   first_combines i r h =
-      let l : length (folding op ty b n 0 (depth n)) ≡ depth n + depth n = length-folding op ty b n 0 (depth n) in
+      let l : length (reduce_tree_rounds op ty b n 0 (depth n)) ≡ depth n + depth n = length-reduce_tree_rounds op ty b n 0 (depth n) in
       is (suc (i + i)) r
-      ∙ ap (λ (c : Column). c r) (column-left (folding op ty b n 0 (depth n)) rest (suc (i + i)) (omega arith)
-      ∙ (folding-combines op ty b n 0 (depth n) i h ∙ ap (λ e. combine_at op ty b n (2 ^ e)) (let z : 0 + i ≡ i = omega arith in z)))
+      ∙ ap (λ (c : Column). c r) (column-left (reduce_tree_rounds op ty b n 0 (depth n)) rest (suc (i + i)) (omega arith)
+      ∙ (reduce_tree_rounds-combines op ty b n 0 (depth n) i h ∙ ap (λ e. combine_at op ty b n (2 ^ e)) (let z : 0 + i ≡ i = omega arith in z)))
 
   pub later : (i r : ℕ) → actions_at f (depth n + depth n + i) r ≡ column_of rest i r
   later i r =
       is (depth n + depth n + i) r
-      ∙ ap (λ (c : Column). c r) (ap (λ l. column_of (folding op ty b n 0 (depth n) ++ rest) (l + i)) (sym (length-folding op ty b n 0 (depth n))) ∙ column-right (folding op ty b n 0 (depth n)) rest i)
+      ∙ ap (λ (c : Column). c r) (ap (λ l. column_of (reduce_tree_rounds op ty b n 0 (depth n) ++ rest) (l + i)) (sym (length-reduce_tree_rounds op ty b n 0 (depth n))) ∙ column-right (reduce_tree_rounds op ty b n 0 (depth n)) rest i)
 
   -- member 0 hears all
   pub first_hears : n ≤ 64 → (p : ℕ) → p < n → Heard f (depth n + depth n) 0 p

@@ -1,4 +1,4 @@
--- from all to member 0: the rounds are lawful, and in the end member 0 has heard all and holds the combination
+-- binomial tree, from all to member 0: the rounds are lawful, and in the end member 0 has heard all and holds the combination
 use Rattle.std.proofs.Common.{◌≡◌, ℕ, zero, suc, ◌+◌, ◌-◌, ◌*◌, ◌/◌, ◌%◌, ◌^◌, ◌<◌, ◌≤◌, ◌≢◌, ◌⊎◌, inl, inr, true, false, ◌&&◌, min, cond, eqb, ltb, List, [], ◌∷◌, length, Some, None, IsTrue, refl, sym, ap, subst, ◌∙◌, arith, eq-eqb, ne_eqb, eqb-true, lt-ltb, le-ltb, ltb-true, ltb-false, mod-eq_of_lt, pow-suc, pow_pos, count_by}
 use Rattle.std.proofs.lemmas.Bool.{eqb-false, cond-true, cond-false, cases_eq, cases_lt, cases_Bool, and_from, and_parts, and_cases, and_right}
 use Rattle.std.proofs.lemmas.Nat.{div-add-mod'}
@@ -19,8 +19,8 @@ use Rattle.coll_sched.specs.Families.{Family, actions_at, in_link, out_link, len
 use Rattle.coll_sched.proofs.Rounds.{GivenFits}
 use Rattle.coll_sched.proofs.Builders.{Has, round_held, round_kept, message_is}
 use Rattle.coll_trees.specs.declared.binomial_tree_reduce_step.ReduceStep.{ReduceStep}
-use Rattle.coll_trees.specs.declared.binomial_tree_reduce_step.ReduceStep.TheVariants.{Gives, Takes, Rests}
-use Rattle.coll_trees.specs.BinomialTreeReduce.{role, moves, combines, move_at, combine_at, folding}
+use Rattle.coll_trees.specs.declared.binomial_tree_reduce_step.ReduceStep.TheVariants.{SendsToParent, ReceivesFromChild, Rests}
+use Rattle.coll_trees.specs.BinomialTreeReduce.{reduce_step, moves, combines, move_at, combine_at, reduce_tree_rounds}
 use Rattle.coll_trees.proofs.Columns.{IsColumn, column_of, Costs, free, local_round, exchange}
 use Rattle.coll_trees.proofs.Spans.{span, Associates, span_join}
 
@@ -41,99 +41,99 @@ mod_half r s e =
     ∙ (ap (λ x. x % s) e ∙ zero-mod s)
 
 pub data ReduceStepIs (n r s : ℕ) : ReduceStep → Type 0 where
-  is_gives : r % (s + s) ≡ s → ReduceStepIs n r s Gives
-  is_takes : r % (s + s) ≡ 0 → r + s < n → ReduceStepIs n r s Takes
+  is_gives : r % (s + s) ≡ s → ReduceStepIs n r s SendsToParent
+  is_takes : r % (s + s) ≡ 0 → r + s < n → ReduceStepIs n r s ReceivesFromChild
   is_rests : r % (s + s) ≢ s → (r % (s + s) ≡ 0 → n ≤ r + s) → ReduceStepIs n r s Rests
 
-pub role_is : (n r s : ℕ) → ReduceStepIs n r s (role n r s)
+pub role_is : (n r s : ℕ) → ReduceStepIs n r s (reduce_step n r s)
 role_is n r s = go (cases_Bool (eqb (r % (s + s)) s)) (cases_Bool (eqb (r % (s + s)) 0 && ltb (r + s) n))
   where
     far : (eqb (r % (s + s)) 0 ≡ false) ⊎ (ltb (r + s) n ≡ false) → r % (s + s) ≡ 0 → n ≤ r + s
     far (inl h) e = absurd (eqb-false (r % (s + s)) 0 h e)
     far (inr h) e = ltb-false (r + s) n h
 
-    go : (eqb (r % (s + s)) s ≡ true) ⊎ (eqb (r % (s + s)) s ≡ false) → ((eqb (r % (s + s)) 0 && ltb (r + s) n) ≡ true) ⊎ ((eqb (r % (s + s)) 0 && ltb (r + s) n) ≡ false) → ReduceStepIs n r s (role n r s)
-    go (inl h) x = subst (ReduceStepIs n r s) (sym (cond-true (eqb (r % (s + s)) s) Gives (cond (eqb (r % (s + s)) 0 && ltb (r + s) n) Takes Rests) h)) (is_gives (eqb-true (r % (s + s)) s h))
+    go : (eqb (r % (s + s)) s ≡ true) ⊎ (eqb (r % (s + s)) s ≡ false) → ((eqb (r % (s + s)) 0 && ltb (r + s) n) ≡ true) ⊎ ((eqb (r % (s + s)) 0 && ltb (r + s) n) ≡ false) → ReduceStepIs n r s (reduce_step n r s)
+    go (inl h) x = subst (ReduceStepIs n r s) (sym (cond-true (eqb (r % (s + s)) s) SendsToParent (cond (eqb (r % (s + s)) 0 && ltb (r + s) n) ReceivesFromChild Rests) h)) (is_gives (eqb-true (r % (s + s)) s h))
     go (inr h) (inl x) =
         let parts = and_parts (eqb (r % (s + s)) 0) (ltb (r + s) n) x in
-        subst (ReduceStepIs n r s) (sym (cond-false (eqb (r % (s + s)) s) Gives (cond (eqb (r % (s + s)) 0 && ltb (r + s) n) Takes Rests) h ∙ cond-true (eqb (r % (s + s)) 0 && ltb (r + s) n) Takes Rests x))
+        subst (ReduceStepIs n r s) (sym (cond-false (eqb (r % (s + s)) s) SendsToParent (cond (eqb (r % (s + s)) 0 && ltb (r + s) n) ReceivesFromChild Rests) h ∙ cond-true (eqb (r % (s + s)) 0 && ltb (r + s) n) ReceivesFromChild Rests x))
         (is_takes (eqb-true (r % (s + s)) 0 parts.0) (ltb-true (r + s) n parts.1))
     go (inr h) (inr x) =
-        subst (ReduceStepIs n r s) (sym (cond-false (eqb (r % (s + s)) s) Gives (cond (eqb (r % (s + s)) 0 && ltb (r + s) n) Takes Rests) h ∙ cond-false (eqb (r % (s + s)) 0 && ltb (r + s) n) Takes Rests x))
+        subst (ReduceStepIs n r s) (sym (cond-false (eqb (r % (s + s)) s) SendsToParent (cond (eqb (r % (s + s)) 0 && ltb (r + s) n) ReceivesFromChild Rests) h ∙ cond-false (eqb (r % (s + s)) 0 && ltb (r + s) n) ReceivesFromChild Rests x))
         (is_rests (eqb-false (r % (s + s)) s h) (far (and_cases (eqb (r % (s + s)) 0) (ltb (r + s) n) x)))
 
-pub role_gives : (n r s : ℕ) → r % (s + s) ≡ s → role n r s ≡ Gives
-role_gives n r s e = cond-true (eqb (r % (s + s)) s) Gives _ (eq-eqb (r % (s + s)) s e)
+pub role_gives : (n r s : ℕ) → r % (s + s) ≡ s → reduce_step n r s ≡ SendsToParent
+role_gives n r s e = cond-true (eqb (r % (s + s)) s) SendsToParent _ (eq-eqb (r % (s + s)) s e)
 
-role_takes : (n r s : ℕ) → 0 < s → r % (s + s) ≡ 0 → r + s < n → role n r s ≡ Takes
+role_takes : (n r s : ℕ) → 0 < s → r % (s + s) ≡ 0 → r + s < n → reduce_step n r s ≡ ReceivesFromChild
 role_takes n r s pos e h =
-    cond-false (eqb (r % (s + s)) s) Gives _ (ne_eqb (r % (s + s)) s (omega arith))
-    ∙ cond-true (eqb (r % (s + s)) 0 && ltb (r + s) n) Takes Rests (and_from (eqb (r % (s + s)) 0) (ltb (r + s) n) (eq-eqb (r % (s + s)) 0 e) (lt-ltb (r + s) n h))
+    cond-false (eqb (r % (s + s)) s) SendsToParent _ (ne_eqb (r % (s + s)) s (omega arith))
+    ∙ cond-true (eqb (r % (s + s)) 0 && ltb (r + s) n) ReceivesFromChild Rests (and_from (eqb (r % (s + s)) 0) (ltb (r + s) n) (eq-eqb (r % (s + s)) 0 e) (lt-ltb (r + s) n h))
 
-role_rests : (n r s : ℕ) → 0 < s → r % (s + s) ≡ 0 → n ≤ r + s → role n r s ≡ Rests
+role_rests : (n r s : ℕ) → 0 < s → r % (s + s) ≡ 0 → n ≤ r + s → reduce_step n r s ≡ Rests
 role_rests n r s pos e h =
-    cond-false (eqb (r % (s + s)) s) Gives _ (ne_eqb (r % (s + s)) s (omega arith))
-    ∙ cond-false (eqb (r % (s + s)) 0 && ltb (r + s) n) Takes Rests (and_right (eqb (r % (s + s)) 0) (ltb (r + s) n) (le-ltb (r + s) n h))
+    cond-false (eqb (r % (s + s)) s) SendsToParent _ (ne_eqb (r % (s + s)) s (omega arith))
+    ∙ cond-false (eqb (r % (s + s)) 0 && ltb (r + s) n) ReceivesFromChild Rests (and_right (eqb (r % (s + s)) 0) (ltb (r + s) n) (le-ltb (r + s) n h))
 
 module _ (op : Op) (ty : Datatype) (b : ℕ) (fit : b % width ty ≡ 0) (may : IsTrue (allowed op ty)) where
   moves_round : (r s : ℕ) (o : ReduceStep) → IsRound (b + b) (moves b r s o)
-  moves_round r s Gives = record { fits = (omega arith, tt); follows = (tt, tt) }
-  moves_round r s Takes = record { fits = (omega arith, tt); follows = (tt, tt) }
+  moves_round r s SendsToParent = record { fits = (omega arith, tt); follows = (tt, tt) }
+  moves_round r s ReceivesFromChild = record { fits = (omega arith, tt); follows = (tt, tt) }
   moves_round r s Rests = record { fits = tt; follows = tt }
 
   combines_round : (o : ReduceStep) → IsRound (b + b) (combines op ty b o)
-  combines_round Gives = record { fits = tt; follows = tt }
-  combines_round Takes = record { fits = ((omega arith, omega arith, omega arith, refl, refl, may, fit), tt); follows = (tt, tt) }
+  combines_round SendsToParent = record { fits = tt; follows = tt }
+  combines_round ReceivesFromChild = record { fits = ((omega arith, omega arith, omega arith, refl, refl, may, fit), tt); follows = (tt, tt) }
   combines_round Rests = record { fits = tt; follows = tt }
 
   moves_among : (n r s : ℕ) (o : ReduceStep) → r < n → ReduceStepIs n r s o → AllByRecursion (IsAmong n) (moves b r s o)
-  moves_among n r s Gives low (is_gives e) = (omega arith, tt)
-  moves_among n r s Takes low (is_takes e h) = (h, tt)
+  moves_among n r s SendsToParent low (is_gives e) = (omega arith, tt)
+  moves_among n r s ReceivesFromChild low (is_takes e h) = (h, tt)
   moves_among n r s Rests low (is_rests e h) = tt
 
   combines_among : (n : ℕ) (o : ReduceStep) → AllByRecursion (IsAmong n) (combines op ty b o)
-  combines_among n Gives = tt
-  combines_among n Takes = (tt, tt)
+  combines_among n SendsToParent = tt
+  combines_among n ReceivesFromChild = (tt, tt)
   combines_among n Rests = tt
 
   no_in : (p : ℕ) (o : ReduceStep) → in_link p (combines op ty b o) ≡ None
-  no_in p Gives = refl
-  no_in p Takes = refl
+  no_in p SendsToParent = refl
+  no_in p ReceivesFromChild = refl
   no_in p Rests = refl
 
   no_out : (p : ℕ) (o : ReduceStep) → out_link p (combines op ty b o) ≡ None
-  no_out p Gives = refl
-  no_out p Takes = refl
+  no_out p SendsToParent = refl
+  no_out p ReceivesFromChild = refl
   no_out p Rests = refl
 
   one_move : (r s : ℕ) (o : ReduceStep) → (count_by is_send (moves b r s o) ≤ 1) × (count_by is_recv (moves b r s o) ≤ 1)
-  one_move r s Gives = (omega arith, omega arith)
-  one_move r s Takes = (omega arith, omega arith)
+  one_move r s SendsToParent = (omega arith, omega arith)
+  one_move r s ReceivesFromChild = (omega arith, omega arith)
   one_move r s Rests = (omega arith, omega arith)
 
   no_move : (o : ReduceStep) → (count_by is_send (combines op ty b o) ≤ 1) × (count_by is_recv (combines op ty b o) ≤ 1)
-  no_move Gives = (omega arith, omega arith)
-  no_move Takes = (omega arith, omega arith)
+  no_move SendsToParent = (omega arith, omega arith)
+  no_move ReceivesFromChild = (omega arith, omega arith)
   no_move Rests = (omega arith, omega arith)
 
   no_peer : (o : ReduceStep) → list_any has_peer (combines op ty b o) ≡ false
-  no_peer Gives = refl
-  no_peer Takes = refl
+  no_peer SendsToParent = refl
+  no_peer ReceivesFromChild = refl
   no_peer Rests = refl
 
   meets : (n r p s : ℕ) (o q : ReduceStep) → r < n → p < n → 0 < s → ReduceStepIs n r s o → ReduceStepIs n p s q → len_of (in_link p (moves b r s o)) ≡ len_of (out_link r (moves b p s q))
   meets n r p s o q hr hp pos x y = go x y (cases_eq (r + s) p)
     where
-      some_in : r + s ≡ p → in_link p (moves b r s Takes) ≡ Some (behind b)
+      some_in : r + s ≡ p → in_link p (moves b r s ReceivesFromChild) ≡ Some (behind b)
       some_in e = cond-true (eqb (r + s) p) (Some (behind b)) None (eq-eqb (r + s) p e)
 
-      none_in : (r + s ≡ p → ⊥) → in_link p (moves b r s Takes) ≡ None
+      none_in : (r + s ≡ p → ⊥) → in_link p (moves b r s ReceivesFromChild) ≡ None
       none_in d = cond-false (eqb (r + s) p) (Some (behind b)) None (ne_eqb (r + s) p d)
 
-      some_out : p - s ≡ r → out_link r (moves b p s Gives) ≡ Some (front b)
+      some_out : p - s ≡ r → out_link r (moves b p s SendsToParent) ≡ Some (front b)
       some_out e = cond-true (eqb (p - s) r) (Some (front b)) None (eq-eqb (p - s) r e)
 
-      none_out : (p - s ≡ r → ⊥) → out_link r (moves b p s Gives) ≡ None
+      none_out : (p - s ≡ r → ⊥) → out_link r (moves b p s SendsToParent) ≡ None
       none_out d = cond-false (eqb (p - s) r) (Some (front b)) None (ne_eqb (p - s) r d)
 
       -- who Gives to r makes r take
@@ -159,57 +159,57 @@ module _ (op : Op) (ty : Datatype) (b : ℕ) (fit : b % width ty ≡ 0) (may : I
 
   pub move_column : (n s : ℕ) → 0 < s → IsColumn n (b + b) (move_at b n s)
   move_column n s pos = record {
-    is_round = λ r low. moves_round r s (role n r s);
-    peers = λ r low. moves_among n r s (role n r s) low (role_is n r s);
-    aligned = λ r p hr hp. meets n r p s (role n r s) (role n p s) hr hp pos (role_is n r s) (role_is n p s);
-    one_send = λ r low. (one_move r s (role n r s)).0;
-    one_recv = λ r low. (one_move r s (role n r s)).1;
+    is_round = λ r low. moves_round r s (reduce_step n r s);
+    peers = λ r low. moves_among n r s (reduce_step n r s) low (role_is n r s);
+    aligned = λ r p hr hp. meets n r p s (reduce_step n r s) (reduce_step n p s) hr hp pos (role_is n r s) (role_is n p s);
+    one_send = λ r low. (one_move r s (reduce_step n r s)).0;
+    one_recv = λ r low. (one_move r s (reduce_step n r s)).1;
   }
 
   pub combine_column : (n s : ℕ) → IsColumn n (b + b) (combine_at op ty b n s)
   combine_column n s = record {
-    is_round = λ r low. combines_round (role n r s);
-    peers = λ r low. combines_among n (role n r s);
-    aligned = λ r p hr hp. ap len_of (no_in p (role n r s)) ∙ sym (ap len_of (no_out r (role n p s)));
-    one_send = λ r low. (no_move (role n r s)).0;
-    one_recv = λ r low. (no_move (role n r s)).1;
+    is_round = λ r low. combines_round (reduce_step n r s);
+    peers = λ r low. combines_among n (reduce_step n r s);
+    aligned = λ r p hr hp. ap len_of (no_in p (reduce_step n r s)) ∙ sym (ap len_of (no_out r (reduce_step n p s)));
+    one_send = λ r low. (no_move (reduce_step n r s)).0;
+    one_recv = λ r low. (no_move (reduce_step n r s)).1;
   }
 
-  pub folding_columns : (n k c : ℕ) → AllByRecursion (IsColumn n (b + b)) (folding op ty b n k c)
-  folding_columns n k zero = tt
-  folding_columns n k (suc c) = (move_column n (2 ^ k) (pow_pos k), (combine_column n (2 ^ k), folding_columns n (suc k) c))
+  pub reduce_tree_columns : (n k c : ℕ) → AllByRecursion (IsColumn n (b + b)) (reduce_tree_rounds op ty b n k c)
+  reduce_tree_columns n k zero = tt
+  reduce_tree_columns n k (suc c) = (move_column n (2 ^ k) (pow_pos k), (combine_column n (2 ^ k), reduce_tree_columns n (suc k) c))
 
-  pub folding_costs : (n k c : ℕ) → Costs (folding op ty b n k c) c
-  folding_costs n k zero = free
-  folding_costs n k (suc c) = exchange (local_round (λ r. no_peer (role n r (2 ^ k))) (folding_costs n (suc k) c))
+  pub reduce_tree_costs : (n k c : ℕ) → Costs (reduce_tree_rounds op ty b n k c) c
+  reduce_tree_costs n k zero = free
+  reduce_tree_costs n k (suc c) = exchange (local_round (λ r. no_peer (reduce_step n r (2 ^ k))) (reduce_tree_costs n (suc k) c))
 
-pub length-folding : (op : Op) (ty : Datatype) (b n k c : ℕ) → length (folding op ty b n k c) ≡ c + c
-length-folding op ty b n k zero = refl
-length-folding op ty b n k (suc c) = let e : length (folding op ty b n (suc k) c) ≡ c + c = length-folding op ty b n (suc k) c in omega arith
+pub length-reduce_tree_rounds : (op : Op) (ty : Datatype) (b n k c : ℕ) → length (reduce_tree_rounds op ty b n k c) ≡ c + c
+length-reduce_tree_rounds op ty b n k zero = refl
+length-reduce_tree_rounds op ty b n k (suc c) = let e : length (reduce_tree_rounds op ty b n (suc k) c) ≡ c + c = length-reduce_tree_rounds op ty b n (suc k) c in omega arith
 
-pub folding-moves : (op : Op) (ty : Datatype) (b n k c i : ℕ) → i < c → column_of (folding op ty b n k c) (i + i) ≡ move_at b n (2 ^ (k + i))
-folding-moves op ty b n k zero i h = absurd (omega arith)
-folding-moves op ty b n k (suc c) zero h = ap (λ e. move_at b n (2 ^ e)) (let z : k ≡ k + 0 = omega arith in z)
-folding-moves op ty b n k (suc c) (suc i) h =
-    ap (column_of (folding op ty b n k (suc c))) (let e : suc i + suc i ≡ suc (suc (i + i)) = omega arith in e)
-    ∙ (folding-moves op ty b n (suc k) c i (omega arith) ∙ ap (λ e. move_at b n (2 ^ e)) (let z : suc k + i ≡ k + suc i = omega arith in z))
+pub reduce_tree_rounds-moves : (op : Op) (ty : Datatype) (b n k c i : ℕ) → i < c → column_of (reduce_tree_rounds op ty b n k c) (i + i) ≡ move_at b n (2 ^ (k + i))
+reduce_tree_rounds-moves op ty b n k zero i h = absurd (omega arith)
+reduce_tree_rounds-moves op ty b n k (suc c) zero h = ap (λ e. move_at b n (2 ^ e)) (let z : k ≡ k + 0 = omega arith in z)
+reduce_tree_rounds-moves op ty b n k (suc c) (suc i) h =
+    ap (column_of (reduce_tree_rounds op ty b n k (suc c))) (let e : suc i + suc i ≡ suc (suc (i + i)) = omega arith in e)
+    ∙ (reduce_tree_rounds-moves op ty b n (suc k) c i (omega arith) ∙ ap (λ e. move_at b n (2 ^ e)) (let z : suc k + i ≡ k + suc i = omega arith in z))
 
-pub folding-combines : (op : Op) (ty : Datatype) (b n k c i : ℕ) → i < c → column_of (folding op ty b n k c) (suc (i + i)) ≡ combine_at op ty b n (2 ^ (k + i))
-folding-combines op ty b n k zero i h = absurd (omega arith)
-folding-combines op ty b n k (suc c) zero h = ap (λ e. combine_at op ty b n (2 ^ e)) (let z : k ≡ k + 0 = omega arith in z)
-folding-combines op ty b n k (suc c) (suc i) h =
-    ap (column_of (folding op ty b n k (suc c))) (let e : suc (suc i + suc i) ≡ suc (suc (suc (i + i))) = omega arith in e)
-    ∙ (folding-combines op ty b n (suc k) c i (omega arith) ∙ ap (λ e. combine_at op ty b n (2 ^ e)) (let z : suc k + i ≡ k + suc i = omega arith in z))
+pub reduce_tree_rounds-combines : (op : Op) (ty : Datatype) (b n k c i : ℕ) → i < c → column_of (reduce_tree_rounds op ty b n k c) (suc (i + i)) ≡ combine_at op ty b n (2 ^ (k + i))
+reduce_tree_rounds-combines op ty b n k zero i h = absurd (omega arith)
+reduce_tree_rounds-combines op ty b n k (suc c) zero h = ap (λ e. combine_at op ty b n (2 ^ e)) (let z : k ≡ k + 0 = omega arith in z)
+reduce_tree_rounds-combines op ty b n k (suc c) (suc i) h =
+    ap (column_of (reduce_tree_rounds op ty b n k (suc c))) (let e : suc (suc i + suc i) ≡ suc (suc (suc (i + i))) = omega arith in e)
+    ∙ (reduce_tree_rounds-combines op ty b n (suc k) c i (omega arith) ∙ ap (λ e. combine_at op ty b n (2 ^ e)) (let z : suc k + i ≡ k + suc i = omega arith in z))
 
 -- in any family that begins with these rounds
 module _ (f : Family) (op : Op) (ty : Datatype) (b n d : ℕ)
     (moving : (i r : ℕ) → i < d → actions_at f (i + i) r ≡ move_at b n (2 ^ i) r)
     (combining : (i r : ℕ) → i < d → actions_at f (suc (i + i)) r ≡ combine_at op ty b n (2 ^ i) r) where
-  -- round 2 i of a member whose role is known, and the round after it
-  moved : (i r : ℕ) (o : ReduceStep) → i < d → role n r (2 ^ i) ≡ o → actions_at f (i + i) r ≡ moves b r (2 ^ i) o
+  -- round 2 i of a member whose step is known, and the round after it
+  moved : (i r : ℕ) (o : ReduceStep) → i < d → reduce_step n r (2 ^ i) ≡ o → actions_at f (i + i) r ≡ moves b r (2 ^ i) o
   moved i r o h e = moving i r h ∙ ap (moves b r (2 ^ i)) e
 
-  combines_in : (i r : ℕ) (o : ReduceStep) → i < d → role n r (2 ^ i) ≡ o → actions_at f (suc (i + i)) r ≡ combines op ty b o
+  combines_in : (i r : ℕ) (o : ReduceStep) → i < d → reduce_step n r (2 ^ i) ≡ o → actions_at f (suc (i + i)) r ≡ combines op ty b o
   combines_in i r o h e = combining i r h ∙ ap (combines op ty b) e
 
   pub fold_hears : (i r p : ℕ) → i ≤ d → r % (2 ^ i) ≡ 0 → r ≤ p → p < n → p < r + 2 ^ i → Heard f (i + i) r p
@@ -228,7 +228,7 @@ module _ (f : Family) (op : Op) (ty : Datatype) (b n d : ℕ)
       go more (inl x) = inl (more r (mod_half r (2 ^ i) (ap (λ m. r % m) (omega (arith, pow-suc 2 i)) ∙ e)) low x)
       go more (inr x) = inr (
         r + 2 ^ i,
-        subst (λ xs. Receives xs (r + 2 ^ i)) (sym (moved i r Takes (omega arith) (role_takes n r (2 ^ i) (pow_pos i) (ap (λ m. r % m) (omega (arith, pow-suc 2 i)) ∙ e) (omega arith)))) (inl refl),
+        subst (λ xs. Receives xs (r + 2 ^ i)) (sym (moved i r ReceivesFromChild (omega arith) (role_takes n r (2 ^ i) (pow_pos i) (ap (λ m. r % m) (omega (arith, pow-suc 2 i)) ∙ e) (omega arith)))) (inl refl),
         more (r + 2 ^ i) (add-mod_right r (2 ^ i) ∙ mod_half r (2 ^ i) (ap (λ m. r % m) (omega (arith, pow-suc 2 i)) ∙ e)) x (omega (arith, pow-suc 2 i)),
       )
 
@@ -246,9 +246,9 @@ module _ (f : Family) (op : Op) (ty : Datatype) (b n d : ℕ)
             → (r + 2 ^ i < n) ⊎ (n ≤ r + 2 ^ i) → read_of (lock_step f given (suc (suc (i + i))) r) (front b) ≡ span op ty given r (min (2 ^ suc i) (n - r))
         go pos even before (inl x) =
             let q : ℕ = r + 2 ^ i in
-            let acts = moved i r Takes (omega arith) (role_takes n r (2 ^ i) pos even x) in
-            let theirs = moved i (r + 2 ^ i) Gives (omega arith) (role_gives n (r + 2 ^ i) (2 ^ i) (mod_up r (2 ^ i) pos even)) in
-            let joins = combines_in i r Takes (omega arith) (role_takes n r (2 ^ i) pos even x) in
+            let acts = moved i r ReceivesFromChild (omega arith) (role_takes n r (2 ^ i) pos even x) in
+            let theirs = moved i (r + 2 ^ i) SendsToParent (omega arith) (role_gives n (r + 2 ^ i) (2 ^ i) (mod_up r (2 ^ i) pos even)) in
+            let joins = combines_in i r ReceivesFromChild (omega arith) (role_takes n r (2 ^ i) pos even x) in
             round_held n f lawful given laid (suc (i + i)) r (Combine op ty (front b) (behind b) (front b)) (front b) low
             (subst (λ xs. Has xs (Combine op ty (front b) (behind b) (front b))) (sym joins) (inl refl)) refl
             ∙ (ap (λ l. combined op ty l (read_of (lock_step f given (suc (i + i)) r) (behind b)))

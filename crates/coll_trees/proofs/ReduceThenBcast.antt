@@ -1,4 +1,4 @@
--- the family of allreduce
+-- the family of an allreduce by two trees, which `plan` does not use
 use Rattle.std.proofs.Common.{◌≡◌, ℕ, ◌+◌, ◌^◌, ◌<◌, ◌≤◌, true, ltb, List, ◌++◌, length, Some, None, IsTrue, refl, sym, ap, subst, ◌∙◌, arith, unwrap_or, ltb-true, length-append}
 use Rattle.std.proofs.lemmas.Bool.{and_parts}
 use Rattle.std.specs.List.{AllByRecursion}
@@ -22,40 +22,40 @@ use Rattle.coll_sched.proofs.Rounds.{GivenFits}
 use Rattle.coll_sched.proofs.Builders.{input_held}
 use Rattle.coll_trees.specs.Columns.{Column, rounds_of}
 use Rattle.coll_trees.specs.Depths.{depth}
-use Rattle.coll_trees.specs.BinomialTreeBcast.{from_root, spread, spreading}
-use Rattle.coll_trees.specs.BinomialTreeReduce.{folding}
+use Rattle.coll_trees.specs.BinomialTreeBcast.{from_root, bcast_tree_at, bcast_tree_rounds}
+use Rattle.coll_trees.specs.BinomialTreeReduce.{reduce_tree_rounds}
 use Rattle.coll_trees.specs.Trees.{allreduce_family, IsNarrowFor}
 use Rattle.coll_trees.proofs.Checked.{checked, operation_allowed, block_whole, IsRow-block}
 use Rattle.coll_trees.proofs.Columns.{IsColumn, column_of, all_append, round-column, rounds-append, length-rounds, lawful_family, narrow_family, few_exchanges, costs_append}
 use Rattle.coll_trees.proofs.Depths.{depth_reaches}
 use Rattle.coll_trees.proofs.RootNumbers.{from_root_is, number_low}
-use Rattle.coll_trees.proofs.BinomialTreeBcastRounds.{spreading_columns, length-spreading, spreading-at, spreading_costs, spread_hears, spread_holds}
-use Rattle.coll_trees.proofs.BinomialTreeReduceRounds.{folding_columns, folding_costs, length-folding}
+use Rattle.coll_trees.proofs.BinomialTreeBcastRounds.{bcast_tree_columns, length-bcast_tree_rounds, bcast_tree_rounds-at, bcast_tree_costs, bcast_tree_hears, bcast_tree_holds}
+use Rattle.coll_trees.proofs.BinomialTreeReduceRounds.{reduce_tree_columns, reduce_tree_costs, length-reduce_tree_rounds}
 use Rattle.coll_trees.proofs.BinomialTreeReduceFirst.{later, first_hears, first_holds}
 
 module _ (sig : Signature) (n : ℕ) (kind : sig.kind ≡ Allreduce) (pos : 0 < n) (top : n ≤ 64) (may : IsTrue (allowed (unwrap_or sig.op Sum) sig.ty)) where
-  allreduce_columns : AllByRecursion (IsColumn n (block_len sig + block_len sig)) (folding (unwrap_or sig.op Sum) sig.ty (block_len sig) n 0 (depth n) ++ spreading (block_len sig) n 0 0 (depth n))
-  allreduce_columns = all_append (IsColumn n (block_len sig + block_len sig)) (folding (unwrap_or sig.op Sum) sig.ty (block_len sig) n 0 (depth n)) (spreading (block_len sig) n 0 0 (depth n))
-      (folding_columns (unwrap_or sig.op Sum) sig.ty (block_len sig) (block_whole sig) may n 0 (depth n))
-      (spreading_columns (block_len sig) n 0 pos (block_len sig + block_len sig) (omega arith) 0 (depth n))
+  allreduce_columns : AllByRecursion (IsColumn n (block_len sig + block_len sig)) (reduce_tree_rounds (unwrap_or sig.op Sum) sig.ty (block_len sig) n 0 (depth n) ++ bcast_tree_rounds (block_len sig) n 0 0 (depth n))
+  allreduce_columns = all_append (IsColumn n (block_len sig + block_len sig)) (reduce_tree_rounds (unwrap_or sig.op Sum) sig.ty (block_len sig) n 0 (depth n)) (bcast_tree_rounds (block_len sig) n 0 0 (depth n))
+      (reduce_tree_columns (unwrap_or sig.op Sum) sig.ty (block_len sig) (block_whole sig) may n 0 (depth n))
+      (bcast_tree_columns (block_len sig) n 0 pos (block_len sig + block_len sig) (omega arith) 0 (depth n))
 
   allreduce_lawful : IsLawful n (allreduce_family sig n)
   allreduce_lawful =
-      lawful_family n (block_len sig + block_len sig) (λ r. front (block_len sig)) (λ r. front (block_len sig)) (folding (unwrap_or sig.op Sum) sig.ty (block_len sig) n 0 (depth n) ++ spreading (block_len sig) n 0 0 (depth n))
+      lawful_family n (block_len sig + block_len sig) (λ r. front (block_len sig)) (λ r. front (block_len sig)) (reduce_tree_rounds (unwrap_or sig.op Sum) sig.ty (block_len sig) n 0 (depth n) ++ bcast_tree_rounds (block_len sig) n 0 0 (depth n))
       (λ r h. omega arith) (λ r h. omega arith) allreduce_columns
 
-  is_at : (j r : ℕ) → actions_at (allreduce_family sig n) j r ≡ column_of (folding (unwrap_or sig.op Sum) sig.ty (block_len sig) n 0 (depth n) ++ spreading (block_len sig) n 0 0 (depth n)) j r
-  is_at j r = round-column (folding (unwrap_or sig.op Sum) sig.ty (block_len sig) n 0 (depth n) ++ spreading (block_len sig) n 0 0 (depth n)) j r
+  is_at : (j r : ℕ) → actions_at (allreduce_family sig n) j r ≡ column_of (reduce_tree_rounds (unwrap_or sig.op Sum) sig.ty (block_len sig) n 0 (depth n) ++ bcast_tree_rounds (block_len sig) n 0 0 (depth n)) j r
+  is_at j r = round-column (reduce_tree_rounds (unwrap_or sig.op Sum) sig.ty (block_len sig) n 0 (depth n) ++ bcast_tree_rounds (block_len sig) n 0 0 (depth n)) j r
 
   allreduce_length : (r : ℕ) → length (allreduce_family sig n r).rounds ≡ depth n + depth n + depth n
   allreduce_length r =
-      length-rounds (folding (unwrap_or sig.op Sum) sig.ty (block_len sig) n 0 (depth n) ++ spreading (block_len sig) n 0 0 (depth n)) r
-      ∙ omega (arith, length-append {A = Column} (folding (unwrap_or sig.op Sum) sig.ty (block_len sig) n 0 (depth n)) (spreading (block_len sig) n 0 0 (depth n)), length-folding (unwrap_or sig.op Sum) sig.ty (block_len sig) n 0 (depth n), length-spreading (block_len sig) n 0 0 (depth n))
+      length-rounds (reduce_tree_rounds (unwrap_or sig.op Sum) sig.ty (block_len sig) n 0 (depth n) ++ bcast_tree_rounds (block_len sig) n 0 0 (depth n)) r
+      ∙ omega (arith, length-append {A = Column} (reduce_tree_rounds (unwrap_or sig.op Sum) sig.ty (block_len sig) n 0 (depth n)) (bcast_tree_rounds (block_len sig) n 0 0 (depth n)), length-reduce_tree_rounds (unwrap_or sig.op Sum) sig.ty (block_len sig) n 0 (depth n), length-bcast_tree_rounds (block_len sig) n 0 0 (depth n))
 
-  then_spread : (i r : ℕ) → i < depth n → actions_at (allreduce_family sig n) (depth n + depth n + i) r ≡ spread (block_len sig) n 0 (2 ^ i) r
-  then_spread i r h =
-      later (unwrap_or sig.op Sum) sig.ty (block_len sig) n (allreduce_family sig n) (spreading (block_len sig) n 0 0 (depth n)) is_at i r
-      ∙ ap (λ (c : Column). c r) (spreading-at (block_len sig) n 0 0 (depth n) i h ∙ ap (λ e. spread (block_len sig) n 0 (2 ^ e)) (let z : 0 + i ≡ i = omega arith in z))
+  then_bcast : (i r : ℕ) → i < depth n → actions_at (allreduce_family sig n) (depth n + depth n + i) r ≡ bcast_tree_at (block_len sig) n 0 (2 ^ i) r
+  then_bcast i r h =
+      later (unwrap_or sig.op Sum) sig.ty (block_len sig) n (allreduce_family sig n) (bcast_tree_rounds (block_len sig) n 0 0 (depth n)) is_at i r
+      ∙ ap (λ (c : Column). c r) (bcast_tree_rounds-at (block_len sig) n 0 0 (depth n) i h ∙ ap (λ e. bcast_tree_at (block_len sig) n 0 (2 ^ e)) (let z : 0 + i ≡ i = omega arith in z))
 
   near : (r : ℕ) → r < n → from_root n 0 r < 2 ^ depth n
   near r h =
@@ -75,21 +75,21 @@ module _ (sig : Signature) (n : ℕ) (kind : sig.kind ≡ Allreduce) (pos : 0 < 
 
     folded : read_of (lock_step (allreduce_family sig n) (row_of given) (depth n + depth n) 0) (front (block_len sig)) ≡ combination (unwrap_or sig.op Sum) sig.ty given
     folded =
-        first_holds (unwrap_or sig.op Sum) sig.ty (block_len sig) n (allreduce_family sig n) (spreading (block_len sig) n 0 0 (depth n)) is_at pos top allreduce_lawful may given are.each laid rows (λ r h. omega arith)
+        first_holds (unwrap_or sig.op Sum) sig.ty (block_len sig) n (allreduce_family sig n) (bcast_tree_rounds (block_len sig) n 0 0 (depth n)) is_at pos top allreduce_lawful may given are.each laid rows (λ r h. omega arith)
         (λ r h. input_held n (allreduce_family sig n) allreduce_lawful (row_of given) laid r h)
 
     allreduce_value : (r : ℕ) → r < n → result_at (allreduce_family sig n) (row_of given) r ≡ value sig given r
     allreduce_value r h =
         ap (λ j. read_of (lock_step (allreduce_family sig n) (row_of given) j r) (front (block_len sig))) (allreduce_length r)
-        ∙ (spread_holds (allreduce_family sig n) (block_len sig) n 0 (depth n + depth n) (depth n) pos then_spread allreduce_lawful (row_of given) laid (λ p k. omega arith) (combination (unwrap_or sig.op Sum) sig.ty given) folded (depth n) r (omega arith) h (near r h)
+        ∙ (bcast_tree_holds (allreduce_family sig n) (block_len sig) n 0 (depth n + depth n) (depth n) pos then_bcast allreduce_lawful (row_of given) laid (λ p k. omega arith) (combination (unwrap_or sig.op Sum) sig.ty given) folded (depth n) r (omega arith) h (near r h)
         ∙ sym (ap (λ k. value_by k (unwrap_or sig.op Sum) sig.ty (block_len sig) sig.root given r) kind))
 
   allreduce_hears : (r p : ℕ) → r < n → needs sig n r p ≡ true → Heard (allreduce_family sig n) (length (allreduce_family sig n r).rounds) r p
   allreduce_hears r p h need =
       let parts = and_parts (ltb p n) (needs_of sig.kind sig.root r p) need in
       subst (λ j. Heard (allreduce_family sig n) j r p) (sym (allreduce_length r))
-      (spread_hears (allreduce_family sig n) (block_len sig) n 0 (depth n + depth n) (depth n) pos then_spread p
-      (first_hears (unwrap_or sig.op Sum) sig.ty (block_len sig) n (allreduce_family sig n) (spreading (block_len sig) n 0 0 (depth n)) is_at top p (ltb-true p n parts.0))
+      (bcast_tree_hears (allreduce_family sig n) (block_len sig) n 0 (depth n + depth n) (depth n) pos then_bcast p
+      (first_hears (unwrap_or sig.op Sum) sig.ty (block_len sig) n (allreduce_family sig n) (bcast_tree_rounds (block_len sig) n 0 0 (depth n)) is_at top p (ltb-true p n parts.0))
       (depth n) r (omega arith) h (near r h))
 
   allreduce_tree : IsNarrowFor sig n (allreduce_family sig n) (depth n + depth n)
@@ -101,10 +101,10 @@ module _ (sig : Signature) (n : ℕ) (kind : sig.kind ≡ Allreduce) (pos : 0 < 
       has_value = allreduce_value;
       hears = allreduce_hears;
     };
-    narrow = narrow_family n (block_len sig + block_len sig) (λ r. front (block_len sig)) (λ r. front (block_len sig)) (folding (unwrap_or sig.op Sum) sig.ty (block_len sig) n 0 (depth n) ++ spreading (block_len sig) n 0 0 (depth n)) allreduce_columns;
-    few = few_exchanges n (block_len sig + block_len sig) (λ r. front (block_len sig)) (λ r. front (block_len sig)) (folding (unwrap_or sig.op Sum) sig.ty (block_len sig) n 0 (depth n) ++ spreading (block_len sig) n 0 0 (depth n)) (depth n + depth n)
-        (costs_append (folding (unwrap_or sig.op Sum) sig.ty (block_len sig) n 0 (depth n)) (spreading (block_len sig) n 0 0 (depth n)) (depth n) (depth n) (depth n + depth n) refl
-        (folding_costs (unwrap_or sig.op Sum) sig.ty (block_len sig) (block_whole sig) may n 0 (depth n)) (spreading_costs (block_len sig) n 0 0 (depth n)));
+    narrow = narrow_family n (block_len sig + block_len sig) (λ r. front (block_len sig)) (λ r. front (block_len sig)) (reduce_tree_rounds (unwrap_or sig.op Sum) sig.ty (block_len sig) n 0 (depth n) ++ bcast_tree_rounds (block_len sig) n 0 0 (depth n)) allreduce_columns;
+    few = few_exchanges n (block_len sig + block_len sig) (λ r. front (block_len sig)) (λ r. front (block_len sig)) (reduce_tree_rounds (unwrap_or sig.op Sum) sig.ty (block_len sig) n 0 (depth n) ++ bcast_tree_rounds (block_len sig) n 0 0 (depth n)) (depth n + depth n)
+        (costs_append (reduce_tree_rounds (unwrap_or sig.op Sum) sig.ty (block_len sig) n 0 (depth n)) (bcast_tree_rounds (block_len sig) n 0 0 (depth n)) (depth n) (depth n) (depth n + depth n) refl
+        (reduce_tree_costs (unwrap_or sig.op Sum) sig.ty (block_len sig) (block_whole sig) may n 0 (depth n)) (bcast_tree_costs (block_len sig) n 0 0 (depth n)));
   }
 
 -- the family of allreduce serves each checked allreduce
@@ -112,11 +112,11 @@ pub allreduce_serves : (sig : Signature) (n : ℕ) → broken sig n ≡ None →
 allreduce_serves sig n h kind pos top = allreduce_tree sig n kind pos top (operation_allowed sig n (checked sig n h) (ap has_operation kind))
 
 -- the parts that the builder makes are the family's
-pub allreduce_parts : (sig : Signature) (n r len : ℕ) (op : Op) (rounds : List (List Action)) → len ≡ block_len sig → sig.op ≡ Some op → rounds ≡ rounds_of (folding op sig.ty len n 0 (depth n)) r ++ rounds_of (spreading len n 0 0 (depth n)) r → ◌≡◌ {A = Parts} (record { size = len + len; input = front len; output = front len; rounds = rounds }) (allreduce_family sig n r)
+pub allreduce_parts : (sig : Signature) (n r len : ℕ) (op : Op) (rounds : List (List Action)) → len ≡ block_len sig → sig.op ≡ Some op → rounds ≡ rounds_of (reduce_tree_rounds op sig.ty len n 0 (depth n)) r ++ rounds_of (bcast_tree_rounds len n 0 0 (depth n)) r → ◌≡◌ {A = Parts} (record { size = len + len; input = front len; output = front len; rounds = rounds }) (allreduce_family sig n r)
 allreduce_parts sig n r len op rounds e o s =
     let op_is : op ≡ unwrap_or sig.op Sum = sym (ap (λ x. unwrap_or x Sum) o) in
-    let s2 : rounds ≡ rounds_of (folding (unwrap_or sig.op Sum) sig.ty (block_len sig) n 0 (depth n) ++ spreading (block_len sig) n 0 0 (depth n)) r =
-    s ∙ (ap (λ l. rounds_of (folding op sig.ty l n 0 (depth n)) r ++ rounds_of (spreading l n 0 0 (depth n)) r) e
-    ∙ (ap (λ x. rounds_of (folding x sig.ty (block_len sig) n 0 (depth n)) r ++ rounds_of (spreading (block_len sig) n 0 0 (depth n)) r) op_is
-    ∙ sym (rounds-append (folding (unwrap_or sig.op Sum) sig.ty (block_len sig) n 0 (depth n)) (spreading (block_len sig) n 0 0 (depth n)) r))) in
+    let s2 : rounds ≡ rounds_of (reduce_tree_rounds (unwrap_or sig.op Sum) sig.ty (block_len sig) n 0 (depth n) ++ bcast_tree_rounds (block_len sig) n 0 0 (depth n)) r =
+    s ∙ (ap (λ l. rounds_of (reduce_tree_rounds op sig.ty l n 0 (depth n)) r ++ rounds_of (bcast_tree_rounds l n 0 0 (depth n)) r) e
+    ∙ (ap (λ x. rounds_of (reduce_tree_rounds x sig.ty (block_len sig) n 0 (depth n)) r ++ rounds_of (bcast_tree_rounds (block_len sig) n 0 0 (depth n)) r) op_is
+    ∙ sym (rounds-append (reduce_tree_rounds (unwrap_or sig.op Sum) sig.ty (block_len sig) n 0 (depth n)) (bcast_tree_rounds (block_len sig) n 0 0 (depth n)) r))) in
     λ k. record { size = e k + e k; input = front (e k); output = front (e k); rounds = s2 k }

@@ -7,38 +7,38 @@ use Rattle.coll_kinds.specs.declared.datatype.Datatype.{Datatype}
 use Rattle.coll_sched.specs.declared.action.Action.{Action}
 use Rattle.coll_sched.specs.declared.action.Action.TheVariants.{Send, Combine, Recv}
 use Rattle.coll_trees.specs.declared.binomial_tree_reduce_step.ReduceStep.{ReduceStep}
-use Rattle.coll_trees.specs.declared.binomial_tree_reduce_step.ReduceStep.TheVariants.{Gives, Takes, Rests}
+use Rattle.coll_trees.specs.declared.binomial_tree_reduce_step.ReduceStep.TheVariants.{SendsToParent, ReceivesFromChild, Rests}
 use Rattle.coll_trees.specs.Columns.{Column}
 use Rattle.coll_sched.specs.Regions.{front, behind}
 
 -- what member r of n does at distance s
-abbrev pub role : ℕ → ℕ → ℕ → ReduceStep
-role n r s = cond (r % (s + s) == s) Gives (cond ((r % (s + s) == 0) && nat_lt (r + s) n) Takes Rests)
+abbrev pub reduce_step : ℕ → ℕ → ℕ → ReduceStep
+reduce_step n r s = cond (r % (s + s) == s) SendsToParent (cond ((r % (s + s) == 0) && nat_lt (r + s) n) ReceivesFromChild Rests)
 
 -- the round in which blocks move
 abbrev pub moves : ℕ → ℕ → ℕ → ReduceStep → List Action
-moves b r s Gives = Send (r - s) (front b) ∷ []
-moves b r s Takes = Recv (r + s) (behind b) ∷ []
+moves b r s SendsToParent = Send (r - s) (front b) ∷ []
+moves b r s ReceivesFromChild = Recv (r + s) (behind b) ∷ []
 moves b r s Rests = []
 
 -- the round in which what was taken is combined behind what the member has
 abbrev pub combines : Op → Datatype → ℕ → ReduceStep → List Action
-combines op ty b Gives = []
-combines op ty b Takes = Combine op ty (front b) (behind b) (front b) ∷ []
+combines op ty b SendsToParent = []
+combines op ty b ReceivesFromChild = Combine op ty (front b) (behind b) (front b) ∷ []
 combines op ty b Rests = []
 
 -- the first round of the step at distance s
 abbrev pub move_at : ℕ → ℕ → ℕ → Column
-move_at b n s r = moves b r s (role n r s)
+move_at b n s r = moves b r s (reduce_step n r s)
 
 -- the second
 abbrev pub combine_at : Op → Datatype → ℕ → ℕ → ℕ → Column
-combine_at op ty b n s r = combines op ty b (role n r s)
+combine_at op ty b n s r = combines op ty b (reduce_step n r s)
 
 -- c steps of two rounds each, the first at distance 2 ^ k
-abbrev pub folding : Op → Datatype → ℕ → ℕ → ℕ → ℕ → List Column
-folding op ty b n k zero = []
-folding op ty b n k (suc c) = move_at b n (2 ^ k) ∷ combine_at op ty b n (2 ^ k) ∷ folding op ty b n (suc k) c
+abbrev pub reduce_tree_rounds : Op → Datatype → ℕ → ℕ → ℕ → ℕ → List Column
+reduce_tree_rounds op ty b n k zero = []
+reduce_tree_rounds op ty b n k (suc c) = move_at b n (2 ^ k) ∷ combine_at op ty b n (2 ^ k) ∷ reduce_tree_rounds op ty b n (suc k) c
 
 -- what member 0 holds goes to the root
 abbrev pub last_hop : ℕ → ℕ → Column

@@ -1,10 +1,10 @@
 -- Worked rows, computed.
 use Rattle.std.specs.Prelude.{◌≡◌, refl}
 use Rattle.coll_trees.specs.Depths.{depth}
-use Rattle.coll_trees.specs.BinomialTreeBcast.{from_root, member_at, way}
-use Rattle.coll_trees.specs.BinomialTreeReduce.{role}
-use Rattle.coll_trees.specs.declared.binomial_tree_bcast_step.BcastStep.TheVariants.{Passes, Gets, Idles}
-use Rattle.coll_trees.specs.declared.binomial_tree_reduce_step.ReduceStep.TheVariants.{Gives, Takes, Rests}
+use Rattle.coll_trees.specs.BinomialTreeBcast.{from_root, member_at, bcast_step}
+use Rattle.coll_trees.specs.BinomialTreeReduce.{reduce_step}
+use Rattle.coll_trees.specs.declared.binomial_tree_bcast_step.BcastStep.TheVariants.{SendsToChild, ReceivesFromParent, Idles}
+use Rattle.coll_trees.specs.declared.binomial_tree_reduce_step.ReduceStep.TheVariants.{SendsToParent, ReceivesFromChild, Rests}
 
 depth_of_one : depth 1 ≡ 0
 unfolding depth
@@ -26,21 +26,21 @@ round_the_end : member_at 6 4 2 ≡ 0
 round_the_end = refl
 
 -- of six members at distance 4: the first two pass on, the last two get
-first_passes : way 6 0 4 ≡ Passes
+first_passes : bcast_step 6 0 4 ≡ SendsToChild
 first_passes = refl
 
-third_idles : way 6 2 4 ≡ Idles
+third_idles : bcast_step 6 2 4 ≡ Idles
 third_idles = refl
 
-last_gets : way 6 5 4 ≡ Gets
+last_gets : bcast_step 6 5 4 ≡ ReceivesFromParent
 last_gets = refl
 
 -- of six members at distance 2: 2 gives to 0, and 4 has nobody above
-second_gives : role 6 2 2 ≡ Gives
+second_gives : reduce_step 6 2 2 ≡ SendsToParent
 second_gives = refl
 
-first_takes : role 6 0 2 ≡ Takes
+first_takes : reduce_step 6 0 2 ≡ ReceivesFromChild
 first_takes = refl
 
-fourth_rests : role 6 4 2 ≡ Rests
+fourth_rests : reduce_step 6 4 2 ≡ Rests
 fourth_rests = refl

@@ -24,12 +24,12 @@ pub(crate) struct BcastTree {
 }
 
 impl BcastTree {
-    ghost use Rattle.coll_trees.specs.BinomialTreeBcast.{way, hop, spreading};
+    ghost use Rattle.coll_trees.specs.BinomialTreeBcast.{bcast_step, hop, bcast_tree_rounds};
 
     /// Appends the rounds of member `r`, one for each step.
     pub fn push_rounds(self, alloc: Global, r: u8, rounds: &mut Vec<Round>) -> Result<(), Refusal>
         requires { r < self.n }
-        ensures ok { OnOk result (rounds.new.items ≡ rounds.old.items ++ rounds_of (spreading self.len self.n self.root 0 (depth self.n)) r) }
+        ensures ok { OnOk result (rounds.new.items ≡ rounds.old.items ++ rounds_of (bcast_tree_rounds self.len self.n self.root 0 (depth self.n)) r) }
         ensures refusal { IsOkUnless result Refusal.NoMemory }
     {
         let number = from_root(self.n, self.root, r);
@@ -45,7 +45,7 @@ impl BcastTree {
     fn hop(self, alloc: Global, number: u8, distance: u8) -> Result<Round, Refusal>
         requires member { number < self.n }
         requires near { distance ≤ 64 }
-        ensures ok { IfOk result (λ round. round ≡ hop self.len self.n self.root number distance (way self.n number distance)) }
+        ensures ok { IfOk result (λ round. round ≡ hop self.len self.n self.root number distance (bcast_step self.n number distance)) }
         ensures refusal { IsOkUnless result Refusal.NoMemory }
     {
         let block = Region {
@@ -53,14 +53,14 @@ impl BcastTree {
             len: self.len,
         };
         match BcastStep::new(self.n, number, distance) {
-            BcastStep::Passes => one_action(
+            BcastStep::SendsToChild => one_action(
                 alloc,
                 Action::Send {
                     to: member_at(self.n, self.root, number + distance),
                     from: block,
                 },
             ),
-            BcastStep::Gets => one_action(
+            BcastStep::ReceivesFromParent => one_action(
                 alloc,
                 Action::Recv {
                     of: member_at(self.n, self.root, number - distance),

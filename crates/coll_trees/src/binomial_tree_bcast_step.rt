@@ -4,31 +4,31 @@ ghost use Rattle.std.specs.Prelude.{◌≡◌, ◌<◌, ◌≤◌};
 #[derive(Clone, Copy, Debug, PartialEq, Eq)]
 pub(crate) enum BcastStep {
     /// It passes its block on to its child.
-    Passes,
+    SendsToChild,
     /// It gets the block from its parent.
-    Gets,
+    ReceivesFromParent,
     /// It does nothing.
     Idles,
 }
 
 impl BcastStep {
-    ghost use Rattle.coll_trees.specs.BinomialTreeBcast.{way};
+    ghost use Rattle.coll_trees.specs.BinomialTreeBcast.{bcast_step};
 
     /// What the member with that number, counted from the root on, does in the step at that distance.
     pub fn new(n: u8, number: u8, distance: u8) -> Self
         requires member { number < n }
         requires few { n ≤ 64 }
         requires near { distance ≤ 64 }
-        ensures { result ≡ way n number distance }
+        ensures { result ≡ bcast_step n number distance }
     {
         if number < distance {
             if number + distance < n {
-                BcastStep::Passes
+                BcastStep::SendsToChild
             } else {
                 BcastStep::Idles
             }
         } else if number < distance + distance {
-            BcastStep::Gets
+            BcastStep::ReceivesFromParent
         } else {
             BcastStep::Idles
         }

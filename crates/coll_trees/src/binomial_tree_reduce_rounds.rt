@@ -24,12 +24,12 @@ pub(crate) struct ReduceTree {
 }
 
 impl ReduceTree {
-    ghost use Rattle.coll_trees.specs.BinomialTreeReduce.{role, moves, combines, folding};
+    ghost use Rattle.coll_trees.specs.BinomialTreeReduce.{reduce_step, moves, combines, reduce_tree_rounds};
 
     /// Appends the rounds of member `r`, two for each step.
     pub fn push_rounds(self, alloc: Global, r: u8, rounds: &mut Vec<Round>) -> Result<(), Refusal>
         requires { r < self.n }
-        ensures ok { OnOk result (rounds.new.items ≡ rounds.old.items ++ rounds_of (folding self.op self.ty self.len self.n 0 (depth self.n)) r) }
+        ensures ok { OnOk result (rounds.new.items ≡ rounds.old.items ++ rounds_of (reduce_tree_rounds self.op self.ty self.len self.n 0 (depth self.n)) r) }
         ensures refusal { IsOkUnless result Refusal.NoMemory }
     {
         let steps = depth_of(self.n);
@@ -44,24 +44,24 @@ impl ReduceTree {
         Ok(())
     }
 
-    // The round in which blocks move, of member r whose role is known.
+    // The round in which blocks move, of member r whose step is known.
     fn moves(self, alloc: Global, r: u8, distance: u8, part: ReduceStep) -> Result<Round, Refusal>
         requires member { r < self.n }
         requires some { 0 < distance }
         requires near { distance ≤ 64 }
-        requires is { part ≡ role self.n r distance }
+        requires is { part ≡ reduce_step self.n r distance }
         ensures ok { IfOk result (λ round. round ≡ moves self.len r distance part) }
         ensures refusal { IsOkUnless result Refusal.NoMemory }
     {
         match part {
-            ReduceStep::Gives => one_action(
+            ReduceStep::SendsToParent => one_action(
                 alloc,
                 Action::Send {
                     to: r - distance,
                     from: Region::front(self.len),
                 },
             ),
-            ReduceStep::Takes => one_action(
+            ReduceStep::ReceivesFromChild => one_action(
                 alloc,
                 Action::Recv {
                     of: r + distance,
@@ -78,7 +78,7 @@ impl ReduceTree {
         ensures refusal { IsOkUnless result Refusal.NoMemory }
     {
         match part {
-            ReduceStep::Takes => one_action(
+            ReduceStep::ReceivesFromChild => one_action(
                 alloc,
                 Action::Combine {
                     op: self.op,
@@ -88,7 +88,7 @@ impl ReduceTree {
                     into: Region::front(self.len),
                 },
             ),
-            ReduceStep::Gives | ReduceStep::Rests => Ok(Round::new(alloc)),
+            ReduceStep::SendsToParent | ReduceStep::Rests => Ok(Round::new(alloc)),
         }
     }
 }

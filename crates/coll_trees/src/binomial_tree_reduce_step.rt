@@ -4,15 +4,15 @@ ghost use Rattle.std.specs.Prelude.{◌≡◌, ◌<◌, ◌≤◌};
 #[derive(Clone, Copy, Debug, PartialEq, Eq)]
 pub(crate) enum ReduceStep {
     /// It gives what it holds to its parent, the member below.
-    Gives,
+    SendsToParent,
     /// It takes what its child, the member above, holds, and combines it behind its own.
-    Takes,
+    ReceivesFromChild,
     /// It does nothing.
     Rests,
 }
 
 impl ReduceStep {
-    ghost use Rattle.coll_trees.specs.BinomialTreeReduce.{role};
+    ghost use Rattle.coll_trees.specs.BinomialTreeReduce.{reduce_step};
 
     /// What member `r` of `n` does in the step at that distance.
     pub fn new(n: u8, r: u8, distance: u8) -> Self
@@ -20,13 +20,13 @@ impl ReduceStep {
         requires few { n ≤ 64 }
         requires some { 0 < distance }
         requires near { distance ≤ 64 }
-        ensures { result ≡ role n r distance }
+        ensures { result ≡ reduce_step n r distance }
     {
         let place = r % (distance + distance);
         if place == distance {
-            ReduceStep::Gives
+            ReduceStep::SendsToParent
         } else if place == 0 && r + distance < n {
-            ReduceStep::Takes
+            ReduceStep::ReceivesFromChild
         } else {
             ReduceStep::Rests
         }

@@ -1,0 +1,8 @@
+use Rattle.std.proofs.Common.{◌≡◌, ◌++◌, ◌-◌}
+use Rattle.coll_trees.specs.Columns.{rounds_of}
+use Rattle.coll_plans.specs.DisseminationBarrier.{barrier_rounds}
+use Rattle.coll_plans.proofs.dissemination_barrier.barrier_rounds.Given as goal
+
+-- the rounds so far with those that remain are all
+abbrev pub invariant-loop-step : goal.invariant-loop-step
+invariant-loop-step l = l.rounds.items ++ rounds_of (barrier_rounds l.n l.step (l.steps - l.step)) l.r ≡ rounds_of (barrier_rounds l.n 0 l.steps) l.r
