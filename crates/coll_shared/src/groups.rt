@@ -1,5 +1,6 @@
 ghost use Rattle.std.specs.Prelude.{◌≡◌, ◌<◌, ◌≤◌, ℕ, Some, length, IfErr, IfOk};
 ghost use Rattle.std.specs.Result.{result_err};
+ghost use Rattle.coll_kinds.specs.declared.refusal.ConfigField.TheVariants.{Slots, Places, Wear, Starts, Trace};
 ghost use Rattle.coll_kinds.specs.Groups.{member_of};
 ghost use Rattle.coll_core.specs.Configs.{Fits, setting_by};
 ghost use Rattle.coll_report.specs.Views.{groups_seen};
@@ -41,7 +42,7 @@ pub(crate) fn copied_config(alloc: Global, config: &Config) -> Result<Config, Re
 pub fn roomy(ranks: u8, groups: Vec<Vec<u8>>) -> Config
     ensures ranks { result.ranks ≡ ranks }
     ensures groups { result.groups ≡ groups }
-    ensures sizes { Fits result ConfigField.Slots × Fits result ConfigField.Places × Fits result ConfigField.Wear × Fits result ConfigField.Starts × Fits result ConfigField.Trace }
+    ensures sizes { Fits result Slots × Fits result Places × Fits result Wear × Fits result Starts × Fits result Trace }
 {
     Config {
         ranks,
