@@ -11,8 +11,9 @@ use Rattle.coll_arena.specs.Lookups.{PutsSlot}
 use Rattle.coll_arena.specs.Slots.{Slots, generation_of, home, names, record_in, weight_of}
 use Rattle.coll_arena.specs.Sound.{IsSound}
 use Rattle.coll_arena.proofs.Sounds.{Named-names}
-use Rattle.coll_match.specs.declared.key.Key.{Key}
-use Rattle.coll_match.specs.Instances.{given, mail, members, put_key, seats}
+use Rattle.coll_machine.specs.declared.key.Key.{Key}
+use Rattle.coll_machine.specs.Changes.{put_key}
+use Rattle.coll_match.specs.Instances.{given, mail, members, seats}
 use Rattle.coll_tables.specs.Engines.{IsJoined}
 use Rattle.coll_tables.specs.OneSlots.{OneSlot}
 use Rattle.coll_tables.specs.Requests.{Live}

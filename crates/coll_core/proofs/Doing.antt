@@ -16,9 +16,10 @@ use Rattle.coll_arena.specs.Slots.{Slots, home, record_in, weight_of}
 use Rattle.coll_arena.specs.Sound.{IsSound}
 use Rattle.coll_arena.proofs.Sounds.{Named-names}
 use Rattle.coll_queues.specs.Postings.{Postings}
-use Rattle.coll_match.specs.declared.key.Key.{Key}
+use Rattle.coll_machine.specs.declared.key.Key.{Key}
 use Rattle.coll_match.specs.Held.{put_mail}
-use Rattle.coll_match.specs.Instances.{mail, put_key}
+use Rattle.coll_machine.specs.Changes.{put_key}
+use Rattle.coll_match.specs.Instances.{mail}
 use Rattle.coll_tables.specs.Shown.{Instances}
 use Rattle.coll_tables.specs.Engines.{KeepsGifts}
 use Rattle.coll_tables.specs.EngineLaws.{ActsOnce}

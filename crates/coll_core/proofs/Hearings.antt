@@ -7,7 +7,7 @@ use Rattle.coll_sched.specs.declared.action.Action.TheVariants.{Recv}
 use Rattle.coll_arena.specs.Lookups.{PutsSlot}
 use Rattle.coll_arena.specs.Slots.{Slots, home, is_live, names, record_in, ticket_of, weight_of}
 use Rattle.coll_arena.proofs.Sounds.{Named-names}
-use Rattle.coll_match.specs.declared.key.Key.{Key}
+use Rattle.coll_machine.specs.declared.key.Key.{Key}
 use Rattle.coll_match.specs.Instances.{mail, seats}
 use Rattle.coll_tables.specs.Engines.{Delivers}
 use Rattle.coll_tables.specs.Shown.{Instances}

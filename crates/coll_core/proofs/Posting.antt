@@ -13,8 +13,9 @@ use Rattle.coll_arena.specs.Sound.{IsSound as IsArena}
 use Rattle.coll_machine.specs.Calls.{Call, Planned, Post, Init, Ticketed}
 use Rattle.coll_machine.specs.Machines.{MachineStep, refuse, short, takes_memory}
 use Rattle.coll_machine.specs.Settings.{Setting}
-use Rattle.coll_match.specs.declared.key.Key.{Key as MatchKey}
-use Rattle.coll_match.specs.Instances.{given, mail, members, put_key, seats}
+use Rattle.coll_machine.specs.declared.key.Key.{Key as MatchKey}
+use Rattle.coll_machine.specs.Changes.{put_key}
+use Rattle.coll_match.specs.Instances.{given, mail, members, seats}
 use Rattle.coll_plans.specs.Plans.{family}
 use Rattle.coll_queues.specs.Postings.{Postings, place_of}
 use Rattle.coll_sched.specs.Families.{laid_in}

@@ -14,7 +14,7 @@ use Rattle.coll_arena.specs.Sound.{IsSound}
 use Rattle.coll_arena.proofs.Sounds.{Named-names}
 use Rattle.coll_sched.specs.Regions.{read_of}
 use Rattle.coll_queues.specs.Postings.{groups_of}
-use Rattle.coll_match.specs.declared.key.Key.{Key}
+use Rattle.coll_machine.specs.declared.key.Key.{Key}
 use Rattle.coll_match.specs.Instances.{seats}
 use Rattle.coll_machine.specs.Settings.{Setting}
 use Rattle.coll_machine.specs.Calls.{Nothing, Outcome, Retire}

@@ -5,8 +5,9 @@ use Rattle.std.proofs.lemmas.Bool.Decides.{nat_tests}
 use Rattle.coll_arena.specs.Slots.{count}
 use Rattle.coll_kinds.specs.declared.refusal.Refusal.{Refusal}
 use Rattle.coll_machine.specs.Settings.{Setting, size}
-use Rattle.coll_match.specs.declared.key.Key.{Key as MatchKey}
-use Rattle.coll_match.specs.Instances.{given, mail, members, put_key, same_key, seats}
+use Rattle.coll_machine.specs.declared.key.Key.{Key as MatchKey}
+use Rattle.coll_machine.specs.Changes.{put_key, same_key}
+use Rattle.coll_match.specs.Instances.{given, mail, members, seats}
 use Rattle.coll_match.specs.Instances as instances
 use Rattle.coll_queues.specs.Postings.{Postings}
 use Rattle.coll_tables.specs.Cores as tabled

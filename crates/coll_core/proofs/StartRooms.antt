@@ -2,8 +2,9 @@
 use Rattle.std.proofs.Common.{◌≡◌, ◌∙◌, ◌<◌, ℕ, inr, List, length, unwrap_or, Option, Some, None, ap, refl, sym, subst}
 use Rattle.std.specs.Prelude.{IfSome}
 use Rattle.coll_kinds.specs.Lengths.{given_len}
-use Rattle.coll_match.specs.declared.key.Key.{Key}
-use Rattle.coll_match.specs.Instances.{given, mail, members, put_key, seats, size as room_of}
+use Rattle.coll_machine.specs.declared.key.Key.{Key}
+use Rattle.coll_machine.specs.Changes.{put_key}
+use Rattle.coll_match.specs.Instances.{given, mail, members, seats, size as room_of}
 use Rattle.coll_match.proofs.Standing.{put_key_at}
 use Rattle.coll_sched.specs.Schedules.{Parts as Schedule}
 use Rattle.coll_arena.specs.Slots.{home, record_in}

@@ -8,7 +8,7 @@ use Rattle.coll_arena.specs.declared.list_name.ListName.TheVariants.{Free, Worn,
 use Rattle.coll_arena.specs.ListNames.{number_of}
 use Rattle.coll_arena.specs.Lookups.{PutsSlot}
 use Rattle.coll_arena.specs.Slots.{Slots, home, names, record_in, weight_of}
-use Rattle.coll_match.specs.declared.key.Key.{Key}
+use Rattle.coll_machine.specs.declared.key.Key.{Key}
 use Rattle.coll_match.specs.Instances.{mail, seats}
 use Rattle.coll_tables.specs.Engines.{IsCalled}
 use Rattle.coll_tables.specs.Requests.{went}

@@ -8,7 +8,7 @@ use Rattle.coll_kinds.specs.Checks.{broken}
 use Rattle.coll_kinds.specs.Sameness.{mode_number}
 use Rattle.coll_plans.specs.Plans.{Planned as Plan, family}
 use Rattle.coll_queues.specs.Postings.{Postings, HasRoom, place_of}
-use Rattle.coll_match.specs.declared.key.Key.{Key as Instance}
+use Rattle.coll_machine.specs.declared.key.Key.{Key as Instance}
 use Rattle.coll_match.specs.Instances as instances
 use Rattle.coll_machine.specs.Calls.{Call, Planned, Post, Init}
 use Rattle.coll_machine.specs.Refusals.{refusal, unless}

@@ -2,7 +2,7 @@
 use Rattle.std.specs.Prelude.{◌≡◌, ◌≢◌, ℕ, true, Option, Some, None}
 use Rattle.coll_arena.specs.declared.list_name.ListName.{ListName}
 use Rattle.coll_arena.specs.declared.list_name.ListName.TheVariants.{Free, Worn, Ready, Running, Idle, Queue, Done}
-use Rattle.coll_match.specs.declared.key.Key.{Key as Instance}
+use Rattle.coll_machine.specs.declared.key.Key.{Key as Instance}
 use Rattle.coll_sched.specs.declared.action.Action.TheVariants.{Recv}
 use Rattle.coll_sched.specs.declared.action.Action.{Action}
 use Rattle.coll_sched.specs.declared.region.Region.{Region}

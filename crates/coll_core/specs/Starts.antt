@@ -6,7 +6,7 @@ use Rattle.coll_sched.specs.Points.{IsPoint, Over}
 use Rattle.coll_arena.specs.declared.list_name.ListName.{ListName}
 use Rattle.coll_arena.specs.ListNames.{number_of}
 use Rattle.coll_arena.specs.Slots.{Slots}
-use Rattle.coll_match.specs.declared.key.Key.{Key}
+use Rattle.coll_machine.specs.declared.key.Key.{Key}
 use Rattle.coll_match.specs.Instances.{given, mail, size}
 use Rattle.coll_tables.specs.Engines.{IsJoined}
 use Rattle.coll_tables.specs.OneSlots.{OneSlot}

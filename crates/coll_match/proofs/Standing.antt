@@ -8,9 +8,10 @@ use Rattle.std.proofs.lemmas.Map.{lookup-set_value}
 use Rattle.std.proofs.lemmas.Option.{same_Some, slice_get_past}
 use Rattle.coll_kinds.specs.Puts.{put}
 use Rattle.coll_kinds.proofs.Puts.{put_cases}
-use Rattle.coll_match.specs.declared.key.Key.{Key}
+use Rattle.coll_machine.specs.declared.key.Key.{Key}
 use Rattle.coll_match.specs.Held.{Held, IsOver, gift_of, slot_of, given_in, mail_in, seat_in, put_mail}
-use Rattle.coll_match.specs.Instances.{IsLast, given, given_of, mail, mail_of, members, members_of, put_key, same_key, seats, seats_of, size, standing}
+use Rattle.coll_machine.specs.Changes.{put_key, same_key}
+use Rattle.coll_match.specs.Instances.{IsLast, given, given_of, mail, mail_of, members, members_of, seats, seats_of, size, standing}
 use Rattle.coll_match.proofs.Puts.{cond_map, eqb_sym, updated}
 
 pub same_at : (a k : Key) → same_key a k ≡ true → a ≡ k

@@ -1,16 +1,10 @@
 -- All instances that stand, as look-ups by key.
-use Rattle.std.specs.Prelude.{◌≡◌, ◌≢◌, ◌<◌, ◌==◌, ◌&&◌, ℕ, Bool, cond, false, List, length, unwrap_or, Option, Some, None}
+use Rattle.std.specs.Prelude.{◌≡◌, ◌≢◌, ◌<◌, ℕ, Bool, false, List, length, unwrap_or, Option, Some, None}
 use Rattle.std.specs.Map.{lookup}
 use Rattle.coll_kinds.specs.Puts.{put}
-use Rattle.coll_match.specs.declared.key.Key.{Key}
+use Rattle.coll_machine.specs.declared.key.Key.{Key}
+use Rattle.coll_machine.specs.Changes.{same_key}
 use Rattle.coll_match.specs.Held.{Held, given_in, mail_in, seat_in}
-
-abbrev pub same_key : Key → Key → Bool
-same_key a b = (a.comm == b.comm) && ((a.place == b.place) && (a.start == b.start))
-
--- a function of keys with another value at one key
-abbrev pub put_key : {X : Type 0} → (Key → X) → Key → X → Key → X
-put_key f k x a = cond (same_key a k) x (f a)
 
 -- an entry is that instance's
 abbrev pub is_of : Key → Option (Key × Held) → Bool

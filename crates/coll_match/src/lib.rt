@@ -17,6 +17,7 @@ mod key;
 mod matches;
 mod outbox;
 
-pub use key::Key;
 pub use matches::Matches;
 pub use outbox::Message;
+
+pub use coll_machine::Key;

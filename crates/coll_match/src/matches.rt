@@ -3,12 +3,14 @@ ghost use Rattle.std.specs.Option.{option_copied, option_copied_mut};
 ghost use Rattle.coll_kinds.specs.declared.refusal.Refused.{Refused};
 ghost use Rattle.coll_kinds.specs.Puts.{put};
 ghost use Rattle.coll_match.specs.Held.{put_mail};
-ghost use Rattle.coll_match.specs.Instances.{IsLast, given, is_of, mail, members, put_key, seats, size, standing};
+ghost use Rattle.coll_machine.specs.Changes.{put_key};
+ghost use Rattle.coll_match.specs.Instances.{IsLast, given, is_of, mail, members, seats, size, standing};
 
 use crate::instance::Instance;
-use crate::key::{Key, Way};
+use crate::key::Way;
 use crate::outbox::Message;
 use coll_kinds::{Refusal, Refused};
+use coll_machine::Key;
 use indexmap::IndexMap;
 use std::alloc::Global;
 use std::marker::Model;
@@ -28,7 +30,7 @@ pub struct Matches {
 impl Model for Matches {
     ghost use Rattle.std.specs.Prelude.{List};
     ghost use Rattle.coll_match.specs.Held.{Held};
-    ghost use Rattle.coll_match.specs.declared.key.Key.{Key};
+    ghost use Rattle.coll_machine.specs.declared.key.Key.{Key};
 
     ghost Value = { List (Key × Held) };
 

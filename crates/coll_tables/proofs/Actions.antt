@@ -6,7 +6,8 @@ use Rattle.coll_sched.specs.Worlds.{Progress}
 use Rattle.coll_kinds.specs.Puts.{put}
 use Rattle.coll_kinds.proofs.Puts.{put_same}
 use Rattle.coll_machine.specs.Settings.{size}
-use Rattle.coll_machine.specs.States.{Key, Machine}
+use Rattle.coll_machine.specs.declared.key.Key.{Key}
+use Rattle.coll_machine.specs.States.{Machine}
 use Rattle.coll_tables.specs.Requests.{Live, key, went}
 use Rattle.coll_tables.specs.Tables.{Mail, Tables, Paths, is_done, state, machine}
 use Rattle.coll_tables.specs.Sound.{Stands, ready, running, idle, queued, done, Lies, Sound, IsSound, Called}

@@ -14,7 +14,7 @@ use Rattle.coll_kinds.proofs.Puts.{put_same}
 use Rattle.coll_sched.proofs.Track.{tracks_join, tracks_empty, tracks_leave, not_begun, heard_self}
 use Rattle.coll_sched.proofs.Views.{tracks_agrees}
 use Rattle.coll_machine.specs.Settings.{size}
-use Rattle.coll_machine.specs.States.{Key}
+use Rattle.coll_machine.specs.declared.key.Key.{Key}
 use Rattle.coll_machine.specs.Changes.{put_key}
 use Rattle.coll_plans.specs.Plans.{family}
 use Rattle.coll_tables.specs.Requests.{Live, at, key, progress, went, begun, at_rest, rests, rests_by}

@@ -16,8 +16,9 @@ use Rattle.coll_arena.specs.Slots.{Slots, count, generation_of, home, record_in}
 use Rattle.coll_arena.specs.Sound as arena
 use Rattle.coll_arena.proofs.Sounds.{free_first}
 use Rattle.coll_queues.specs.Postings.{Postings, number_of as number_in, place_of, posts, signed}
-use Rattle.coll_match.specs.declared.key.Key.{Key as MatchKey}
-use Rattle.coll_match.specs.Instances.{given, mail, put_key, seats}
+use Rattle.coll_machine.specs.declared.key.Key.{Key as MatchKey}
+use Rattle.coll_machine.specs.Changes.{put_key}
+use Rattle.coll_match.specs.Instances.{given, mail, seats}
 use Rattle.coll_machine.specs.Settings.{Setting, group, size}
 use Rattle.coll_machine.specs.Changes.{put2}
 use Rattle.coll_machine.specs.Calls.{Planned, Post, Init, Start, Free, Ticketed, Nothing}

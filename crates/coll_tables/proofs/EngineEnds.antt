@@ -12,11 +12,12 @@ use Rattle.coll_plans.specs.Plans.{family}
 use Rattle.coll_arena.specs.Slots.{Slots, generation_of, home, record_in}
 use Rattle.coll_queues.specs.Lists.{first_there}
 use Rattle.coll_queues.specs.Postings.{Postings, posts, signed}
-use Rattle.coll_match.specs.declared.key.Key.{Key as MatchKey}
+use Rattle.coll_machine.specs.declared.key.Key.{Key as MatchKey}
 use Rattle.coll_match.specs.Held.{Held}
-use Rattle.coll_match.specs.Instances.{given, given_of, mail, members, members_of, put_key, seats, standing, IsLast as LeavesLast}
+use Rattle.coll_machine.specs.Changes.{put_key}
+use Rattle.coll_match.specs.Instances.{given, given_of, mail, members, members_of, seats, standing, IsLast as LeavesLast}
 use Rattle.coll_machine.specs.Settings.{Setting, size}
-use Rattle.coll_machine.specs.States.{Key}
+use Rattle.coll_machine.specs.declared.key.Key.{Key}
 use Rattle.coll_machine.specs.Changes.{put_key as put_at}
 use Rattle.coll_machine.specs.Calls.{Retire, Outcome}
 use Rattle.coll_machine.specs.Refusals.{refusal}

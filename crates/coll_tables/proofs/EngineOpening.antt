@@ -10,7 +10,7 @@ use Rattle.coll_arena.specs.Slots.{Slots, count, home, record_in}
 use Rattle.coll_arena.proofs.Opening.{list_of-opening}
 use Rattle.coll_queues.specs.Lists.{first_there}
 use Rattle.coll_queues.specs.Postings.{size as size_in}
-use Rattle.coll_match.specs.declared.key.Key.{Key as MatchKey}
+use Rattle.coll_machine.specs.declared.key.Key.{Key as MatchKey}
 use Rattle.coll_tables.specs.Requests.{Live}
 use Rattle.coll_tables.specs.Tables.{Tables, asked, is_done}
 use Rattle.coll_tables.specs.Sound.{IsSound}

@@ -21,7 +21,8 @@ use Rattle.coll_arena.proofs.Lents.{lent_by-weight}
 use Rattle.coll_queues.specs.Postings.{place_of, posts}
 use Rattle.coll_match.specs.Instances.{given, mail}
 use Rattle.coll_machine.specs.Settings.{Setting, size}
-use Rattle.coll_machine.specs.States.{Key, Request}
+use Rattle.coll_machine.specs.declared.key.Key.{Key}
+use Rattle.coll_machine.specs.States.{Request}
 use Rattle.coll_machine.specs.Calls.{Planned, Post}
 use Rattle.coll_machine.specs.Refusals.{refusal}
 use Rattle.coll_machine.specs.Lents.{lent_by}

@@ -11,7 +11,7 @@ use Rattle.coll_sched.specs.Heart.{IsQuiet}
 use Rattle.coll_sched.proofs.Tracked.{tracked_finishes}
 use Rattle.coll_sched.proofs.Track.{tracks_empty}
 use Rattle.coll_machine.specs.Settings.{size}
-use Rattle.coll_machine.specs.States.{Key}
+use Rattle.coll_machine.specs.declared.key.Key.{Key}
 use Rattle.coll_plans.specs.Plans.{family}
 use Rattle.coll_tables.specs.Requests.{Live, before, key, progress}
 use Rattle.coll_tables.specs.Tables.{Mail, Tables, Paths, family_at, world}

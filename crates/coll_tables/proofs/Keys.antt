@@ -1,7 +1,7 @@
 -- Functions of keys.
 use Rattle.std.proofs.Common.{◌≡◌, ℕ, ◌≢◌, ◌⊎◌, inl, inr, refl, sym, ap, ◌∙◌}
 use Rattle.std.proofs.lemmas.Bool.{cases_eq}
-use Rattle.coll_machine.specs.States.{Key}
+use Rattle.coll_machine.specs.declared.key.Key.{Key}
 use Rattle.coll_kinds.specs.Puts.{put}
 use Rattle.coll_machine.specs.Changes.{put_key}
 use Rattle.coll_kinds.proofs.Puts.{put_at, put_other}

@@ -10,7 +10,7 @@ use Rattle.coll_arena.specs.Slots.{Slots, count, generation_of, home, record_in,
 use Rattle.coll_arena.specs.Sound as arena
 use Rattle.coll_arena.proofs.Lookups.{PutsSlot-rewritten}
 use Rattle.coll_queues.specs.Postings.{Postings, groups_of}
-use Rattle.coll_match.specs.declared.key.Key.{Key as MatchKey}
+use Rattle.coll_machine.specs.declared.key.Key.{Key as MatchKey}
 use Rattle.coll_match.specs.Instances.{members}
 use Rattle.coll_machine.specs.Settings.{Setting, size}
 use Rattle.coll_tables.specs.Requests.{Live}

@@ -17,7 +17,7 @@ use Rattle.coll_sched.proofs.Tracked.{steps_track}
 use Rattle.coll_sched.proofs.Points.{goes_over}
 use Rattle.coll_sched.proofs.Views.{tracks_agrees}
 use Rattle.coll_machine.specs.Settings.{size}
-use Rattle.coll_machine.specs.States.{Key}
+use Rattle.coll_machine.specs.declared.key.Key.{Key}
 use Rattle.coll_machine.specs.Changes.{put_key}
 use Rattle.coll_plans.specs.Plans.{family}
 use Rattle.coll_tables.specs.Requests.{Live, at, key, progress, went, begun, rests}

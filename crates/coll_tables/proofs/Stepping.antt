@@ -9,7 +9,8 @@ use Rattle.coll_kinds.specs.Puts.{put}
 use Rattle.coll_kinds.proofs.Puts.{put_same, put_other}
 use Rattle.coll_machine.specs.Settings.{group, size}
 use Rattle.coll_kinds.specs.Groups.{member_of}
-use Rattle.coll_machine.specs.States.{Key, State, Request, Machine, found}
+use Rattle.coll_machine.specs.declared.key.Key.{Key}
+use Rattle.coll_machine.specs.States.{State, Request, Machine, found}
 use Rattle.coll_machine.specs.Changes.{holding, created, new_request, started, rested, rested_by, forgotten}
 use Rattle.coll_machine.specs.Calls.{Planned, Post, Init, Start, Retire, Free, Finish, Nothing}
 use Rattle.coll_machine.specs.Refusals.{refusal}

@@ -7,7 +7,8 @@ use Rattle.coll_kinds.specs.declared.kind.Mode.TheVariants.{Once, Persistent}
 use Rattle.coll_kinds.specs.Puts.{put}
 use Rattle.coll_kinds.proofs.Puts.{put_same, put_put}
 use Rattle.coll_machine.specs.Settings.{size}
-use Rattle.coll_machine.specs.States.{Key, Request, Machine}
+use Rattle.coll_machine.specs.declared.key.Key.{Key}
+use Rattle.coll_machine.specs.States.{Request, Machine}
 use Rattle.coll_machine.specs.Machines.{MachineStep, post, init, start, retire, free}
 use Rattle.coll_plans.specs.Plans.{family}
 use Rattle.coll_machine.specs.Calls.{Post, Init, Start, Retire, Free, Ticketed, Outcome, Nothing}

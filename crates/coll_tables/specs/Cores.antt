@@ -2,7 +2,7 @@
 use Rattle.std.specs.Prelude.{◌≡◌, ℕ, length, Some}
 use Rattle.coll_arena.specs.Slots.{Slots, count, weight_of}
 use Rattle.coll_queues.specs.Postings.{Postings, groups_of}
-use Rattle.coll_match.specs.declared.key.Key.{Key as MatchKey}
+use Rattle.coll_machine.specs.declared.key.Key.{Key as MatchKey}
 use Rattle.coll_match.specs.Instances.{members}
 use Rattle.coll_machine.specs.Settings.{Setting, AreGroups, size}
 use Rattle.coll_tables.specs.Requests.{Live}

@@ -20,9 +20,10 @@ use Rattle.coll_arena.specs.Slots.{Slots, home, lent, record_in}
 use Rattle.coll_arena.specs.Changes.{opened as arena_opened}
 use Rattle.coll_arena.specs.Sound as arena
 use Rattle.coll_queues.specs.Postings.{Postings, groups_of, place_of, posts}
-use Rattle.coll_match.specs.declared.key.Key.{Key as MatchKey}
+use Rattle.coll_machine.specs.declared.key.Key.{Key as MatchKey}
 use Rattle.coll_match.specs.Held.{put_mail}
-use Rattle.coll_match.specs.Instances.{given, mail, members, put_key, seats}
+use Rattle.coll_machine.specs.Changes.{put_key}
+use Rattle.coll_match.specs.Instances.{given, mail, members, seats}
 use Rattle.coll_machine.specs.Settings.{Setting, AreGroups, size}
 use Rattle.coll_machine.specs.Calls.{Planned, Post, Init, Start, Retire, Free, Ticketed, Outcome, Nothing}
 use Rattle.coll_machine.specs.Lents.{lent_bytes}

@@ -22,8 +22,9 @@ use Rattle.coll_arena.specs.declared.list_name.ListName.TheVariants.{Free, Worn,
 use Rattle.coll_arena.specs.ListNames.{number_of}
 use Rattle.coll_arena.specs.Slots.{Slots, generation_of, home, record_in, weight_of}
 use Rattle.coll_queues.specs.Postings.{Postings, groups_of, number_of as number_in, place_of, posts, put_posts, put_signed, signed}
-use Rattle.coll_match.specs.declared.key.Key.{Key as MatchKey}
-use Rattle.coll_match.specs.Instances.{given, mail, members, put_key, seats, IsLast}
+use Rattle.coll_machine.specs.declared.key.Key.{Key as MatchKey}
+use Rattle.coll_machine.specs.Changes.{put_key}
+use Rattle.coll_match.specs.Instances.{given, mail, members, seats, IsLast}
 use Rattle.coll_machine.specs.Settings.{Setting}
 use Rattle.coll_machine.specs.States.{State}
 use Rattle.coll_machine.specs.Calls.{Planned, Post, Init, Start, Retire, Free}

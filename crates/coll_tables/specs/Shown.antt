@@ -6,11 +6,11 @@ use Rattle.coll_arena.specs.declared.list_name.ListName.TheVariants.{Idle}
 use Rattle.coll_arena.specs.ListNames.{number_of}
 use Rattle.coll_arena.specs.Slots.{Slots, count, generation_of, home, record_in}
 use Rattle.coll_queues.specs.Postings.{Postings, groups_of, posts, signed}
-use Rattle.coll_match.specs.declared.key.Key.{Key as MatchKey}
+use Rattle.coll_machine.specs.declared.key.Key.{Key as MatchKey}
 use Rattle.coll_match.specs.Held.{Held}
 use Rattle.coll_match.specs.Instances.{given, mail, seats}
 use Rattle.coll_machine.specs.Settings.{Setting}
-use Rattle.coll_machine.specs.States.{Key}
+use Rattle.coll_machine.specs.declared.key.Key.{Key}
 use Rattle.coll_tables.specs.Requests.{Live}
 use Rattle.coll_tables.specs.Tables.{Tables}
 

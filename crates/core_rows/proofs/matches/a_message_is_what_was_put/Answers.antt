@@ -1,6 +1,6 @@
 use Rattle.std.proofs.Common.{ap, ℕ, Option}
 use Rattle.std.specs.Prelude.{unwrap_or}
-use Rattle.coll_match.specs.declared.key.Key.{Key}
+use Rattle.coll_machine.specs.declared.key.Key.{Key}
 use Rattle.core_rows.proofs.matches.a_message_is_what_was_put.Goals as goal
 
 pub enter-requires : goal.enter-requires

@@ -1,7 +1,7 @@
 use Rattle.std.proofs.Common.{◌≡◌, ◌∙◌, ap, sym, subst}
 use Rattle.std.specs.Prelude.{OnOk}
 use Rattle.coll_machine.specs.Settings.{size}
-use Rattle.coll_match.specs.declared.key.Key.{Key as MatchKey}
+use Rattle.coll_machine.specs.declared.key.Key.{Key as MatchKey}
 use Rattle.coll_match.specs.Instances as instances
 use Rattle.coll_tables.specs.Engines.{HasMade}
 use Rattle.coll_core.specs.Cores.{Parts, setting}

@@ -1,6 +1,7 @@
 use Rattle.std.proofs.Common.{◌∙◌, ap, sym, ℕ, List, Option, None}
 use Rattle.std.specs.Prelude.{if◌then◌else◌}
-use Rattle.coll_match.specs.Instances.{given, mail, members, put_key, seats}
+use Rattle.coll_machine.specs.Changes.{put_key}
+use Rattle.coll_match.specs.Instances.{given, mail, members, seats}
 use Rattle.coll_match.proofs.Standing.{nobody_sits, put_key_own, put_key_twice}
 use Rattle.coll_match.proofs.matches.Matches.leave.Goals as goal
 
