@@ -54,14 +54,20 @@ full g s =
     let spare = λ (slot : ℕ). is_none (s.request slot) && nat_lt (s.generation slot) g.wear in
     unless (list_any spare (range_with_len 0 g.slots)) Full
 
+-- of a plan among so many members, for a member and a mode
+abbrev pub plan_refusals : Planned → ℕ → ℕ → Mode → List (Option Refusal)
+plan_refusals plan size member mode =
+    option_map BadSignature (broken plan.sig size)  -- root, operation, count or size
+    ∷ unless (mode_number plan.sig.mode == mode_number mode) (BadSignature WrongMode)  -- once or persistent
+    ∷ unless ((plan.n == size) && (plan.member == member)) (BadSignature WrongGroup)  -- another's plan
+    ∷ []
+
 -- of a post or an initialisation by a member
 abbrev pub posting_refusals : Setting → State → ℕ → ℕ → ℕ → Mode → Planned → List (Option Refusal)
 posting_refusals g s rank comm member mode plan =
     member_refusals g.groups comm rank  -- no such communicator, or not one of its ranks
-    ++ option_map BadSignature (broken plan.sig (size g comm))  -- root, operation, count or size
-    ∷ unless (mode_number plan.sig.mode == mode_number mode) (BadSignature WrongMode)  -- once or persistent
-    ∷ unless ((plan.n == size g comm) && (plan.member == member)) (BadSignature WrongGroup)  -- another's plan
-    ∷ mismatch_in (group g comm) (s.posts comm) (length (s.posts comm member)) plan.sig  -- another collective at the member's next place
+    ++ plan_refusals plan (size g comm) member mode  -- the plan can't be the member's
+    ++ mismatch_in (group g comm) (s.posts comm) (length (s.posts comm member)) plan.sig  -- another collective at the member's next place
     ∷ unless (nat_lt (length (s.posts comm member)) g.places) PlacesUsed  -- no next place
     ∷ []
 
