@@ -22,7 +22,7 @@ use Rattle.coll_machine.specs.Settings.{Setting}
 use Rattle.coll_machine.specs.States.{Machine}
 use Rattle.coll_machine.specs.Calls.{Finish, Nothing}
 use Rattle.coll_machine.specs.Machines.{MachineStep, finish}
-use Rattle.coll_tables.specs.Requests.{Live, went}
+use Rattle.coll_tables.specs.Requests.{Live, went, key}
 use Rattle.coll_tables.specs.Tables.{is_done, machine}
 use Rattle.coll_tables.specs.Shown.{Instances, tables}
 use Rattle.coll_tables.specs.Shown as tabled
@@ -35,7 +35,7 @@ use Rattle.coll_tables.specs.EngineLaws.{ActsOnce}
 use Rattle.coll_tables.proofs.Slots.{one_slot}
 use Rattle.coll_core.specs.declared.request.Request.{Request}
 use Rattle.coll_core.specs.Cores.{IsCore, Parts, setting}
-use Rattle.coll_core.specs.Requests.{IsListOf, instance, next_of, schedule, shown}
+use Rattle.coll_core.specs.Requests.{IsListOf, next_of, schedule, shown}
 use Rattle.coll_core.specs.Goings.{CanGoOn, GoneOn, is_end}
 use Rattle.coll_core.specs.Steps.{Goes, StepsBy}
 use Rattle.coll_core.proofs.Goings.{puts_written, record_written}
@@ -52,7 +52,7 @@ pub record Gone (a b : Slots Request) (n : Instances) (t : Ticket) (x : Request)
   pub is : shown to ≡ went (shown x) point
   pub buf : point.buf ≡ bytes
   pub over : Over (schedule (shown x)) x.round (suc x.index) point.round point.index
-  pub stands : Stands x.plan.n (mail n (instance (shown x))) (number_of list) (shown to)
+  pub stands : Stands x.plan.n (mail n (key (shown x))) (number_of list) (shown to)
   pub onto : IsListOf x.comm list
   pub finished_is : finished ≡ is_end list
 
@@ -93,7 +93,7 @@ gone_written a b n t x y bytes finished sound low w g = record {
   is = on.is ∙ ap (λ (q : Live). went q on.point) w.is;
   buf = on.buf ∙ w.buf;
   over = subst (λ (q : Live). Over (schedule q) q.round (suc q.index) on.point.round on.point.index) w.is on.over;
-  stands = subst (λ (q : Live). Stands q.members (mail n (instance q)) (number_of on.list) (shown on.to)) w.is on.stands;
+  stands = subst (λ (q : Live). Stands q.members (mail n (key q)) (number_of on.list) (shown on.to)) w.is on.stands;
   onto = subst (λ (q : Live). IsListOf q.comm on.list) w.is on.onto;
   finished_is = on.finished_is;
 }

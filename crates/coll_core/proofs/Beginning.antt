@@ -11,16 +11,17 @@ use Rattle.coll_arena.specs.Lookups.{PutsSlot}
 use Rattle.coll_arena.specs.Slots.{Slots, generation_of, home, names, record_in, weight_of}
 use Rattle.coll_arena.specs.Sound.{IsSound}
 use Rattle.coll_arena.proofs.Sounds.{Named-names}
-use Rattle.coll_match.specs.declared.key.Key.{Key}
-use Rattle.coll_match.specs.Instances.{given, mail, members, put_key, seats}
+use Rattle.coll_machine.specs.declared.key.Key.{Key}
+use Rattle.coll_machine.specs.Changes.{put_key}
+use Rattle.coll_match.specs.Instances.{given, mail, members, seats}
 use Rattle.coll_tables.specs.Engines.{IsJoined}
 use Rattle.coll_tables.specs.OneSlots.{OneSlot}
-use Rattle.coll_tables.specs.Requests.{Live}
+use Rattle.coll_tables.specs.Requests.{Live, key}
 use Rattle.coll_tables.specs.Shown.{Instances}
 use Rattle.coll_tables.specs.Sound.{Stands}
 use Rattle.coll_tables.proofs.Slots.{one_written, then_reweighed, then_shifted}
 use Rattle.coll_core.specs.declared.request.Request.{Request}
-use Rattle.coll_core.specs.Requests.{instance, shown}
+use Rattle.coll_core.specs.Requests.{shown}
 use Rattle.coll_core.specs.Starts.{Begins, Begun, next_instance}
 use Rattle.coll_core.proofs.Retiring.{if_some}
 
@@ -62,10 +63,10 @@ module _ (a b c : Slots Request) (m n : Instances) (t : Ticket) (x y : Request) 
   pub begun_there : (w : ℕ) (list : ListName) (k : Key) (member : ℕ) → w ≡ lent y.plan.sig y.plan.n y.plan.member
       → PutsSlot (rewritten a t.slot y) b t.slot t.generation w (record_in (rewritten a t.slot y) t.slot) (home (rewritten a t.slot y) t.slot)
       → PutsSlot b c t.slot t.generation (weight_of b t.slot) (record_in b t.slot) (number_of list)
-      → k ≡ instance (shown y)
+      → k ≡ key (shown y)
       → member ≡ y.plan.member
       → IsJoined m n k member t.slot bytes
-      → Stands y.plan.n (mail n (instance (shown y))) (number_of list) (shown y)
+      → Stands y.plan.n (mail n (key (shown y))) (number_of list) (shown y)
       → IfSome (record_in a t.slot) (λ x. Begun a c m n t x bytes buf)
   begun_there w list k member heavy weighs moves key_is member_is joins stands =
       if_some (λ x. Begun a c m n t x bytes buf) (record_in a t.slot) x here (record {
@@ -74,7 +75,7 @@ module _ (a b c : Slots Request) (m n : Instances) (t : Ticket) (x y : Request) 
         puts = slot_of w list heavy weighs moves;
         begins = begins;
         joined = subst (λ m'. IsJoined m n (next_instance x) m' t.slot bytes) (member_is ∙ ap (λ (q : Live). q.member) begins.is)
-            (subst (λ k. IsJoined m n k member t.slot bytes) (key_is ∙ ap instance begins.is) joins);
+            (subst (λ k. IsJoined m n k member t.slot bytes) (key_is ∙ ap key begins.is) joins);
         stands = subst (λ (f : Key → ℕ → ℕ → ℕ → Option (List ℕ)). Stands x.plan.n (f (next_instance x)) (number_of list) (shown y)) joins.mail
-            (subst (λ (q : Live). Stands q.members (mail n (instance q)) (number_of list) (shown y)) begins.is stands);
+            (subst (λ (q : Live). Stands q.members (mail n (key q)) (number_of list) (shown y)) begins.is stands);
       })

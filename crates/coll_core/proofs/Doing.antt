@@ -16,16 +16,18 @@ use Rattle.coll_arena.specs.Slots.{Slots, home, record_in, weight_of}
 use Rattle.coll_arena.specs.Sound.{IsSound}
 use Rattle.coll_arena.proofs.Sounds.{Named-names}
 use Rattle.coll_queues.specs.Postings.{Postings}
-use Rattle.coll_match.specs.declared.key.Key.{Key}
+use Rattle.coll_machine.specs.declared.key.Key.{Key}
 use Rattle.coll_match.specs.Held.{put_mail}
-use Rattle.coll_match.specs.Instances.{mail, put_key}
+use Rattle.coll_machine.specs.Changes.{put_key}
+use Rattle.coll_match.specs.Instances.{mail}
 use Rattle.coll_tables.specs.Shown.{Instances}
 use Rattle.coll_tables.specs.Engines.{KeepsGifts}
 use Rattle.coll_tables.specs.EngineLaws.{ActsOnce}
 use Rattle.coll_tables.proofs.EngineActions.{compute_core, receive_core}
 use Rattle.coll_core.specs.declared.request.Request.{Request}
 use Rattle.coll_core.specs.Cores.{IsCore, Parts, setting}
-use Rattle.coll_core.specs.Requests.{instance, shown}
+use Rattle.coll_tables.specs.Requests.{key}
+use Rattle.coll_core.specs.Requests.{shown}
 use Rattle.coll_core.specs.Goings.{GoneOn}
 use Rattle.coll_core.specs.Steps.{Acts, IsActingAt}
 use Rattle.coll_core.proofs.Reading.{acting}
@@ -85,8 +87,8 @@ same_written a i x ws here e =
 pub received : (ranks starts trace : ℕ) (a b : Slots Request) (q : Postings) (m n : Instances) (t : Ticket) (x y : Request) (of : ℕ) (into : Region) (message bytes : List ℕ) (finished : Bool)
     → IsSound a → IsCore (parts ranks starts trace a q m) → IsActingAt (parts ranks starts trace a q m) t (Recv of into) x
     → KeepsGifts m n
-    → mail m (instance (shown x)) of x.plan.member x.round ≡ Some message
-    → mail n ≡ put_key (mail m) (instance (shown x)) (put_mail (mail m (instance (shown x))) of x.plan.member x.round None)
+    → mail m (key (shown x)) of x.plan.member x.round ≡ Some message
+    → mail n ≡ put_key (mail m) (key (shown x)) (put_mail (mail m (key (shown x))) of x.plan.member x.round None)
     → bytes ≡ written x.buffer into message → Rewrites x y bytes
     → GoneOn (rewritten a t.slot y) b n t finished
     → IsCore (parts ranks starts trace b q n) × Acts (parts ranks starts trace a q m) (parts ranks starts trace b q n) finished
@@ -97,15 +99,15 @@ received ranks starts trace a b q m n t x y of into message bytes finished sound
     (goes_on a b n t x bytes finished (Recv of into) at.live at.here (inl at.on_ready) at.next_is on) keeps came mails (on.buf ∙ wrote_is))
 
 -- a message that was taken, under the names of a call
-module _ (m : Instances) (x : Request) (of : ℕ) (k : Key) (member : ℕ) (k_is : k ≡ instance (shown x)) (member_is : member ≡ x.plan.member) where
-  pub message_came : (message : List ℕ) → Some message ≡ mail m k of member x.round → mail m (instance (shown x)) of x.plan.member x.round ≡ Some message
+module _ (m : Instances) (x : Request) (of : ℕ) (k : Key) (member : ℕ) (k_is : k ≡ key (shown x)) (member_is : member ≡ x.plan.member) where
+  pub message_came : (message : List ℕ) → Some message ≡ mail m k of member x.round → mail m (key (shown x)) of x.plan.member x.round ≡ Some message
   message_came message e = sym (e ∙ (λ z. mail m (k_is z) of (member_is z) x.round))
 
   pub message_taken : (n : Instances) → mail n ≡ put_key (mail m) k (put_mail (mail m k) of member x.round None)
-      → mail n ≡ put_key (mail m) (instance (shown x)) (put_mail (mail m (instance (shown x))) of x.plan.member x.round None)
+      → mail n ≡ put_key (mail m) (key (shown x)) (put_mail (mail m (key (shown x))) of x.plan.member x.round None)
   message_taken n e = e ∙ (λ z. put_key (mail m) (k_is z) (put_mail (mail m (k_is z)) of (member_is z) x.round None))
 
 -- a message is as long as the region into which it goes
 pub message_long : (p : Parts) (t : Ticket) (x : Request) (of : ℕ) (into : Region) (message : List ℕ) → IsCore p → IsActingAt p t (Recv of into) x
-    → mail p.matches (instance (shown x)) of x.plan.member x.round ≡ Some message → length message ≡ into.len
+    → mail p.matches (key (shown x)) of x.plan.member x.round ≡ Some message → length message ≡ into.len
 message_long p t x of into message core at came = (acting p core t.slot x at.here at.on_ready).takes of into message at.next_is came

@@ -13,14 +13,14 @@ use Rattle.coll_kinds.specs.declared.refusal.Refusal.{Refusal}
 use Rattle.coll_kinds.specs.declared.refusal.Refusal.TheVariants.{BadLength, Full}
 use Rattle.coll_kinds.specs.Lengths.{given_len}
 use Rattle.coll_machine.specs.Calls.{Planned, Post, Init}
-use Rattle.coll_machine.specs.Refusals.{first_of, unless, wrong_length}
+use Rattle.coll_machine.specs.Refusals.{first_of, unless, wrong_length, plan_refusals}
 use Rattle.coll_queues.specs.Postings.{Postings, member_of, number_of, size}
 use Rattle.coll_queues.specs.Refusing.{judge_refusal, member_refusal}
 use Rattle.coll_tables.specs.EngineTests.{entry_refusals, full_refusal, InitRefused, PostRefused}
 use Rattle.coll_core.specs.declared.request.Request.{Request}
 use Rattle.coll_core.specs.Requests.{shown}
 use Rattle.coll_core.specs.Cores.{Parts, IsCore, setting}
-use Rattle.coll_core.specs.Posts.{plan_refusals, refused_in}
+use Rattle.coll_core.specs.Posts.{refused_in}
 
 -- ---- the first of several conditions
 

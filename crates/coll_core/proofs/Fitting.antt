@@ -14,9 +14,8 @@ use Rattle.coll_kinds.specs.declared.refusal.SignatureFault.TheVariants.{Mode as
 use Rattle.coll_kinds.specs.declared.signature.Signature.{Signature}
 use Rattle.coll_kinds.specs.Checks.{broken}
 use Rattle.coll_kinds.specs.Sameness.{mode_number}
-use Rattle.coll_machine.specs.Refusals.{first_of, unless}
+use Rattle.coll_machine.specs.Refusals.{first_of, unless, plan_refusals}
 use Rattle.coll_machine.specs.Calls.{Planned}
-use Rattle.coll_core.specs.Posts.{plan_refusals}
 
 -- the answer of a signature's check, as a refusal
 pub checked : {T : Type 0} (o : Option SignatureFault) (r : Result T Refusal)

@@ -13,11 +13,11 @@ use Rattle.coll_arena.specs.Sound.{IsSound}
 use Rattle.coll_arena.proofs.Lookups.{PutsSlot-rewritten, put-own, still-out}
 use Rattle.coll_arena.proofs.Sounds.{Named-names}
 use Rattle.coll_match.specs.Instances.{mail}
-use Rattle.coll_tables.specs.Requests.{Live}
+use Rattle.coll_tables.specs.Requests.{Live, key}
 use Rattle.coll_tables.specs.Shown.{Instances}
 use Rattle.coll_tables.specs.Sound.{Stands}
 use Rattle.coll_core.specs.declared.request.Request.{Request}
-use Rattle.coll_core.specs.Requests.{GoesOver, IsListOf, instance, shown}
+use Rattle.coll_core.specs.Requests.{GoesOver, IsListOf, shown}
 use Rattle.coll_core.specs.Goings.{GoneOn, is_end}
 
 -- a change of a slot after a write to it is that change alone
@@ -66,7 +66,7 @@ placed a t list sound on =
 pub gone_on : (a b : Slots Request) (n : Instances) (t : Ticket) (x y : Request) (list : ListName) (finished : Bool)
     → IsSound a → names a t ≡ true → record_in a t.slot ≡ Some x
     → GoesOver (shown x) (shown y) (suc x.index)
-    → Stands y.plan.n (mail n (instance (shown y))) (number_of list) (shown y)
+    → Stands y.plan.n (mail n (key (shown y))) (number_of list) (shown y)
     → IsListOf y.comm list
     → PutsSlot (rewritten a t.slot y) b t.slot t.generation (weight_of a t.slot) (record_in (rewritten a t.slot y) t.slot) (number_of list)
     → (home a t.slot ≡ number_of list → b ≡ rewritten a t.slot y)
@@ -84,7 +84,7 @@ gone_on a b n t x y list finished sound live here goes stands onto puts stays en
   is = goes.is;
   buf = refl;
   over = goes.over;
-  stands = subst (λ (q : Live). Stands q.members (mail n (instance q)) (number_of list) (shown y)) goes.is stands;
+  stands = subst (λ (q : Live). Stands q.members (mail n (key q)) (number_of list) (shown y)) goes.is stands;
   onto = subst (λ (q : Live). IsListOf q.comm list) goes.is onto;
   finished_is = end;
 }

@@ -7,14 +7,15 @@ use Rattle.coll_sched.specs.declared.action.Action.TheVariants.{Recv}
 use Rattle.coll_arena.specs.Lookups.{PutsSlot}
 use Rattle.coll_arena.specs.Slots.{Slots, home, is_live, names, record_in, ticket_of, weight_of}
 use Rattle.coll_arena.proofs.Sounds.{Named-names}
-use Rattle.coll_match.specs.declared.key.Key.{Key}
+use Rattle.coll_machine.specs.declared.key.Key.{Key}
 use Rattle.coll_match.specs.Instances.{mail, seats}
 use Rattle.coll_tables.specs.Engines.{Delivers}
 use Rattle.coll_tables.specs.Shown.{Instances}
 use Rattle.coll_tables.specs.Sound.{ready}
 use Rattle.coll_tables.proofs.Slots.{one_shifted}
 use Rattle.coll_core.specs.declared.request.Request.{Request}
-use Rattle.coll_core.specs.Requests.{Hears, instance, shown}
+use Rattle.coll_tables.specs.Requests.{key}
+use Rattle.coll_core.specs.Requests.{Hears, shown}
 use Rattle.coll_core.specs.Goings.{CanHear}
 
 slot_by : (a : Slots Request) (slot : ℕ) (t : Ticket) (live : Bool) → Some t ≡ cond live (Some (ticket_of a slot)) None → t.slot ≡ slot
@@ -26,7 +27,7 @@ pub can_hear : (a : Slots Request) (n : Instances) (k : Key) (to slot : ℕ) (t 
     → Some t ≡ cond (is_live a slot) (Some (ticket_of a slot)) None
     → record_in a t.slot ≡ Some r
     → true ≡ (names a t && (home a t.slot == 5 + 3 * r.comm))
-    → Hears (mail n (instance (shown r))) (shown r)
+    → Hears (mail n (key (shown r))) (shown r)
     → CanHear a n k to t
 can_hear a n k to slot t r seat found here on hears =
     let both = and_parts (names a t) (home a t.slot == 5 + 3 * r.comm) (sym on) in

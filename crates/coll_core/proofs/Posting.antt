@@ -13,8 +13,9 @@ use Rattle.coll_arena.specs.Sound.{IsSound as IsArena}
 use Rattle.coll_machine.specs.Calls.{Call, Planned, Post, Init, Ticketed}
 use Rattle.coll_machine.specs.Machines.{MachineStep, refuse, short, takes_memory}
 use Rattle.coll_machine.specs.Settings.{Setting}
-use Rattle.coll_match.specs.declared.key.Key.{Key as MatchKey}
-use Rattle.coll_match.specs.Instances.{given, mail, members, put_key, seats}
+use Rattle.coll_machine.specs.declared.key.Key.{Key}
+use Rattle.coll_machine.specs.Changes.{put_key}
+use Rattle.coll_match.specs.Instances.{given, mail, members, seats}
 use Rattle.coll_plans.specs.Plans.{family}
 use Rattle.coll_queues.specs.Postings.{Postings, place_of}
 use Rattle.coll_sched.specs.Families.{laid_in}
@@ -26,14 +27,14 @@ use Rattle.coll_tables.specs.Engines.{Initialises, IsFree, IsJoined, IsOffered, 
 use Rattle.coll_tables.specs.EngineLaws.{InitCore, PostCore}
 use Rattle.coll_tables.specs.Machines.{StepsTo}
 use Rattle.coll_tables.specs.OneSlots.{OneSlot}
-use Rattle.coll_tables.specs.Requests.{Live, went}
+use Rattle.coll_tables.specs.Requests.{Live, went, key}
 use Rattle.coll_tables.specs.Shown.{Instances}
 use Rattle.coll_tables.specs.Sound.{Stands}
-use Rattle.coll_tables.specs.Tables.{Mail, machine}
+use Rattle.coll_tables.specs.Tables.{Mail, Tables, machine, state}
 use Rattle.coll_core.specs.declared.request.Request.{Request}
-use Rattle.coll_core.specs.Cores.{Parts, IsCore, seen, setting}
-use Rattle.coll_core.specs.Requests.{GoesOver, instance, shown}
-use Rattle.coll_core.specs.Posts.{Unchanged, next_instance, refused_in}
+use Rattle.coll_core.specs.Cores.{Parts, IsCore, seen, setting, Unchanged}
+use Rattle.coll_core.specs.Requests.{GoesOver, shown}
+use Rattle.coll_core.specs.Posts.{next_instance, refused_in}
 use Rattle.coll_core.specs.Calls.{Refuses}
 use Rattle.coll_kinds.specs.declared.refusal.Refusal.{Refusal}
 use Rattle.coll_kinds.specs.declared.refusal.Refusal.TheVariants.{NoMemory}
@@ -55,7 +56,7 @@ one_slot a b slot generation weight lends found list e p =
     })
 
 -- bytes enter an instance, and then a slot is noted
-pub record Joins (m j n : Instances) (k : MatchKey) (member slot : ℕ) (bytes : List ℕ) : Type 0 where
+pub record Joins (m j n : Instances) (k : Key) (member slot : ℕ) (bytes : List ℕ) : Type 0 where
   pub members_is : members j ≡ members m
   pub given_is : given j ≡ put_key (given m) k (put (given m k) member (Some bytes))
   pub seats_is : seats j ≡ seats m
@@ -65,18 +66,18 @@ pub record Joins (m j n : Instances) (k : MatchKey) (member slot : ℕ) (bytes :
   pub then_seats : seats n ≡ put_key (seats j) k (put (seats j k) member (Some slot))
   pub then_mail : mail n ≡ mail j
 
-joined : (m j n : Instances) (k : MatchKey) (member slot : ℕ) (bytes : List ℕ) → Joins m j n k member slot bytes
+joined : (m j n : Instances) (k : Key) (member slot : ℕ) (bytes : List ℕ) → Joins m j n k member slot bytes
     → IsJoined m n k member slot bytes
 joined m j n k member slot bytes h = record {
   members = h.then_members ∙ h.members_is;
   given = h.then_given ∙ h.given_is;
-  seats = h.then_seats ∙ ap (λ (f : MatchKey → ℕ → Option ℕ). put_key f k (put (f k) member (Some slot))) h.seats_is;
+  seats = h.then_seats ∙ ap (λ (f : Key → ℕ → Option ℕ). put_key f k (put (f k) member (Some slot))) h.seats_is;
   mail = h.then_mail ∙ h.mail_is;
 }
 
 -- all that the calls of a post ensure
 pub record Calls (p : Parts) (b : Slots Request) (r : Postings) (j n : Instances) (t : Ticket) (rank comm : ℕ)
-    (plan : Planned) (bytes : List ℕ) (sig : Signature) (k : MatchKey) (place member weight list : ℕ)
+    (plan : Planned) (bytes : List ℕ) (sig : Signature) (k : Key) (place member weight list : ℕ)
     (x y : Request) : Type 0 where
   pub accepted : refused_in p (Post rank comm plan bytes) ≡ None
   pub are : AreBytes bytes
@@ -92,7 +93,7 @@ pub record Calls (p : Parts) (b : Slots Request) (r : Postings) (j n : Instances
   pub made_is : shown x ≡ made rank comm plan place 1 (record { round = 0; index = 0; buf = x.buffer })
   pub over : GoesOver (shown x) (shown y) 0
   pub buf : x.buffer ≡ laid_in (family plan.sig plan.n plan.member) bytes
-  pub stands : Stands y.plan.n (mail j (instance (shown y))) list (shown y)
+  pub stands : Stands y.plan.n (mail j (key (shown y))) list (shown y)
 
 abbrev pub parts_of : Parts → Slots Request → Postings → Instances → Parts
 parts_of p b r n = record {
@@ -105,7 +106,7 @@ parts_of p b r n = record {
 }
 
 module _ (p : Parts) (b : Slots Request) (r : Postings) (j n : Instances) (t : Ticket) (rank comm : ℕ) (plan : Planned)
-    (bytes : List ℕ) (sig : Signature) (k : MatchKey) (place member weight list : ℕ) (x y : Request)
+    (bytes : List ℕ) (sig : Signature) (k : Key) (place member weight list : ℕ) (x y : Request)
     (law : PostCore Request) (core : IsCore p) (sound : IsArena p.arena)
     (c : Calls p b r j n t rank comm plan bytes sig k place member weight list x y) where
   abbrev o : Progress
@@ -122,14 +123,14 @@ module _ (p : Parts) (b : Slots Request) (r : Postings) (j n : Instances) (t : T
     are = c.are;
     free = c.free;
     offered = subst (λ (s : Signature). IsOffered p.queues r comm rank (record { sig = s; n = plan.n; member = plan.member })) c.sig_is c.offered;
-    joined = subst (λ (l : MatchKey). IsJoined p.matches n l plan.member t.slot bytes) (c.key_is ∙ ap (λ q. record { comm = comm; place = q; start = 0 }) c.place_is)
+    joined = subst (λ (l : Key). IsJoined p.matches n l plan.member t.slot bytes) (c.key_is ∙ ap (λ q. record { comm = comm; place = q; start = 0 }) c.place_is)
         (subst (λ m. IsJoined p.matches n k m t.slot bytes) c.member_is (joined p.matches j n k member t.slot bytes c.joins));
     puts = one_slot p.arena b t.slot t.generation weight (lent plan.sig plan.n plan.member) (Some y) list c.weight_is c.puts;
     is = is;
     buf = c.buf;
     over = subst (λ (q : Live). Over (family q.sig q.members q.member) q.round 0 y.round y.index) c.made_is c.over.over;
-    stands = subst (λ (f : MatchKey → Mail). Stands plan.n (f (next_instance p.queues rank comm)) list (shown y)) c.joins.mail_is
-        (subst (λ (q : Live). Stands q.members (mail j (instance q)) list (shown y)) is c.stands);
+    stands = subst (λ (f : Key → Mail). Stands plan.n (f (next_instance p.queues rank comm)) list (shown y)) c.joins.mail_is
+        (subst (λ (q : Live). Stands q.members (mail j (key q)) list (shown y)) is c.stands);
   }
 
   setting_same : setting (parts_of p b r n) ≡ setting p
@@ -206,15 +207,15 @@ same_number x = grind (arith, nat_tests)
 put_own : {X : Type 0} (f : ℕ → X) (k : ℕ) (x : X) → put f k x k ≡ x
 put_own f k x = ap (λ t. cond t x (f k)) (same_number k)
 
-pub given_now : (m j : Instances) (k : MatchKey) (member : ℕ) (bytes : List ℕ)
+pub given_now : (m j : Instances) (k : Key) (member : ℕ) (bytes : List ℕ)
     → given j ≡ put_key (given m) k (put (given m k) member (Some bytes)) → given j k member ≢ None
 given_now m j k member bytes e none =
-    none-some bytes (sym none ∙ (ap (λ (f : MatchKey → ℕ → Option (List ℕ)). f k member) e
+    none-some bytes (sym none ∙ (ap (λ (f : Key → ℕ → Option (List ℕ)). f k member) e
     ∙ (ap (λ (f : ℕ → Option (List ℕ)). f member) (at_own_key (given m) k (put (given m k) member (Some bytes)))
     ∙ put_own (given m k) member (Some bytes))))
 
-pub not_given : (m : Instances) (k l : MatchKey) (member n : ℕ) → k ≡ l → member ≡ n → given m l n ≡ None → given m k member ≡ None
-not_given m k l member n e f none = ap (λ (x : MatchKey). given m x member) e ∙ (ap (given m l) f ∙ none)
+pub not_given : (m : Instances) (k l : Key) (member n : ℕ) → k ≡ l → member ≡ n → given m l n ≡ None → given m k member ≡ None
+not_given m k l member n e f none = ap (λ (x : Key). given m x member) e ∙ (ap (given m l) f ∙ none)
 
 pub emptied : (n : ℕ) → true ≡ (n == 0) → 0 < n → ⊥
 emptied n e h = grind (arith, nat_tests)
@@ -230,7 +231,7 @@ accepted_from p q call e h = ap (λ (x : Parts). refused_in x call) e ∙ h
 pub still_accepted : (p q : Parts) (call : Call) → Unchanged p q → refused_in p call ≡ None → refused_in q call ≡ None
 still_accepted p q call u h =
     ap (λ (g : Setting). refusal g (seen q).state call) u.setting_is
-    ∙ (ap (λ (m : Machine). refusal (setting p) m.state call) u.seen_is ∙ h)
+    ∙ (ap (λ (v : Tables). refusal (setting p) (state v) call) u.tables_is ∙ h)
 
 pub refused_so : (p : Parts) (call : Call) (why : Refusal) → refused_in p call ≡ Some why → Refuses (setting p) (seen p) call why
 refused_so p call why e = refuse call why e

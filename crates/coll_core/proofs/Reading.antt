@@ -16,7 +16,8 @@ use Rattle.std.specs.Prelude.{option_map}
 use Rattle.coll_core.specs.declared.request.Request.{Request}
 use Rattle.coll_core.specs.Cores.{IsCore, Parts, setting}
 use Rattle.coll_core.specs.Goings.{HaveLists}
-use Rattle.coll_core.specs.Requests.{instance, next_of, schedule, shown}
+use Rattle.coll_tables.specs.Requests.{key}
+use Rattle.coll_core.specs.Requests.{next_of, schedule, shown}
 use Rattle.coll_core.specs.Steps.{IsActing, IsActingAt}
 
 -- a communicator with members is one
@@ -52,7 +53,7 @@ at_first p t x a core first here next fits = record {
   here = here;
   on_ready = first.home_is;
   next_is = next;
-  doable = subst (λ (b : Action). Doable (mail p.matches (instance (shown x))) (shown x) b) (same_Some does.0 a (sym does.1 ∙ next)) does.2;
+  doable = subst (λ (b : Action). Doable (mail p.matches (key (shown x))) (shown x) b) (same_Some does.0 a (sym does.1 ∙ next)) does.2;
   fits = fits;
   filled = acts.filled;
   round_in = acts.round_in;
@@ -62,7 +63,7 @@ at_first p t x a core first here next fits = record {
     acts : laws.IsActing shown (setting p) p.arena p.matches x
     acts = acting p core t.slot x here first.home_is
 
-    does : (b : Action) × (next_of (shown x) ≡ Some b) × Doable (mail p.matches (instance (shown x))) (shown x) b
+    does : (b : Action) × (next_of (shown x) ≡ Some b) × Doable (mail p.matches (key (shown x))) (shown x) b
     does = ready_core shown (setting p) p.arena p.queues p.matches t.slot x core here first.home_is
 
 pub first_acts : (p v : Parts) (t : Ticket) (x : Request) (a : Action) → p ≡ v → IsCore p → IsFirst v.arena 2 t

@@ -19,9 +19,9 @@ use Rattle.coll_tables.specs.Shown.{Instances}
 use Rattle.coll_tables.specs.Tables.{Tables, machine}
 use Rattle.coll_core.specs.declared.request.Request.{Request}
 use Rattle.coll_core.specs.Calls.{Refuses}
-use Rattle.coll_core.specs.Cores.{IsCore, Parts, seen, setting, tables}
+use Rattle.coll_core.specs.Cores.{IsCore, Parts, seen, setting, tables, Unchanged}
 use Rattle.coll_core.specs.Requests.{schedule, shown}
-use Rattle.coll_core.specs.Starts.{Begun, CanBegin, IsSame, next_instance}
+use Rattle.coll_core.specs.Starts.{Begun, CanBegin, next_instance}
 use Rattle.coll_core.proofs.Retiring.{generation_named, if_some, setting_with, the_one, with}
 use Rattle.coll_core.proofs.Standings.{comm_in}
 
@@ -50,7 +50,7 @@ the_record None e = absurd (false≢true e)
 the_record (Some x) e = (x, refl)
 
 -- p is the engine o once room was made
-module _ (p o w : Parts) (view : p ≡ w) (same : IsSame o w) (arena : w.arena ≡ o.arena) (t : Ticket) (core : IsCore p)
+module _ (p o w : Parts) (view : p ≡ w) (same : Unchanged o w) (arena : w.arena ≡ o.arena) (t : Ticket) (core : IsCore p)
     (x : Request) (was : record_in o.arena t.slot ≡ Some x) where
   arena_is : p.arena ≡ o.arena
   arena_is = ap (λ p. p.arena) view ∙ arena

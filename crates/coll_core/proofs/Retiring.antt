@@ -14,7 +14,7 @@ use Rattle.coll_arena.specs.Sound.{IsSound}
 use Rattle.coll_arena.proofs.Sounds.{Named-names}
 use Rattle.coll_sched.specs.Regions.{read_of}
 use Rattle.coll_queues.specs.Postings.{groups_of}
-use Rattle.coll_match.specs.declared.key.Key.{Key}
+use Rattle.coll_machine.specs.declared.key.Key.{Key}
 use Rattle.coll_match.specs.Instances.{seats}
 use Rattle.coll_machine.specs.Settings.{Setting}
 use Rattle.coll_machine.specs.Calls.{Nothing, Outcome, Retire}
@@ -23,15 +23,15 @@ use Rattle.coll_machine.specs.Refusals.{refusal}
 use Rattle.coll_tables.specs.Cores as tabled
 use Rattle.coll_tables.specs.Engines.{IsLeft, Rests}
 use Rattle.coll_tables.specs.EngineLaws.{ActingCore, IsActing, RetireCore}
-use Rattle.coll_tables.specs.Requests.{Live, before, went}
+use Rattle.coll_tables.specs.Requests.{Live, before, went, key}
 use Rattle.coll_tables.specs.Shown.{Instances}
 use Rattle.coll_tables.specs.Tables.{is_done}
 use Rattle.coll_tables.specs.OneSlots.{OneSlot}
 use Rattle.coll_tables.proofs.Slots.{one_written, then_reweighed, then_shifted}
 use Rattle.coll_core.specs.declared.request.Request.{Request}
-use Rattle.coll_core.specs.Completions.{GivesUp, Owns, Rested}
+use Rattle.coll_core.specs.Completions.{GivesUp, Owns}
 use Rattle.coll_core.specs.Cores.{IsCore, Parts, seen, setting}
-use Rattle.coll_core.specs.Requests.{instance, schedule, shown}
+use Rattle.coll_core.specs.Requests.{schedule, shown}
 use Rattle.coll_core.proofs.Standings.{comm_in, live, outcome_in}
 
 pub if_some : {A : Type 0} (P : A → Type 0) (o : Option A) (x : A) → o ≡ Some x → P x → IfSome o P
@@ -44,9 +44,9 @@ pub rested : (a b c : Slots Request) (t : Ticket) (x y : Request) (comm : ℕ)
     → comm ≡ x.comm
     → PutsSlot (rewritten a t.slot y) b t.slot t.generation 0 (record_in (rewritten a t.slot y) t.slot) (home (rewritten a t.slot y) t.slot)
     → PutsSlot b c t.slot t.generation (weight_of b t.slot) (record_in b t.slot) (number_of (Idle comm))
-    → IfSome (record_in a t.slot) (λ x. Rested Persistent a c t x)
+    → IfSome (record_in a t.slot) (λ x. Rests shown Persistent a c t x)
 rested a b c t x y comm sound live here is same weighs moves =
-    if_some (λ x. Rested Persistent a c t x) (record_in a t.slot) x here
+    if_some (λ x. Rests shown Persistent a c t x) (record_in a t.slot) x here
     (y, subst (λ n. OneSlot a c t.slot t.generation 0 (Some y) (number_of (Idle n))) same moved, is)
   where
     written : OneSlot a (rewritten a t.slot y) t.slot (generation_of a t.slot) (weight_of a t.slot) (Some y) (home a t.slot)
@@ -101,7 +101,7 @@ module _ (p : Parts) (rank : ℕ) (t : Ticket) (x : Request) (core : IsCore p) (
     outcome_in = outcome_in p t.slot x core owns.found acting.filled;
   })
 
-  pub seated : (k : Key) (member : ℕ) → k ≡ instance (shown x) → member ≡ x.plan.member → seats p.matches k member ≢ None
+  pub seated : (k : Key) (member : ℕ) → k ≡ key (shown x) → member ≡ x.plan.member → seats p.matches k member ≢ None
   seated k member e f n = acting.seated (subst (λ k. seats p.matches k x.plan.member ≡ None) e (subst (λ m. seats p.matches k m ≡ None) f n))
 
 -- ---- the change
@@ -129,11 +129,7 @@ setting_with p b n count_is wear_is = λ z. record {
   trace = p.trace;
 }
 
-rests : (g : Setting) (mode : Mode) (a b : Slots Request) (t : Ticket) (x : Request) → Rested mode a b t x → Rests shown g mode a b t x
-rests g Once a b t x h = h
-rests g Persistent a b t x h = h
-
-same_limits : (mode : Mode) (a b : Slots Request) (t : Ticket) (x : Request) → Rested mode a b t x → (count b ≡ count a) × (b.wear ≡ a.wear)
+same_limits : (mode : Mode) (a b : Slots Request) (t : Ticket) (x : Request) → Rests shown mode a b t x → (count b ≡ count a) × (b.wear ≡ a.wear)
 same_limits Once a b t x h = (h.count_is, h.wear_is)
 same_limits Persistent a b t x h = (h.1.count_is, h.1.wear_is)
 
@@ -152,10 +148,10 @@ module _ (p : Parts) (b : Slots Request) (n : Instances) (t : Ticket) (rank : �
     (k : Key) (member : ℕ) (law : RetireCore Request) (core : IsCore p) (owns : Owns p rank t x)
     (on : home p.arena t.slot ≡ 6 + 3 * x.comm)
     (bytes_is : IfSome (record_in p.arena t.slot) (λ x. bytes ≡ read_of x.buffer (schedule (shown x)).output))
-    (left_there : IfSome (record_in p.arena t.slot) (λ x. Rested x.plan.sig.mode p.arena b t x))
-    (key_is : k ≡ instance (shown x)) (member_is : member ≡ x.plan.member) (leaves : IsLeft p.matches n k member last) where
-  left : Rested x.plan.sig.mode p.arena b t x
-  left = the_one (λ x. Rested x.plan.sig.mode p.arena b t x) (record_in p.arena t.slot) x owns.found left_there
+    (left_there : IfSome (record_in p.arena t.slot) (λ x. Rests shown x.plan.sig.mode p.arena b t x))
+    (key_is : k ≡ key (shown x)) (member_is : member ≡ x.plan.member) (leaves : IsLeft p.matches n k member last) where
+  left : Rests shown x.plan.sig.mode p.arena b t x
+  left = the_one (λ x. Rests shown x.plan.sig.mode p.arena b t x) (record_in p.arena t.slot) x owns.found left_there
 
   completed : tabled.IsCore shown (setting p) b p.queues n
       × MachineStep (setting p) (seen p) (Retire rank t) (Outcome rank x.comm x.place (before x.starts) bytes) (seen (with p b n))
@@ -164,7 +160,7 @@ module _ (p : Parts) (b : Slots Request) (n : Instances) (t : Ticket) (rank : �
     found = record { here = owns.found; generation_is = generation_named p.arena t owns.named };
     on_done = on;
     bytes_is = the_one (λ x. bytes ≡ read_of x.buffer (schedule (shown x)).output) (record_in p.arena t.slot) x owns.found bytes_is;
-    rests = rests (setting p) x.plan.sig.mode p.arena b t x left;
+    rests = left;
     left = subst (λ k. IsLeft p.matches n k x.plan.member last) key_is (subst (λ m. IsLeft p.matches n k m last) member_is leaves);
   })
 

@@ -5,8 +5,9 @@ use Rattle.std.proofs.lemmas.Bool.Decides.{nat_tests}
 use Rattle.coll_arena.specs.Slots.{count}
 use Rattle.coll_kinds.specs.declared.refusal.Refusal.{Refusal}
 use Rattle.coll_machine.specs.Settings.{Setting, size}
-use Rattle.coll_match.specs.declared.key.Key.{Key as MatchKey}
-use Rattle.coll_match.specs.Instances.{given, mail, members, put_key, same_key, seats}
+use Rattle.coll_machine.specs.declared.key.Key.{Key}
+use Rattle.coll_machine.specs.Changes.{put_key, same_key}
+use Rattle.coll_match.specs.Instances.{LookUps, given, look_ups, mail, members, roomed, seats}
 use Rattle.coll_match.specs.Instances as instances
 use Rattle.coll_queues.specs.Postings.{Postings}
 use Rattle.coll_tables.specs.Cores as tabled
@@ -17,8 +18,7 @@ use Rattle.coll_tables.specs.Shown as tabled_parts
 use Rattle.coll_tables.specs.Tables.{machine}
 use Rattle.coll_core.specs.declared.request.Request.{Request}
 use Rattle.coll_core.specs.Requests.{shown}
-use Rattle.coll_core.specs.Cores.{Parts, IsCore, setting, tables}
-use Rattle.coll_core.specs.Posts.{Unchanged}
+use Rattle.coll_core.specs.Cores.{Parts, IsCore, setting, tables, Unchanged}
 
 abbrev pub with_room : Parts → Postings → Instances → Parts
 with_room p r n = record {
@@ -33,7 +33,7 @@ with_room p r n = record {
 pub unchanged_from : (p q r : Parts) → p ≡ q → Unchanged p r → Unchanged q r
 unchanged_from p q r e u = subst (λ (x : Parts). Unchanged x r) e u
 
-module _ (p : Parts) (r : Postings) (n : Instances) (k : MatchKey) (law : RoomCore Request) (core : IsCore p)
+module _ (p : Parts) (r : Postings) (n : Instances) (k : Key) (law : RoomCore Request) (core : IsCore p)
     (made : HasMade p.queues r p.matches n k (size (setting p) k.comm)) where
   setting_same : setting (with_room p r n) ≡ setting p
   setting_same = λ i. record {
@@ -57,24 +57,23 @@ module _ (p : Parts) (r : Postings) (n : Instances) (k : MatchKey) (law : RoomCo
       ∙ (law shown (setting p) p.arena p.queues r p.matches n k core made).1
 
   pub room_unchanged : Unchanged p (with_room p r n)
-  room_unchanged = record { setting_is = setting_same; seen_is = ap machine tables_same; tables_is = tables_same }
+  room_unchanged = record { setting_is = setting_same; tables_is = tables_same }
 
 -- ---- room for an instance
 
-pub made_by : {T : Type 0} (res : Result T Refusal) (q : Postings) (m n : Instances) (k : MatchKey) (size : ℕ)
-    → OnOk res (members n ≡ put_key (members m) k (Some (unwrap_or (members m k) size)))
-    → OnOk res (given n ≡ given m) → OnOk res (seats n ≡ seats m) → OnOk res (mail n ≡ mail m) → OnErr res (n ≡ m)
+pub made_by : {T : Type 0} (res : Result T Refusal) (q : Postings) (m n : Instances) (k : Key) (size : ℕ)
+    → OnOk res (look_ups n ≡ roomed (look_ups m) k size) → OnErr res (n ≡ m)
     → HasMade q q m n k size
-made_by (Ok x) q m n k size a b c d e = record {
+made_by (Ok x) q m n k size a e = record {
   groups = refl;
   places = refl;
   posted = refl;
-  members = inr a;
-  given = b;
-  seats = c;
-  mail = d;
+  members = inr (ap (λ (s : LookUps). s.members) a);
+  given = ap (λ (s : LookUps). s.given) a;
+  seats = ap (λ (s : LookUps). s.seats) a;
+  mail = ap (λ (s : LookUps). s.mail) a;
 }
-made_by (Err why) q m n k size a b c d e = record {
+made_by (Err why) q m n k size a e = record {
   groups = refl;
   places = refl;
   posted = refl;
@@ -87,24 +86,24 @@ made_by (Err why) q m n k size a b c d e = record {
 same_number : (x : ℕ) → (x == x) ≡ true
 same_number x = grind (arith, nat_tests)
 
-own_key : (k : MatchKey) → same_key k k ≡ true
+own_key : (k : Key) → same_key k k ≡ true
 own_key k =
     ap (λ t. t && ((k.place == k.place) && (k.start == k.start))) (same_number k.comm)
     ∙ (ap (λ t. t && (k.start == k.start)) (same_number k.place) ∙ same_number k.start)
 
-pub at_own_key : {X : Type 0} (f : MatchKey → X) (k : MatchKey) (x : X) → put_key f k x k ≡ x
+pub at_own_key : {X : Type 0} (f : Key → X) (k : Key) (x : X) → put_key f k x k ≡ x
 at_own_key f k x = ap (λ t. cond t x (f k)) (own_key k)
 
 held : (o : Option ℕ) (size : ℕ) → ((n : ℕ) → o ≡ Some n → n ≡ size) → unwrap_or o size ≡ size
 held None size h = refl
 held (Some n) size h = h n refl
 
-pub roomy : {T : Type 0} (res : Result T Refusal) (m n : Instances) (k : MatchKey) (size : ℕ)
+pub roomy : {T : Type 0} (res : Result T Refusal) (m n : Instances) (k : Key) (size : ℕ)
     → ((j : ℕ) → members m k ≡ Some j → j ≡ size)
-    → OnOk res (members n ≡ put_key (members m) k (Some (unwrap_or (members m k) size)))
+    → OnOk res (look_ups n ≡ roomed (look_ups m) k size)
     → OnOk res (size ≡ instances.size n k)
 roomy (Ok x) m n k size h e =
-    sym (ap (λ (f : MatchKey → Option ℕ). unwrap_or (f k) 0) e
+    sym (ap (λ (s : LookUps). unwrap_or (s.members k) 0) e
     ∙ (ap (λ o. unwrap_or o 0) (at_own_key (members m) k (Some (unwrap_or (members m k) size)))
     ∙ held (members m k) size h))
 roomy (Err why) m n k size h e = tt

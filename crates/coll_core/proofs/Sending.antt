@@ -13,9 +13,10 @@ use Rattle.coll_sched.specs.Regions.{read_of}
 use Rattle.coll_arena.specs.ListNames.{number_of}
 use Rattle.coll_arena.specs.Slots.{Slots, count, generation_of, home, names, record_in, weight_of}
 use Rattle.coll_queues.specs.Postings.{Postings}
-use Rattle.coll_match.specs.declared.key.Key.{Key}
+use Rattle.coll_machine.specs.declared.key.Key.{Key}
 use Rattle.coll_match.specs.Held.{put_mail}
-use Rattle.coll_match.specs.Instances.{given, mail, put_key}
+use Rattle.coll_machine.specs.Changes.{put_key}
+use Rattle.coll_match.specs.Instances.{given, mail}
 use Rattle.coll_match.proofs.Standing.{put_key_at}
 use Rattle.coll_tables.specs.Tables.{is_done}
 use Rattle.coll_tables.specs.Engines.{Delivers, KeepsGifts, Wakens}
@@ -25,7 +26,8 @@ use Rattle.coll_tables.specs.Shown as tabled
 use Rattle.coll_tables.proofs.EngineSends.{send_core}
 use Rattle.coll_core.specs.declared.request.Request.{Request}
 use Rattle.coll_core.specs.Cores.{IsCore, Parts, setting}
-use Rattle.coll_core.specs.Requests.{instance, shown}
+use Rattle.coll_tables.specs.Requests.{key}
+use Rattle.coll_core.specs.Requests.{shown}
 use Rattle.coll_core.specs.Goings.{CanGoOn, GoneOn}
 use Rattle.coll_core.specs.Steps.{Acts, IsActingAt}
 use Rattle.coll_core.proofs.Acting.{Gone, core_after, done_by, done_here, done_in, goes, goes_on, going_not_done, gone_from, list_low, none_ends, parts}
@@ -34,7 +36,7 @@ use Rattle.coll_core.proofs.Firsts.{first_stays}
 
 -- ---- what the calls ask for
 
-module _ (p : Parts) (t : Ticket) (x : Request) (to : ℕ) (from : Region) (core : IsCore p) (at : IsActingAt p t (Send to from) x) (k : Key) (member : ℕ) (k_is : k ≡ instance (shown x)) (member_is : member ≡ x.plan.member) where
+module _ (p : Parts) (t : Ticket) (x : Request) (to : ℕ) (from : Region) (core : IsCore p) (at : IsActingAt p t (Send to from) x) (k : Key) (member : ℕ) (k_is : k ≡ key (shown x)) (member_is : member ≡ x.plan.member) where
   pub has_given : given p.matches k member ≢ None
   has_given none = (acting p core t.slot x at.here at.on_ready).gave (sym (λ z. given p.matches (k_is z) (member_is z)) ∙ none)
 
@@ -138,7 +140,7 @@ stands_sent m n k from to round message mails none = none-some message (sym none
 
 pub sent : (ranks starts trace : ℕ) (a b d : Slots Request) (q : Postings) (m n : Instances) (t : Ticket) (x : Request) (to : ℕ) (from : Region) (k : Key) (member : ℕ) (message : List ℕ) (finished : Bool)
     → IsCore (parts ranks starts trace a q m) → IsActingAt (parts ranks starts trace a q m) t (Send to from) x
-    → k ≡ instance (shown x) → member ≡ x.plan.member → message ≡ read_of x.buffer from
+    → k ≡ key (shown x) → member ≡ x.plan.member → message ≡ read_of x.buffer from
     → KeepsGifts m n
     → mail n ≡ put_key (mail m) k (put_mail (mail m k) member to x.round (Some message))
     → Delivers shown a b n k to

@@ -1,17 +1,10 @@
--- What a completion takes out of the arena, and what it leaves there.
-use Rattle.std.specs.Prelude.{◌≡◌, ◌<◌, ℕ, true, length, [], Some, None}
-use Rattle.coll_kinds.specs.declared.kind.Mode.{Mode}
-use Rattle.coll_kinds.specs.declared.kind.Mode.TheVariants.{Once, Persistent}
+-- What a completion takes out of the arena.
+use Rattle.std.specs.Prelude.{◌≡◌, ◌<◌, ℕ, true, length, Some, None}
 use Rattle.coll_kinds.specs.declared.ticket.Ticket.{Ticket}
 use Rattle.coll_sched.specs.Regions.{Inside}
-use Rattle.coll_arena.specs.declared.list_name.ListName.TheVariants.{Idle}
-use Rattle.coll_arena.specs.ListNames.{number_of}
 use Rattle.coll_arena.specs.Slots.{Slots, names, record_in}
 use Rattle.coll_machine.specs.Calls.{Retire}
 use Rattle.coll_machine.specs.Refusals.{refusal}
-use Rattle.coll_tables.specs.Requests.{went}
-use Rattle.coll_tables.specs.OneSlots.{OneSlot}
-use Rattle.coll_tables.specs.Engines.{given_up}
 use Rattle.coll_core.specs.declared.request.Request.{Request}
 use Rattle.coll_core.specs.Requests.{schedule, shown}
 use Rattle.coll_core.specs.Cores.{Parts, seen, setting}
@@ -26,11 +19,3 @@ pub record Owns (p : Parts) (rank : ℕ) (t : Ticket) (x : Request) : Type 0 whe
 pub record GivesUp (a : Slots Request) (x : Request) : Type 0 where
   pub comm_in : x.comm < a.comms
   pub outcome_in : Inside (length x.buffer) (schedule (shown x)).output
-
--- the slot, where request x was completed: nothing, or the request as it was made but for its starts
-abbrev pub Rested : Mode → Slots Request → Slots Request → Ticket → Request → Type 0
-Rested Once a b t x = OneSlot a b t.slot t.generation 0 None (given_up a.wear t.generation)
-Rested Persistent a b t x =
-    (y : Request)
-    × OneSlot a b t.slot t.generation 0 (Some y) (number_of (Idle x.comm))
-    × (shown y ≡ went (shown x) (record { round = 0; index = 0; buf = [] }))

@@ -1,5 +1,5 @@
 -- What an engine is made of, and what its parts show.
-use Rattle.std.specs.Prelude.{ℕ}
+use Rattle.std.specs.Prelude.{◌≡◌, ℕ}
 use Rattle.coll_arena.specs.Slots.{Slots}
 use Rattle.coll_queues.specs.Postings.{Postings}
 use Rattle.coll_machine.specs.Settings.{Setting}
@@ -32,3 +32,8 @@ seen p = machine (tables p)
 -- the condition that every call keeps
 abbrev pub IsCore : Parts → Type 0
 IsCore p = tabled.IsCore shown (setting p) p.arena p.queues p.matches
+
+-- memory may have grown, and nothing else has changed
+pub record Unchanged (old new : Parts) : Type 0 where
+  pub setting_is : setting new ≡ setting old
+  pub tables_is : tables new ≡ tables old

@@ -8,15 +8,15 @@ use Rattle.coll_arena.specs.declared.list_name.ListName.TheVariants.{Free, Worn,
 use Rattle.coll_arena.specs.ListNames.{number_of}
 use Rattle.coll_arena.specs.Lookups.{PutsSlot}
 use Rattle.coll_arena.specs.Slots.{Slots, home, names, record_in, weight_of}
-use Rattle.coll_match.specs.declared.key.Key.{Key}
+use Rattle.coll_machine.specs.declared.key.Key.{Key}
 use Rattle.coll_match.specs.Instances.{mail, seats}
 use Rattle.coll_tables.specs.Engines.{IsCalled}
-use Rattle.coll_tables.specs.Requests.{went}
+use Rattle.coll_tables.specs.Requests.{went, key}
 use Rattle.coll_tables.specs.Shown.{Instances}
 use Rattle.coll_tables.specs.Sound.{Stands}
 use Rattle.coll_core.specs.declared.request.Request.{Request}
 use Rattle.coll_core.specs.declared.sent.Sent.{Sent}
-use Rattle.coll_core.specs.Requests.{Hears, IsListOf, instance, next_of, schedule, shown}
+use Rattle.coll_core.specs.Requests.{Hears, IsListOf, next_of, schedule, shown}
 
 -- the ticket names a request that has a next action
 pub record CanGoOn (a : Slots Request) (t : Ticket) : Type 0 where
@@ -50,7 +50,7 @@ pub record GoneOn (a b : Slots Request) (n : Instances) (t : Ticket) (finished :
   pub is : shown to ≡ went (shown from) point
   pub buf : point.buf ≡ from.buffer
   pub over : Over (schedule (shown from)) from.round (suc from.index) point.round point.index
-  pub stands : Stands from.plan.n (mail n (instance (shown from))) (number_of list) (shown to)
+  pub stands : Stands from.plan.n (mail n (key (shown from))) (number_of list) (shown to)
   pub onto : IsListOf from.comm list
   pub finished_is : finished ≡ is_end list
 
@@ -69,7 +69,7 @@ pub record CanHear (a : Slots Request) (n : Instances) (k : Key) (to : ℕ) (t :
   pub live : names a t ≡ true
   pub here : record_in a t.slot ≡ Some request
   pub waits : home a t.slot ≡ number_of (Queue request.comm)
-  pub hears : Hears (mail n (instance (shown request))) (shown request)
+  pub hears : Hears (mail n (key (shown request))) (shown request)
 
 abbrev pub NoneHears : Slots Request → Instances → Key → ℕ → Type 0
 NoneHears a n k to = (slot : ℕ) (r : Request) → IsCalled shown a n k to slot r → ⊥

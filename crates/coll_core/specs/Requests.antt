@@ -2,15 +2,13 @@
 use Rattle.std.specs.Prelude.{◌≡◌, ◌≢◌, ℕ, true, Option, Some, None}
 use Rattle.coll_arena.specs.declared.list_name.ListName.{ListName}
 use Rattle.coll_arena.specs.declared.list_name.ListName.TheVariants.{Free, Worn, Ready, Running, Idle, Queue, Done}
-use Rattle.coll_match.specs.declared.key.Key.{Key as Instance}
 use Rattle.coll_sched.specs.declared.action.Action.TheVariants.{Recv}
 use Rattle.coll_sched.specs.declared.action.Action.{Action}
 use Rattle.coll_sched.specs.declared.region.Region.{Region}
 use Rattle.coll_sched.specs.Points.{Over, IsPoint}
 use Rattle.coll_sched.specs.Schedules.{Parts as Schedule}
 use Rattle.coll_plans.specs.Plans.{family}
-use Rattle.coll_tables.specs.Requests.{Live, key, went}
-use Rattle.coll_tables.specs.Shown.{named}
+use Rattle.coll_tables.specs.Requests.{Live, went}
 use Rattle.coll_tables.specs.Sound.{next}
 use Rattle.coll_tables.specs.Tables.{Mail}
 use Rattle.coll_core.specs.declared.request.Request.{Request}
@@ -30,10 +28,6 @@ shown r = record {
   index = r.index;
   buf = r.buffer;
 }
-
--- the instance of its last start
-abbrev pub instance : Live → Instance
-instance q = named (key q)
 
 abbrev pub schedule : Live → Schedule
 schedule q = family q.sig q.members q.member

@@ -6,25 +6,19 @@ use Rattle.coll_sched.specs.Points.{IsPoint, Over}
 use Rattle.coll_arena.specs.declared.list_name.ListName.{ListName}
 use Rattle.coll_arena.specs.ListNames.{number_of}
 use Rattle.coll_arena.specs.Slots.{Slots}
-use Rattle.coll_match.specs.declared.key.Key.{Key}
+use Rattle.coll_machine.specs.declared.key.Key.{Key}
 use Rattle.coll_match.specs.Instances.{given, mail, size}
 use Rattle.coll_tables.specs.Engines.{IsJoined}
 use Rattle.coll_tables.specs.OneSlots.{OneSlot}
 use Rattle.coll_tables.specs.Requests.{Live, at, begun}
-use Rattle.coll_tables.specs.Shown.{Instances, named}
+use Rattle.coll_tables.specs.Shown.{Instances}
 use Rattle.coll_tables.specs.Sound.{Stands}
 use Rattle.coll_core.specs.declared.request.Request.{Request}
-use Rattle.coll_core.specs.Cores.{Parts, setting, tables}
 use Rattle.coll_core.specs.Requests.{schedule, shown}
-
--- nothing that the tables show has changed
-pub record IsSame (old new : Parts) : Type 0 where
-  pub setting_is : setting new ≡ setting old
-  pub tables_is : tables new ≡ tables old
 
 -- the instance of the request's next start
 abbrev pub next_instance : Request → Key
-next_instance x = named (at (shown x) x.starts)
+next_instance x = at (shown x) x.starts
 
 -- the request once more at the first point of its schedule
 pub record Begins (q r : Live) (buf : List ℕ) : Type 0 where

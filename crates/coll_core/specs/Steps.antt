@@ -23,7 +23,8 @@ use Rattle.coll_core.specs.declared.request.Request.{Request}
 use Rattle.coll_core.specs.declared.stepped.Stepped.{Stepped}
 use Rattle.coll_core.specs.declared.stepped.Stepped.TheVariants.{Quiet, Moved, Finished, Out}
 use Rattle.coll_core.specs.Cores.{Parts, seen, setting, tables}
-use Rattle.coll_core.specs.Requests.{instance, next_of, schedule, shown}
+use Rattle.coll_tables.specs.Requests.{key}
+use Rattle.coll_core.specs.Requests.{next_of, schedule, shown}
 use Rattle.coll_core.specs.Works.{Made, Piece, StandsAt}
 
 -- the actions that all requests have still to do
@@ -42,7 +43,7 @@ pub record IsActingAt (p : Parts) (t : Ticket) (a : Action) (request : Request) 
   pub here : record_in p.arena t.slot ≡ Some request
   pub on_ready : home p.arena t.slot ≡ number_of Ready
   pub next_is : next_of (shown request) ≡ Some a
-  pub doable : Doable (mail p.matches (instance (shown request))) (shown request) a
+  pub doable : Doable (mail p.matches (key (shown request))) (shown request) a
   pub fits : Fits (schedule (shown request)).size a
   pub filled : length request.buffer ≡ (schedule (shown request)).size
   pub round_in : request.round ≤ length (schedule (shown request)).rounds

@@ -4,9 +4,9 @@ ghost use Rattle.coll_match.specs.Instances.{mail};
 ghost use Rattle.coll_sched.specs.Actions.{Fits, IsCombine};
 ghost use Rattle.coll_sched.specs.Points.{IsPoint, actions_of};
 ghost use Rattle.coll_sched.specs.Regions.{Inside, read_of};
-ghost use Rattle.coll_tables.specs.Requests.{went};
+ghost use Rattle.coll_tables.specs.Requests.{went, key};
 ghost use Rattle.coll_tables.specs.Sound.{Stands};
-ghost use Rattle.coll_core.specs.Requests.{GoesOver, Hears, IsListOf, instance, next_of, schedule, shown};
+ghost use Rattle.coll_core.specs.Requests.{GoesOver, Hears, IsListOf, next_of, schedule, shown};
 ghost use Rattle.coll_core.specs.Goings.{IsSent};
 ghost use Rattle.coll_core.specs.Works.{Combined, StandsAt};
 
@@ -60,7 +60,7 @@ fn cut(buffer: Vec<u8>, region: Region) -> Vec<u8>
 impl Request {
     /// The instance of the start under way, or of the last one; of the first where it was never started.
     pub(crate) fn key(&self) -> Key
-        ensures { result ≡ instance (shown self.now) }
+        ensures { result ≡ key (shown self.now) }
     {
         Key {
             comm: self.comm,
@@ -82,7 +82,7 @@ impl Request {
     /// is there.
     pub(crate) fn list(&self, matches: &Matches) -> ListName
         requires { IsPoint (schedule (shown self.now)) self.now.round self.now.index }
-        ensures stands { Stands self.now.plan.n (mail matches.now (instance (shown self.now))) (number_of result) (shown self.now) }
+        ensures stands { Stands self.now.plan.n (mail matches.now (key (shown self.now))) (number_of result) (shown self.now) }
         ensures list { IsListOf self.now.comm result }
     {
         match self.next() {
@@ -103,7 +103,7 @@ impl Request {
     /// Whether it waits for a message that is there. Where that is the one that was sent, no look-up is needed to tell so.
     pub(crate) fn hears(&self, matches: &Matches, sent: Sent) -> bool
         requires { IsSent matches.now sent }
-        ensures { IsTrue result ↔ Hears (mail matches.now (instance (shown self.now))) (shown self.now) }
+        ensures { IsTrue result ↔ Hears (mail matches.now (key (shown self.now))) (shown self.now) }
     {
         let Some(Action::Recv { of, .. }) = self.next() else {
             return false;

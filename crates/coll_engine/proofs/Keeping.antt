@@ -10,9 +10,7 @@ use Rattle.coll_machine.specs.Settings.{Setting}
 use Rattle.coll_machine.specs.States.{Machine}
 use Rattle.coll_tables.specs.Machines.{StepsTo}
 use Rattle.coll_core.specs.declared.outcome.Outcome.{Outcome}
-use Rattle.coll_core.specs.Cores.{Parts, seen, setting}
-use Rattle.coll_core.specs.Posts.{Unchanged}
-use Rattle.coll_core.specs.Starts.{IsSame}
+use Rattle.coll_core.specs.Cores.{Parts, seen, setting, Unchanged}
 use Rattle.coll_core.specs.declared.config.Config.{Config}
 use Rattle.coll_core.specs.Configs.{idle, setting_by}
 use Rattle.coll_tables.specs.Tables.{machine}
@@ -34,8 +32,11 @@ kept p r comms xs ys e set m = record {
 pub kept_same : (p r : Parts) (comms : List (List ℕ)) (xs : List ℕ) → IsEngine p comms xs → setting r ≡ setting p → seen r ≡ seen p → IsEngine r comms xs
 kept_same p r comms xs e set same = kept p r comms xs xs e set (subst (λ (m : Machine). AreMeasured (setting p) m.state xs) (sym same) e.measured)
 
+seen_same : (p r : Parts) → Unchanged p r → seen r ≡ seen p
+seen_same p r u = ap machine u.tables_is
+
 pub kept_unchanged : (p r : Parts) (comms : List (List ℕ)) (xs : List ℕ) → IsEngine p comms xs → Unchanged p r → IsEngine r comms xs
-kept_unchanged p r comms xs e u = kept_same p r comms xs e u.setting_is u.seen_is
+kept_unchanged p r comms xs e u = kept_same p r comms xs e u.setting_is (seen_same p r u)
 
 pub kept_posted : (p r : Parts) (comms : List (List ℕ)) (xs : List ℕ) (rank comm : ℕ) (plan : Planned) (bytes : List ℕ) (t : Ticket) (len : ℕ) → IsEngine p comms xs → setting r ≡ setting p
     → StepsTo (setting p) (seen p) (Post rank comm plan bytes) (Ticketed t) (seen r) → IsLength plan len → IsEngine r comms (slice_set xs t.slot len)
@@ -70,12 +71,6 @@ kept_tested p r comms xs rank request o e set runs = kept p r comms xs xs e set 
 
 pub kept_advanced : (p r : Parts) (comms : List (List ℕ)) (xs : List ℕ) (actions : ℕ) → IsEngine p comms xs → Advances p r actions → IsEngine r comms xs
 kept_advanced p r comms xs actions e a = kept p r comms xs xs e a.set (measured_finishings (setting p) (seen p) (seen r) xs a.finishes e.measured)
-
-pub seen_same : (p r : Parts) → IsSame p r → seen r ≡ seen p
-seen_same p r u = ap machine u.tables_is
-
-pub kept_is_same : (p r : Parts) (comms : List (List ℕ)) (xs : List ℕ) → IsEngine p comms xs → IsSame p r → IsEngine r comms xs
-kept_is_same p r comms xs e u = kept_same p r comms xs e u.setting_is (seen_same p r u)
 
 -- an engine that was just opened
 pub opened : (core : Parts) (comms : List (List ℕ)) (xs : List ℕ) (config : Config) → setting core ≡ setting_by config → seen core ≡ idle → comms ≡ (setting_by config).groups → length xs ≡ config.slots → IsEngine core comms xs

@@ -17,7 +17,7 @@ use Rattle.coll_kinds.specs.Sameness.{mode_number}
 use Rattle.coll_machine.specs.Settings.{Setting, group, size}
 use Rattle.coll_machine.specs.States.{State, Request, found}
 use Rattle.coll_machine.specs.Calls.{Planned, Post, Init, Start, Retire, Free}
-use Rattle.coll_machine.specs.Refusals.{first_of, unless, mismatch, naming_refusals, idle_refusals, start_refusals, refusals, refusal}
+use Rattle.coll_machine.specs.Refusals.{first_of, unless, mismatch_in, naming_refusals, idle_refusals, start_refusals, refusals, refusal}
 
 -- where no condition is the first, none holds
 pub all_none : (xs : List (Option Refusal)) → first_of xs ≡ None → AllByRecursion (λ (o : Option Refusal). o ≡ None) xs
@@ -44,7 +44,7 @@ same_mode Persistent Persistent e = refl
 pub record Accepted (g : Setting) (s : State) (comm member : ℕ) (mode : Mode) (plan : Planned) : Type 0 where
   pub checked : broken plan.sig (size g comm) ≡ None
   pub mode_is : plan.sig.mode ≡ mode
-  pub agrees : mismatch g s comm (length (s.posts comm member)) plan.sig ≡ None
+  pub agrees : mismatch_in (group g comm) (s.posts comm) (length (s.posts comm member)) plan.sig ≡ None
 
 abbrev as_member : Setting → ℕ → ℕ → ℕ
 as_member g comm rank = unwrap_or (member_of rank (group g comm)) 0
@@ -59,7 +59,7 @@ accepted_post g s rank comm member plan bytes e is =
     record {
       checked = unbroken (broken plan.sig (size g comm)) h.1.1.0;
       mode_is = same_mode plan.sig.mode Once (fits _ (BadSignature WrongMode) h.1.1.1.0);
-      agrees = ap (λ m. mismatch g s comm (length (s.posts comm m)) plan.sig) (sym (number_is g comm rank member is)) ∙ h.1.1.1.1.1.0;
+      agrees = ap (λ m. mismatch_in (group g comm) (s.posts comm) (length (s.posts comm m)) plan.sig) (sym (number_is g comm rank member is)) ∙ h.1.1.1.1.1.0;
     }
 
 pub accepted_init : (g : Setting) (s : State) (rank comm member : ℕ) (plan : Planned) → refusal g s (Init rank comm plan) ≡ None → member_of rank (group g comm) ≡ Some member → Accepted g s comm member Persistent plan
@@ -68,7 +68,7 @@ accepted_init g s rank comm member plan e is =
     record {
       checked = unbroken (broken plan.sig (size g comm)) h.1.1.0;
       mode_is = same_mode plan.sig.mode Persistent (fits _ (BadSignature WrongMode) h.1.1.1.0);
-      agrees = ap (λ m. mismatch g s comm (length (s.posts comm m)) plan.sig) (sym (number_is g comm rank member is)) ∙ h.1.1.1.1.1.0;
+      agrees = ap (λ m. mismatch_in (group g comm) (s.posts comm) (length (s.posts comm m)) plan.sig) (sym (number_is g comm rank member is)) ∙ h.1.1.1.1.1.0;
     }
 
 -- ---- a call that names a request

@@ -8,9 +8,9 @@ use Rattle.coll_kinds.specs.declared.signature.Signature.{Signature}
 use Rattle.coll_kinds.specs.Refusals.{mismatch_at}
 use Rattle.coll_kinds.specs.Sameness.{same_signature}
 use Rattle.coll_kinds.proofs.Sameness.{same_signature-Decides}
-use Rattle.coll_machine.specs.Settings.{Setting, size, rank_of}
+use Rattle.coll_machine.specs.Settings.{Setting, group, size, rank_of}
 use Rattle.coll_machine.specs.States.{State}
-use Rattle.coll_machine.specs.Refusals.{unless, first_there, mismatch}
+use Rattle.coll_machine.specs.Refusals.{unless, first_there, mismatch_in}
 use Rattle.coll_machine.proofs.Accepted.{fits}
 
 pub record There (lists : ℕ → List Signature) (place from n : ℕ) : Type 0 where
@@ -34,7 +34,7 @@ there_is lists place from (suc n) b y le lt e = go (slice_get (lists from) place
         record { member = r.member; sig = r.sig; is = ap (λ (o : Option Signature). option_or (option_map (λ sig. (from, sig)) o) (first_there lists place (from + 1) n)) is ∙ r.is; low = omega arith; has = r.has }
 
 -- without a mismatch the lowest member that has the place has this signature there
-pub agrees_with : (g : Setting) (s : State) (comm place b : ℕ) (sig y : Signature) → mismatch g s comm place sig ≡ None → b < size g comm → slice_get (s.posts comm b) place ≡ Some y
+pub agrees_with : (g : Setting) (s : State) (comm place b : ℕ) (sig y : Signature) → mismatch_in (group g comm) (s.posts comm) place sig ≡ None → b < size g comm → slice_get (s.posts comm b) place ≡ Some y
     → (member : ℕ) × (member < size g comm) × (slice_get (s.posts comm member) place ≡ Some sig)
 agrees_with g s comm place b sig y e lt has =
     let t = there_is (s.posts comm) place 0 (size g comm) b y (omega arith) (omega arith) has in

@@ -8,7 +8,8 @@ use Rattle.coll_kinds.specs.declared.ticket.Ticket.{Ticket}
 use Rattle.coll_kinds.specs.Puts.{put}
 use Rattle.coll_kinds.proofs.Puts.{put_same, put_other, put_cases}
 use Rattle.coll_machine.specs.Settings.{Setting, size}
-use Rattle.coll_machine.specs.States.{Key, Request, State, Machine, nothing, key_of}
+use Rattle.coll_machine.specs.declared.key.Key.{Key}
+use Rattle.coll_machine.specs.States.{Request, State, Machine, nothing, key_of}
 use Rattle.coll_machine.specs.Changes.{put_key, new_request, created, started, rested, holding, forgotten}
 use Rattle.coll_machine.specs.Calls.{Call, Reply}
 use Rattle.coll_machine.specs.Steps.{IsOver, Clears}

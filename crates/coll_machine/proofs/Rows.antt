@@ -4,7 +4,8 @@ use Rattle.std.proofs.lemmas.Bool.{cases_eq, and_parts, eqb-true, ltb-true, fals
 use Rattle.std.proofs.lemmas.Option.{none-some, same_Some}
 use Rattle.coll_kinds.specs.Needs.{needs}
 use Rattle.coll_machine.specs.Settings.{size}
-use Rattle.coll_machine.specs.States.{Key, Request, State, nothing, key_of, signature_of}
+use Rattle.coll_machine.specs.declared.key.Key.{Key}
+use Rattle.coll_machine.specs.States.{Request, State, nothing, key_of, signature_of}
 use Rattle.coll_machine.specs.Changes.{once_more, holding}
 use Rattle.coll_machine.specs.Steps.{Works, IsOver}
 use Rattle.coll_machine.specs.Entries.{Entry, Posted, Inited, Started, Retired, Freed}

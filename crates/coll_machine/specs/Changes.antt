@@ -5,7 +5,8 @@ use Rattle.coll_kinds.specs.declared.kind.Mode.TheVariants.{Once, Persistent}
 use Rattle.coll_kinds.specs.declared.signature.Signature.{Signature}
 use Rattle.coll_kinds.specs.declared.ticket.Ticket.{Ticket}
 use Rattle.coll_kinds.specs.Puts.{put}
-use Rattle.coll_machine.specs.States.{Key, Request, State, key_of}
+use Rattle.coll_machine.specs.declared.key.Key.{Key}
+use Rattle.coll_machine.specs.States.{Request, State, key_of}
 
 -- a function with another value at two numbers
 abbrev pub put2 : {X : Type 0} → (ℕ → ℕ → X) → ℕ → ℕ → X → ℕ → ℕ → X
@@ -17,6 +18,10 @@ same_key a b = (a.comm == b.comm) && ((a.place == b.place) && (a.start == b.star
 -- one with another value at a collective
 abbrev pub put_key : {X : Type 0} → (Key → X) → Key → X → Key → X
 put_key f k x a = cond (same_key a k) x (f a)
+
+-- one of collectives and members with another value at one of each
+abbrev pub put_in : {X : Type 0} → (Key → ℕ → X) → Key → ℕ → X → Key → ℕ → X
+put_in f k member x = put_key f k (put (f k) member x)
 
 -- the slot has this request, or none
 abbrev pub holding : State → ℕ → Option Request → State
@@ -40,7 +45,7 @@ once_more q = record q { starts = suc q.starts; active = true }
 -- the slot's request is started with these bytes, its member's contribution to that start
 abbrev pub started : State → ℕ → Request → List ℕ → State
 started s slot q bytes = record (holding s slot (Some (once_more q))) {
-  given = put_key s.given (key_of q q.starts) (put (s.given (key_of q q.starts)) q.member (Some bytes));
+  given = put_in s.given (key_of q q.starts) q.member (Some bytes);
 }
 
 -- what completion leaves: nothing of a once request, a persistent one inactive

@@ -1,5 +1,5 @@
 -- Why a call is refused: of the conditions on its list, in the order of the list, the first that holds.
-use Rattle.std.specs.Prelude.{◌==◌, ◌&&◌, ℕ, zero, suc, ◌+◌, nat_lt, Bool, not, List, [], ◌∷◌, ◌++◌, length, slice_get, unwrap_or, Option, Some, None, is_some, is_none, option_map, option_and_then, if◌then◌else◌}
+use Rattle.std.specs.Prelude.{◌==◌, ◌&&◌, ℕ, zero, suc, ◌+◌, nat_lt, Bool, not, List, [], ◌∷◌, ◌++◌, length, slice_get, slice_index, unwrap_or, Option, Some, None, is_some, is_none, option_map, option_and_then, if◌then◌else◌}
 use Rattle.std.specs.Option.{option_or}
 use Rattle.std.specs.List.{list_any, range_with_len}
 use Rattle.coll_kinds.specs.declared.kind.Mode.{Mode}
@@ -13,7 +13,7 @@ use Rattle.coll_kinds.specs.Checks.{broken}
 use Rattle.coll_kinds.specs.Groups.{member_of}
 use Rattle.coll_kinds.specs.Lengths.{given_len}
 use Rattle.coll_kinds.specs.Sameness.{mode_number, same_signature}
-use Rattle.coll_machine.specs.Settings.{Setting, group, size, rank_of}
+use Rattle.coll_machine.specs.Settings.{Setting, group, group_in, size}
 use Rattle.coll_machine.specs.States.{State, Request, found, signature_of}
 use Rattle.coll_machine.specs.Calls.{Planned, Call, Post, Init, Start, Retire, Free, Finish}
 
@@ -31,11 +31,18 @@ first_there lists place from zero = None
 first_there lists place from (suc n) =
     option_or (option_map (λ sig. (from, sig)) (slice_get (lists from) place)) (first_there lists place (from + 1) n)
 
--- the lowest member that has the place has another signature there
-abbrev pub mismatch : Setting → State → ℕ → ℕ → Signature → Option Refusal
-mismatch g s comm place sig =
-    option_and_then (λ first. unless (same_signature first.1 sig) (mismatch_at place (rank_of g comm first.0) first.1))
-    (first_there (s.posts comm) place 0 (size g comm))
+-- of a group's members the lowest that has the place has another signature there
+abbrev pub mismatch_in : List ℕ → (ℕ → List Signature) → ℕ → Signature → Option Refusal
+mismatch_in group lists place sig =
+    option_and_then (λ first. unless (same_signature first.1 sig) (mismatch_at place (slice_index group first.0) first.1))
+    (first_there lists place 0 (length group))
+
+-- of a call that names a member by its rank: there is no such communicator, or the rank isn't in its group
+abbrev pub member_refusals : List (List ℕ) → ℕ → ℕ → List (Option Refusal)
+member_refusals groups comm rank =
+    unless (nat_lt comm (length groups)) (BadComm comm)
+    ∷ unless (is_some (member_of rank (group_in groups comm))) (NotMember rank)
+    ∷ []
 
 abbrev pub wrong_length : Signature → ℕ → ℕ → List ℕ → Option Refusal
 wrong_length sig n member bytes =
@@ -47,15 +54,20 @@ full g s =
     let spare = λ (slot : ℕ). is_none (s.request slot) && nat_lt (s.generation slot) g.wear in
     unless (list_any spare (range_with_len 0 g.slots)) Full
 
+-- of a plan among so many members, for a member and a mode
+abbrev pub plan_refusals : Planned → ℕ → ℕ → Mode → List (Option Refusal)
+plan_refusals plan size member mode =
+    option_map BadSignature (broken plan.sig size)  -- root, operation, count or size
+    ∷ unless (mode_number plan.sig.mode == mode_number mode) (BadSignature WrongMode)  -- once or persistent
+    ∷ unless ((plan.n == size) && (plan.member == member)) (BadSignature WrongGroup)  -- another's plan
+    ∷ []
+
 -- of a post or an initialisation by a member
 abbrev pub posting_refusals : Setting → State → ℕ → ℕ → ℕ → Mode → Planned → List (Option Refusal)
 posting_refusals g s rank comm member mode plan =
-    unless (nat_lt comm (length g.groups)) (BadComm comm)  -- no such communicator
-    ∷ unless (is_some (member_of rank (group g comm))) (NotMember rank)  -- not one of its ranks
-    ∷ option_map BadSignature (broken plan.sig (size g comm))  -- root, operation, count or size
-    ∷ unless (mode_number plan.sig.mode == mode_number mode) (BadSignature WrongMode)  -- once or persistent
-    ∷ unless ((plan.n == size g comm) && (plan.member == member)) (BadSignature WrongGroup)  -- another's plan
-    ∷ mismatch g s comm (length (s.posts comm member)) plan.sig  -- another collective at the member's next place
+    member_refusals g.groups comm rank  -- no such communicator, or not one of its ranks
+    ++ plan_refusals plan (size g comm) member mode  -- the plan can't be the member's
+    ++ mismatch_in (group g comm) (s.posts comm) (length (s.posts comm member)) plan.sig  -- another collective at the member's next place
     ∷ unless (nat_lt (length (s.posts comm member)) g.places) PlacesUsed  -- no next place
     ∷ []
 

@@ -11,7 +11,8 @@ use Rattle.coll_kinds.specs.declared.refusal.Refusal.TheVariants.{BadComm, NotMe
 use Rattle.coll_kinds.specs.declared.refusal.SignatureFault.TheVariants.{Root, Mode as WrongMode, Group as WrongGroup}
 use Rattle.coll_ops.specs.Values.{value}
 use Rattle.coll_machine.specs.Settings.{Setting}
-use Rattle.coll_machine.specs.States.{Key, Request, State, nothing}
+use Rattle.coll_machine.specs.declared.key.Key.{Key}
+use Rattle.coll_machine.specs.States.{Request, State, nothing}
 use Rattle.coll_machine.specs.Calls.{Planned, Post, Init, Start, Retire, Free}
 use Rattle.coll_machine.specs.Refusals.{refusal}
 use Rattle.coll_machine.specs.Changes.{new_request, created, started, holding, forgotten}

@@ -11,9 +11,12 @@ pub record Setting : Type 0 where
   pub starts : ℕ  -- the most starts of one request
   pub trace : ℕ  -- the most entries of the trace
 
--- the members of a communicator; one that isn't there has none
+-- the members of a communicator, of all groups; one that isn't there has none
+abbrev pub group_in : List (List ℕ) → ℕ → List ℕ
+group_in groups comm = unwrap_or (slice_get groups comm) []
+
 abbrev pub group : Setting → ℕ → List ℕ
-group g comm = unwrap_or (slice_get g.groups comm) []
+group g comm = group_in g.groups comm
 
 abbrev pub size : Setting → ℕ → ℕ
 size g comm = length (group g comm)

@@ -3,12 +3,7 @@ use Rattle.std.specs.Prelude.{◌==◌, ℕ, Bool, List, [], slice_get, Option, 
 use Rattle.coll_kinds.specs.declared.kind.Mode.{Mode}
 use Rattle.coll_kinds.specs.declared.signature.Signature.{Signature}
 use Rattle.coll_kinds.specs.declared.ticket.Ticket.{Ticket}
-
--- one collective: a start of a place of a communicator's posting lists
-pub record Key : Type 0 where
-  pub comm : ℕ
-  pub place : ℕ
-  pub start : ℕ
+use Rattle.coll_machine.specs.declared.key.Key.{Key}
 
 -- a live request
 pub record Request : Type 0 where

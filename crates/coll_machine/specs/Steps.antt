@@ -10,7 +10,8 @@ use Rattle.coll_kinds.specs.Needs.{needs}
 use Rattle.coll_kinds.specs.Puts.{put}
 use Rattle.coll_ops.specs.Values.{value}
 use Rattle.coll_machine.specs.Settings.{Setting, group, size}
-use Rattle.coll_machine.specs.States.{Key, Request, State, Machine, found, key_of, signature_of}
+use Rattle.coll_machine.specs.declared.key.Key.{Key}
+use Rattle.coll_machine.specs.States.{Request, State, Machine, found, key_of, signature_of}
 use Rattle.coll_machine.specs.Changes.{new_request, created, started, rested, holding, forgotten}
 use Rattle.coll_machine.specs.Calls.{Planned, Post, Init, Start, Retire, Free}
 use Rattle.coll_machine.specs.Refusals.{refusal}

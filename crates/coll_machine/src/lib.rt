@@ -1,6 +1,6 @@
 //! What callers can know of an engine: one small machine of requests, posting lists and contributions, what each call
-//! does to it and answers, and which traces of calls are legal. There is no code here: the definitions are those of
-//! `specs/`, and `laws` has what holds of them.
+//! does to it and answers, and which traces of calls are legal. The definitions are those of `specs/`, `key` has the one
+//! type that they share with code, and `laws` what holds of them.
 //!
 //! | In `specs/` | Has |
 //! |---|---|
@@ -14,4 +14,7 @@
 //! | `Laws`, `Rows` | the laws; worked rows |
 #![tactic(auto)]
 
+mod key;
 pub mod laws;
+
+pub use key::Key;

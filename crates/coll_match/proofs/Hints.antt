@@ -4,9 +4,10 @@ use Rattle.std.specs.Prelude.{slice_get}
 use Rattle.std.specs.List.{AllByRecursion, IsDistinct}
 use Rattle.std.specs.Map.{keys_of, lookup, set_value, values_of}
 use Rattle.indexmap.specs.IndexMap.{set_value_at}
-use Rattle.coll_match.specs.declared.key.Key.{Key}
+use Rattle.coll_machine.specs.declared.key.Key.{Key}
 use Rattle.coll_match.specs.Held.{Held}
-use Rattle.coll_match.specs.Instances.{is_of, same_key, standing}
+use Rattle.coll_machine.specs.Changes.{same_key}
+use Rattle.coll_match.specs.Instances.{is_of, standing}
 use Rattle.coll_match.proofs.Standing.{same_at, same_keys}
 
 -- ---- one key, and one that is apart from it

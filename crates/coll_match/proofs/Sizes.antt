@@ -4,9 +4,10 @@ use Rattle.std.proofs.lemmas.Option.{none-some}
 use Rattle.coll_kinds.specs.Puts.{put}
 use Rattle.coll_kinds.proofs.Puts.{put_at}
 use Rattle.std.specs.Prelude.{unwrap_or}
-use Rattle.coll_match.specs.declared.key.Key.{Key}
+use Rattle.coll_machine.specs.declared.key.Key.{Key}
 use Rattle.coll_match.specs.Held.{Held}
-use Rattle.coll_match.specs.Instances.{HaveSize, given, members, put_key, same_key, size}
+use Rattle.coll_machine.specs.Changes.{put_key, same_key}
+use Rattle.coll_match.specs.Instances.{HaveSize, given, members, size}
 use Rattle.coll_match.proofs.Standing.{put_key_at}
 
 pub size_kept : (t u : List (Key × Held)) (n : ℕ) → members u ≡ members t → HaveSize t n → HaveSize u n

@@ -8,9 +8,10 @@ use Rattle.std.proofs.lemmas.Map.{lookup-set_value}
 use Rattle.std.proofs.lemmas.Option.{same_Some, slice_get_past}
 use Rattle.coll_kinds.specs.Puts.{put}
 use Rattle.coll_kinds.proofs.Puts.{put_cases}
-use Rattle.coll_match.specs.declared.key.Key.{Key}
+use Rattle.coll_machine.specs.declared.key.Key.{Key}
 use Rattle.coll_match.specs.Held.{Held, IsOver, gift_of, slot_of, given_in, mail_in, seat_in, put_mail}
-use Rattle.coll_match.specs.Instances.{IsLast, given, given_of, mail, mail_of, members, members_of, put_key, same_key, seats, seats_of, size, standing}
+use Rattle.coll_machine.specs.Changes.{put_in, put_key, same_key}
+use Rattle.coll_match.specs.Instances.{IsLast, LookUps, dissolved, left, look_ups, mailed, seated, given, given_of, mail, mail_of, members, members_of, seats, seats_of, size, standing}
 use Rattle.coll_match.proofs.Puts.{cond_map, eqb_sym, updated}
 
 pub same_at : (a k : Key) → same_key a k ≡ true → a ≡ k
@@ -186,10 +187,6 @@ set_value_own {K} {X} test (e ∷ es) w is = go (set_value_own test es w) (test 
     go rest true same = λ z. (e.0, same_Some w e.1 same z) ∷ es
     go rest false later = ap (λ xs. e ∷ xs) (rest later)
 
-pub on_ok : {T E P Q : Type 0} (r : Result T E) → (P → Q) → OnOk r P → OnOk r Q
-on_ok (Ok x) f h = f h
-on_ok (Err e) f h = tt
-
 pub if_ok : {T E : Type 0} {P Q : T → Type 0} (r : Result T E) → ((x : T) → P x → Q x) → IfOk r P → IfOk r Q
 if_ok (Ok x) f h = f x h
 if_ok (Err e) f h = tt
@@ -215,3 +212,34 @@ nobody_sits v k member last = λ z m. sym (at m) z
         | inr else_where ↦ else_where.1 ∙ past (standing v k) m over
       ]
     ]
+
+pub left_last : (t : List (Key × Held)) (k : Key) (member : ℕ) → IsLast t k member → dissolved (seated (look_ups t) k member None) k ≡ left (look_ups t) k member true
+left_last t k member last =
+    let none = put_key_twice (seats t) k (put (seats t k) member None) (λ m. None) ∙ ap (put_key (seats t) k) (nobody_sits t k member last) in
+    λ z. record { members = put_key (members t) k None; given = put_key (given t) k (λ m. None); seats = none z; mail = put_key (mail t) k (λ a b c. None) }
+
+pub left_other : (s : LookUps) (k : Key) (member : ℕ) → seated s k member None ≡ left s k member false
+left_other s k member = λ z. record {
+  members = sym (put_key_own s.members k (s.members k) refl) z;
+  given = sym (put_key_own s.given k (s.given k) refl) z;
+  seats = put_in s.seats k member None;
+  mail = sym (put_key_own s.mail k (s.mail k) refl) z;
+}
+
+-- ---- a message more, and one less
+
+module _ (t : List (Key × Held)) (k : Key) (h w : Held) (was : Some h ≡ standing t k) (from to round : ℕ) (x : Option (List ℕ)) where
+  pub mail_changed : length w.shares ≡ length h.shares → given_in w ≡ given_in h → seat_in w ≡ seat_in h → mail_in w ≡ put_mail (mail_in h) from to round x
+      → look_ups (written t k h w was) ≡ mailed (look_ups t) k from to round x
+  mail_changed a b c d = λ z. record {
+    members = members_kept t k h w was a z;
+    given = given_kept t k h w was b z;
+    seats = seats_kept t k h w was c z;
+    mail = mail_put t k h w was from to round x d z;
+  }
+
+pub put_kept : {T E : Type 0} (r : Result T E) (t : List (Key × Held)) (k : Key) (h w : Held) (was : Some h ≡ standing t k) (from to round : ℕ) (x : Option (List ℕ))
+    → OnOk r (length w.shares ≡ length h.shares) → OnOk r (given_in w ≡ given_in h) → OnOk r (seat_in w ≡ seat_in h) → OnOk r (mail_in w ≡ put_mail (mail_in h) from to round x)
+    → OnOk r (look_ups (written t k h w was) ≡ mailed (look_ups t) k from to round x)
+put_kept (Ok y) t k h w was from to round x a b c d = mail_changed t k h w was from to round x a b c d
+put_kept (Err e) t k h w was from to round x a b c d = tt

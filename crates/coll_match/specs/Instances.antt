@@ -1,16 +1,10 @@
 -- All instances that stand, as look-ups by key.
-use Rattle.std.specs.Prelude.{◌≡◌, ◌≢◌, ◌<◌, ◌==◌, ◌&&◌, ℕ, Bool, cond, false, List, length, unwrap_or, Option, Some, None}
+use Rattle.std.specs.Prelude.{◌≡◌, ◌≢◌, ◌<◌, ℕ, Bool, false, List, length, unwrap_or, Option, Some, None, if◌then◌else◌}
 use Rattle.std.specs.Map.{lookup}
 use Rattle.coll_kinds.specs.Puts.{put}
-use Rattle.coll_match.specs.declared.key.Key.{Key}
-use Rattle.coll_match.specs.Held.{Held, given_in, mail_in, seat_in}
-
-abbrev pub same_key : Key → Key → Bool
-same_key a b = (a.comm == b.comm) && ((a.place == b.place) && (a.start == b.start))
-
--- a function of keys with another value at one key
-abbrev pub put_key : {X : Type 0} → (Key → X) → Key → X → Key → X
-put_key f k x a = cond (same_key a k) x (f a)
+use Rattle.coll_machine.specs.declared.key.Key.{Key}
+use Rattle.coll_machine.specs.Changes.{put_in, put_key, same_key}
+use Rattle.coll_match.specs.Held.{Held, given_in, mail_in, put_mail, seat_in}
 
 -- an entry is that instance's
 abbrev pub is_of : Key → Option (Key × Held) → Bool
@@ -59,6 +53,55 @@ seats t k = seats_of (standing t k)
 -- the message of a sender to a receiver for a round
 abbrev pub mail : List (Key × Held) → Key → ℕ → ℕ → ℕ → Option (List ℕ)
 mail t k = mail_of (standing t k)
+
+-- ---- what a call makes of them
+
+-- all that stands
+pub record LookUps : Type 0 where
+  pub members : Key → Option ℕ
+  pub given : Key → ℕ → Option (List ℕ)
+  pub seats : Key → ℕ → Option ℕ
+  pub mail : Key → ℕ → ℕ → ℕ → Option (List ℕ)
+
+abbrev pub look_ups : List (Key × Held) → LookUps
+look_ups t = record { members = members t; given = given t; seats = seats t; mail = mail t }
+
+abbrev pub nothing : LookUps
+nothing = record { members = λ k. None; given = λ k member. None; seats = λ k member. None; mail = λ k from to round. None }
+
+-- an instance has room for n members, unless it stood already
+abbrev pub roomed : LookUps → Key → ℕ → LookUps
+roomed s k n = record s { members = put_key s.members k (Some (unwrap_or (s.members k) n)) }
+
+-- a member has given bytes
+abbrev pub joined : LookUps → Key → ℕ → List ℕ → LookUps
+joined s k member bytes = record s { given = put_in s.given k member (Some bytes) }
+
+-- a member's active request has a slot, or is none any more
+abbrev pub seated : LookUps → Key → ℕ → Option ℕ → LookUps
+seated s k member slot = record s { seats = put_in s.seats k member slot }
+
+-- one message more, or one less
+abbrev pub mailed : LookUps → Key → ℕ → ℕ → ℕ → Option (List ℕ) → LookUps
+mailed s k from to round message = record s { mail = put_key s.mail k (put_mail (s.mail k) from to round message) }
+
+-- nothing is kept of an instance
+abbrev pub dissolved : LookUps → Key → LookUps
+dissolved s k = record {
+  members = put_key s.members k None;
+  given = put_key s.given k (λ member. None);
+  seats = put_key s.seats k (λ member. None);
+  mail = put_key s.mail k (λ from to round. None);
+}
+
+-- a member has left, and nothing is kept of the instance where it was the last
+abbrev pub left : LookUps → Key → ℕ → Bool → LookUps
+left s k member last = record {
+  members = put_key s.members k (if last then None else s.members k);
+  given = put_key s.given k (if last then (λ member. None) else s.given k);
+  seats = put_in s.seats k member None;
+  mail = put_key s.mail k (if last then (λ from to round. None) else s.mail k);
+}
 
 -- once this member has left, every member has given to the instance and has no active request
 abbrev pub IsLast : List (Key × Held) → Key → ℕ → Type 0

@@ -2,9 +2,9 @@
 use Rattle.std.specs.Prelude.{List, Option}
 use Rattle.std.specs.Map.{set_value}
 use Rattle.std.specs.Borrow.{Fml, LendsIf, MutBor}
-use Rattle.coll_match.specs.declared.key.Key.{Key}
+use Rattle.coll_machine.specs.declared.key.Key.{Key}
 use Rattle.coll_match.specs.Held.{Held}
-use Rattle.coll_match.specs.Instances.{same_key}
+use Rattle.coll_machine.specs.Changes.{same_key}
 use Rattle.coll_match.specs.contracts.instance.Instance as instance
 use Rattle.coll_match.specs.contracts.matches.Matches as matches
 

@@ -1,9 +1,10 @@
 -- Rows worked by hand. At instance (0, 4, 0) of three members, member 0 gave 7 and has slot 5, member 1 gave 8 and has
 -- left; member 0 has sent 9 to member 2 in round 1.
 use Rattle.std.specs.Prelude.{◌≡◌, ℕ, List, [], ◌∷◌, Some, None, refl}
-use Rattle.coll_match.specs.declared.key.Key.{Key}
+use Rattle.coll_machine.specs.declared.key.Key.{Key}
 use Rattle.coll_match.specs.Held.{Held}
-use Rattle.coll_match.specs.Instances.{given, mail, members, put_key, seats}
+use Rattle.coll_machine.specs.Changes.{put_key}
+use Rattle.coll_match.specs.Instances.{given, mail, members, seats}
 
 abbrev key : ℕ → Key
 key start = record { comm = 0; place = 4; start = start }

@@ -17,6 +17,6 @@ mod key;
 mod matches;
 mod outbox;
 
-pub use key::Key;
+pub use coll_machine::Key;
 pub use matches::Matches;
 pub use outbox::Message;

@@ -1,14 +1,13 @@
-ghost use Rattle.std.specs.Prelude.{◌≡◌, ◌<◌, ◌≢◌, Some, None, option_map, slice_get, unwrap_or, is_some, if◌then◌else◌, IsTrue, ◌↔◌, OnOk, IfOk, IfErr, OnErr};
+ghost use Rattle.std.specs.Prelude.{◌≡◌, ◌<◌, ◌≢◌, Some, None, option_map, slice_get, is_some, IsTrue, ◌↔◌, OnOk, IfOk, IfErr, OnErr};
 ghost use Rattle.std.specs.Option.{option_copied, option_copied_mut};
 ghost use Rattle.coll_kinds.specs.declared.refusal.Refused.{Refused};
-ghost use Rattle.coll_kinds.specs.Puts.{put};
-ghost use Rattle.coll_match.specs.Held.{put_mail};
-ghost use Rattle.coll_match.specs.Instances.{IsLast, given, is_of, mail, members, put_key, seats, size, standing};
+ghost use Rattle.coll_match.specs.Instances.{IsLast, dissolved, given, is_of, joined, left, look_ups, mail, mailed, nothing, roomed, seated, seats, size, standing};
 
 use crate::instance::Instance;
-use crate::key::{Key, Way};
+use crate::key::Way;
 use crate::outbox::Message;
 use coll_kinds::{Refusal, Refused};
+use coll_machine::Key;
 use indexmap::IndexMap;
 use std::alloc::Global;
 use std::marker::Model;
@@ -28,7 +27,7 @@ pub struct Matches {
 impl Model for Matches {
     ghost use Rattle.std.specs.Prelude.{List};
     ghost use Rattle.coll_match.specs.Held.{Held};
-    ghost use Rattle.coll_match.specs.declared.key.Key.{Key};
+    ghost use Rattle.coll_machine.specs.declared.key.Key.{Key};
 
     ghost Value = { List (Key × Held) };
 
@@ -41,10 +40,7 @@ impl Matches {
 
     /// No instance. It takes no memory.
     pub fn new(alloc: Global) -> Matches
-        ensures members { members result ≡ (λ _. None) }
-        ensures given { given result ≡ (λ _ _. None) }
-        ensures seats { seats result ≡ (λ _ _. None) }
-        ensures mail { mail result ≡ (λ _ _ _ _. None) }
+        ensures { look_ups result ≡ nothing }
     {
         Matches {
             alloc,
@@ -54,10 +50,7 @@ impl Matches {
 
     /// Makes room for what the `n` members of an instance give, where it doesn't stand yet. Only NoMemory is refused.
     pub fn room(&mut self, key: Key, n: u8) -> Result<(), Refusal>
-        ensures members { OnOk result (members self.new ≡ put_key (members self.old) key (Some (unwrap_or (members self.old key) n))) }
-        ensures given { OnOk result (given self.new ≡ given self.old) }
-        ensures seats { OnOk result (seats self.new ≡ seats self.old) }
-        ensures mail { OnOk result (mail self.new ≡ mail self.old) }
+        ensures room { OnOk result (look_ups self.new ≡ roomed (look_ups self.old) key n) }
         ensures refused { IfErr result (λ why. why ≡ Refusal.NoMemory) }
         ensures err { OnErr result (self.new ≡ self.old) }
     {
@@ -73,10 +66,7 @@ impl Matches {
     pub fn join(&mut self, key: Key, member: u8, bytes: Vec<u8>) -> usize
         requires room { member < size self.old key }
         requires new { given self.old key member ≡ None }
-        ensures members { members self.new ≡ members self.old }
-        ensures given { given self.new ≡ put_key (given self.old) key (put (given self.old key) member (Some bytes.items)) }
-        ensures seats { seats self.new ≡ seats self.old }
-        ensures mail { mail self.new ≡ mail self.old }
+        ensures { look_ups self.new ≡ joined (look_ups self.old) key member bytes.items }
     {
         let hint = self.instances.get_index_of(&key).unwrap_or(0);
         match self.at_mut(key, hint) {
@@ -96,10 +86,7 @@ impl Matches {
     /// Notes the slot of the active request of a member that has joined. It takes no memory.
     pub fn seat(&mut self, key: Key, hint: usize, member: u8, slot: u32)
         requires { given self.old key member ≢ None }
-        ensures members { members self.new ≡ members self.old }
-        ensures given { given self.new ≡ given self.old }
-        ensures seats { seats self.new ≡ put_key (seats self.old) key (put (seats self.old key) member (Some slot)) }
-        ensures mail { mail self.new ≡ mail self.old }
+        ensures { look_ups self.new ≡ seated (look_ups self.old) key member (Some slot) }
     {
         match self.at_mut(key, hint) {
             Some(instance) => instance.seat(member, slot),
@@ -119,10 +106,7 @@ impl Matches {
     pub fn leave(&mut self, key: Key, hint: usize, member: u8) -> bool
         requires { seats self.old key member ≢ None }
         ensures last { IsTrue result ↔ IsLast self.old key member }
-        ensures members { members self.new ≡ put_key (members self.old) key (if result then None else members self.old key) }
-        ensures given { given self.new ≡ put_key (given self.old) key (if result then (λ _. None) else given self.old key) }
-        ensures seats { seats self.new ≡ put_key (seats self.old) key (put (seats self.old key) member None) }
-        ensures mail { mail self.new ≡ put_key (mail self.old) key (if result then (λ _ _ _. None) else mail self.old key) }
+        ensures left { look_ups self.new ≡ left (look_ups self.old) key member result }
     {
         let is_last = self.unseat(key, hint, member);
         if is_last {
@@ -135,10 +119,7 @@ impl Matches {
     fn unseat(&mut self, key: Key, hint: usize, member: u8) -> bool
         requires { seats self.old key member ≢ None }
         ensures last { IsTrue result ↔ IsLast self.old key member }
-        ensures members { members self.new ≡ members self.old }
-        ensures given { given self.new ≡ given self.old }
-        ensures seats { seats self.new ≡ put_key (seats self.old) key (put (seats self.old key) member None) }
-        ensures mail { mail self.new ≡ mail self.old }
+        ensures seat { look_ups self.new ≡ seated (look_ups self.old) key member None }
     {
         match self.at_mut(key, hint) {
             Some(instance) => instance.leave(member),
@@ -148,10 +129,7 @@ impl Matches {
 
     /// Drops an instance with all that was given to it and every message.
     fn dissolve(&mut self, key: Key)
-        ensures members { members self.new ≡ put_key (members self.old) key None }
-        ensures given { given self.new ≡ put_key (given self.old) key (λ _. None) }
-        ensures seats { seats self.new ≡ put_key (seats self.old) key (λ _. None) }
-        ensures mail { mail self.new ≡ put_key (mail self.old) key (λ _ _ _. None) }
+        ensures { look_ups self.new ≡ dissolved (look_ups self.old) key }
     {
         self.instances.swap_remove(&key);
     }
@@ -170,10 +148,7 @@ impl Matches {
         requires joined { given self.old key from ≢ None }
         requires new { mail self.old key from to round ≡ None }
         ensures receiver { IfOk result (λ slot. slot ≡ seats self.old key to) }
-        ensures members { OnOk result (members self.new ≡ members self.old) }
-        ensures given { OnOk result (given self.new ≡ given self.old) }
-        ensures seats { OnOk result (seats self.new ≡ seats self.old) }
-        ensures mail { OnOk result (mail self.new ≡ put_key (mail self.old) key (put_mail (mail self.old key) from to round (Some message.items))) }
+        ensures kept { OnOk result (look_ups self.new ≡ mailed (look_ups self.old) key from to round (Some message.items)) }
         ensures refused { IfErr result (λ refused. refused ≡ record { why = Refusal.NoMemory; back = message }) }
         ensures err { OnErr result (self.new ≡ self.old) }
     {
@@ -196,10 +171,7 @@ impl Matches {
     /// Takes a message out; none where none stands for that sender, receiver and round.
     pub fn take(&mut self, key: Key, hint: usize, from: u8, to: u8, round: usize) -> Option<Message>
         ensures taken { option_map (λ message. message.items) result ≡ mail self.old key from to round }
-        ensures members { members self.new ≡ members self.old }
-        ensures given { given self.new ≡ given self.old }
-        ensures seats { seats self.new ≡ seats self.old }
-        ensures mail { mail self.new ≡ put_key (mail self.old) key (put_mail (mail self.old key) from to round None) }
+        ensures gone { look_ups self.new ≡ mailed (look_ups self.old) key from to round None }
     {
         self.at_mut(key, hint)?.take(from, Way { to, round })
     }

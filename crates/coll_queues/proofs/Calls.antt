@@ -7,9 +7,11 @@ use Rattle.coll_kinds.specs.Checks.{broken}
 use Rattle.coll_kinds.specs.Groups as membership
 use Rattle.coll_kinds.specs.Puts.{put}
 use Rattle.coll_kinds.proofs.Puts.{put_at, put_cases}
-use Rattle.coll_queues.specs.Lists.{Lists, first_there, posts_in, signed_in}
-use Rattle.coll_queues.specs.Postings.{HasRoom, Postings, groups_of, lists_at, member_of, number_of, place_of, posts, put_posts, put_signed, signed}
-use Rattle.coll_queues.specs.Refusing.{first_of, mismatch_with, unless, judge_refusal, member_refusal, refusal_in}
+use Rattle.coll_machine.specs.Changes.{put2}
+use Rattle.coll_machine.specs.Refusals.{first_of, member_refusals}
+use Rattle.coll_queues.specs.Lists.{Lists, posts_in, signed_in}
+use Rattle.coll_queues.specs.Postings.{HasRoom, Postings, groups_of, lists_at, member_of, number_of, place_of, posts, signed}
+use Rattle.coll_queues.specs.Refusing.{judge_refusal, member_refusal, place_refusals, refusal_in}
 use Rattle.coll_queues.proofs.Comms.{groups_set, lists_read, lists_set, posts_set, signed_at, signed_set}
 use Rattle.coll_queues.proofs.Judging.{judge_at, known_comm, member_low, place_at}
 
@@ -28,11 +30,8 @@ refusals_kept p q g f n = λ z comm rank sig.
     let group : List ℕ = unwrap_or (slice_get (g z) comm) [] in
     let place : ℕ = length (f z comm (unwrap_or (membership.member_of rank group) 0)) in
     first_of (
-    unless (nat_lt comm (length (g z))) (BadComm comm)
-    ∷ unless (is_some (membership.member_of rank group)) (NotMember rank)
-    ∷ option_map BadSignature (broken sig (length group))
-    ∷ mismatch_with group place sig (first_there (f z comm) place 0 (length group))
-    ∷ unless (nat_lt place (n z)) PlacesUsed ∷ [])
+    member_refusals (g z) comm rank
+    ++ place_refusals sig group (f z comm) place (n z))
 
 module _ (comms : List Lists) (places : ℕ) (v : Postings) (e : ◌≡◌ {A = Postings} (record { comms = comms; places = places }) v) (comm rank member : ℕ) (l : Lists)
     (known : member_refusal v comm rank ≡ None) (number_is : member_of v comm rank ≡ Some member) (is : l ≡ get_or comms comm l) where
@@ -73,12 +72,12 @@ module _ (comms : List Lists) (places : ℕ) (v : Postings) (e : ◌≡◌ {A = 
     -- one more signature
     module _ (sig : Signature) where
       pub posts_offered : posts_in new ≡ put (posts_in l) member (posts_in l member ++ sig ∷ []) →
-          posts (record { comms = set comms comm new; places = places }) ≡ put_posts (posts v) comm (number_of v comm rank) (posts v comm (number_of v comm rank) ++ sig ∷ [])
+          posts (record { comms = set comms comm new; places = places }) ≡ put2 (posts v) comm (number_of v comm rank) (posts v comm (number_of v comm rank) ++ sig ∷ [])
       posts_offered pushed =
           posts_changed ∙ ap (put (posts v) comm) (pushed ∙ (λ z. let m : ℕ = unwrap_or (sym number_is z) 0 in put (posts_in (sym here z)) m (posts_in (sym here z) m ++ sig ∷ [])))
 
       pub signed_offered : signed_in new ≡ put (signed_in l) (length (posts_in l member)) (Some sig) →
-          signed (record { comms = set comms comm new; places = places }) ≡ put_signed (signed v) comm (place_of v comm rank) (Some sig)
+          signed (record { comms = set comms comm new; places = places }) ≡ put2 (signed v) comm (place_of v comm rank) (Some sig)
       signed_offered pushed =
           signed_set comms comm new low places ∙ ap (λ q. put (signed q) comm (signed_in new)) e
           ∙ ap (put (signed v) comm) (pushed ∙ (λ z. put (signed_in (sym here z)) (place_is z) (Some sig)) ∙ ap (λ f. put f (place_of v comm rank) (Some sig)) (sym (signed_at v comm)))

@@ -8,8 +8,10 @@ use Rattle.std.proofs.Math.Seq.{map-set_same}
 use Rattle.coll_kinds.specs.declared.signature.Signature.{Signature}
 use Rattle.coll_kinds.specs.Puts.{put}
 use Rattle.coll_kinds.proofs.Puts.{put_at, put_other}
-use Rattle.coll_queues.specs.Lists.{Lists, first_there, posts_in, signed_in}
-use Rattle.coll_queues.specs.Postings.{Postings, group, lists_at, no_lists, posts, signed}
+use Rattle.coll_machine.specs.Refusals.{first_there}
+use Rattle.coll_machine.specs.Settings.{group_in}
+use Rattle.coll_queues.specs.Lists.{Lists, posts_in, signed_in}
+use Rattle.coll_queues.specs.Postings.{Postings, groups_of, lists_at, no_lists, posts, signed}
 use Rattle.coll_queues.proofs.Fronts.{slice_get-push}
 use Rattle.coll_queues.specs.Sound.{AreAgreed, IsAgreed, IsSound}
 
@@ -19,7 +21,7 @@ group-go : (o : Option Lists) → unwrap_or (option_map (λ l. l.group) o) [] �
 group-go None = refl
 group-go (Some l) = refl
 
-pub group_at : (q : Postings) (comm : ℕ) → group q comm ≡ (lists_at q.comms comm).group
+pub group_at : (q : Postings) (comm : ℕ) → group_in (groups_of q) comm ≡ (lists_at q.comms comm).group
 group_at q comm = ap (λ (o : Option (List ℕ)). unwrap_or o []) (slice_get-map (λ (l : Lists). l.group) q.comms comm) ∙ group-go (slice_get q.comms comm)
 
 pub lists_read : (comms : List Lists) (comm : ℕ) (l : Lists) → comm < length comms → l ≡ get_or comms comm l → lists_at comms comm ≡ l

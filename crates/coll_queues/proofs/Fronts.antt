@@ -12,7 +12,8 @@ use Rattle.coll_kinds.specs.declared.signature.Signature.{Signature}
 use Rattle.coll_kinds.specs.Puts.{put}
 use Rattle.coll_kinds.proofs.Puts.{put_at, put_cases, put_other}
 use Rattle.coll_queues.specs.Fronts.{AreFronts, lists_of}
-use Rattle.coll_queues.specs.Lists.{first_there, posts_in, signed_in}
+use Rattle.coll_machine.specs.Refusals.{first_there}
+use Rattle.coll_queues.specs.Lists.{posts_in, signed_in}
 use Rattle.coll_queues.specs.Sound.{IsAgreed}
 
 -- ---- fronts of a list

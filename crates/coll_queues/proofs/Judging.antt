@@ -1,6 +1,6 @@
 -- What a refusal that didn't come says.
 use Rattle.std.proofs.Common.{◌≡◌, ℕ, ◌<◌, ◌≤◌, List, [], ◌∷◌, Bool, true, false, length, refl, sym, ap, ◌∙◌, Option, Some, None, Result, Ok, Err, arith}
-use Rattle.std.specs.Prelude.{nat_lt, is_some, unwrap_or, option_map, MatchOption, IsOk, IsErrOf}
+use Rattle.std.specs.Prelude.{nat_lt, is_some, slice_index, unwrap_or, option_and_then, option_map, MatchOption, IsOk, IsErrOf}
 use Rattle.std.specs.Option.{ForSome}
 use Rattle.std.specs.Result.{result_err}
 use Rattle.std.proofs.lemmas.Bool.{ltb-true, le-ltb, lt-ltb}
@@ -13,9 +13,13 @@ use Rattle.coll_kinds.specs.declared.refusal.SignatureFault.{SignatureFault}
 use Rattle.coll_kinds.specs.Checks.{broken}
 use Rattle.coll_kinds.proofs.Members.{member_of-place}
 use Rattle.coll_kinds.proofs.Sameness.{same_signature-Decides}
-use Rattle.coll_queues.specs.Lists.{Lists, first_there, posts_in, signed_in}
-use Rattle.coll_queues.specs.Postings.{Postings, group, groups_of, lists_at, member_of, number_of, place_of}
-use Rattle.coll_queues.specs.Refusing.{first_of, unless, member_refusal, mismatch_with, mismatch_in, judge_refusal, refusal_in}
+use Rattle.coll_kinds.specs.Refusals.{mismatch_at}
+use Rattle.coll_kinds.specs.Sameness.{same_signature}
+use Rattle.coll_machine.specs.Refusals.{first_of, first_there, mismatch_in, unless}
+use Rattle.coll_machine.specs.Settings.{group_in}
+use Rattle.coll_queues.specs.Lists.{Lists, posts_in, signed_in}
+use Rattle.coll_queues.specs.Postings.{Postings, groups_of, lists_at, member_of, number_of, place_of, posts}
+use Rattle.coll_queues.specs.Refusing.{judge_refusal, member_refusal, place_refusals, refusal_in}
 use Rattle.coll_queues.proofs.Comms.{group_at}
 
 both : (a b : Bool) (x y : Refusal) → first_of (unless a x ∷ unless b y ∷ []) ≡ None → (a ≡ true) × (b ≡ true)
@@ -37,11 +41,10 @@ known_comm q comm rank e =
 pub judge_at : (q : Postings) (comm rank : ℕ) (sig : Signature) (l : Lists) (member : ℕ) → member_refusal q comm rank ≡ None → member_of q comm rank ≡ Some member → lists_at q.comms comm ≡ l
     → judge_refusal q comm rank sig ≡ refusal_in l member sig q.places
 judge_at q comm rank sig l member known number_is e =
-    past_both (nat_lt comm (length (groups_of q))) (is_some (member_of q comm rank)) (BadComm comm) (NotMember rank) _ (both _ _ _ _ known)
-    ∙ (λ z. first_of (option_map BadSignature (broken sig (length (g z))) ∷ mismatch_with (g z) (length (posts_in (e z) (m z))) sig (first_there (posts_in (e z)) (length (posts_in (e z) (m z))) 0 (length (g z)))
-    ∷ unless (nat_lt (length (posts_in (e z) (m z))) q.places) PlacesUsed ∷ []))
+    past_both (nat_lt comm (length (groups_of q))) (is_some (member_of q comm rank)) (BadComm comm) (NotMember rank) (place_refusals sig (group_in (groups_of q) comm) (posts q comm) (place_of q comm rank) q.places) (both _ _ _ _ known)
+    ∙ (λ z. first_of (place_refusals sig (g z) (posts_in (e z)) (length (posts_in (e z) (m z))) q.places))
   where
-    g : group q comm ≡ l.group
+    g : group_in (groups_of q) comm ≡ l.group
     g = group_at q comm ∙ ap (λ (l : Lists). l.group) e
 
     m : number_of q comm rank ≡ member
@@ -52,7 +55,7 @@ place_at q comm rank l member number_is e = λ z. length (posts_in (e z) (unwrap
 
 pub member_low : (q : Postings) (comm rank : ℕ) (l : Lists) (member : ℕ) → member_of q comm rank ≡ Some member → lists_at q.comms comm ≡ l → member < length l.group
 member_low q comm rank l member number_is e =
-    let low : member < length (group q comm) = (member_of-place rank (group q comm) member number_is).1 in
+    let low : member < length (group_in (groups_of q) comm) = (member_of-place rank (group_in (groups_of q) comm) member number_is).1 in
     omega (arith, low, ap length (group_at q comm ∙ ap (λ (l : Lists). l.group) e))
 
 front_of : (a b : Bool) (x y : Refusal) (rest : List (Option Refusal)) → first_of (unless a x ∷ unless b y ∷ rest) ≡ None → first_of (unless a x ∷ unless b y ∷ []) ≡ None
@@ -61,7 +64,7 @@ front_of true false x y rest e = e
 front_of false b x y rest e = e
 
 pub judged_member : (q : Postings) (comm rank : ℕ) (sig : Signature) → judge_refusal q comm rank sig ≡ None → member_refusal q comm rank ≡ None
-judged_member q comm rank sig e = front_of _ _ (BadComm comm) (NotMember rank) _ e
+judged_member q comm rank sig e = front_of _ _ (BadComm comm) (NotMember rank) (place_refusals sig (group_in (groups_of q) comm) (posts q comm) (place_of q comm rank) q.places) e
 
 -- ---- within one communicator
 
@@ -75,14 +78,14 @@ fits : (b : Bool) (why : Refusal) → unless b why ≡ None → b ≡ true
 fits true why e = refl
 fits false why e = absurd (none-some why (sym e))
 
-same_first : (group : List ℕ) (place : ℕ) (sig : Signature) (found : Option (ℕ × Signature)) → mismatch_with group place sig found ≡ None → ForSome (option_map (λ first. first.1) found) (λ known. known ≡ sig)
+same_first : (group : List ℕ) (place : ℕ) (sig : Signature) (found : Option (ℕ × Signature)) → option_and_then (λ first. unless (same_signature first.1 sig) (mismatch_at place (slice_index group first.0) first.1)) found ≡ None → ForSome (option_map (λ first. first.1) found) (λ known. known ≡ sig)
 same_first group place sig None e known is = absurd (none-some known is)
 same_first group place sig (Some first) e known is = sym (same_Some first.1 known is) ∙ (same_signature-Decides first.1 sig).0 (fits _ _ e)
 
 pub accepted : (l : Lists) (member : ℕ) (sig : Signature) (places : ℕ) → refusal_in l member sig places ≡ None
     → ForSome (signed_in l (length (posts_in l member))) (λ known. known ≡ sig) × (length (posts_in l member) < places)
 accepted l member sig places e =
-    let past = all_past (option_map BadSignature (broken sig (length l.group))) (mismatch_in l (length (posts_in l member)) sig) (unless (nat_lt (length (posts_in l member)) places) PlacesUsed) e in
+    let past = all_past (option_map BadSignature (broken sig (length l.group))) (mismatch_in l.group (posts_in l) (length (posts_in l member)) sig) (unless (nat_lt (length (posts_in l member)) places) PlacesUsed) e in
     (same_first l.group _ sig (first_there (posts_in l) (length (posts_in l member)) 0 (length l.group)) past.0, ltb-true _ places (fits _ PlacesUsed past.1))
 
 -- the answer of a signature's check, as a refusal
@@ -106,20 +109,24 @@ module _ (l : Lists) (member : ℕ) (sig : Signature) (places : ℕ) {T : Type 0
   unfolding fault
   fault_is = sym (checked (broken sig n) check check_is ∙ ap (λ k. option_map BadSignature (broken sig k)) n_is)
 
+  -- the conditions behind it
+  abbrev behind : ℕ → List (Option Refusal)
+  behind k = mismatch_in l.group (posts_in l) k sig ∷ unless (nat_lt k places) PlacesUsed ∷ []
+
   pub refused_check : (why : Refusal) → check ≡ Err why → refusal_in l member sig places ≡ Some why
   unfolding fault
-  refused_check why e = first_is fault _ why (fault_is ∙ ap result_err e)
+  refused_check why e = first_is fault (behind (length (posts_in l member))) why (fault_is ∙ ap result_err e)
 
-  past_check : (u : T) → check ≡ Ok u → place ≡ length (posts_in l member) → refusal_in l member sig places ≡ first_of (mismatch_in l place sig ∷ unless (nat_lt place places) PlacesUsed ∷ [])
+  past_check : (u : T) → check ≡ Ok u → place ≡ length (posts_in l member) → refusal_in l member sig places ≡ first_of (behind place)
   unfolding fault
-  past_check u e at = passes fault _ (fault_is ∙ ap result_err e) ∙ ap (λ k. first_of (mismatch_in l k sig ∷ unless (nat_lt k places) PlacesUsed ∷ [])) (sym at)
+  past_check u e at = passes fault (behind (length (posts_in l member))) (fault_is ∙ ap result_err e) ∙ ap (λ k. first_of (behind k)) (sym at)
 
   module _ (u : T) (check_ok : check ≡ Ok u) (at : place ≡ length (posts_in l member)) where
-    pub refused_mismatch : (why : Refusal) → mismatch_in l place sig ≡ Some why → refusal_in l member sig places ≡ Some why
-    refused_mismatch why e = past_check u check_ok at ∙ first_is _ _ why e
+    pub refused_mismatch : (why : Refusal) → mismatch_in l.group (posts_in l) place sig ≡ Some why → refusal_in l member sig places ≡ Some why
+    refused_mismatch why e = past_check u check_ok at ∙ first_is (mismatch_in l.group (posts_in l) place sig) (unless (nat_lt place places) PlacesUsed ∷ []) why e
 
-    pub refused_places : mismatch_in l place sig ≡ None → places ≤ place → refusal_in l member sig places ≡ Some PlacesUsed
-    refused_places e far = past_check u check_ok at ∙ passes _ _ e ∙ first_is _ _ PlacesUsed (ap (λ b. unless b PlacesUsed) (le-ltb place places far))
+    pub refused_places : mismatch_in l.group (posts_in l) place sig ≡ None → places ≤ place → refusal_in l member sig places ≡ Some PlacesUsed
+    refused_places e far = past_check u check_ok at ∙ passes (mismatch_in l.group (posts_in l) place sig) (unless (nat_lt place places) PlacesUsed ∷ []) e ∙ first_is (unless (nat_lt place places) PlacesUsed) [] PlacesUsed (ap (λ b. unless b PlacesUsed) (le-ltb place places far))
 
-    pub not_refused : mismatch_in l place sig ≡ None → place < places → refusal_in l member sig places ≡ None
-    not_refused e low = past_check u check_ok at ∙ passes _ _ e ∙ passes (unless (nat_lt place places) PlacesUsed) [] (ap (λ b. unless b PlacesUsed) (lt-ltb place places low))
+    pub not_refused : mismatch_in l.group (posts_in l) place sig ≡ None → place < places → refusal_in l member sig places ≡ None
+    not_refused e low = past_check u check_ok at ∙ passes (mismatch_in l.group (posts_in l) place sig) (unless (nat_lt place places) PlacesUsed ∷ []) e ∙ passes (unless (nat_lt place places) PlacesUsed) [] (ap (λ b. unless b PlacesUsed) (lt-ltb place places low))

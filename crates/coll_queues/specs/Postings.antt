@@ -1,9 +1,10 @@
 -- The posting lists of all communicators.
-use Rattle.std.specs.Prelude.{ℕ, ◌<◌, List, [], length, map, slice_get, slice_index, unwrap_or, Option, option_map}
+use Rattle.std.specs.Prelude.{ℕ, ◌<◌, List, [], length, map, slice_get, unwrap_or, Option, option_map}
 use Rattle.coll_kinds.specs.declared.signature.Signature.{Signature}
 use Rattle.coll_kinds.specs.Groups as membership
-use Rattle.coll_kinds.specs.Puts.{put}
-use Rattle.coll_queues.specs.Lists.{Lists, posts_in, first_there}
+use Rattle.coll_machine.specs.Refusals.{first_there}
+use Rattle.coll_machine.specs.Settings.{group_in}
+use Rattle.coll_queues.specs.Lists.{Lists, posts_in}
 
 -- the lists of each communicator's members, and how long a list may get
 pub record Postings : Type 0 where
@@ -14,18 +15,12 @@ pub record Postings : Type 0 where
 abbrev pub groups_of : Postings → List (List ℕ)
 groups_of q = map (λ l. l.group) q.comms
 
-abbrev pub group : Postings → ℕ → List ℕ
-group q comm = unwrap_or (slice_get (groups_of q) comm) []
-
 abbrev pub size : Postings → ℕ → ℕ
-size q comm = length (group q comm)
+size q comm = length (group_in (groups_of q) comm)
 
--- a rank's member number, and the rank of a member
+-- a rank's member number
 abbrev pub member_of : Postings → ℕ → ℕ → Option ℕ
-member_of q comm rank = membership.member_of rank (group q comm)
-
-abbrev pub rank_of : Postings → ℕ → ℕ → ℕ
-rank_of q comm member = slice_index (group q comm) member
+member_of q comm rank = membership.member_of rank (group_in (groups_of q) comm)
 
 -- the same, 0 where the rank is no member
 abbrev pub number_of : Postings → ℕ → ℕ → ℕ
@@ -52,10 +47,3 @@ place_of q comm rank = length (posts q comm (number_of q comm rank))
 -- memory stands for one more signature at the end of a rank's list
 abbrev pub HasRoom : Postings → ℕ → ℕ → Type 0
 HasRoom q comm rank = place_of q comm rank < (lists_at q.comms comm).room
-
--- posting lists with another list of one communicator's member
-abbrev pub put_posts : (ℕ → ℕ → List Signature) → ℕ → ℕ → List Signature → ℕ → ℕ → List Signature
-put_posts f comm member list = put f comm (put (f comm) member list)
-
-abbrev pub put_signed : (ℕ → ℕ → Option Signature) → ℕ → ℕ → Option Signature → ℕ → ℕ → Option Signature
-put_signed f comm place sig = put f comm (put (f comm) place sig)

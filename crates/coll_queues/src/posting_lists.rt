@@ -5,8 +5,9 @@ ghost use Rattle.std.specs.Option.{ForSome};
 ghost use Rattle.std.specs.Result.{result_err};
 ghost use Rattle.coll_kinds.specs.Groups.{member_of};
 ghost use Rattle.coll_kinds.specs.Puts.{put};
-ghost use Rattle.coll_queues.specs.Lists.{first_there, posts_in, signed_in};
-ghost use Rattle.coll_queues.specs.Refusing.{mismatch_in, refusal_in};
+ghost use Rattle.coll_machine.specs.Refusals.{first_there, mismatch_in};
+ghost use Rattle.coll_queues.specs.Lists.{posts_in, signed_in};
+ghost use Rattle.coll_queues.specs.Refusing.{refusal_in};
 ghost use Rattle.coll_queues.specs.Sound.{IsAgreed};
 
 use crate::signatures::Signatures;
@@ -118,7 +119,7 @@ impl PostingLists {
 
     /// Refuses another signature than the one that stands at the place.
     fn compare(&self, place: u32, sig: &Signature) -> Result<(), Refusal>
-        ensures { result_err result ≡ mismatch_in self.now place sig.now }
+        ensures { result_err result ≡ mismatch_in self.now.group (posts_in self.now) place sig.now }
     {
         match self.signature(place) {
             Some(known) if !known.is_same(sig) => {

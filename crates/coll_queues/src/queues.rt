@@ -1,7 +1,8 @@
 ghost use Rattle.std.specs.Prelude.{◌≡◌, ◌≤◌, ◌++◌, ◌∷◌, [], None, Some, All, length, map, option_map, IfOk, IfErr, OnOk, OnErr};
 ghost use Rattle.std.specs.Arc.{arc_value};
 ghost use Rattle.std.specs.Result.{result_err};
-ghost use Rattle.coll_queues.specs.Postings.{HasRoom, groups_of, member_of, number_of, place_of, posts, put_posts, put_signed, signed, size};
+ghost use Rattle.coll_machine.specs.Changes.{put2};
+ghost use Rattle.coll_queues.specs.Postings.{HasRoom, groups_of, member_of, number_of, place_of, posts, signed, size};
 ghost use Rattle.coll_queues.specs.Refusing.{judge_refusal, member_refusal};
 ghost use Rattle.coll_queues.specs.Sound.{IsSound};
 
@@ -137,8 +138,8 @@ impl Queues {
         ensures place { result ≡ place_of self.old comm rank }
         ensures groups { groups_of self.new ≡ groups_of self.old }
         ensures places { self.new.places ≡ self.old.places }
-        ensures posts { posts self.new ≡ put_posts (posts self.old) comm (number_of self.old comm rank) (posts self.old comm (number_of self.old comm rank) ++ arc_value sig ∷ []) }
-        ensures signed { signed self.new ≡ put_signed (signed self.old) comm (place_of self.old comm rank) (Some (arc_value sig)) }
+        ensures posts { posts self.new ≡ put2 (posts self.old) comm (number_of self.old comm rank) (posts self.old comm (number_of self.old comm rank) ++ arc_value sig ∷ []) }
+        ensures signed { signed self.new ≡ put2 (signed self.old) comm (place_of self.old comm rank) (Some (arc_value sig)) }
     {
         let member = self.number(comm, rank);
         let lists = &mut self.comms[comm as usize];

@@ -1,7 +1,7 @@
 -- What the report of a closed engine tells of outcomes, where each rank did what a script says.
 use Rattle.std.specs.Prelude.{◌≡◌, ◌↔◌, ◌<◌, ◌≤◌, ℕ, List, [], count_by}
 use Rattle.std.specs.List.{AllByRecursion}
-use Rattle.coll_machine.specs.States.{Key}
+use Rattle.coll_machine.specs.declared.key.Key.{Key}
 use Rattle.coll_machine.specs.Reports.{posts_of}
 use Rattle.coll_trace.specs.Scripts.{Command, Asked, asked, outcome, Says, IsAsked}
 use Rattle.coll_trace.specs.Told.{HasValue, retires}

@@ -15,7 +15,7 @@ use Rattle.coll_machine.specs.Settings.{group, size}
 use Rattle.coll_machine.specs.States.{Request}
 use Rattle.coll_machine.specs.Changes.{new_request}
 use Rattle.coll_machine.specs.Calls.{Planned, Post, Init, Start, Free}
-use Rattle.coll_machine.specs.Refusals.{first_of, mismatch, wrong_length, posting_refusals, naming_refusals, idle_refusals, start_refusals, refusals, refusal}
+use Rattle.coll_machine.specs.Refusals.{first_of, mismatch_in, wrong_length, posting_refusals, naming_refusals, idle_refusals, start_refusals, refusals, refusal}
 use Rattle.coll_machine.proofs.Accepted.{all_none, fits, unbroken, same_mode, started_mine, freed_mine}
 use Rattle.coll_machine.proofs.First.{agrees_with}
 use Rattle.coll_machine.proofs.Members.{member_at}
@@ -24,11 +24,11 @@ use Rattle.coll_tables.specs.Requests.{Live, as_request}
 use Rattle.coll_tables.specs.Tables.{Tables, Paths, asked, state}
 use Rattle.coll_tables.specs.Sound.{Base}
 use Rattle.coll_tables.specs.Calls.{New, newcomer, ticket}
-use Rattle.coll_tables.specs.Laws.{AcceptedPost, AcceptedInit, AcceptedStart}
+use Rattle.coll_tables.proofs.Statements.{AcceptedPost, AcceptedInit, AcceptedStart}
 use Rattle.coll_tables.proofs.Stepping.{finds}
 
 -- where no mismatch is told the signature that stands at the place is the same
-pub judged : (v : Tables) (paths : Paths) → Base v paths → (comm place : ℕ) (sig s : Signature) → mismatch v.setting (state v) comm place sig ≡ None → v.signed comm place ≡ Some s → s ≡ sig
+pub judged : (v : Tables) (paths : Paths) → Base v paths → (comm place : ℕ) (sig s : Signature) → mismatch_in (group v.setting comm) (v.posts comm) place sig ≡ None → v.signed comm place ≡ Some s → s ≡ sig
 judged v paths b comm place sig s fit e =
     let m = b.signs comm place s e in
     let a = agrees_with v.setting (state v) comm place m.0 sig s fit m.1 m.2 in
@@ -41,7 +41,7 @@ pub record Passed (v : Tables) (comm rank : ℕ) (mode : Mode) (plan : Planned) 
   pub checked : broken plan.sig (size v.setting comm) ≡ None
   pub mode_is : plan.sig.mode ≡ mode
   pub n_is : plan.n ≡ size v.setting comm
-  pub agrees : mismatch v.setting (state v) comm (length (v.posts comm plan.member)) plan.sig ≡ None
+  pub agrees : mismatch_in (group v.setting comm) (v.posts comm) (length (v.posts comm plan.member)) plan.sig ≡ None
   pub place_low : length (v.posts comm plan.member) < v.setting.places
 
 pub passed : (v : Tables) (comm rank : ℕ) (mode : Mode) (plan : Planned) → AllByRecursion (λ (o : Option Refusal). o ≡ None) (posting_refusals v.setting (state v) rank comm (unwrap_or (member_of rank (group v.setting comm)) 0) mode plan) → Passed v comm rank mode plan
@@ -60,7 +60,7 @@ passed v comm rank mode plan h = go (member_of rank (group v.setting comm)) refl
           checked = unbroken (broken plan.sig (size v.setting comm)) h.1.1.0;
           mode_is = same_mode plan.sig.mode mode (fits _ _ h.1.1.1.0);
           n_is = eqb-true plan.n (size v.setting comm) both.0;
-          agrees = subst (λ m. mismatch v.setting (state v) comm (length (v.posts comm m)) plan.sig ≡ None) (sym mine) h.1.1.1.1.1.0;
+          agrees = subst (λ m. mismatch_in (group v.setting comm) (v.posts comm) (length (v.posts comm m)) plan.sig ≡ None) (sym mine) h.1.1.1.1.1.0;
           place_low = subst (λ m. length (v.posts comm m) < v.setting.places) (sym mine) (ltb-true (length (v.posts comm (unwrap_or (member_of rank (group v.setting comm)) 0))) v.setting.places (fits _ _ h.1.1.1.1.1.1.0));
         }
 

@@ -6,11 +6,13 @@ use Rattle.coll_sched.specs.Worlds.{Progress}
 use Rattle.coll_kinds.specs.Puts.{put}
 use Rattle.coll_kinds.proofs.Puts.{put_same}
 use Rattle.coll_machine.specs.Settings.{size}
-use Rattle.coll_machine.specs.States.{Key, Machine}
+use Rattle.coll_machine.specs.declared.key.Key.{Key}
+use Rattle.coll_machine.specs.States.{Machine}
 use Rattle.coll_tables.specs.Requests.{Live, key, went}
 use Rattle.coll_tables.specs.Tables.{Mail, Tables, Paths, is_done, state, machine}
 use Rattle.coll_tables.specs.Sound.{Stands, ready, running, idle, queued, done, Lies, Sound, IsSound, Called}
-use Rattle.coll_tables.specs.Changes.{put_in, acting, rehoming}
+use Rattle.coll_machine.specs.Changes.{put_in}
+use Rattle.coll_tables.specs.Changes.{acting, rehoming}
 use Rattle.coll_tables.specs.Machines.{MayFinish}
 use Rattle.coll_tables.specs.Calls.{Away, Acts, received, delivered, Wakes}
 use Rattle.coll_tables.proofs.Sounds.{all_stand, Sent, sound_compute, sound_receive, sent, none_called, delivered as wakened}
@@ -18,7 +20,7 @@ use Rattle.coll_tables.proofs.Stepping.{done_changes, may_finish, acted_state, a
 use Rattle.coll_sched.specs.declared.region.Region.{Region}
 use Rattle.coll_sched.specs.declared.action.Action.{Action}
 use Rattle.coll_sched.specs.declared.action.Action.TheVariants.{Send, Recv}
-use Rattle.coll_tables.specs.Laws.{ComputeKeeps, ReceiveKeeps, SendKeeps, RehomeKeeps}
+use Rattle.coll_tables.proofs.Statements.{ComputeKeeps, ReceiveKeeps, SendKeeps, RehomeKeeps}
 use Rattle.coll_tables.proofs.Basing.{base_rehomes}
 
 -- on Ready and Running it is active

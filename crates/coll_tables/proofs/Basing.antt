@@ -14,13 +14,13 @@ use Rattle.coll_kinds.proofs.Puts.{put_same}
 use Rattle.coll_sched.proofs.Track.{tracks_join, tracks_empty, tracks_leave, not_begun, heard_self}
 use Rattle.coll_sched.proofs.Views.{tracks_agrees}
 use Rattle.coll_machine.specs.Settings.{size}
-use Rattle.coll_machine.specs.States.{Key}
-use Rattle.coll_machine.specs.Changes.{put_key}
+use Rattle.coll_machine.specs.declared.key.Key.{Key}
+use Rattle.coll_machine.specs.Changes.{put_key, put_in}
 use Rattle.coll_plans.specs.Plans.{family}
 use Rattle.coll_tables.specs.Requests.{Live, at, key, progress, went, begun, at_rest, rests, rests_by}
 use Rattle.coll_tables.specs.Tables.{Mail, Tables, Paths, no_signature, family_at, world}
 use Rattle.coll_tables.specs.Sound.{Owned, Base}
-use Rattle.coll_tables.specs.Changes.{put_in, joining, acting, leaving, dissolving, freeing, rehoming}
+use Rattle.coll_tables.specs.Changes.{joining, acting, leaving, dissolving, freeing, rehoming}
 use Rattle.coll_tables.specs.Calls.{Joining, IsLast}
 use Rattle.coll_tables.proofs.Keys.{split_key, at_key, off_key, in_cases, in_at, in_off}
 use Rattle.coll_tables.proofs.Changing.{Kin, Gifts, key_fields, base_changes, retracked}

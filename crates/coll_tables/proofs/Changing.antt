@@ -10,7 +10,7 @@ use Rattle.coll_kinds.proofs.Puts.{put_other}
 use Rattle.coll_sched.proofs.Counts.{put_cases}
 use Rattle.coll_sched.proofs.Views.{tracks_agrees}
 use Rattle.coll_machine.specs.Settings.{size}
-use Rattle.coll_machine.specs.States.{Key}
+use Rattle.coll_machine.specs.declared.key.Key.{Key}
 use Rattle.coll_tables.specs.Requests.{Live, at, key, progress}
 use Rattle.coll_tables.specs.Tables.{Mail, Tables, Paths, family_at, world}
 use Rattle.coll_tables.specs.Sound.{Owned, Base}

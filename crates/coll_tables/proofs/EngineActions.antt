@@ -13,11 +13,11 @@ use Rattle.coll_sched.specs.Worlds.{Progress}
 use Rattle.coll_plans.specs.Plans.{family}
 use Rattle.coll_arena.specs.Slots.{Slots, generation_of, home, record_in, weight_of}
 use Rattle.coll_queues.specs.Postings.{Postings, posts, signed}
-use Rattle.coll_match.specs.declared.key.Key.{Key as MatchKey}
+use Rattle.coll_machine.specs.declared.key.Key.{Key}
 use Rattle.coll_match.specs.Held.{put_mail}
-use Rattle.coll_match.specs.Instances.{mail, put_key}
+use Rattle.coll_machine.specs.Changes.{put_key}
+use Rattle.coll_match.specs.Instances.{mail}
 use Rattle.coll_machine.specs.Settings.{Setting, size}
-use Rattle.coll_machine.specs.States.{Key}
 use Rattle.coll_tables.specs.Requests.{Live, key, went}
 use Rattle.coll_tables.specs.Tables.{Mail, Tables, machine}
 use Rattle.coll_tables.specs.Sound.{next, Doable, Stands, ready, running, idle, queued, done, Called, IsSound}
@@ -25,10 +25,11 @@ use Rattle.coll_tables.specs.Changes.{acting, rehoming}
 use Rattle.coll_tables.specs.Calls.{Acts, Away, Wakes, delivered, received}
 use Rattle.coll_tables.specs.Machines.{MayFinish}
 use Rattle.coll_tables.specs.Remaining.{actions_left}
-use Rattle.coll_tables.specs.Shown.{Instances, named, seen, listed, tables, weight, weight_by}
+use Rattle.coll_tables.specs.Shown.{Instances, seen, listed, tables, weight, weight_by}
 use Rattle.coll_tables.specs.Cores.{IsCore}
 use Rattle.coll_tables.specs.Engines.{GoesOn, IsCalled, KeepsGifts, Wakens}
-use Rattle.coll_tables.specs.EngineLaws.{ActsOnce, ComputeCore, ReceiveCore, SendThenCore, MoveCore}
+use Rattle.coll_tables.specs.EngineLaws.{ActsOnce}
+use Rattle.coll_tables.proofs.EngineStatements.{ComputeCore, ReceiveCore, MoveCore}
 use Rattle.coll_tables.proofs.Holding.{put_self}
 use Rattle.coll_tables.proofs.Actions.{going, compute_keeps, receive_keeps, send_keeps, rehome_keeps}
 use Rattle.coll_tables.proofs.Remainders.{acts_lower}
@@ -71,12 +72,12 @@ module _ {R : Type 0} (shown : R → Live) (g : Setting) (a b : Slots R) (q : Po
 
   -- the new request as the tables show it
   lies_as : listed list (shown y) ≡ went p o
-  lies_as = listed_stands p.members list (mail n (named (key p))) (shown y) h.stands there ∙ h.is
+  lies_as = listed_stands p.members list (mail n (key p)) (shown y) h.stands there ∙ h.is
 
   generations : generation_of b ≡ generation_of a
   generations = h.puts.generations ∙ put_self (generation_of a) t.slot t.generation h.found.generation_is
 
-  module _ (mails : Key → Mail) (e : (λ (l : Key). mail n (named l)) ≡ mails) where
+  module _ (mails : Key → Mail) (e : (λ (l : Key). mail n l) ≡ mails) where
     pub acted : w ≡ acting v t.slot p o mails (home b)
     acted = λ z. record {
       setting = g;
@@ -85,16 +86,16 @@ module _ {R : Type 0} (shown : R → Live) (g : Setting) (a b : Slots R) (q : Po
       home = home b;
       posts = posts q;
       signed = signed q;
-      given = λ l. k.given z (named l);
-      seats = λ l. k.seats z (named l);
+      given = λ l. k.given z l;
+      seats = λ l. k.seats z l;
       mail = e z;
     }
 
     pub mine : Stands (size g p.comm) (mails (key p)) (home b t.slot) (went p o)
     mine = subst (λ s. Stands s (mails (key p)) (home b t.slot) (went p o)) sized
         (subst (λ (f : Key → Mail). Stands p.members (f (key p)) (home b t.slot) (went p o)) e
-        (subst (λ l. Stands p.members (mail n (named (key p))) l (went p o)) (sym (home_here a b t.slot t.generation (weight_of a t.slot) list (Some y) h.puts))
-        (subst (λ (r : Live). Stands p.members (mail n (named (key p))) list r) h.is h.stands)))
+        (subst (λ l. Stands p.members (mail n (key p)) l (went p o)) (sym (home_here a b t.slot t.generation (weight_of a t.slot) list (Some y) h.puts))
+        (subst (λ (r : Live). Stands p.members (mail n (key p)) list r) h.is h.stands)))
 
   pub acts : Acts v t.slot p act o (home b)
   acts = record {
@@ -110,10 +111,10 @@ module _ {R : Type 0} (shown : R → Live) (g : Setting) (a b : Slots R) (q : Po
 
   pub core_on : IsSound w → IsCore shown g b q n
   core_on s = core_of shown g a b t.slot t.generation (weight_of a t.slot) list (Some y) h.puts q q m n c refl refl
-      (λ l z e. c.sizes l z (ap (λ (f : MatchKey → Option ℕ). f l) (sym k.members) ∙ e)) weighs_on s
+      (λ l z e. c.sizes l z (ap (λ (f : Key → Option ℕ). f l) (sym k.members) ∙ e)) weighs_on s
 
   -- from what the tables' laws say of them
-  pub once : (mails : Key → Mail) → (λ (l : Key). mail n (named l)) ≡ mails → IsSound (acting v t.slot p o mails (home b)) → MayFinish g (machine v) (machine (acting v t.slot p o mails (home b))) → ActsOnce shown g a b q m n
+  pub once : (mails : Key → Mail) → (λ (l : Key). mail n l) ≡ mails → IsSound (acting v t.slot p o mails (home b)) → MayFinish g (machine v) (machine (acting v t.slot p o mails (home b))) → ActsOnce shown g a b q m n
   once mails e s step = record {
     core = core_on (subst (λ (u : Tables). IsSound u) (sym (acted mails e)) s);
     steps = subst (λ (u : Tables). MayFinish g (machine v) (machine u)) (sym (acted mails e)) step;
@@ -126,13 +127,13 @@ same_gifts m = record { members = refl; given = refl; seats = refl }
 pub compute_core : {R : Type 0} → ComputeCore R
 compute_core {R} shown g a b q m t x y act o list c h loc buf =
     let k = same_gifts m in
-    let both = compute_keeps (v shown g a b q m m t x y act o list c h k) t.slot (shown x) act o (home b) c.sound (acts shown g a b q m m t x y act o list c h k) loc buf (mine shown g a b q m m t x y act o list c h k (λ l. mail m (named l)) refl) in
-    once shown g a b q m m t x y act o list c h k (λ l. mail m (named l)) refl both.0 both.1
+    let both = compute_keeps (v shown g a b q m m t x y act o list c h k) t.slot (shown x) act o (home b) c.sound (acts shown g a b q m m t x y act o list c h k) loc buf (mine shown g a b q m m t x y act o list c h k (λ l. mail m l) refl) in
+    once shown g a b q m m t x y act o list c h k (λ l. mail m l) refl both.0 both.1
 
 pub receive_core : {R : Type 0} → ReceiveCore R
 receive_core {R} shown g a b q m n t x y of into bytes o list c h k there mails buf =
     let act = Recv of into in
-    let e : (λ (l : Key). mail n (named l)) ≡ received (tables shown g a q m) (shown x) of = λ z l. mails z (named l) in
+    let e : (λ (l : Key). mail n l) ≡ received (tables shown g a q m) (shown x) of = λ z l. mails z l in
     let both = receive_keeps (tables shown g a q m) t.slot (shown x) of into bytes o (home b) c.sound (acts shown g a b q m n t x y act o list c h k) there buf (mine shown g a b q m n t x y act o list c h k (received (tables shown g a q m) (shown x) of) e) in
     once shown g a b q m n t x y act o list c h k (received (tables shown g a q m) (shown x) of) e both.0 both.1
 
@@ -156,7 +157,7 @@ seen_some shown l (Some r) q e = (r, refl, same_Some (listed l (shown r)) q e)
 
 module _ {R : Type 0} (shown : R → Live) (g : Setting) (a b : Slots R) (q : Postings) (m n : Instances) (t : Ticket) (x y : R) (to : ℕ) (from : Region) (o : Progress) (list : ℕ)
     (c : IsCore shown g a q m) (h : GoesOn shown a b n t x y (Send to from) o list) (k : KeepsGifts m n)
-    (mails : mail n ≡ put_key (mail m) (named (key (shown x))) (put_mail (mail m (named (key (shown x)))) (shown x).member to (shown x).round (Some (read_of (shown x).buf from))))
+    (mails : mail n ≡ put_key (mail m) (key (shown x)) (put_mail (mail m (key (shown x))) (shown x).member to (shown x).round (Some (read_of (shown x).buf from))))
     (buf : o.buf ≡ (shown x).buf) where
   abbrev before : Tables
   before = tables shown g a q m
@@ -167,8 +168,8 @@ module _ {R : Type 0} (shown : R → Live) (g : Setting) (a b : Slots R) (q : Po
   abbrev after : Tables
   after = acting before t.slot (shown x) o letters (home b)
 
-  mails_are : (λ (l : Key). mail n (named l)) ≡ letters
-  mails_are = λ z l. mails z (named l)
+  mails_are : (λ (l : Key). mail n l) ≡ letters
+  mails_are = λ z l. mails z l
 
   is_after : tables shown g b q n ≡ after
   is_after = acted shown g a b q m n t x y (Send to from) o list c h k letters mails_are
@@ -188,7 +189,7 @@ module _ {R : Type 0} (shown : R → Live) (g : Setting) (a b : Slots R) (q : Po
       go (inr z) = c.sound.sound.base.sized j r z.1
 
   -- whom the tables call the arena calls
-  calls : (j : ℕ) → Wakes after (key (shown x)) to j → (r : R) × IsCalled shown b n (named (key (shown x))) to j r
+  calls : (j : ℕ) → Wakes after (key (shown x)) to j → (r : R) × IsCalled shown b n (key (shown x)) to j r
   calls j w =
       let there : Wakes (tables shown g b q n) (key (shown x)) to j = subst (λ (u : Tables). Wakes u (key (shown x)) to j) (sym is_after) w in
       let fits : there.req.members ≡ size g there.req.comm = still_sized j there.req (ap (λ (u : Tables). u.request j) (sym is_after) ∙ there.is) in
@@ -197,19 +198,19 @@ module _ {R : Type 0} (shown : R → Live) (g : Setting) (a b : Slots R) (q : Po
         record {
           seat = there.seat;
           here = s.1;
-          called = subst (λ (p : Live). Called p.members (mail n (named (key p))) (home b j) p) (sym s.2)
-              (subst (λ s. Called s (mail n (named (key there.req))) (home b j) there.req) (sym fits) there.called);
+          called = subst (λ (p : Live). Called p.members (mail n (key p)) (home b j) p) (sym s.2)
+              (subst (λ s. Called s (mail n (key there.req)) (home b j) there.req) (sym fits) there.called);
         },
       )
 
-  pub unwoken : ((j : ℕ) (r : R) → IsCalled shown b n (named (key (shown x))) to j r → ⊥) → ActsOnce shown g a b q m n
+  pub unwoken : ((j : ℕ) (r : R) → IsCalled shown b n (key (shown x)) to j r → ⊥) → ActsOnce shown g a b q m n
   unwoken none =
       let s = both.0 (λ j w. let r = calls j w in none j r.0 r.1) in
       once shown g a b q m n t x y (Send to from) o list c h k letters mails_are s.0 s.1
 
-  module _ (d : Slots R) (u : Ticket) (r : R) (w : Wakens shown b d n (named (key (shown x))) to u r) where
+  module _ (d : Slots R) (u : Ticket) (r : R) (w : Wakens shown b d n (key (shown x)) to u r) where
     awake : (shown r).active ≡ true
-    awake = going (shown r).members 2 (mail n (named (key (shown r)))) (shown r) (inl refl) w.ready
+    awake = going (shown r).members 2 (mail n (key (shown r))) (shown r) (inl refl) w.ready
 
     waits_off : (l : ℕ) → l ≡ 5 + 3 * (shown r).comm → l ≢ 4 + 3 * (shown r).comm
     waits_off l e f = omega arith
@@ -226,35 +227,35 @@ module _ {R : Type 0} (shown : R → Live) (g : Setting) (a b : Slots R) (q : Po
         let same : y ≡ r = same_Some y r (sym (record_here a b t.slot t.generation (weight_of a t.slot) list (Some y) h.puts) ∙ (ap (record_in b) (sym e) ∙ w.found.here)) in
         let sits : home b u.slot ≡ list = ap (home b) e ∙ home_here a b t.slot t.generation (weight_of a t.slot) list (Some y) h.puts in
         let members_are : (shown x).members ≡ (shown y).members = ap (λ (z : Live). z.members) (sym h.is) in (
-          mail n (named (key (shown x))),
-          subst (λ (z : R). Stands (shown z).members (mail n (named (key (shown x)))) (home b u.slot) (shown z)) same
-              (subst (λ l. Stands (shown y).members (mail n (named (key (shown x)))) l (shown y)) (sym sits)
-              (subst (λ s. Stands s (mail n (named (key (shown x)))) list (shown y)) members_are h.stands)),
+          mail n (key (shown x)),
+          subst (λ (z : R). Stands (shown z).members (mail n (key (shown x))) (home b u.slot) (shown z)) same
+              (subst (λ l. Stands (shown y).members (mail n (key (shown x))) l (shown y)) (sym sits)
+              (subst (λ s. Stands s (mail n (key (shown x))) list (shown y)) members_are h.stands)),
         )
     stood (inr e) =
         let was : record_in a u.slot ≡ Some r = sym (ap (λ (f : ℕ → Option R). f u.slot) h.puts.records ∙ put_other (record_in a) t.slot (Some y) u.slot e) ∙ w.found.here in
         let lay : home b u.slot ≡ home a u.slot = home_away a b t.slot t.generation (weight_of a t.slot) list (Some y) h.puts u.slot e in
         let is : before.request u.slot ≡ Some (shown r) = shown_here shown a u.slot r was awake (waits_off (home a u.slot) (sym lay ∙ w.waits)) in
         let fits : (shown r).members ≡ size g (shown r).comm = c.sound.sound.base.sized u.slot (shown r) is in (
-          mail m (named (key (shown r))),
-          subst (λ l. Stands (shown r).members (mail m (named (key (shown r)))) l (shown r)) (sym lay)
-              (subst (λ s. Stands s (mail m (named (key (shown r)))) (home a u.slot) (shown r)) (sym fits) (c.sound.sound.stands u.slot (shown r) is)),
+          mail m (key (shown r)),
+          subst (λ l. Stands (shown r).members (mail m (key (shown r))) l (shown r)) (sym lay)
+              (subst (λ s. Stands s (mail m (key (shown r))) (home a u.slot) (shown r)) (sym fits) (c.sound.sound.stands u.slot (shown r) is)),
         )
 
     wakes : Wakes after (key (shown x)) to u.slot
     wakes =
         let old = stood (cases_eq u.slot t.slot) in
-        let called : Called (shown r).members (mail n (named (key (shown r)))) (home b u.slot) (shown r) = queue_called (shown r).members (home b u.slot) old.0 (mail n (named (key (shown r)))) (shown r) w.waits old.1 w.ready in
+        let called : Called (shown r).members (mail n (key (shown r))) (home b u.slot) (shown r) = queue_called (shown r).members (home b u.slot) old.0 (mail n (key (shown r))) (shown r) w.waits old.1 w.ready in
         record {
           req = shown r;
           seat = ap (λ (z : Tables). z.seats (key (shown x)) to) (sym is_after) ∙ w.seat;
           is = in_after;
           called = subst (λ (f : Key → Mail). Called (size g (shown r).comm) (f (key (shown r))) (home b u.slot) (shown r)) mails_are
-              (subst (λ s. Called s (mail n (named (key (shown r)))) (home b u.slot) (shown r)) (still_sized u.slot (shown r) in_after) called);
+              (subst (λ s. Called s (mail n (key (shown r))) (home b u.slot) (shown r)) (still_sized u.slot (shown r) in_after) called);
         }
 
     lies_ready : listed 2 (shown r) ≡ shown r
-    lies_ready = listed_stands (shown r).members 2 (mail n (named (key (shown r)))) (shown r) w.ready awake
+    lies_ready = listed_stands (shown r).members 2 (mail n (key (shown r))) (shown r) w.ready awake
 
     same_requests : ◌≡◌ {A = ℕ → Option Live} (λ j. seen (home d j) (option_map shown (record_in d j))) (λ j. seen (home b j) (option_map shown (record_in b j)))
     same_requests = shown_same shown g b d u.slot u.generation (weight_of b u.slot) 2 (Some r) w.puts (shown_there ∙ ap Some (sym lies_ready))
@@ -267,8 +268,8 @@ module _ {R : Type 0} (shown : R → Live) (g : Setting) (a b : Slots R) (q : Po
       home = home d;
       posts = posts q;
       signed = signed q;
-      given = λ l. k.given z (named l);
-      seats = λ l. k.seats z (named l);
+      given = λ l. k.given z l;
+      seats = λ l. k.seats z l;
       mail = mails_are z;
     }
 
@@ -280,7 +281,7 @@ module _ {R : Type 0} (shown : R → Live) (g : Setting) (a b : Slots R) (q : Po
           core = record {
             set = set_of shown g b d u.slot u.generation (weight_of b u.slot) 2 (Some r) w.puts q q (set_of shown g a b t.slot t.generation (weight_of a t.slot) list (Some y) first q q c.set refl refl) refl refl;
             sound = subst (λ (z : Tables). IsSound z) (sym is_later) s.0;
-            sizes = λ l z e. c.sizes l z (ap (λ (f : MatchKey → Option ℕ). f l) (sym k.members) ∙ e);
+            sizes = λ l z e. c.sizes l z (ap (λ (f : Key → Option ℕ). f l) (sym k.members) ∙ e);
             weights = weights_of shown g b d u.slot u.generation (weight_of b u.slot) 2 (Some r) w.puts heavy_before heavy_now;
           };
           steps = subst (λ (z : Tables). MayFinish g (machine before) (machine z)) (sym is_later) s.1;
@@ -292,10 +293,6 @@ module _ {R : Type 0} (shown : R → Live) (g : Setting) (a b : Slots R) (q : Po
 
         heavy_now : weight_of b u.slot ≡ weight_by (seen 2 (option_map shown (Some r)))
         heavy_now = ap (λ (f : ℕ → ℕ). f u.slot) heavy_before ∙ (ap weight_by shown_there ∙ ap weight (sym lies_ready))
-
-pub send_then_core : {R : Type 0} → SendThenCore R
-send_then_core {R} shown g a b d q m n t x y to from o list c h k mails buf (inl none) = subst (λ (z : Slots R). ActsOnce shown g a z q m n) (sym none.1) (unwoken shown g a b q m n t x y to from o list c h k mails buf none.0)
-send_then_core {R} shown g a b d q m n t x y to from o list c h k mails buf (inr w) = woken shown g a b q m n t x y to from o list c h k mails buf d w.0 w.1 w.2
 
 -- ---- a Combine that goes out or comes back
 

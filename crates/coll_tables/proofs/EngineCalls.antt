@@ -16,10 +16,10 @@ use Rattle.coll_arena.specs.Slots.{Slots, count, generation_of, home, record_in}
 use Rattle.coll_arena.specs.Sound as arena
 use Rattle.coll_arena.proofs.Sounds.{free_first}
 use Rattle.coll_queues.specs.Postings.{Postings, number_of as number_in, place_of, posts, signed}
-use Rattle.coll_match.specs.declared.key.Key.{Key as MatchKey}
-use Rattle.coll_match.specs.Instances.{given, mail, put_key, seats}
+use Rattle.coll_machine.specs.declared.key.Key.{Key}
+use Rattle.coll_machine.specs.Changes.{put_key, put2}
+use Rattle.coll_match.specs.Instances.{given, mail, seats}
 use Rattle.coll_machine.specs.Settings.{Setting, group, size}
-use Rattle.coll_machine.specs.Changes.{put2}
 use Rattle.coll_machine.specs.Calls.{Planned, Post, Init, Start, Free, Ticketed, Nothing}
 use Rattle.coll_machine.specs.Refusals.{refusal}
 use Rattle.coll_machine.specs.Machines.{MachineStep}
@@ -29,7 +29,7 @@ use Rattle.coll_tables.specs.Sound.{Stands, Lies, IsSound}
 use Rattle.coll_tables.specs.Changes.{posting, joining, freeing}
 use Rattle.coll_tables.specs.Calls.{Comes, Joining, New, newcomer, new_ticket, ticket}
 use Rattle.coll_tables.specs.Machines.{StepsTo}
-use Rattle.coll_tables.specs.Shown.{Instances, named, seen, listed, tables, weight}
+use Rattle.coll_tables.specs.Shown.{Instances, seen, listed, tables, weight}
 use Rattle.coll_tables.specs.Cores.{IsCore}
 use Rattle.coll_tables.specs.OneSlots.{OneSlot}
 use Rattle.coll_tables.specs.Engines.{IsFound, IsFree, IsOffered, given_up}
@@ -157,7 +157,7 @@ post_core {R} shown g a b q r m n t rank comm plan bytes y o list c s h = (core,
     place : place_of q comm rank ≡ length (posts q comm plan.member)
     place = place_is shown g a q m c comm rank plan p.member_is
 
-    key_is : ◌≡◌ {A = MatchKey} (record { comm = comm; place = place_of q comm rank; start = 0 }) (named (at nq 0))
+    key_is : ◌≡◌ {A = Key} (record { comm = comm; place = place_of q comm rank; start = 0 }) (at nq 0)
     key_is = λ z. record { comm = comm; place = place z; start = 0 }
 
     begins : shown y ≡ begun nq o
@@ -182,8 +182,8 @@ post_core {R} shown g a b q r m n t rank comm plan bytes y o list c s h = (core,
       buf = h.buf ∙ ap (λ s. laid_in (family plan.sig s plan.member) bytes) p.n_is;
       over = subst (λ s. Over (family plan.sig s plan.member) 0 0 o.round o.index) p.n_is h.over;
       away = λ j d. refl;
-      stands = subst (λ s. Stands s (mail m (named (at nq 0))) (home b t.slot) (begun nq o)) p.n_is
-          (subst (λ (k : MatchKey). Stands plan.n (mail m k) (home b t.slot) (begun nq o)) key_is
+      stands = subst (λ s. Stands s (mail m (at nq 0)) (home b t.slot) (begun nq o)) p.n_is
+          (subst (λ (k : Key). Stands plan.n (mail m k) (home b t.slot) (begun nq o)) key_is
           (subst (λ l. Stands plan.n (mail m (record { comm = comm; place = place_of q comm rank; start = 0 })) l (begun nq o)) (sym sits)
           (subst (λ (x : Live). Stands plan.n (mail m (record { comm = comm; place = place_of q comm rank; start = 0 })) list x) begins h.stands)));
     }
@@ -202,14 +202,14 @@ post_core {R} shown g a b q r m n t rank comm plan bytes y o list c s h = (core,
       home = home b;
       posts = posts_are shown g a q m c comm rank plan p.member_is r h.offered z;
       signed = signed_are shown g a q m c comm rank plan p.member_is r h.offered z;
-      given = λ l. (ap (λ (f : MatchKey → ℕ → Option (List ℕ)). f (named l)) h.joined.given ∙ ap (λ (k : MatchKey). put_key (given m) k (put (given m k) plan.member (Some bytes)) (named l)) key_is) z;
-      seats = λ l. (ap (λ (f : MatchKey → ℕ → Option ℕ). f (named l)) h.joined.seats ∙ ap (λ (k : MatchKey). put_key (seats m) k (put (seats m k) plan.member (Some t.slot)) (named l)) key_is) z;
-      mail = λ l. h.joined.mail z (named l);
+      given = λ l. (ap (λ (f : Key → ℕ → Option (List ℕ)). f l) h.joined.given ∙ ap (λ (k : Key). put_key (given m) k (put (given m k) plan.member (Some bytes)) l) key_is) z;
+      seats = λ l. (ap (λ (f : Key → ℕ → Option ℕ). f l) h.joined.seats ∙ ap (λ (k : Key). put_key (seats m) k (put (seats m k) plan.member (Some t.slot)) l) key_is) z;
+      mail = λ l. h.joined.mail z l;
     }
 
     core : IsCore shown g b r n
     core = core_of shown g a b t.slot t.generation w list (Some y) h.puts q r m n c h.offered.groups h.offered.places
-        (λ l z e. c.sizes l z (ap (λ (f : MatchKey → Option ℕ). f l) (sym h.joined.members) ∙ e)) (sym (ap weight lies_as)) (subst (λ (u : Tables). IsSound u) (sym is_after) both.0)
+        (λ l z e. c.sizes l z (ap (λ (f : Key → Option ℕ). f l) (sym h.joined.members) ∙ e)) (sym (ap weight lies_as)) (subst (λ (u : Tables). IsSound u) (sym is_after) both.0)
 
     named_so : new_ticket v t.slot ≡ t
     named_so = λ z. record { slot = t.slot; generation = sym (free_next a s t h.free) z }
@@ -256,7 +256,7 @@ start_core {R} shown g a b q m n t rank bytes x y o list c h = (core, step)
     accepted = ap (λ (u : Ticket). refusal g (state v) (Start rank u bytes)) (ticket_is shown g a q m t x h.found) ∙ h.accepted
 
     lies_as : listed list (shown y) ≡ begun p o
-    lies_as = listed_stands p.members list (mail m (named (at p p.starts))) (shown y) h.stands (ap (λ (z : Live). z.active) h.is) ∙ h.is
+    lies_as = listed_stands p.members list (mail m (at p p.starts)) (shown y) h.stands (ap (λ (z : Live). z.active) h.is) ∙ h.is
 
     sits : home b t.slot ≡ list
     sits = home_here a b t.slot t.generation w list (Some y) h.puts
@@ -268,9 +268,9 @@ start_core {R} shown g a b q m n t rank bytes x y o list c h = (core, step)
       buf = h.buf ∙ ap (λ s. laid_in (family p.sig s p.member) bytes) sized;
       over = subst (λ s. Over (family p.sig s p.member) 0 0 o.round o.index) sized h.over;
       away = home_away a b t.slot t.generation w list (Some y) h.puts;
-      stands = subst (λ s. Stands s (mail m (named (at p p.starts))) (home b t.slot) (begun p o)) sized
-          (subst (λ l. Stands p.members (mail m (named (at p p.starts))) l (begun p o)) (sym sits)
-          (subst (λ (z : Live). Stands p.members (mail m (named (at p p.starts))) list z) h.is h.stands));
+      stands = subst (λ s. Stands s (mail m (at p p.starts)) (home b t.slot) (begun p o)) sized
+          (subst (λ l. Stands p.members (mail m (at p p.starts)) l (begun p o)) (sym sits)
+          (subst (λ (z : Live). Stands p.members (mail m (at p p.starts)) list z) h.is h.stands));
     }
 
     after : Tables
@@ -287,14 +287,14 @@ start_core {R} shown g a b q m n t rank bytes x y o list c h = (core, step)
       home = home b;
       posts = posts q;
       signed = signed q;
-      given = λ l. h.joined.given z (named l);
-      seats = λ l. h.joined.seats z (named l);
-      mail = λ l. h.joined.mail z (named l);
+      given = λ l. h.joined.given z l;
+      seats = λ l. h.joined.seats z l;
+      mail = λ l. h.joined.mail z l;
     }
 
     core : IsCore shown g b q n
     core = core_of shown g a b t.slot t.generation w list (Some y) h.puts q q m n c refl refl
-        (λ l z e. c.sizes l z (ap (λ (f : MatchKey → Option ℕ). f l) (sym h.joined.members) ∙ e)) (sym (ap weight lies_as)) (subst (λ (u : Tables). IsSound u) (sym is_after) both.0)
+        (λ l z e. c.sizes l z (ap (λ (f : Key → Option ℕ). f l) (sym h.joined.members) ∙ e)) (sym (ap weight lies_as)) (subst (λ (u : Tables). IsSound u) (sym is_after) both.0)
 
     step : StepsTo g (machine v) (Start rank t bytes) Nothing (machine (tables shown g b q n))
     step = subst (λ (u : Tables). StepsTo g (machine v) (Start rank t bytes) Nothing (machine u)) (sym is_after)

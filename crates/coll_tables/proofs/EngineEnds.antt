@@ -10,23 +10,21 @@ use Rattle.coll_kinds.specs.Puts.{put}
 use Rattle.coll_sched.specs.Regions.{read_of}
 use Rattle.coll_plans.specs.Plans.{family}
 use Rattle.coll_arena.specs.Slots.{Slots, generation_of, home, record_in}
-use Rattle.coll_queues.specs.Lists.{first_there}
+use Rattle.coll_machine.specs.Refusals.{first_there, refusal}
 use Rattle.coll_queues.specs.Postings.{Postings, posts, signed}
-use Rattle.coll_match.specs.declared.key.Key.{Key as MatchKey}
+use Rattle.coll_machine.specs.declared.key.Key.{Key}
 use Rattle.coll_match.specs.Held.{Held}
-use Rattle.coll_match.specs.Instances.{given, given_of, mail, members, members_of, put_key, seats, standing, IsLast as LeavesLast}
+use Rattle.coll_machine.specs.Changes.{put_key, put_in}
+use Rattle.coll_match.specs.Instances.{given, given_of, mail, members, members_of, seats, standing, IsLast as LeavesLast}
 use Rattle.coll_machine.specs.Settings.{Setting, size}
-use Rattle.coll_machine.specs.States.{Key}
-use Rattle.coll_machine.specs.Changes.{put_key as put_at}
 use Rattle.coll_machine.specs.Calls.{Retire, Outcome}
-use Rattle.coll_machine.specs.Refusals.{refusal}
 use Rattle.coll_machine.specs.Machines.{MachineStep}
 use Rattle.coll_tables.specs.Requests.{Live, before, key, rests, rests_by}
 use Rattle.coll_tables.specs.Tables.{Mail, Tables, machine, state}
 use Rattle.coll_tables.specs.Sound.{Lies, IsSound}
-use Rattle.coll_tables.specs.Changes.{put_in, dissolving, leaving}
+use Rattle.coll_tables.specs.Changes.{dissolving, leaving}
 use Rattle.coll_tables.specs.Calls.{IsLast, LeftAt, Retiring, ticket}
-use Rattle.coll_tables.specs.Shown.{Instances, named, seen, listed, tables, weight_by}
+use Rattle.coll_tables.specs.Shown.{Instances, seen, listed, tables, weight_by}
 use Rattle.coll_tables.specs.Cores.{IsCore}
 use Rattle.coll_tables.specs.OneSlots.{OneSlot}
 use Rattle.coll_tables.specs.Engines.{Completes, Rests, given_up}
@@ -40,10 +38,10 @@ use Rattle.coll_tables.proofs.EngineCalls.{found_here, lies_given_up, same_gener
 
 -- ---- functions of collectives
 
-pub put_own : {X : Type 0} (f : Key → X) (k : Key) → put_at f k (f k) ≡ f
+pub put_own : {X : Type 0} (f : Key → X) (k : Key) → put_key f k (f k) ≡ f
 put_own {X} f k = λ z l. here l (split_key l k) z
   where
-    here : (l : Key) → (l ≡ k) ⊎ (l ≢ k) → put_at f k (f k) l ≡ f l
+    here : (l : Key) → (l ≡ k) ⊎ (l ≢ k) → put_key f k (f k) l ≡ f l
     here l (inl e) = at_key f k (f k) l e ∙ ap f (sym e)
     here l (inr d) = off_key f k (f k) l d
 
@@ -79,7 +77,7 @@ module _ {R : Type 0} (shown : R → Live) (g : Setting) (a b : Slots R) (q : Po
   left_slot : LeftSlot
   left_slot = by p.sig.mode refl h.rests
     where
-      by : (mode : Mode) → p.sig.mode ≡ mode → Rests shown g mode a b t x → LeftSlot
+      by : (mode : Mode) → p.sig.mode ≡ mode → Rests shown mode a b t x → LeftSlot
       by Once e one = record {
         found = None;
         list = given_up a.wear t.generation;
@@ -112,35 +110,35 @@ module _ {R : Type 0} (shown : R → Live) (g : Setting) (a b : Slots R) (q : Po
   }
 
   -- the instance stands, with its communicator's members
-  stands : (n : ℕ) × (members m (named (key p)) ≡ Some n)
-  stands = stands_given (standing m (named (key p))) p.member (has_given v c.sound.paths c.sound.sound.base t.slot p here (finished_there (size g p.comm) (home a t.slot) (v.mail (key p)) p h.on_done (c.sound.sound.stands t.slot p here)).0)
+  stands : (n : ℕ) × (members m (key p) ≡ Some n)
+  stands = stands_given (standing m (key p)) p.member (has_given v c.sound.paths c.sound.sound.base t.slot p here (finished_there (size g p.comm) (home a t.slot) (v.mail (key p)) p h.on_done (c.sound.sound.stands t.slot p here)).0)
 
-  size_is : unwrap_or (members m (named (key p))) 0 ≡ size g p.comm
-  size_is = ap (λ (o : Option ℕ). unwrap_or o 0) stands.1 ∙ c.sizes (named (key p)) stands.0 stands.1
+  size_is : unwrap_or (members m (key p)) 0 ≡ size g p.comm
+  size_is = ap (λ (o : Option ℕ). unwrap_or o 0) stands.1 ∙ c.sizes (key p) stands.0 stands.1
 
   -- the mailbox's test of the last member is that of the tables
   seat_is : (member : ℕ) → (leaving v t.slot p (home b)).seats (key p) member ≡ put (v.seats (key p)) p.member None member
   seat_is member = ap (λ (f : ℕ → Option ℕ). f member) (at_key v.seats (key p) (put (v.seats (key p)) p.member None) (key p) refl)
 
-  last_there : LeavesLast m (named (key p)) p.member → IsLast (leaving v t.slot p (home b)) (key p)
+  last_there : LeavesLast m (key p) p.member → IsLast (leaving v t.slot p (home b)) (key p)
   last_there l member low = let both = l member (subst (λ s. member < s) (sym size_is) low) in (both.0, seat_is member ∙ both.1)
 
-  there_last : IsLast (leaving v t.slot p (home b)) (key p) → LeavesLast m (named (key p)) p.member
+  there_last : IsLast (leaving v t.slot p (home b)) (key p) → LeavesLast m (key p) p.member
   there_last l member low = let both = l member (subst (λ s. member < s) size_is low) in (both.0, sym (seat_is member) ∙ both.1)
 
   abbrev by_last : {X : Type 0} → X → X → X
   by_last y z = cond last y z
 
-  gifts : ◌≡◌ {A = Key → ℕ → Option (List ℕ)} (λ l. given n (named l)) (put_at v.given (key p) (cond last (λ _. None) (v.given (key p))))
-  gifts = λ z l. h.left.given z (named l)
+  gifts : ◌≡◌ {A = Key → ℕ → Option (List ℕ)} (λ l. given n l) (put_key v.given (key p) (cond last (λ _. None) (v.given (key p))))
+  gifts = λ z l. h.left.given z l
 
-  notes : ◌≡◌ {A = Key → ℕ → Option ℕ} (λ l. seats n (named l)) (put_in v.seats (key p) p.member None)
-  notes = λ z l. h.left.seats z (named l)
+  notes : ◌≡◌ {A = Key → ℕ → Option ℕ} (λ l. seats n l) (put_in v.seats (key p) p.member None)
+  notes = λ z l. h.left.seats z l
 
-  letters : ◌≡◌ {A = Key → Mail} (λ l. mail n (named l)) (put_at v.mail (key p) (cond last (λ _ _ _. None) (v.mail (key p))))
-  letters = λ z l. h.left.mail z (named l)
+  letters : ◌≡◌ {A = Key → Mail} (λ l. mail n l) (put_key v.mail (key p) (cond last (λ _ _ _. None) (v.mail (key p))))
+  letters = λ z l. h.left.mail z l
 
-  leaves_with : (given_is : Key → ℕ → Option (List ℕ)) (mail_is : Key → Mail) → ◌≡◌ {A = Key → ℕ → Option (List ℕ)} (λ l. given n (named l)) given_is → ◌≡◌ {A = Key → Mail} (λ l. mail n (named l)) mail_is
+  leaves_with : (given_is : Key → ℕ → Option (List ℕ)) (mail_is : Key → Mail) → ◌≡◌ {A = Key → ℕ → Option (List ℕ)} (λ l. given n l) given_is → ◌≡◌ {A = Key → Mail} (λ l. mail n l) mail_is
       → tables shown g b q n ≡ record { setting = g; generation = v.generation; request = put v.request t.slot (rests p); home = home b; posts = v.posts; signed = v.signed; given = given_is; seats = put_in v.seats (key p) p.member None; mail = mail_is }
   leaves_with given_is mail_is e f = λ z. record {
     setting = g;
@@ -161,19 +159,19 @@ module _ {R : Type 0} (shown : R → Live) (g : Setting) (a b : Slots R) (q : Po
       none Once = refl
       none Persistent = refl
 
-  sizes : (l : MatchKey) (z : ℕ) → members n l ≡ Some z → z ≡ size g l.comm
+  sizes : (l : Key) (z : ℕ) → members n l ≡ Some z → z ≡ size g l.comm
   sizes l z e = go (split_key k (key p)) last (sym (here_is) ∙ e)
     where
       k : Key
       k = record { comm = l.comm; place = l.place; start = l.start }
 
-      here_is : members n l ≡ put_at (λ (i : Key). members m (named i)) (key p) (cond last None (members m (named (key p)))) k
-      here_is = ap (λ (f : MatchKey → Option ℕ). f l) h.left.members
+      here_is : members n l ≡ put_key (λ (i : Key). members m i) (key p) (cond last None (members m (key p))) k
+      here_is = ap (λ (f : Key → Option ℕ). f l) h.left.members
 
-      go : (k ≡ key p) ⊎ (k ≢ key p) → (d : Bool) → put_at (λ (i : Key). members m (named i)) (key p) (cond d None (members m (named (key p)))) k ≡ Some z → z ≡ size g l.comm
-      go (inr off) d f = c.sizes l z (sym (off_key (λ (i : Key). members m (named i)) (key p) (cond d None (members m (named (key p)))) k off) ∙ f)
-      go (inl on) true f = absurd (none-some z (sym (at_key (λ (i : Key). members m (named i)) (key p) None k on) ∙ f))
-      go (inl on) false f = c.sizes (named (key p)) z (sym (at_key (λ (i : Key). members m (named i)) (key p) (members m (named (key p))) k on) ∙ f) ∙ ap (λ (i : Key). size g i.comm) (sym on)
+      go : (k ≡ key p) ⊎ (k ≢ key p) → (d : Bool) → put_key (λ (i : Key). members m i) (key p) (cond d None (members m (key p))) k ≡ Some z → z ≡ size g l.comm
+      go (inr off) d f = c.sizes l z (sym (off_key (λ (i : Key). members m i) (key p) (cond d None (members m (key p))) k off) ∙ f)
+      go (inl on) true f = absurd (none-some z (sym (at_key (λ (i : Key). members m i) (key p) None k on) ∙ f))
+      go (inl on) false f = c.sizes (key p) z (sym (at_key (λ (i : Key). members m i) (key p) (members m (key p)) k on) ∙ f) ∙ ap (λ (i : Key). size g i.comm) (sym on)
 
   abbrev Step : Tables → Type 0
   Step u = MachineStep g (machine v) (Retire rank (ticket v t.slot)) (Outcome rank p.comm p.place (before p.starts) bytes) (machine u)
@@ -190,14 +188,14 @@ module _ {R : Type 0} (shown : R → Live) (g : Setting) (a b : Slots R) (q : Po
       by : (d : Bool) → last ≡ d → IsSound (tables shown g b q n) × Step (tables shown g b q n)
       by false e =
           let is : tables shown g b q n ≡ leaving v t.slot p (home b) = leaves_with v.given v.mail
-          (gifts ∙ (ap (λ d. put_at v.given (key p) (cond d (λ _. None) (v.given (key p)))) e ∙ put_own v.given (key p)))
-          (letters ∙ (ap (λ d. put_at v.mail (key p) (cond d (λ _ _ _. None) (v.mail (key p)))) e ∙ put_own v.mail (key p))) in
+          (gifts ∙ (ap (λ d. put_key v.given (key p) (cond d (λ _. None) (v.given (key p)))) e ∙ put_own v.given (key p)))
+          (letters ∙ (ap (λ d. put_key v.mail (key p) (cond d (λ _ _ _. None) (v.mail (key p)))) e ∙ put_own v.mail (key p))) in
           let both = retire_keeps v t.slot p rank bytes (home b) c.sound retiring (λ l. false≢true (sym e ∙ h.left.last_is.1 (there_last l))) in
           subst (λ (u : Tables). IsSound u × Step u) (sym is) both
       by true e =
-          let is : tables shown g b q n ≡ dissolving (leaving v t.slot p (home b)) (key p) = leaves_with (put_at v.given (key p) (λ _. None)) (put_at v.mail (key p) (λ _ _ _. None))
-          (gifts ∙ ap (λ d. put_at v.given (key p) (cond d (λ _. None) (v.given (key p)))) e)
-          (letters ∙ ap (λ d. put_at v.mail (key p) (cond d (λ _ _ _. None) (v.mail (key p)))) e) in
+          let is : tables shown g b q n ≡ dissolving (leaving v t.slot p (home b)) (key p) = leaves_with (put_key v.given (key p) (λ _. None)) (put_key v.mail (key p) (λ _ _ _. None))
+          (gifts ∙ ap (λ d. put_key v.given (key p) (cond d (λ _. None) (v.given (key p)))) e)
+          (letters ∙ ap (λ d. put_key v.mail (key p) (cond d (λ _ _ _. None) (v.mail (key p)))) e) in
           let both = last_retire_keeps v t.slot p rank bytes (home b) c.sound retiring (last_there (h.left.last_is.0 e)) in
           subst (λ (u : Tables). IsSound u × Step u) (sym is) both
 
@@ -232,14 +230,14 @@ room_core {R} shown g a q r m n k c h = (
       home = home a;
       posts = h.posted z;
       signed = λ comm place. option_map (λ first. first.1) (first_there (h.posted z comm) place 0 (length (unwrap_or (slice_get (h.groups z) comm) [])));
-      given = λ l. h.given z (named l);
-      seats = λ l. h.seats z (named l);
-      mail = λ l. h.mail z (named l);
+      given = λ l. h.given z l;
+      seats = λ l. h.seats z l;
+      mail = λ l. h.mail z l;
     }
 
-    sizes : (l : MatchKey) (z : ℕ) → members n l ≡ Some z → (members n ≡ members m) ⊎ (members n ≡ put_key (members m) k (Some (unwrap_or (members m k) (size g k.comm)))) → z ≡ size g l.comm
-    sizes l z e (inl f) = c.sizes l z (ap (λ (o : MatchKey → Option ℕ). o l) (sym f) ∙ e)
-    sizes l z e (inr f) = go (split_key i j) (sym (ap (λ (o : MatchKey → Option ℕ). o l) f) ∙ e)
+    sizes : (l : Key) (z : ℕ) → members n l ≡ Some z → (members n ≡ members m) ⊎ (members n ≡ put_key (members m) k (Some (unwrap_or (members m k) (size g k.comm)))) → z ≡ size g l.comm
+    sizes l z e (inl f) = c.sizes l z (ap (λ (o : Key → Option ℕ). o l) (sym f) ∙ e)
+    sizes l z e (inr f) = go (split_key i j) (sym (ap (λ (o : Key → Option ℕ). o l) f) ∙ e)
       where
         i : Key
         i = record { comm = l.comm; place = l.place; start = l.start }
@@ -251,8 +249,8 @@ room_core {R} shown g a q r m n k c h = (
         known None e = ap (λ (o : Option ℕ). unwrap_or o (size g k.comm)) e
         known (Some y) e = ap (λ (o : Option ℕ). unwrap_or o (size g k.comm)) e ∙ c.sizes k y e
 
-        go : (i ≡ j) ⊎ (i ≢ j) → put_at (λ (u : Key). members m (named u)) j (Some (unwrap_or (members m k) (size g k.comm))) i ≡ Some z → z ≡ size g l.comm
+        go : (i ≡ j) ⊎ (i ≢ j) → put_key (λ (u : Key). members m u) j (Some (unwrap_or (members m k) (size g k.comm))) i ≡ Some z → z ≡ size g l.comm
         go (inl on) e =
-            let is : unwrap_or (members m k) (size g k.comm) ≡ z = same_Some (unwrap_or (members m k) (size g k.comm)) z (sym (at_key (λ (u : Key). members m (named u)) j (Some (unwrap_or (members m k) (size g k.comm))) i on) ∙ e) in
+            let is : unwrap_or (members m k) (size g k.comm) ≡ z = same_Some (unwrap_or (members m k) (size g k.comm)) z (sym (at_key (λ (u : Key). members m u) j (Some (unwrap_or (members m k) (size g k.comm))) i on) ∙ e) in
             sym is ∙ (known (members m k) refl ∙ ap (λ (u : Key). size g u.comm) (sym on))
-        go (inr off) e = c.sizes l z (sym (off_key (λ (u : Key). members m (named u)) j (Some (unwrap_or (members m k) (size g k.comm))) i off) ∙ e)
+        go (inr off) e = c.sizes l z (sym (off_key (λ (u : Key). members m u) j (Some (unwrap_or (members m k) (size g k.comm))) i off) ∙ e)

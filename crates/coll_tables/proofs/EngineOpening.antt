@@ -8,13 +8,13 @@ use Rattle.coll_arena.specs.Changes.{opened as arena_opened}
 use Rattle.coll_arena.specs.ListNames.{list_count}
 use Rattle.coll_arena.specs.Slots.{Slots, count, home, record_in}
 use Rattle.coll_arena.proofs.Opening.{list_of-opening}
-use Rattle.coll_queues.specs.Lists.{first_there}
+use Rattle.coll_machine.specs.Refusals.{first_there}
 use Rattle.coll_queues.specs.Postings.{size as size_in}
-use Rattle.coll_match.specs.declared.key.Key.{Key as MatchKey}
+use Rattle.coll_machine.specs.declared.key.Key.{Key}
 use Rattle.coll_tables.specs.Requests.{Live}
 use Rattle.coll_tables.specs.Tables.{Tables, asked, is_done}
 use Rattle.coll_tables.specs.Sound.{IsSound}
-use Rattle.coll_tables.specs.Shown.{named, seen, tables, weight_by}
+use Rattle.coll_tables.specs.Shown.{seen, tables, weight_by}
 use Rattle.coll_tables.specs.Laws.{opened}
 use Rattle.coll_tables.specs.EngineLaws.{OpenCore}
 use Rattle.coll_tables.proofs.Finished.{open_keeps}
@@ -34,11 +34,11 @@ open_core {R} shown g q m wear groups groups_is places_is posts_are members_are 
   record {
     set = record { slots_is = sym counted; wear_is = refl; comms_is = refl; groups_is = groups_is; places_is = places_is; groups = groups };
     sound = subst (λ (v : Tables). IsSound v) (sym is_opened) (open_keeps g (home a) wear (λ i low. list_of-opening g.slots (list_count (length g.groups)) i low));
-    sizes = λ k n e. absurd (none-some n (ap (λ (f : MatchKey → Option ℕ). f k) (sym members_are) ∙ e));
+    sizes = λ k n e. absurd (none-some n (ap (λ (f : Key → Option ℕ). f k) (sym members_are) ∙ e));
     weights = λ z i. (replicate_default g.slots i 0 ∙ ap (λ (o : Option Live). weight_by o) (sym (empty i))) z;
   },
   λ z. record {
-    state = record { generation = λ i. replicate_default g.slots i 0 z; request = λ i. asked (empty i z); posts = posts_are z; given = λ k. given_are z (named k) };
+    state = record { generation = λ i. replicate_default g.slots i 0 z; request = λ i. asked (empty i z); posts = posts_are z; given = λ k. given_are z k };
     done = λ i. is_done (home a i) (empty i z);
   },
 )
@@ -60,9 +60,9 @@ open_core {R} shown g q m wear groups groups_is places_is posts_are members_are 
       home = home a;
       posts = posts_are z;
       signed = λ comm place. (ap (λ (f : ℕ → ℕ → List Signature). signed_by (f comm) place comm) posts_are ∙ none_signed comm place) z;
-      given = λ k. given_are z (named k);
-      seats = λ k. seats_are z (named k);
-      mail = λ k. mail_are z (named k);
+      given = λ k. given_are z k;
+      seats = λ k. seats_are z k;
+      mail = λ k. mail_are z k;
     }
       where
         signed_by : (ℕ → List Signature) → ℕ → ℕ → Option Signature

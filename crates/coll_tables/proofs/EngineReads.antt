@@ -21,7 +21,8 @@ use Rattle.coll_arena.proofs.Lents.{lent_by-weight}
 use Rattle.coll_queues.specs.Postings.{place_of, posts}
 use Rattle.coll_match.specs.Instances.{given, mail}
 use Rattle.coll_machine.specs.Settings.{Setting, size}
-use Rattle.coll_machine.specs.States.{Key, Request}
+use Rattle.coll_machine.specs.declared.key.Key.{Key}
+use Rattle.coll_machine.specs.States.{Request}
 use Rattle.coll_machine.specs.Calls.{Planned, Post}
 use Rattle.coll_machine.specs.Refusals.{refusal}
 use Rattle.coll_machine.specs.Lents.{lent_by}
@@ -29,9 +30,10 @@ use Rattle.coll_machine.specs.Traces.{over_slots}
 use Rattle.coll_tables.specs.Requests.{Live, as_request, at, key, progress}
 use Rattle.coll_tables.specs.Tables.{Mail, Tables, asked, state, world}
 use Rattle.coll_tables.specs.Sound.{next, Doable, Stands, ready, running, idle, queued, done}
-use Rattle.coll_tables.specs.Shown.{named, seen, listed, tables, weight, weight_by, setting_of}
+use Rattle.coll_tables.specs.Shown.{seen, listed, tables, weight, weight_by, setting_of}
 use Rattle.coll_tables.specs.Cores.{IsCore}
-use Rattle.coll_tables.specs.EngineLaws.{ActingCore, AreOperands, LentCore, LockCore, NewCore, QuietCore, ReadyCore, SetCore}
+use Rattle.coll_tables.specs.EngineLaws.{ActingCore, AreOperands, LentCore, NewCore, QuietCore}
+use Rattle.coll_tables.proofs.EngineStatements.{ReadyCore}
 use Rattle.coll_tables.proofs.Accepting.{posted_passed}
 use Rattle.coll_tables.proofs.Basing.{not_given, serves_own, tracks_at}
 use Rattle.coll_tables.proofs.Holding.{has_given}
@@ -48,7 +50,7 @@ new_core {R} shown g a q m c = (of_post, of_start)
     v : Tables
     v = tables shown g a q m
 
-    of_start : (i : ℕ) (x : R) → record_in a i ≡ Some x → given m (named (at (shown x) (shown x).starts)) (shown x).member ≡ None
+    of_start : (i : ℕ) (x : R) → record_in a i ≡ Some x → given m (at (shown x) (shown x).starts) (shown x).member ≡ None
     of_start i x e = not_given v c.sound.paths c.sound.sound.base i (listed (home a i) (shown x)) (in_slot shown a i x e)
 
     of_post : (rank comm : ℕ) (plan : Planned) (bytes : List ℕ) → refusal g (state v) (Post rank comm plan bytes) ≡ None → given m (record { comm = comm; place = place_of q comm rank; start = 0 }) plan.member ≡ None
@@ -64,12 +66,6 @@ new_core {R} shown g a q m c = (of_post, of_start)
             let low : place_of q comm rank < length (posts q comm plan.member) = c.sound.sound.base.posted k plan.member (λ z. none-some bs (sym z ∙ f)) in
             absurd (omega (arith, place, low))
 
-pub set_core : {R : Type 0} → SetCore R
-set_core {R} shown ranks starts trace a b q r n c = (same, subst (λ (g : Setting). IsCore shown g b r n) same c)
-  where
-    same : setting_of ranks starts trace a q ≡ setting_of ranks starts trace b r
-    same = λ z. record { ranks = ranks; groups = c.set.groups_is z; slots = c.set.slots_is z; places = c.set.places_is z; wear = c.set.wear_is z; starts = starts; trace = trace }
-
 -- ---- active requests
 
 pub acting_core : {R : Type 0} → ActingCore R
@@ -83,7 +79,7 @@ acting_core {R} shown g a q m i x c e off = record {
   takes = λ of into bytes z there. held.takes p.member (progress p) of into bytes (way, subst (λ s. next s p ≡ Some (Recv of into)) sized z) there;
   operands = λ op ty left right into z.
       let both = held.operands p.member (progress p) op ty left right into (way, subst (λ s. next s p ≡ Some (Combine op ty left right into)) sized z) in
-      subst (λ s. AreOperands (family p.sig s) (given m (named (key p))) (shown x) left right) (sym sized) (record { left_is = both.0; right_is = both.1 });
+      subst (λ s. AreOperands (family p.sig s) (given m (key p)) (shown x) left right) (sym sized) (record { left_is = both.0; right_is = both.1 });
 }
   where
     v : Tables
@@ -131,8 +127,8 @@ ready_core {R} shown g a q m i x c e two = go (c.sound.sound.stands i p (in_slot
     sized : p.members ≡ size g p.comm
     sized = c.sound.sound.base.sized i p (in_slot shown a i x e)
 
-    go : Stands (size g p.comm) (mail m (named (key p))) (home a i) p → (act : Action) × (next (shown x).members (shown x) ≡ Some act) × Doable (mail m (named (key (shown x)))) (shown x) act
-    go (ready act t f nx d) = (act, subst (λ s. next s p ≡ Some act) (sym sized) nx, doable_listed (mail m (named (key p))) (home a i) (shown x) act d)
+    go : Stands (size g p.comm) (mail m (key p)) (home a i) p → (act : Action) × (next (shown x).members (shown x) ≡ Some act) × Doable (mail m (key (shown x))) (shown x) act
+    go (ready act t f nx d) = (act, subst (λ s. next s p ≡ Some act) (sym sized) nx, doable_listed (mail m (key p)) (home a i) (shown x) act d)
     go (running op ty y z into t f nx) = absurd (omega arith)
     go (queued of into t f nx none) = absurd (omega arith)
     go (done t f r) = absurd (omega arith)
@@ -182,6 +178,3 @@ lent_core {R} shown g a q m c s = ap (λ n. sum (map (slot_lends a) (range_with_
 
     each : (i : ℕ) → i < count a → slot_lends a i ≡ lent_by g (state v) ((state v).request i)
     each i low = lent_by-weight a s i low ∙ by i (record_in a i) refl
-
-pub lock_core : {R : Type 0} → LockCore R
-lock_core {R} shown g a q m c s = record { lock = lock_is_free (tables shown g a q m) c.sound; stands = StandsAtHome-sound a s; lends = lent_core shown g a q m c s }

@@ -15,11 +15,11 @@ use Rattle.coll_sched.specs.Worlds.{Progress}
 use Rattle.coll_plans.specs.Plans.{family}
 use Rattle.coll_arena.specs.Slots.{Slots, generation_of, home, record_in, weight_of}
 use Rattle.coll_queues.specs.Postings.{Postings, posts, signed}
-use Rattle.coll_match.specs.declared.key.Key.{Key as MatchKey}
+use Rattle.coll_machine.specs.declared.key.Key.{Key}
 use Rattle.coll_match.specs.Held.{put_mail}
-use Rattle.coll_match.specs.Instances.{mail, put_key}
+use Rattle.coll_machine.specs.Changes.{put_key}
+use Rattle.coll_match.specs.Instances.{mail}
 use Rattle.coll_machine.specs.Settings.{Setting, size}
-use Rattle.coll_machine.specs.States.{Key}
 use Rattle.coll_tables.specs.Requests.{Live, key, went}
 use Rattle.coll_tables.specs.Tables.{Mail, Tables, machine}
 use Rattle.coll_tables.specs.Sound.{next, Stands, Called, IsSound}
@@ -27,10 +27,11 @@ use Rattle.coll_tables.specs.Changes.{acting, rehoming}
 use Rattle.coll_tables.specs.Calls.{Acts, Wakes, delivered}
 use Rattle.coll_tables.specs.Machines.{MayFinish}
 use Rattle.coll_tables.specs.Remaining.{actions_left}
-use Rattle.coll_tables.specs.Shown.{Instances, named, seen, listed, tables, weight, weight_by}
+use Rattle.coll_tables.specs.Shown.{Instances, seen, listed, tables, weight, weight_by}
 use Rattle.coll_tables.specs.Cores.{IsCore}
 use Rattle.coll_tables.specs.Engines.{GoesOn, IsCalled, KeepsGifts, Wakens}
-use Rattle.coll_tables.specs.EngineLaws.{ActsOnce, SendCore}
+use Rattle.coll_tables.specs.EngineLaws.{ActsOnce}
+use Rattle.coll_tables.proofs.EngineStatements.{SendCore}
 use Rattle.coll_tables.proofs.Holding.{put_self}
 use Rattle.coll_tables.proofs.Actions.{going, not_both, send_keeps}
 use Rattle.coll_tables.proofs.Remainders.{acts_lower}
@@ -39,7 +40,7 @@ use Rattle.coll_tables.proofs.EngineActions.{going_on, queue_called, shown_here,
 
 -- ---- nobody is called
 
-module _ {R : Type 0} (shown : R → Live) (g : Setting) (a c : Slots R) (q : Postings) (m n : Instances) (t : Ticket) (x y : R) (to : ℕ) (from : Region) (o : Progress) (list : ℕ) (k : MatchKey)
+module _ {R : Type 0} (shown : R → Live) (g : Setting) (a c : Slots R) (q : Postings) (m n : Instances) (t : Ticket) (x y : R) (to : ℕ) (from : Region) (o : Progress) (list : ℕ) (k : Key)
     (h : GoesOn shown a c n t x y (Send to from) o list) (none : (j : ℕ) (r : R) → IsCalled shown a n k to j r → ⊥) where
   -- nor is anybody when the sender has gone on
   still_none : (j : ℕ) (r : R) → IsCalled shown c n k to j r → ⊥
@@ -49,7 +50,7 @@ module _ {R : Type 0} (shown : R → Live) (g : Setting) (a c : Slots R) (q : Po
       awake = ap (λ (z : Live). z.active) h.is ∙ h.active
 
       lies_as : listed list (shown y) ≡ shown y
-      lies_as = listed_stands (shown x).members list (mail n (named (key (shown x)))) (shown y) h.stands awake
+      lies_as = listed_stands (shown x).members list (mail n (key (shown x))) (shown y) h.stands awake
 
       sits : home c t.slot ≡ list
       sits = home_here a c t.slot t.generation (weight_of a t.slot) list (Some y) h.puts
@@ -58,24 +59,24 @@ module _ {R : Type 0} (shown : R → Live) (g : Setting) (a c : Slots R) (q : Po
       go (inl e) =
           let same : r ≡ y = same_Some r y (sym w.here ∙ (ap (record_in c) e ∙ record_here a c t.slot t.generation (weight_of a t.slot) list (Some y) h.puts)) in
           let lay : home c j ≡ list = ap (home c) e ∙ sits in
-          let called : Called (shown y).members (mail n (named (key (shown y)))) list (listed list (shown y)) = subst (λ (z : R). Called (shown z).members (mail n (named (key (shown z)))) list (listed list (shown z))) same
-          (subst (λ l. Called (shown r).members (mail n (named (key (shown r)))) l (listed l (shown r))) lay w.called) in
-          let there : Called (shown x).members (mail n (named (key (shown x)))) list (shown y) = subst (λ (z : Live). Called z.members (mail n (named (key z))) list (shown y)) h.is
-          (subst (λ (z : Live). Called (shown y).members (mail n (named (key (shown y)))) list z) lies_as called) in
-          not_both (shown x).members list (mail n (named (key (shown x)))) (shown y) h.stands there
+          let called : Called (shown y).members (mail n (key (shown y))) list (listed list (shown y)) = subst (λ (z : R). Called (shown z).members (mail n (key (shown z))) list (listed list (shown z))) same
+          (subst (λ l. Called (shown r).members (mail n (key (shown r))) l (listed l (shown r))) lay w.called) in
+          let there : Called (shown x).members (mail n (key (shown x))) list (shown y) = subst (λ (z : Live). Called z.members (mail n (key z)) list (shown y)) h.is
+          (subst (λ (z : Live). Called (shown y).members (mail n (key (shown y))) list z) lies_as called) in
+          not_both (shown x).members list (mail n (key (shown x))) (shown y) h.stands there
       go (inr d) =
           let lay : home c j ≡ home a j = home_away a c t.slot t.generation (weight_of a t.slot) list (Some y) h.puts j d in
           none j r (record {
             seat = w.seat;
             here = sym (ap (λ (f : ℕ → Option R). f j) h.puts.records ∙ put_other (record_in a) t.slot (Some y) j d) ∙ w.here;
-            called = subst (λ l. Called (shown r).members (mail n (named (key (shown r)))) l (listed l (shown r))) lay w.called;
+            called = subst (λ l. Called (shown r).members (mail n (key (shown r))) l (listed l (shown r))) lay w.called;
           })
 
 -- ---- one request is woken
 
 module _ {R : Type 0} (shown : R → Live) (g : Setting) (a b c : Slots R) (q : Postings) (m n : Instances) (t u : Ticket) (x y r : R) (to : ℕ) (from : Region) (o : Progress) (list : ℕ)
-    (s : IsCore shown g a q m) (w : Wakens shown a b n (named (key (shown x))) to u r) (h : GoesOn shown b c n t x y (Send to from) o list) (k : KeepsGifts m n)
-    (mails : mail n ≡ put_key (mail m) (named (key (shown x))) (put_mail (mail m (named (key (shown x)))) (shown x).member to (shown x).round (Some (read_of (shown x).buf from))))
+    (s : IsCore shown g a q m) (w : Wakens shown a b n (key (shown x)) to u r) (h : GoesOn shown b c n t x y (Send to from) o list) (k : KeepsGifts m n)
+    (mails : mail n ≡ put_key (mail m) (key (shown x)) (put_mail (mail m (key (shown x))) (shown x).member to (shown x).round (Some (read_of (shown x).buf from))))
     (buf : o.buf ≡ (shown x).buf) where
   abbrev v : Tables
   v = tables shown g a q m
@@ -86,12 +87,12 @@ module _ {R : Type 0} (shown : R → Live) (g : Setting) (a b c : Slots R) (q : 
   abbrev letters : Key → Mail
   letters = delivered v p to from
 
-  mails_are : (λ (l : Key). mail n (named l)) ≡ letters
-  mails_are = λ z l. mails z (named l)
+  mails_are : (λ (l : Key). mail n l) ≡ letters
+  mails_are = λ z l. mails z l
 
   -- the woken request as it lay
   awake : (shown r).active ≡ true
-  awake = going (shown r).members 2 (mail n (named (key (shown r)))) (shown r) (inl refl) w.ready
+  awake = going (shown r).members 2 (mail n (key (shown r))) (shown r) (inl refl) w.ready
 
   waited : v.request u.slot ≡ Some (shown r)
   waited = shown_here shown a u.slot r w.found.here awake (subst (λ l. l ≢ 4 + 3 * (shown r).comm) (sym w.waits) (λ z. omega arith))
@@ -99,11 +100,11 @@ module _ {R : Type 0} (shown : R → Live) (g : Setting) (a b c : Slots R) (q : 
   fits : (shown r).members ≡ size g (shown r).comm
   fits = s.sound.sound.base.sized u.slot (shown r) waited
 
-  stood : Stands (shown r).members (mail m (named (key (shown r)))) (home a u.slot) (shown r)
-  stood = subst (λ z. Stands z (mail m (named (key (shown r)))) (home a u.slot) (shown r)) (sym fits) (s.sound.sound.stands u.slot (shown r) waited)
+  stood : Stands (shown r).members (mail m (key (shown r))) (home a u.slot) (shown r)
+  stood = subst (λ z. Stands z (mail m (key (shown r))) (home a u.slot) (shown r)) (sym fits) (s.sound.sound.stands u.slot (shown r) waited)
 
-  called : Called (shown r).members (mail n (named (key (shown r)))) (home a u.slot) (shown r)
-  called = queue_called (shown r).members (home a u.slot) (mail m (named (key (shown r)))) (mail n (named (key (shown r)))) (shown r) w.waits stood w.ready
+  called : Called (shown r).members (mail n (key (shown r))) (home a u.slot) (shown r)
+  called = queue_called (shown r).members (home a u.slot) (mail m (key (shown r))) (mail n (key (shown r))) (shown r) w.waits stood w.ready
 
   -- it isn't the sender
   apart : t.slot ≢ u.slot
@@ -144,8 +145,8 @@ module _ {R : Type 0} (shown : R → Live) (g : Setting) (a b c : Slots R) (q : 
   mine : Stands (size g p.comm) (letters (key p)) (homes t.slot) (went p o)
   mine = subst (λ z. Stands z (letters (key p)) (homes t.slot) (went p o)) sized
       (subst (λ (f : Key → Mail). Stands p.members (f (key p)) (homes t.slot) (went p o)) mails_are
-      (subst (λ l. Stands p.members (mail n (named (key p))) l (went p o)) (sym (put_same (home a) t.slot list))
-      (subst (λ (z : Live). Stands p.members (mail n (named (key p))) list z) h.is h.stands)))
+      (subst (λ l. Stands p.members (mail n (key p)) l (went p o)) (sym (put_same (home a) t.slot list))
+      (subst (λ (z : Live). Stands p.members (mail n (key p)) list z) h.is h.stands)))
 
   abbrev after : Tables
   after = acting v t.slot p o letters homes
@@ -156,18 +157,18 @@ module _ {R : Type 0} (shown : R → Live) (g : Setting) (a b c : Slots R) (q : 
   wakes : Wakes after (key p) to u.slot
   wakes = record {
     req = shown r;
-    seat = sym (ap (λ (f : MatchKey → ℕ → Option ℕ). f (named (key p)) to) k.seats) ∙ w.seat;
+    seat = sym (ap (λ (f : Key → ℕ → Option ℕ). f (key p) to) k.seats) ∙ w.seat;
     is = put_other v.request t.slot (Some (went p o)) u.slot other ∙ waited;
     called = subst (λ (f : Key → Mail). Called (size g (shown r).comm) (f (key (shown r))) (homes u.slot) (shown r)) mails_are
-        (subst (λ z. Called z (mail n (named (key (shown r)))) (homes u.slot) (shown r)) fits
-        (subst (λ l. Called (shown r).members (mail n (named (key (shown r)))) l (shown r)) (sym (put_other (home a) t.slot list u.slot other)) called));
+        (subst (λ z. Called z (mail n (key (shown r))) (homes u.slot) (shown r)) fits
+        (subst (λ l. Called (shown r).members (mail n (key (shown r))) l (shown r)) (sym (put_other (home a) t.slot list u.slot other)) called));
   }
 
   lies_ready : listed 2 (shown r) ≡ shown r
-  lies_ready = listed_stands (shown r).members 2 (mail n (named (key (shown r)))) (shown r) w.ready awake
+  lies_ready = listed_stands (shown r).members 2 (mail n (key (shown r))) (shown r) w.ready awake
 
   lies_on : listed list (shown y) ≡ went p o
-  lies_on = listed_stands p.members list (mail n (named (key p))) (shown y) h.stands (ap (λ (z : Live). z.active) h.is ∙ h.active) ∙ h.is
+  lies_on = listed_stands p.members list (mail n (key p)) (shown y) h.stands (ap (λ (z : Live). z.active) h.is ∙ h.active) ∙ h.is
 
   same_requests : ◌≡◌ {A = ℕ → Option Live} (λ j. seen (home b j) (option_map shown (record_in b j))) (λ j. seen (home a j) (option_map shown (record_in a j)))
   same_requests = shown_same shown g a b u.slot u.generation (weight_of a u.slot) 2 (Some r) w.puts (waited ∙ ap Some (sym lies_ready))
@@ -180,8 +181,8 @@ module _ {R : Type 0} (shown : R → Live) (g : Setting) (a b c : Slots R) (q : 
     home = home c;
     posts = posts q;
     signed = signed q;
-    given = λ l. k.given z (named l);
-    seats = λ l. k.seats z (named l);
+    given = λ l. k.given z l;
+    seats = λ l. k.seats z l;
     mail = mails_are z;
   }
 
@@ -211,7 +212,7 @@ module _ {R : Type 0} (shown : R → Live) (g : Setting) (a b c : Slots R) (q : 
         core = record {
           set = set_of shown g b c t.slot t.generation (weight_of b t.slot) list (Some y) h.puts q q (set_of shown g a b u.slot u.generation (weight_of a u.slot) 2 (Some r) w.puts q q s.set refl refl) refl refl;
           sound = subst (λ (z : Tables). IsSound z) (sym is_later) both.0;
-          sizes = λ l z e. s.sizes l z (ap (λ (f : MatchKey → Option ℕ). f l) (sym k.members) ∙ e);
+          sizes = λ l z e. s.sizes l z (ap (λ (f : Key → Option ℕ). f l) (sym k.members) ∙ e);
           weights = weights_of shown g b c t.slot t.generation (weight_of b t.slot) list (Some y) h.puts heavy_between heavy_on;
         };
         steps = subst (λ (z : Tables). MayFinish g (machine v) (machine z)) (sym is_later) both.1;
@@ -221,5 +222,5 @@ module _ {R : Type 0} (shown : R → Live) (g : Setting) (a b c : Slots R) (q : 
 pub send_core : {R : Type 0} → SendCore R
 send_core {R} shown g a b c q m n t x y to from o list s (inl none) h k mails buf =
     let goes : GoesOn shown a c n t x y (Send to from) o list = subst (λ (z : Slots R). GoesOn shown z c n t x y (Send to from) o list) none.1 h in
-    unwoken shown g a c q m n t x y to from o list s goes k mails buf (still_none shown g a c q m n t x y to from o list (named (key (shown x))) goes none.0)
+    unwoken shown g a c q m n t x y to from o list s goes k mails buf (still_none shown g a c q m n t x y to from o list (key (shown x)) goes none.0)
 send_core {R} shown g a b c q m n t x y to from o list s (inr w) h k mails buf = woken_first shown g a b c q m n t w.0 x y w.1 to from o list s w.2 h k mails buf

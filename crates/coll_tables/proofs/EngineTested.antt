@@ -19,7 +19,7 @@ use Rattle.coll_tables.specs.Requests.{Live}
 use Rattle.coll_tables.specs.Tables.{Tables, state}
 use Rattle.coll_tables.specs.Shown.{Instances, listed, tables}
 use Rattle.coll_tables.specs.Cores.{IsCore}
-use Rattle.coll_tables.specs.EngineTests.{EntryCore, MayEnter, StartedCore, entry_refusals, full_refusal}
+use Rattle.coll_tables.specs.EngineTests.{EntryCore, MayEnter, entry_refusals, full_refusal}
 use Rattle.coll_tables.proofs.Accepting.{Passed, Startable, inited_passed, posted_passed, start_passed}
 use Rattle.coll_tables.proofs.EngineCalls.{few, found_here, number_is, ticket_is}
 use Rattle.coll_tables.proofs.EngineTests.{init_refused, post_refused}
@@ -54,21 +54,3 @@ entry_core {R} shown g a q m rank comm plan c s = (of_post, of_init)
     of_init e =
         let h = all_none (entry_refusals q rank comm Persistent plan ++ full_refusal a ∷ []) (sym (init_refused shown g a q m rank comm plan c s) ∙ e) in
         may_enter shown g a q m rank comm plan c Persistent (inited_passed v comm rank plan e) h.0 h.1.1.1.1.0 h.1.1.1.1.1.0
-
-pub started_core : {R : Type 0} → StartedCore R
-started_core {R} shown g a q m t x rank bytes c f e =
-    let v : Tables = tables shown g a q m in
-    let p : Live = listed (home a t.slot) (shown x) in
-    let here : v.request t.slot ≡ Some p = found_here shown g a q m t x f in
-    let s : Startable v p rank bytes = start_passed v c.sound.paths c.sound.sound.base t.slot p here rank bytes (ap (λ (u : Ticket). refusal g (state v) (Start rank u bytes)) (ticket_is shown g a q m t x f) ∙ e) in
-    record {
-      rank_is = s.rank_is;
-      mode_is = s.mode_is;
-      on_idle = eqb-true (home a t.slot) (4 + 3 * p.comm) (back (home a t.slot == 4 + 3 * p.comm) s.inactive);
-      long = s.long ∙ ap (λ n. given_len p.sig n p.member) (sym (c.sound.sound.base.sized t.slot p here));
-      more = s.more;
-    }
-  where
-    back : (b : Bool) → not b ≡ false → b ≡ true
-    back true e = refl
-    back false e = sym e

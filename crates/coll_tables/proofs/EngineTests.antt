@@ -21,19 +21,17 @@ use Rattle.coll_arena.specs.Slots.{Slots, count, generation_of, home, names, rec
 use Rattle.coll_arena.specs.Sound as arena
 use Rattle.coll_arena.proofs.Homes.{StandsAtHome-sound}
 use Rattle.coll_arena.proofs.Sounds.{Named-names, free_first, names_all}
-use Rattle.coll_queues.specs.Lists.{first_or, first_there as first_posted}
-use Rattle.coll_queues.specs.Postings.{Postings, group as group_in, groups_of, number_of as number_in, place_of, posts, size as size_in}
-use Rattle.coll_queues.specs.Refusing.{first_of as first_told, mismatch as mismatch_in, mismatch_with}
-use Rattle.coll_machine.specs.Settings.{Setting, size}
+use Rattle.coll_queues.specs.Postings.{Postings, groups_of, number_of as number_in, place_of, posts, size as size_in}
+use Rattle.coll_machine.specs.Settings.{Setting, group_in, size}
 use Rattle.coll_machine.specs.States.{Request, State, found, signature_of}
 use Rattle.coll_machine.specs.Calls.{Planned, Post, Init}
-use Rattle.coll_machine.specs.Refusals.{first_of, first_there, full, mismatch, naming_refusals, idle_refusals, refusal, start_refusals, unless, wrong_length}
+use Rattle.coll_machine.specs.Refusals.{first_of, full, mismatch_in, naming_refusals, idle_refusals, refusal, start_refusals, unless, wrong_length}
 use Rattle.coll_machine.proofs.Accepted.{fits}
 use Rattle.coll_tables.specs.Requests.{Live, as_request}
 use Rattle.coll_tables.specs.Tables.{Tables, asked, state}
 use Rattle.coll_tables.specs.Shown.{Instances, listed, seen, tables}
 use Rattle.coll_tables.specs.Cores.{IsCore}
-use Rattle.coll_tables.specs.EngineTests.{FoundCore, InitRefused, NamedRefused, PostRefused, StaleRefused, full_refusal, rank_refusal}
+use Rattle.coll_tables.specs.EngineTests.{InitRefused, PostRefused, full_refusal}
 use Rattle.coll_tables.proofs.EngineCalls.{none_of}
 
 -- ---- full
@@ -107,28 +105,13 @@ module _ {R : Type 0} (shown : R → Live) (g : Setting) (a : Slots R) (q : Post
 
 -- ---- posting lists
 
-first_same : (lists : ℕ → List Signature) (place from n : ℕ) → first_there lists place from n ≡ first_posted lists place from n
-first_same lists place from zero = refl
-first_same lists place from (suc n) = go (slice_get (lists from) place) (first_same lists place (from + 1) n)
-  where
-    go : (o : Option Signature) → first_there lists place (from + 1) n ≡ first_posted lists place (from + 1) n → option_or (option_map (λ sig. (from, sig)) o) (first_there lists place (from + 1) n) ≡ first_or from o (first_posted lists place (from + 1) n)
-    go None e = e
-    go (Some x) e = refl
-
 -- the setting by its posting lists
 abbrev by_lists : Setting → Postings → Setting
 by_lists g q = record { ranks = g.ranks; groups = groups_of q; slots = g.slots; places = q.places; wear = g.wear; starts = g.starts; trace = g.trace }
 
-mismatch_same : (g : Setting) (s : State) (q : Postings) (comm place : ℕ) (sig : Signature) → s.posts ≡ posts q → mismatch (by_lists g q) s comm place sig ≡ mismatch_in q comm place sig
-mismatch_same g s q comm place sig e = ap (λ (o : Option (ℕ × Signature)). option_and_then (λ first. unless (same_signature first.1 sig) (mismatch_at place (slice_index (group_in q comm) first.0) first.1)) o) (ap (λ (f : ℕ → ℕ → List Signature). first_there (f comm) place 0 (size_in q comm)) e ∙ first_same (posts q comm) place 0 (size_in q comm)) ∙ go (first_posted (posts q comm) place 0 (size_in q comm))
-  where
-    go : (o : Option (ℕ × Signature)) → option_and_then (λ first. unless (same_signature first.1 sig) (mismatch_at place (slice_index (group_in q comm) first.0) first.1)) o ≡ mismatch_with (group_in q comm) place sig o
-    go None = refl
-    go (Some x) = refl
-
 -- nine conditions, of which the posting lists tell some again
 in_turn : (a b c d e f h i j k : Option Refusal) → (e ≡ None → h ≡ i)
-    → first_of (a ∷ b ∷ c ∷ d ∷ e ∷ f ∷ j ∷ h ∷ k ∷ []) ≡ first_of (first_told (a ∷ b ∷ []) ∷ c ∷ d ∷ e ∷ first_told (a ∷ b ∷ c ∷ f ∷ j ∷ []) ∷ i ∷ k ∷ [])
+    → first_of (a ∷ b ∷ c ∷ d ∷ e ∷ f ∷ j ∷ h ∷ k ∷ []) ≡ first_of (first_of (a ∷ b ∷ []) ∷ c ∷ d ∷ e ∷ first_of (a ∷ b ∷ c ∷ f ∷ j ∷ []) ∷ i ∷ k ∷ [])
 in_turn (Some x) b c d e f h i j k z = refl
 in_turn None (Some x) c d e f h i j k z = refl
 in_turn None None (Some x) d e f h i j k z = refl
@@ -139,7 +122,7 @@ in_turn None None None None None None h i (Some x) k z = refl
 in_turn None None None None None None h i None k z = ap (λ (o : Option Refusal). option_or o (first_of (k ∷ []))) (z refl)
 
 in_turn_short : (a b c d e f j k : Option Refusal)
-    → first_of (a ∷ b ∷ c ∷ d ∷ e ∷ f ∷ j ∷ k ∷ []) ≡ first_of (first_told (a ∷ b ∷ []) ∷ c ∷ d ∷ e ∷ first_told (a ∷ b ∷ c ∷ f ∷ j ∷ []) ∷ k ∷ [])
+    → first_of (a ∷ b ∷ c ∷ d ∷ e ∷ f ∷ j ∷ k ∷ []) ≡ first_of (first_of (a ∷ b ∷ []) ∷ c ∷ d ∷ e ∷ first_of (a ∷ b ∷ c ∷ f ∷ j ∷ []) ∷ k ∷ [])
 in_turn_short (Some x) b c d e f j k = refl
 in_turn_short None (Some x) c d e f j k = refl
 in_turn_short None None (Some x) d e f j k = refl
@@ -159,7 +142,7 @@ module _ (q : Postings) (rank comm : ℕ) (mode : Mode) (plan : Planned) where
   no_comm = unless (nat_lt comm (length (groups_of q))) (BadComm comm)
 
   abbrev no_member : Option Refusal
-  no_member = unless (is_some (member_of rank (group_in q comm))) (NotMember rank)
+  no_member = unless (is_some (member_of rank (group_in (groups_of q) comm))) (NotMember rank)
 
   abbrev is_broken : Option Refusal
   is_broken = option_map BadSignature (broken plan.sig (size_in q comm))
@@ -171,7 +154,7 @@ module _ (q : Postings) (rank comm : ℕ) (mode : Mode) (plan : Planned) where
   other_group = unless ((plan.n == size_in q comm) && (plan.member == number_in q comm rank)) (BadSignature WrongGroup)
 
   abbrev differs : Option Refusal
-  differs = mismatch_in q comm (place_of q comm rank) plan.sig
+  differs = mismatch_in (group_in (groups_of q) comm) (posts q comm) (place_of q comm rank) plan.sig
 
   abbrev used : Option Refusal
   used = unless (nat_lt (place_of q comm rank) q.places) PlacesUsed
@@ -180,7 +163,7 @@ pub post_refused : {R : Type 0} → PostRefused R
 post_refused {R} shown g a q m rank comm plan bytes c s =
     ap (λ (u : Setting). refusal u (state v) (Post rank comm plan bytes)) (setting_is shown g a q m c)
     ∙ ((λ z. first_of (no_comm q rank comm Once plan ∷ no_member q rank comm Once plan ∷ is_broken q rank comm Once plan ∷ other_mode q rank comm Once plan ∷ other_group q rank comm Once plan
-    ∷ mismatch_same g (state v) q comm (place_of q comm rank) plan.sig refl z ∷ used q rank comm Once plan ∷ wrong_length plan.sig (size_in q comm) (number_in q comm rank) bytes ∷ room z ∷ []))
+    ∷ differs q rank comm Once plan ∷ used q rank comm Once plan ∷ wrong_length plan.sig (size_in q comm) (number_in q comm rank) bytes ∷ room z ∷ []))
     ∙ in_turn (no_comm q rank comm Once plan) (no_member q rank comm Once plan) (is_broken q rank comm Once plan) (other_mode q rank comm Once plan) (other_group q rank comm Once plan) (differs q rank comm Once plan)
     (wrong_length plan.sig (size_in q comm) (number_in q comm rank) bytes) (wrong_length plan.sig plan.n plan.member bytes) (used q rank comm Once plan) (full_refusal a) same_length)
   where
@@ -201,7 +184,7 @@ pub init_refused : {R : Type 0} → InitRefused R
 init_refused {R} shown g a q m rank comm plan c s =
     ap (λ (u : Setting). refusal u (state v) (Init rank comm plan)) (setting_is shown g a q m c)
     ∙ ((λ z. first_of (no_comm q rank comm Persistent plan ∷ no_member q rank comm Persistent plan ∷ is_broken q rank comm Persistent plan ∷ other_mode q rank comm Persistent plan ∷ other_group q rank comm Persistent plan
-    ∷ mismatch_same g (state v) q comm (place_of q comm rank) plan.sig refl z ∷ used q rank comm Persistent plan ∷ room z ∷ []))
+    ∷ differs q rank comm Persistent plan ∷ used q rank comm Persistent plan ∷ room z ∷ []))
     ∙ in_turn_short (no_comm q rank comm Persistent plan) (no_member q rank comm Persistent plan) (is_broken q rank comm Persistent plan) (other_mode q rank comm Persistent plan) (other_group q rank comm Persistent plan)
     (differs q rank comm Persistent plan) (used q rank comm Persistent plan) (full_refusal a))
   where
@@ -210,81 +193,3 @@ init_refused {R} shown g a q m rank comm plan c s =
 
     room : full (by_lists g q) (state v) ≡ full_refusal a
     room = full_is shown g a q m c s
-
--- ---- a call that names a request
-
-out_of_range : {X : Type 0} (xs : List (Option X)) (i : ℕ) → length xs ≤ i → get_or xs i None ≡ None
-out_of_range xs i h = get_or-eq_default xs None h
-
-pub found_core : {R : Type 0} → FoundCore R
-found_core {R} shown g a q m t s = go (names a t) refl
-  where
-    v : Tables
-    v = tables shown g a q m
-
-    o : Option Request
-    o = asked (seen (home a t.slot) (option_map shown (record_in a t.slot)))
-
-    none : record_in a t.slot ≡ None → o ≡ None
-    none e = λ z. asked (seen (home a t.slot) (option_map shown (e z)))
-
-    both_none : o ≡ None → cond (eqb (generation_of a t.slot) t.generation) o None ≡ None
-    both_none e = by (eqb (generation_of a t.slot) t.generation)
-      where
-        by : (b : Bool) → cond b o None ≡ None
-        by true = e
-        by false = refl
-
-    unnamed : (t.slot < count a) ⊎ (count a ≤ t.slot) → (1 < home a t.slot) ⊎ (home a t.slot ≤ 1) → (generation_of a t.slot ≡ t.generation) ⊎ (generation_of a t.slot ≡ t.generation → ⊥) → names a t ≡ false → cond (eqb (generation_of a t.slot) t.generation) o None ≡ None
-    unnamed low high (inr d) n = ap (λ b. cond b o None) (ne_eqb (generation_of a t.slot) t.generation d)
-    unnamed (inl low) (inl high) (inl e) n = absurd (false≢true (sym n ∙ names_all a t low high e))
-    unnamed (inl low) (inr under) (inl e) n = both_none (none (none_of (record_in a t.slot) ((s.slots t.slot low).recorded ∙ le-ltb 1 (home a t.slot) under)))
-    unnamed (inr past) h (inl e) n = both_none (none (out_of_range a.records t.slot (subst (λ k. k ≤ t.slot) (sym s.records_len) past)))
-
-    go : (b : Bool) → names a t ≡ b → found (state v) t ≡ cond (names a t) o None
-    go true e = cond-true (eqb (generation_of a t.slot) t.generation) o None (eq-eqb (generation_of a t.slot) t.generation (Named-names a t e).generation) ∙ sym (cond-true (names a t) o None e)
-    go false e = unnamed (cases_lt t.slot (count a)) (cases_lt 1 (home a t.slot)) (cases_eq (generation_of a t.slot) t.generation) e ∙ sym (cond-false (names a t) o None e)
-
-pub stale_refused : {R : Type 0} → StaleRefused R
-stale_refused {R} shown g a q m rank t bytes s e = (
-  ap (λ (o : Option Request). first_of (naming_refusals o rank)) none,
-  ap (λ (o : Option Request). first_of (naming_refusals o rank ++ idle_refusals o)) none,
-  ap (λ (o : Option Request). first_of (naming_refusals o rank ++ idle_refusals o ++ start_refusals g (state (tables shown g a q m)) bytes o)) none,
-)
-  where
-    none : found (state (tables shown g a q m)) t ≡ None
-    none = found_core shown g a q m t s ∙ cond-false (names a t) (asked (seen (home a t.slot) (option_map shown (record_in a t.slot)))) None e
-
-twice_not : (b : Bool) → not (not b) ≡ b
-twice_not true = refl
-twice_not false = refl
-
-last_one : (o : Option Refusal) → option_or o None ≡ o
-last_one None = refl
-last_one (Some x) = refl
-
-pub named_refused : {R : Type 0} → NamedRefused R
-named_refused {R} shown g a q m rank t bytes x c s e here = (
-  ap (λ (o : Option Request). first_of (naming_refusals o rank)) is ∙ last_one (rank_refusal (shown x) rank),
-  ap (λ (o : Option Request). first_of (naming_refusals o rank ++ idle_refusals o)) is ∙ (λ z. first_of (rank_refusal (shown x) rank ∷ unless (mode_number p.sig.mode == mode_number Persistent) NotPersistent ∷ unless (on_idle z) Active ∷ [])),
-  ap (λ (o : Option Request). first_of (naming_refusals o rank ++ idle_refusals o ++ start_refusals g (state v) bytes o)) is
-      ∙ (λ z. first_of (rank_refusal (shown x) rank ∷ unless (mode_number p.sig.mode == mode_number Persistent) NotPersistent ∷ unless (on_idle z) Active ∷ length_is z ∷ unless (nat_lt p.starts g.starts) StartsUsed ∷ [])),
-)
-  where
-    v : Tables
-    v = tables shown g a q m
-
-    p : Live
-    p = listed (home a t.slot) (shown x)
-
-    at : v.request t.slot ≡ Some p
-    at = ap (λ (o : Option R). seen (home a t.slot) (option_map shown o)) here
-
-    is : found (state v) t ≡ Some (as_request p)
-    is = found_core shown g a q m t s ∙ (cond-true (names a t) (asked (v.request t.slot)) None e ∙ ap asked at)
-
-    on_idle : not p.active ≡ (home a t.slot == 4 + 3 * p.comm)
-    on_idle = twice_not (home a t.slot == 4 + 3 * p.comm)
-
-    length_is : option_and_then (λ sig. wrong_length sig (size g p.comm) p.member bytes) (signature_of (state v) (as_request p)) ≡ wrong_length p.sig p.members p.member bytes
-    length_is = ap (λ (o : Option Signature). option_and_then (λ sig. wrong_length sig (size g p.comm) p.member bytes) o) (c.sound.sound.base.own t.slot p at) ∙ ap (λ n. wrong_length p.sig n p.member bytes) (sym (c.sound.sound.base.sized t.slot p at))

@@ -13,7 +13,8 @@ use Rattle.coll_kinds.proofs.Puts.{put_same, put_other}
 use Rattle.coll_sched.proofs.Track.{heard_self}
 use Rattle.coll_sched.proofs.Serving.{value_held}
 use Rattle.coll_machine.specs.Settings.{size}
-use Rattle.coll_machine.specs.States.{Key, Request}
+use Rattle.coll_machine.specs.declared.key.Key.{Key}
+use Rattle.coll_machine.specs.States.{Request}
 use Rattle.coll_machine.specs.Steps.{Works, IsOver}
 use Rattle.coll_plans.specs.Plans.{family}
 use Rattle.coll_tables.specs.Requests.{Live, before, key, progress, as_request}

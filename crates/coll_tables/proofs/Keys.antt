@@ -1,12 +1,11 @@
 -- Functions of keys.
 use Rattle.std.proofs.Common.{◌≡◌, ℕ, ◌≢◌, ◌⊎◌, inl, inr, refl, sym, ap, ◌∙◌}
 use Rattle.std.proofs.lemmas.Bool.{cases_eq}
-use Rattle.coll_machine.specs.States.{Key}
+use Rattle.coll_machine.specs.declared.key.Key.{Key}
 use Rattle.coll_kinds.specs.Puts.{put}
-use Rattle.coll_machine.specs.Changes.{put_key}
+use Rattle.coll_machine.specs.Changes.{put_key, put_in}
 use Rattle.coll_kinds.proofs.Puts.{put_at, put_other}
 use Rattle.coll_machine.proofs.Puts.{put_key_cases}
-use Rattle.coll_tables.specs.Changes.{put_in}
 
 pub split_key : (a b : Key) → (a ≡ b) ⊎ (a ≢ b)
 split_key a b = go (put_key_cases {X = ℕ} (λ (k : Key). 0) b 0 a)

@@ -8,6 +8,7 @@ pub mod EngineEnds
 pub mod EngineOpening
 pub mod EngineReads
 pub mod EngineSends
+pub mod EngineStatements
 pub mod EngineTested
 pub mod EngineTests
 pub mod Finished
@@ -21,5 +22,6 @@ pub mod Slots
 pub mod Sounds
 pub mod Standing
 pub mod StartRows
+pub mod Statements
 pub mod Stepping
 pub mod Whole

@@ -16,7 +16,7 @@ use Rattle.coll_tables.specs.Requests.{Live, key, went}
 use Rattle.coll_tables.specs.Tables.{Tables}
 use Rattle.coll_tables.specs.Sound.{Stands, ready, running, idle, queued, done, IsSound}
 use Rattle.coll_tables.specs.Remaining.{left_of, left_by, actions_left}
-use Rattle.coll_tables.specs.Laws.{ActsLower, NothingLeft, LittleLeft}
+use Rattle.coll_tables.proofs.Statements.{ActsLower, LittleLeft}
 use Rattle.coll_tables.proofs.Actions.{going}
 use Rattle.coll_tables.proofs.Basing.{signed_own}
 
@@ -74,28 +74,6 @@ acts_lower v i q a o mail home s h =
     let is : left_of (went q o) ≡ remaining (f q.member) o.round o.index = cond-true q.active (remaining (f q.member) o.round o.index) 0 t in
     let sum : actions_left (record { setting = v.setting; generation = v.generation; request = put v.request i (Some (went q o)); home = home; posts = v.posts; signed = v.signed; given = v.given; seats = v.seats; mail = mail }) + left_by (v.request i) ≡ actions_left v + left_of (went q o) = sum_to-put left_by v.request i (Some (went q o)) v.setting.slots (s.sound.numbered i q h.here).0 in
     omega arith
-
-pub nothing_left : NothingLeft
-nothing_left v i q s here at = by at (s.sound.stands i q here)
-  where
-    n : ℕ
-    n = size v.setting q.comm
-
-    over : q.active ≡ true → q.round ≡ length (family q.sig n q.member).rounds → left_of q ≡ 0
-    over t r =
-        let mine : Parts = family q.sig q.members q.member in
-        let all : q.round ≡ length mine.rounds = r ∙ ap (λ m. length (family q.sig m q.member).rounds) (sym (s.sound.base.sized i q here)) in
-        left_active v s i q here t ∙ (ends mine q.round q.index (inr all)).nothing all
-
-    by : (v.home i ≡ 6 + 3 * q.comm) ⊎ (v.home i ≡ 4 + 3 * q.comm) → Stands n (v.mail (key q)) (v.home i) q → left_of q ≡ 0
-    by h (idle f e p) = left_inactive v s i q here f
-    by h (done t e r) = over t r
-    by (inl h) (ready a t e nx d) = absurd (omega arith)
-    by (inr h) (ready a t e nx d) = absurd (omega arith)
-    by (inl h) (running op ty a b into t e nx) = absurd (omega arith)
-    by (inr h) (running op ty a b into t e nx) = absurd (omega arith)
-    by (inl h) (queued of into t e nx none) = absurd (omega arith)
-    by (inr h) (queued of into t e nx none) = absurd (omega arith)
 
 pub little_left : LittleLeft
 little_left v s = sum_most (λ i. left_by (v.request i)) most_actions v.setting.slots (λ i. few i (v.request i) refl)

@@ -10,7 +10,7 @@ use Rattle.coll_arena.specs.Slots.{Slots, count, generation_of, home, record_in,
 use Rattle.coll_arena.specs.Sound as arena
 use Rattle.coll_arena.proofs.Lookups.{PutsSlot-rewritten}
 use Rattle.coll_queues.specs.Postings.{Postings, groups_of}
-use Rattle.coll_match.specs.declared.key.Key.{Key as MatchKey}
+use Rattle.coll_machine.specs.declared.key.Key.{Key}
 use Rattle.coll_match.specs.Instances.{members}
 use Rattle.coll_machine.specs.Settings.{Setting, size}
 use Rattle.coll_tables.specs.Requests.{Live}
@@ -126,7 +126,7 @@ module _ {R : Type 0} (shown : R → Live) (g : Setting) (a b : Slots R) (i gen 
       ∙ (λ z j. weight_by (sym shown_requests z j))))
 
   -- the engine's condition, from the tables' and what the slot weighs
-  pub core_of : (q r : Postings) (m n : Instances) → IsCore shown g a q m → groups_of r ≡ groups_of q → r.places ≡ q.places → ((k : MatchKey) (x : ℕ) → members n k ≡ Some x → x ≡ size g k.comm)
+  pub core_of : (q r : Postings) (m n : Instances) → IsCore shown g a q m → groups_of r ≡ groups_of q → r.places ≡ q.places → ((k : Key) (x : ℕ) → members n k ≡ Some x → x ≡ size g k.comm)
       → w ≡ weight_by (seen l (option_map shown o)) → IsSound (tables shown g b r n) → IsCore shown g b r n
   core_of q r m n c groups places sizes heavy sound = record { set = set_of q r c.set groups places; sound = sound; sizes = sizes; weights = weights_of c.weights heavy }
 

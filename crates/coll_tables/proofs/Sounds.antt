@@ -17,13 +17,13 @@ use Rattle.coll_sched.proofs.Tracked.{steps_track}
 use Rattle.coll_sched.proofs.Points.{goes_over}
 use Rattle.coll_sched.proofs.Views.{tracks_agrees}
 use Rattle.coll_machine.specs.Settings.{size}
-use Rattle.coll_machine.specs.States.{Key}
-use Rattle.coll_machine.specs.Changes.{put_key}
+use Rattle.coll_machine.specs.declared.key.Key.{Key}
+use Rattle.coll_machine.specs.Changes.{put_key, put_in}
 use Rattle.coll_plans.specs.Plans.{family}
 use Rattle.coll_tables.specs.Requests.{Live, at, key, progress, went, begun, rests}
 use Rattle.coll_tables.specs.Tables.{Mail, Tables, Paths, family_at, world}
 use Rattle.coll_tables.specs.Sound.{Base, next, Stands, Called, Lies, Sound}
-use Rattle.coll_tables.specs.Changes.{put_in, mailed, posting, joining, acting, leaving, dissolving, freeing, rehoming}
+use Rattle.coll_tables.specs.Changes.{mailed, posting, joining, acting, leaving, dissolving, freeing, rehoming}
 use Rattle.coll_tables.specs.Calls.{Posting, Joining, IsLast}
 use Rattle.coll_sched.specs.Points.{Over}
 use Rattle.coll_tables.proofs.Keys.{at_key, off_key, in_at}

@@ -5,7 +5,7 @@ use Rattle.coll_sched.specs.declared.action.Action.{Action}
 use Rattle.coll_sched.specs.declared.action.Action.TheVariants.{Send, Copy, Combine, Recv}
 use Rattle.coll_sched.specs.Worlds.{put_mail}
 use Rattle.coll_sched.proofs.Counts.{put_mail_cases}
-use Rattle.coll_machine.specs.States.{Key}
+use Rattle.coll_machine.specs.declared.key.Key.{Key}
 use Rattle.coll_plans.specs.Plans.{family}
 use Rattle.coll_tables.specs.Requests.{Live, key}
 use Rattle.coll_tables.specs.Tables.{Mail}

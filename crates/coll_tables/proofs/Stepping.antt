@@ -9,8 +9,9 @@ use Rattle.coll_kinds.specs.Puts.{put}
 use Rattle.coll_kinds.proofs.Puts.{put_same, put_other}
 use Rattle.coll_machine.specs.Settings.{group, size}
 use Rattle.coll_kinds.specs.Groups.{member_of}
-use Rattle.coll_machine.specs.States.{Key, State, Request, Machine, found}
-use Rattle.coll_machine.specs.Changes.{holding, created, new_request, started, rested, rested_by, forgotten}
+use Rattle.coll_machine.specs.declared.key.Key.{Key}
+use Rattle.coll_machine.specs.States.{State, Request, Machine, found}
+use Rattle.coll_machine.specs.Changes.{holding, created, new_request, started, rested, rested_by, forgotten, put_in}
 use Rattle.coll_machine.specs.Calls.{Planned, Post, Init, Start, Retire, Free, Finish, Nothing}
 use Rattle.coll_machine.specs.Refusals.{refusal}
 use Rattle.coll_machine.specs.Steps.{IsNew, Posts, Inits, Starts, Retires, Frees, Finishes, IsOver, IsReady, Clears}
@@ -19,7 +20,7 @@ use Rattle.coll_plans.specs.Plans.{family}
 use Rattle.coll_tables.specs.Requests.{Live, before, at, key, went, begun, rests, rests_by, as_request}
 use Rattle.coll_tables.specs.Tables.{Mail, Tables, Paths, asked, is_done, state, machine}
 use Rattle.coll_tables.specs.Sound.{Base, Sound}
-use Rattle.coll_tables.specs.Changes.{put_in, posting, joining, acting, leaving, dissolving, freeing, rehoming}
+use Rattle.coll_tables.specs.Changes.{posting, joining, acting, leaving, dissolving, freeing, rehoming}
 use Rattle.coll_tables.specs.Calls.{IsLast, ticket, new_ticket}
 use Rattle.coll_tables.specs.Machines.{MayFinish}
 use Rattle.coll_tables.proofs.Standing.{finished_there}

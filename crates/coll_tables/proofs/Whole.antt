@@ -7,16 +7,19 @@ use Rattle.coll_kinds.specs.declared.kind.Mode.TheVariants.{Once, Persistent}
 use Rattle.coll_kinds.specs.Puts.{put}
 use Rattle.coll_kinds.proofs.Puts.{put_same, put_put}
 use Rattle.coll_machine.specs.Settings.{size}
-use Rattle.coll_machine.specs.States.{Key, Request, Machine}
+use Rattle.coll_machine.specs.declared.key.Key.{Key}
+use Rattle.coll_machine.specs.States.{Request, Machine}
 use Rattle.coll_machine.specs.Machines.{MachineStep, post, init, start, retire, free}
 use Rattle.coll_plans.specs.Plans.{family}
 use Rattle.coll_machine.specs.Calls.{Post, Init, Start, Retire, Free, Ticketed, Outcome, Nothing}
 use Rattle.coll_tables.specs.Requests.{Live, before, at, key, begun, at_rest, rests, rests_by}
 use Rattle.coll_tables.specs.Tables.{Mail, Tables, Paths, is_done, state, machine}
 use Rattle.coll_tables.specs.Sound.{Stands, ready, running, idle, queued, done, Sound, IsSound}
-use Rattle.coll_tables.specs.Changes.{put_in, posting, joining, leaving, dissolving, freeing}
+use Rattle.coll_machine.specs.Changes.{put_in}
+use Rattle.coll_tables.specs.Changes.{posting, joining, leaving, dissolving, freeing}
 use Rattle.coll_tables.specs.Calls.{Away, ticket, new_ticket, LeftAt, Retiring}
-use Rattle.coll_tables.specs.Laws.{InitKeeps, PostKeeps, StartKeeps, RetireKeeps, LastRetireKeeps, FreeKeeps, LockIsFree, LastIsOver, DoneHolds}
+use Rattle.coll_tables.specs.Laws.{LockIsFree}
+use Rattle.coll_tables.proofs.Statements.{InitKeeps, PostKeeps, StartKeeps, RetireKeeps, LastRetireKeeps, FreeKeeps}
 use Rattle.coll_tables.specs.FreeLocks.{LiesBy}
 use Rattle.coll_tables.proofs.Standing.{finished_there}
 use Rattle.coll_tables.proofs.Accepting.{free_passed}
@@ -204,9 +207,3 @@ lock_is_free v s = record {
   alone = s.sound.base.alone;
   held = λ i q here d. holding_value v s.paths s.sound i q here (eqb-true (v.home i) (6 + 3 * q.comm) (sym (ap (is_done (v.home i)) here) ∙ d));
 }
-
-pub last_is_over : LastIsOver
-last_is_over v k s = (over_of v s.paths s.sound.base k, last_of v s.paths s.sound.base k)
-
-pub done_holds : DoneHolds
-done_holds v i q s here list = holding_value v s.paths s.sound i q here list

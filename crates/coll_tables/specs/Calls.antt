@@ -17,7 +17,7 @@ use Rattle.coll_plans.specs.Plans.{IsPlanned, family}
 use Rattle.coll_arena.specs.declared.list_name.ListName.TheVariants.{Ready, Running, Idle, Done}
 use Rattle.coll_arena.specs.ListNames.{number_of}
 use Rattle.coll_machine.specs.Settings.{group, size}
-use Rattle.coll_machine.specs.States.{Key}
+use Rattle.coll_machine.specs.declared.key.Key.{Key}
 use Rattle.coll_machine.specs.Changes.{new_request}
 use Rattle.coll_machine.specs.Calls.{Planned, Retire}
 use Rattle.coll_machine.specs.Refusals.{refusal}

@@ -2,14 +2,10 @@
 use Rattle.std.specs.Prelude.{ℕ, suc, List, [], ◌∷◌, ◌++◌, Option, Some, None}
 use Rattle.coll_kinds.specs.Puts.{put}
 use Rattle.coll_sched.specs.Worlds.{Progress, put_mail}
-use Rattle.coll_machine.specs.States.{Key}
-use Rattle.coll_machine.specs.Changes.{put2, put_key}
+use Rattle.coll_machine.specs.declared.key.Key.{Key}
+use Rattle.coll_machine.specs.Changes.{put2, put_in, put_key}
 use Rattle.coll_tables.specs.Requests.{Live, at, key, went, begun, rests}
 use Rattle.coll_tables.specs.Tables.{Mail, Tables}
-
--- a function of collectives and members with another value at one of each
-abbrev pub put_in : {X : Type 0} → (Key → ℕ → X) → Key → ℕ → X → Key → ℕ → X
-put_in f k m x = put_key f k (put (f k) m x)
 
 -- one message more, or one less
 abbrev pub mailed : (Key → Mail) → Key → ℕ → ℕ → ℕ → Option (List ℕ) → Key → Mail

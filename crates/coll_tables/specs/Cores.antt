@@ -2,7 +2,7 @@
 use Rattle.std.specs.Prelude.{◌≡◌, ℕ, length, Some}
 use Rattle.coll_arena.specs.Slots.{Slots, count, weight_of}
 use Rattle.coll_queues.specs.Postings.{Postings, groups_of}
-use Rattle.coll_match.specs.declared.key.Key.{Key as MatchKey}
+use Rattle.coll_machine.specs.declared.key.Key.{Key}
 use Rattle.coll_match.specs.Instances.{members}
 use Rattle.coll_machine.specs.Settings.{Setting, AreGroups, size}
 use Rattle.coll_tables.specs.Requests.{Live}
@@ -23,6 +23,6 @@ pub record IsCore {R : Type 0} (shown : R → Live) (g : Setting) (a : Slots R) 
   pub set : IsSet g a q
   pub sound : IsSound (tables shown g a q m)
   -- an instance has room for the members of its communicator
-  pub sizes : (k : MatchKey) (n : ℕ) → members m k ≡ Some n → n ≡ size g k.comm
+  pub sizes : (k : Key) (n : ℕ) → members m k ≡ Some n → n ≡ size g k.comm
   -- a slot weighs what its request lends
   pub weights : weight_of a ≡ (λ i. weight_by ((tables shown g a q m).request i))

@@ -3,26 +3,22 @@ use Rattle.std.specs.Prelude.{◌≡◌, ◌≢◌, ◌<◌, ◌≤◌, ℕ, suc
 use Rattle.coll_kinds.specs.declared.datatype.Datatype.{Datatype}
 use Rattle.coll_kinds.specs.declared.operation.Op.{Op}
 use Rattle.coll_kinds.specs.declared.ticket.Ticket.{Ticket}
-use Rattle.coll_sched.specs.declared.action.Action.{Action}
 use Rattle.coll_sched.specs.declared.action.Action.TheVariants.{Send, Combine, Recv}
 use Rattle.coll_sched.specs.declared.region.Region.{Region}
-use Rattle.coll_sched.specs.Actions.{IsLocal, wrote}
 use Rattle.coll_sched.specs.Families.{Family, lock_step}
 use Rattle.coll_sched.specs.Points.{actions_of}
-use Rattle.coll_sched.specs.Regions.{read_of, written}
+use Rattle.coll_sched.specs.Regions.{read_of}
 use Rattle.coll_sched.specs.Worlds.{Progress, filled}
 use Rattle.coll_plans.specs.Plans.{family}
 use Rattle.coll_lists.specs.Layouts.{sequence}
 use Rattle.coll_arena.specs.declared.list_name.ListName.TheVariants.{Ready, Running, Idle}
-use Rattle.coll_arena.specs.Homes.{StandsAtHome}
 use Rattle.coll_arena.specs.ListNames.{number_of}
 use Rattle.coll_arena.specs.Slots.{Slots, home, lent, record_in}
 use Rattle.coll_arena.specs.Changes.{opened as arena_opened}
 use Rattle.coll_arena.specs.Sound as arena
 use Rattle.coll_queues.specs.Postings.{Postings, groups_of, place_of, posts}
-use Rattle.coll_match.specs.declared.key.Key.{Key as MatchKey}
-use Rattle.coll_match.specs.Held.{put_mail}
-use Rattle.coll_match.specs.Instances.{given, mail, members, put_key, seats}
+use Rattle.coll_machine.specs.declared.key.Key.{Key}
+use Rattle.coll_match.specs.Instances.{given, mail, members, seats}
 use Rattle.coll_machine.specs.Settings.{Setting, AreGroups, size}
 use Rattle.coll_machine.specs.Calls.{Planned, Post, Init, Start, Retire, Free, Ticketed, Outcome, Nothing}
 use Rattle.coll_machine.specs.Lents.{lent_bytes}
@@ -31,13 +27,13 @@ use Rattle.coll_machine.specs.Runs.{opened as machine_opened}
 use Rattle.coll_machine.specs.Refusals.{refusal}
 use Rattle.coll_tables.specs.Requests.{Live, at, before, key}
 use Rattle.coll_tables.specs.Tables.{machine, state}
-use Rattle.coll_tables.specs.Sound.{Doable, next}
-use Rattle.coll_tables.specs.FreeLocks.{FreeLock, NothingGoes}
+use Rattle.coll_tables.specs.Sound.{next}
+use Rattle.coll_tables.specs.FreeLocks.{NothingGoes}
 use Rattle.coll_tables.specs.Machines.{MayFinish, StepsTo}
 use Rattle.coll_tables.specs.Remaining.{actions_left}
-use Rattle.coll_tables.specs.Shown.{Instances, named, setting_of, tables}
+use Rattle.coll_tables.specs.Shown.{Instances, tables}
 use Rattle.coll_tables.specs.Cores.{IsCore}
-use Rattle.coll_tables.specs.Engines.{Completes, Delivers, GoesOn, HasMade, Initialises, KeepsGifts, Moves, Posts, Releases, Restarts}
+use Rattle.coll_tables.specs.Engines.{Completes, HasMade, Initialises, Posts, Releases, Restarts}
 
 -- a request has in two regions what its member has there in lock-step
 pub record AreOperands (f : Family) (gifts : ℕ → Option (List ℕ)) (x : Live) (left right : Region) : Type 0 where
@@ -57,17 +53,17 @@ module _ {R : Type 0} (shown : R → Live) (g : Setting) where
     pub index_in : (shown x).index
         ≤ length (actions_of (family (shown x).sig (shown x).members (shown x).member) (shown x).round)
     pub filled : length (shown x).buf ≡ (family (shown x).sig (shown x).members (shown x).member).size
-    pub gave : given m (named (key (shown x))) (shown x).member ≢ None
-    pub seated : seats m (named (key (shown x))) (shown x).member ≢ None
+    pub gave : given m (key (shown x)) (shown x).member ≢ None
+    pub seated : seats m (key (shown x)) (shown x).member ≢ None
     pub sends : (to : ℕ) (from : Region) → next (shown x).members (shown x) ≡ Some (Send to from)
-        → mail m (named (key (shown x))) (shown x).member to (shown x).round ≡ None
+        → mail m (key (shown x)) (shown x).member to (shown x).round ≡ None
     pub takes : (of : ℕ) (into : Region) (bytes : List ℕ) → next (shown x).members (shown x) ≡ Some (Recv of into)
-        → mail m (named (key (shown x))) of (shown x).member (shown x).round ≡ Some bytes
+        → mail m (key (shown x)) of (shown x).member (shown x).round ≡ Some bytes
         → length bytes ≡ into.len
     -- the operands of a Combine are those of lock-step over what was given
     pub operands : (op : Op) (ty : Datatype) (left right into : Region)
         → next (shown x).members (shown x) ≡ Some (Combine op ty left right into)
-        → AreOperands (family (shown x).sig (shown x).members) (given m (named (key (shown x)))) (shown x) left right
+        → AreOperands (family (shown x).sig (shown x).members) (given m (key (shown x))) (shown x) left right
 
 -- an engine just opened
 abbrev pub OpenCore : Type 0 → Type 0
@@ -137,79 +133,10 @@ FreeCore R =
 -- room changes nothing that the tables show
 abbrev pub RoomCore : Type 0 → Type 0
 RoomCore R =
-    (shown : R → Live) (g : Setting) (a : Slots R) (q r : Postings) (m n : Instances) (k : MatchKey)
+    (shown : R → Live) (g : Setting) (a : Slots R) (q r : Postings) (m n : Instances) (k : Key)
     → IsCore shown g a q m
     → HasMade q r m n k (size g k.comm)
     → IsCore shown g a r n × (tables shown g a r n ≡ tables shown g a q m)
-
-abbrev pub ComputeCore : Type 0 → Type 0
-ComputeCore R =
-    (shown : R → Live) (g : Setting) (a b : Slots R) (q : Postings) (m : Instances)
-    (t : Ticket) (x y : R) (act : Action) (o : Progress) (list : ℕ)
-    → IsCore shown g a q m
-    → GoesOn shown a b m t x y act o list
-    → IsLocal act
-    → o.buf ≡ wrote (λ from. []) (shown x).buf act (shown x).buf
-    → ActsOnce shown g a b q m m
-
-abbrev pub ReceiveCore : Type 0 → Type 0
-ReceiveCore R =
-    (shown : R → Live) (g : Setting) (a b : Slots R) (q : Postings) (m n : Instances)
-    (t : Ticket) (x y : R) (of : ℕ) (into : Region) (bytes : List ℕ) (o : Progress) (list : ℕ)
-    → IsCore shown g a q m
-    → GoesOn shown a b n t x y (Recv of into) o list
-    → KeepsGifts m n
-    → mail m (named (key (shown x))) of (shown x).member (shown x).round ≡ Some bytes
-    → mail n ≡ put_key (mail m) (named (key (shown x)))
-    (put_mail (mail m (named (key (shown x)))) of (shown x).member (shown x).round None)
-    → o.buf ≡ written (shown x).buf into bytes
-    → ActsOnce shown g a b q m n
-
--- the message is delivered, and then the sender goes on
-abbrev pub SendCore : Type 0 → Type 0
-SendCore R =
-    (shown : R → Live) (g : Setting) (a b c : Slots R) (q : Postings) (m n : Instances)
-    (t : Ticket) (x y : R) (to : ℕ) (from : Region) (o : Progress) (list : ℕ)
-    → IsCore shown g a q m
-    → Delivers shown a b n (named (key (shown x))) to
-    → GoesOn shown b c n t x y (Send to from) o list
-    → KeepsGifts m n
-    → mail n ≡ put_key (mail m) (named (key (shown x)))
-    (put_mail (mail m (named (key (shown x)))) (shown x).member to (shown x).round (Some (read_of (shown x).buf from)))
-    → o.buf ≡ (shown x).buf
-    → ActsOnce shown g a c q m n
-
--- the sender goes on, and then the message is delivered
-abbrev pub SendThenCore : Type 0 → Type 0
-SendThenCore R =
-    (shown : R → Live) (g : Setting) (a b c : Slots R) (q : Postings) (m n : Instances)
-    (t : Ticket) (x y : R) (to : ℕ) (from : Region) (o : Progress) (list : ℕ)
-    → IsCore shown g a q m
-    → GoesOn shown a b n t x y (Send to from) o list
-    → KeepsGifts m n
-    → mail n ≡ put_key (mail m) (named (key (shown x)))
-    (put_mail (mail m (named (key (shown x)))) (shown x).member to (shown x).round (Some (read_of (shown x).buf from)))
-    → o.buf ≡ (shown x).buf
-    → Delivers shown b c n (named (key (shown x))) to
-    → ActsOnce shown g a c q m n
-
--- a Combine that is handed out, or comes back, changes nothing that callers see
-abbrev pub MoveCore : Type 0 → Type 0
-MoveCore R =
-    (shown : R → Live) (g : Setting) (a b : Slots R) (q : Postings) (m : Instances) (t : Ticket) (x : R) (list : ℕ)
-    → IsCore shown g a q m
-    → Moves shown a b t x list
-    → IsCore shown g b q m
-    × (machine (tables shown g b q m) ≡ machine (tables shown g a q m))
-    × (actions_left (tables shown g b q m) ≡ actions_left (tables shown g a q m))
-
--- the limits as they are read from the parts before a call are those read after it
-abbrev pub SetCore : Type 0 → Type 0
-SetCore R =
-    (shown : R → Live) (ranks starts trace : ℕ) (a b : Slots R) (q r : Postings) (n : Instances)
-    → IsCore shown (setting_of ranks starts trace a q) b r n
-    → (setting_of ranks starts trace a q ≡ setting_of ranks starts trace b r)
-    × IsCore shown (setting_of ranks starts trace b r) b r n
 
 -- ---- what a call may rely on
 
@@ -222,17 +149,6 @@ ActingCore R =
     → home a i ≢ number_of (Idle (shown x).comm)
     → IsActing shown g a m x
 
--- what is Ready has an action that can be done
-abbrev pub ReadyCore : Type 0 → Type 0
-ReadyCore R =
-    (shown : R → Live) (g : Setting) (a : Slots R) (q : Postings) (m : Instances) (i : ℕ) (x : R)
-    → IsCore shown g a q m
-    → record_in a i ≡ Some x
-    → home a i ≡ number_of Ready
-    → (act : Action)
-    × (next (shown x).members (shown x) ≡ Some act)
-    × Doable (mail m (named (key (shown x)))) (shown x) act
-
 -- a post's collective and a request's next start are new to the member
 abbrev pub NewCore : Type 0 → Type 0
 NewCore R =
@@ -243,7 +159,7 @@ NewCore R =
     → given m (record { comm = comm; place = place_of q comm rank; start = 0 }) plan.member ≡ None)
     × ((i : ℕ) (x : R)
     → record_in a i ≡ Some x
-    → given m (named (at (shown x) (shown x).starts)) (shown x).member ≡ None)
+    → given m (at (shown x) (shown x).starts) (shown x).member ≡ None)
 
 -- ---- between the calls
 
@@ -254,22 +170,6 @@ LentCore R =
     → IsCore shown g a q m
     → arena.IsSound a
     → lent a ≡ lent_bytes g (state (tables shown g a q m))
-
--- whenever no call is under way
-pub record BetweenCalls {R : Type 0} (shown : R → Live) (g : Setting) (a : Slots R) (q : Postings)
-    (m : Instances) : Type 0 where
-  pub lock : FreeLock (tables shown g a q m)
-  -- a slot stands in the sequence of its list and in no other
-  pub stands : (slot list : ℕ) → list < length a.lists → StandsAtHome a slot list
-  -- what the active requests lend is what the slots weigh, and the arena keeps
-  pub lends : lent a ≡ lent_bytes g (state (tables shown g a q m))
-
-abbrev pub LockCore : Type 0 → Type 0
-LockCore R =
-    (shown : R → Live) (g : Setting) (a : Slots R) (q : Postings) (m : Instances)
-    → IsCore shown g a q m
-    → arena.IsSound a
-    → BetweenCalls shown g a q m
 
 -- where Ready and Running are empty nothing can go on
 abbrev pub QuietCore : Type 0 → Type 0

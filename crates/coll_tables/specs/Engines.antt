@@ -7,7 +7,6 @@ use Rattle.coll_kinds.specs.declared.operation.Op.{Op}
 use Rattle.coll_kinds.specs.declared.ticket.Ticket.{Ticket}
 use Rattle.coll_kinds.specs.Elements.{AreBytes}
 use Rattle.coll_kinds.specs.Lengths.{lent}
-use Rattle.coll_kinds.specs.Puts.{put}
 use Rattle.coll_sched.specs.declared.action.Action.{Action}
 use Rattle.coll_sched.specs.declared.action.Action.TheVariants.{Combine}
 use Rattle.coll_sched.specs.declared.region.Region.{Region}
@@ -21,16 +20,17 @@ use Rattle.coll_lists.specs.Neighbours.{first_in}
 use Rattle.coll_arena.specs.declared.list_name.ListName.TheVariants.{Free, Worn, Ready, Running, Idle, Queue, Done}
 use Rattle.coll_arena.specs.ListNames.{number_of}
 use Rattle.coll_arena.specs.Slots.{Slots, generation_of, home, record_in, weight_of}
-use Rattle.coll_queues.specs.Postings.{Postings, groups_of, number_of as number_in, place_of, posts, put_posts, put_signed, signed}
-use Rattle.coll_match.specs.declared.key.Key.{Key as MatchKey}
-use Rattle.coll_match.specs.Instances.{given, mail, members, put_key, seats, IsLast}
+use Rattle.coll_queues.specs.Postings.{Postings, groups_of, number_of as number_in, place_of, posts, signed}
+use Rattle.coll_machine.specs.declared.key.Key.{Key}
+use Rattle.coll_machine.specs.Changes.{put2, put_in, put_key}
+use Rattle.coll_match.specs.Instances.{given, mail, members, seats, IsLast}
 use Rattle.coll_machine.specs.Settings.{Setting}
 use Rattle.coll_machine.specs.States.{State}
 use Rattle.coll_machine.specs.Calls.{Planned, Post, Init, Start, Retire, Free}
 use Rattle.coll_machine.specs.Refusals.{refusal}
 use Rattle.coll_tables.specs.Requests.{Live, at, key, went, begun}
 use Rattle.coll_tables.specs.Sound.{next, Stands, Called}
-use Rattle.coll_tables.specs.Shown.{Instances, listed, named}
+use Rattle.coll_tables.specs.Shown.{Instances, listed}
 use Rattle.coll_tables.specs.OneSlots.{OneSlot}
 
 -- the next slot of Free, and its next generation
@@ -48,22 +48,22 @@ pub record IsOffered (q r : Postings) (comm rank : ℕ) (plan : Planned) : Type 
   pub groups : groups_of r ≡ groups_of q
   pub places : r.places ≡ q.places
   pub posted : posts r
-      ≡ put_posts (posts q) comm (number_in q comm rank) (posts q comm (number_in q comm rank) ++ plan.sig ∷ [])
-  pub signs : signed r ≡ put_signed (signed q) comm (place_of q comm rank) (Some plan.sig)
+      ≡ put2 (posts q) comm (number_in q comm rank) (posts q comm (number_in q comm rank) ++ plan.sig ∷ [])
+  pub signs : signed r ≡ put2 (signed q) comm (place_of q comm rank) (Some plan.sig)
 
 -- a member's bytes and its slot enter an instance
-pub record IsJoined (m n : Instances) (k : MatchKey) (member slot : ℕ) (bytes : List ℕ) : Type 0 where
+pub record IsJoined (m n : Instances) (k : Key) (member slot : ℕ) (bytes : List ℕ) : Type 0 where
   pub members : members n ≡ members m
-  pub given : given n ≡ put_key (given m) k (put (given m k) member (Some bytes))
-  pub seats : seats n ≡ put_key (seats m) k (put (seats m k) member (Some slot))
+  pub given : given n ≡ put_in (given m) k member (Some bytes)
+  pub seats : seats n ≡ put_in (seats m) k member (Some slot)
   pub mail : mail n ≡ mail m
 
 -- a member leaves an instance, which goes where it is the last
-pub record IsLeft (m n : Instances) (k : MatchKey) (member : ℕ) (last : Bool) : Type 0 where
+pub record IsLeft (m n : Instances) (k : Key) (member : ℕ) (last : Bool) : Type 0 where
   pub last_is : IsTrue last ↔ IsLast m k member
   pub members : members n ≡ put_key (members m) k (if last then None else members m k)
   pub given : given n ≡ put_key (given m) k (if last then (λ _. None) else given m k)
-  pub seats : seats n ≡ put_key (seats m) k (put (seats m k) member None)
+  pub seats : seats n ≡ put_in (seats m) k member None
   pub mail : mail n ≡ put_key (mail m) k (if last then (λ _ _ _. None) else mail m k)
 
 -- the instances differ in messages alone
@@ -73,7 +73,7 @@ pub record KeepsGifts (m n : Instances) : Type 0 where
   pub seats : seats n ≡ seats m
 
 -- room for one more signature, and for an instance of that many members
-pub record HasMade (q r : Postings) (m n : Instances) (k : MatchKey) (size : ℕ) : Type 0 where
+pub record HasMade (q r : Postings) (m n : Instances) (k : Key) (size : ℕ) : Type 0 where
   pub groups : groups_of r ≡ groups_of q
   pub places : r.places ≡ q.places
   pub posted : posts r ≡ posts q
@@ -101,6 +101,14 @@ made rank comm plan place starts o = record {
   index = o.index;
   buf = o.buf;
 }
+
+-- what completion leaves in the slot, by the request's mode
+abbrev pub Rests : {R : Type 0} → (R → Live) → Mode → Slots R → Slots R → Ticket → R → Type 0
+Rests shown Once a b t x = OneSlot a b t.slot t.generation 0 None (given_up a.wear t.generation)
+Rests {R} shown Persistent a b t x =
+    (y : R)
+    × OneSlot a b t.slot t.generation 0 (Some y) (number_of (Idle (shown x).comm))
+    × (shown y ≡ went (shown x) (record { round = 0; index = 0; buf = [] }))
 
 -- `shown` calls each request active; whether it is, its list tells
 module _ {R : Type 0} (shown : R → Live) (g : Setting) where
@@ -133,20 +141,12 @@ module _ {R : Type 0} (shown : R → Live) (g : Setting) where
     pub accepted : refusal g s (Start rank t bytes) ≡ None
     pub are : AreBytes bytes
     pub found : IsFound a t x
-    pub joined : IsJoined m n (named (at (shown x) (shown x).starts)) (shown x).member t.slot bytes
+    pub joined : IsJoined m n (at (shown x) (shown x).starts) (shown x).member t.slot bytes
     pub puts : OneSlot a b t.slot t.generation (lent (shown x).sig (shown x).members (shown x).member) (Some y) list
     pub is : shown y ≡ begun (shown x) o
     pub buf : o.buf ≡ laid_in (family (shown x).sig (shown x).members (shown x).member) bytes
     pub over : Over (family (shown x).sig (shown x).members (shown x).member) 0 0 o.round o.index
-    pub stands : Stands (shown x).members (mail m (named (at (shown x) (shown x).starts))) list (shown y)
-
-  -- what completion leaves in the slot, by the request's mode
-  abbrev pub Rests : Mode → Slots R → Slots R → Ticket → R → Type 0
-  Rests Once a b t x = OneSlot a b t.slot t.generation 0 None (given_up a.wear t.generation)
-  Rests Persistent a b t x =
-      (y : R)
-      × OneSlot a b t.slot t.generation 0 (Some y) (number_of (Idle (shown x).comm))
-      × (shown y ≡ went (shown x) (record { round = 0; index = 0; buf = [] }))
+    pub stands : Stands (shown x).members (mail m (at (shown x) (shown x).starts)) list (shown y)
 
   -- a completion of the ticket's request x
   pub record Completes (s : State) (a b : Slots R) (m n : Instances) (t : Ticket) (rank : ℕ) (x : R)
@@ -155,8 +155,8 @@ module _ {R : Type 0} (shown : R → Live) (g : Setting) where
     pub found : IsFound a t x
     pub on_done : home a t.slot ≡ number_of (Done (shown x).comm)
     pub bytes_is : bytes ≡ read_of (shown x).buf (family (shown x).sig (shown x).members (shown x).member).output
-    pub rests : Rests (shown x).sig.mode a b t x
-    pub left : IsLeft m n (named (key (shown x))) (shown x).member last
+    pub rests : Rests shown (shown x).sig.mode a b t x
+    pub left : IsLeft m n (key (shown x)) (shown x).member last
 
   -- a free
   pub record Releases (s : State) (a b : Slots R) (t : Ticket) (rank : ℕ) (x : R) : Type 0 where
@@ -176,24 +176,24 @@ module _ {R : Type 0} (shown : R → Live) where
     pub is : shown y ≡ went (shown x) o
     pub over : Over (family (shown x).sig (shown x).members (shown x).member)
         (shown x).round (suc (shown x).index) o.round o.index
-    pub stands : Stands (shown x).members (mail n (named (key (shown x)))) list (shown y)
+    pub stands : Stands (shown x).members (mail n (key (shown x))) list (shown y)
 
   -- the slot that is noted for a member has a request that waits for a message which is there
-  pub record IsCalled (b : Slots R) (n : Instances) (k : MatchKey) (to j : ℕ) (x : R) : Type 0 where
+  pub record IsCalled (b : Slots R) (n : Instances) (k : Key) (to j : ℕ) (x : R) : Type 0 where
     pub seat : seats n k to ≡ Some j
     pub here : record_in b j ≡ Some x
-    pub called : Called (shown x).members (mail n (named (key (shown x)))) (home b j) (listed (home b j) (shown x))
+    pub called : Called (shown x).members (mail n (key (shown x))) (home b j) (listed (home b j) (shown x))
 
   -- the request x that is noted for a member lies on its Queue, can go on, and goes to Ready
-  pub record Wakens (b c : Slots R) (n : Instances) (k : MatchKey) (to : ℕ) (t : Ticket) (x : R) : Type 0 where
+  pub record Wakens (b c : Slots R) (n : Instances) (k : Key) (to : ℕ) (t : Ticket) (x : R) : Type 0 where
     pub seat : seats n k to ≡ Some t.slot
     pub found : IsFound b t x
     pub waits : home b t.slot ≡ number_of (Queue (shown x).comm)
-    pub ready : Stands (shown x).members (mail n (named (key (shown x)))) (number_of Ready) (shown x)
+    pub ready : Stands (shown x).members (mail n (key (shown x))) (number_of Ready) (shown x)
     pub puts : OneSlot b c t.slot t.generation (weight_of b t.slot) (Some x) (number_of Ready)
 
   -- a message for a member wakes one request, or there is none that it calls
-  abbrev pub Delivers : Slots R → Slots R → Instances → MatchKey → ℕ → Type 0
+  abbrev pub Delivers : Slots R → Slots R → Instances → Key → ℕ → Type 0
   Delivers b c n k to =
       (((j : ℕ) (x : R) → IsCalled b n k to j x → ⊥) × (c ≡ b))
       ⊎ ((t : Ticket) × (x : R) × Wakens b c n k to t x)

@@ -4,7 +4,8 @@ use Rattle.coll_kinds.specs.declared.kind.Mode.{Mode}
 use Rattle.coll_kinds.specs.declared.kind.Mode.TheVariants.{Once, Persistent}
 use Rattle.coll_kinds.specs.declared.signature.Signature.{Signature}
 use Rattle.coll_sched.specs.Worlds.{Progress}
-use Rattle.coll_machine.specs.States.{Key, Request}
+use Rattle.coll_machine.specs.declared.key.Key.{Key}
+use Rattle.coll_machine.specs.States.{Request}
 
 pub record Live : Type 0 where
   pub rank : ℕ

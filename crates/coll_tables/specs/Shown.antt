@@ -6,20 +6,15 @@ use Rattle.coll_arena.specs.declared.list_name.ListName.TheVariants.{Idle}
 use Rattle.coll_arena.specs.ListNames.{number_of}
 use Rattle.coll_arena.specs.Slots.{Slots, count, generation_of, home, record_in}
 use Rattle.coll_queues.specs.Postings.{Postings, groups_of, posts, signed}
-use Rattle.coll_match.specs.declared.key.Key.{Key as MatchKey}
 use Rattle.coll_match.specs.Held.{Held}
 use Rattle.coll_match.specs.Instances.{given, mail, seats}
 use Rattle.coll_machine.specs.Settings.{Setting}
-use Rattle.coll_machine.specs.States.{Key}
+use Rattle.coll_machine.specs.declared.key.Key.{Key}
 use Rattle.coll_tables.specs.Requests.{Live}
 use Rattle.coll_tables.specs.Tables.{Tables}
 
--- a collective by the name that its instance has
-abbrev pub named : Key → MatchKey
-named k = record { comm = k.comm; place = k.place; start = k.start }
-
 abbrev pub Instances : Type 0
-Instances = List (MatchKey × Held)
+Instances = List (Key × Held)
 
 -- a request that lies on that list
 abbrev pub listed : ℕ → Live → Live
@@ -61,9 +56,9 @@ tables shown g a q m = record {
   home = home a;
   posts = posts q;
   signed = signed q;
-  given = λ k. given m (named k);
-  seats = λ k. seats m (named k);
-  mail = λ k. mail m (named k);
+  given = given m;
+  seats = seats m;
+  mail = mail m;
 }
 
 -- what a live request lends while it is active: the weight of its slot

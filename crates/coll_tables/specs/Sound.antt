@@ -14,7 +14,7 @@ use Rattle.coll_plans.specs.Plans.{IsPlanned, family}
 use Rattle.coll_arena.specs.declared.list_name.ListName.TheVariants.{Free, Worn, Ready, Running, Idle, Queue, Done}
 use Rattle.coll_arena.specs.ListNames.{number_of}
 use Rattle.coll_machine.specs.Settings.{size}
-use Rattle.coll_machine.specs.States.{Key}
+use Rattle.coll_machine.specs.declared.key.Key.{Key}
 use Rattle.coll_tables.specs.Requests.{Live, at, key, progress}
 use Rattle.coll_tables.specs.Tables.{Mail, Tables, Paths, family_at, world}
 

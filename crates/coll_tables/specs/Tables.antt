@@ -10,7 +10,8 @@ use Rattle.coll_plans.specs.Plans.{family}
 use Rattle.coll_arena.specs.declared.list_name.ListName.TheVariants.{Done}
 use Rattle.coll_arena.specs.ListNames.{number_of}
 use Rattle.coll_machine.specs.Settings.{Setting, size}
-use Rattle.coll_machine.specs.States.{Key, Request, State, Machine}
+use Rattle.coll_machine.specs.declared.key.Key.{Key}
+use Rattle.coll_machine.specs.States.{Request, State, Machine}
 use Rattle.coll_tables.specs.Requests.{Live, as_request}
 
 -- the messages of one collective that weren't taken yet, by sender, receiver and round

@@ -16,7 +16,8 @@ use Rattle.coll_machine.proofs.Pushed.{get_pushed, get_front, get_either, length
 use Rattle.coll_machine.proofs.Puts.{put2_cases, put_key_cases}
 use Rattle.coll_machine.specs.Changes.{put_key, holding, created, new_request, once_more, started, rested, rested_by, forgotten}
 use Rattle.coll_machine.specs.Settings.{Setting, group, size, rank_of, AreGroups}
-use Rattle.coll_machine.specs.States.{Key, Request, State, nothing, key_of}
+use Rattle.coll_machine.specs.declared.key.Key.{Key}
+use Rattle.coll_machine.specs.States.{Request, State, nothing, key_of}
 use Rattle.coll_machine.specs.Steps.{IsNew}
 use Rattle.coll_trace.proofs.Lists.{get_longer, take_front, take_pushed, map_pushed, length-changed, get_changed, get_unchanged, on_pushed, on_others, placed, grown, signatures_changed, place_unchanged, Grows, grows_push, grows_change, grows_self}
 

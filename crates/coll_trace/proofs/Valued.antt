@@ -15,7 +15,8 @@ use Rattle.coll_trace.specs.Scripts.{Asked, on, at_place, given_by, contribution
 use Rattle.coll_kinds.specs.Groups.{member_of}
 use Rattle.coll_machine.proofs.Members.{member_at}
 use Rattle.coll_machine.specs.Settings.{Setting, group, size, rank_of}
-use Rattle.coll_machine.specs.States.{Key, Request, State, key_of, signature_of}
+use Rattle.coll_machine.specs.declared.key.Key.{Key}
+use Rattle.coll_machine.specs.States.{Request, State, key_of, signature_of}
 use Rattle.coll_machine.specs.Steps.{filled}
 use Rattle.coll_trace.proofs.Lists.{get_longer, get_map, placed, grown, Grows}
 use Rattle.coll_machine.specs.Postings.{IsPosted, ArePosted}

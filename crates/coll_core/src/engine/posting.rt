@@ -7,7 +7,7 @@ ghost use Rattle.coll_kinds.specs.Elements.{AreBytes};
 ghost use Rattle.coll_kinds.specs.Lengths.{given_len};
 ghost use Rattle.coll_machine.specs.Calls.{Ticketed};
 ghost use Rattle.coll_machine.specs.Machines.{MachineStep};
-ghost use Rattle.coll_machine.specs.Refusals.{first_of};
+ghost use Rattle.coll_machine.specs.Refusals.{first_of, plan_refusals};
 ghost use Rattle.coll_machine.specs.Settings.{size};
 ghost use Rattle.coll_match.specs.Instances as instances;
 ghost use Rattle.coll_plans.specs.Plans.{family, IsPlanned};
@@ -17,8 +17,8 @@ ghost use Rattle.coll_sched.specs.Families.{laid_in};
 ghost use Rattle.coll_tables.specs.EngineTests.{entry_refusals};
 ghost use Rattle.coll_tables.specs.Machines.{StepsTo};
 ghost use Rattle.coll_core.specs.Calls.{Refuses};
-ghost use Rattle.coll_core.specs.Cores.{seen, setting};
-ghost use Rattle.coll_core.specs.Posts.{init_of, next_instance, plan_refusals, planned, post_of, refused_in, IsLaid, IsRoomy, Unchanged};
+ghost use Rattle.coll_core.specs.Cores.{seen, setting, Unchanged};
+ghost use Rattle.coll_core.specs.Posts.{init_of, next_instance, planned, post_of, refused_in, IsLaid, IsRoomy};
 
 use crate::buffer::Buffer;
 use crate::engine::Core;
@@ -39,9 +39,7 @@ use std::sync::Arc;
 fn fits(plan: &Plan, size: u8, member: u8, mode: Mode) -> Result<(), Refusal>
     ensures { result_err result ≡ first_of (plan_refusals (planned plan.now) size member mode) }
 {
-    if let Err(why) = plan.sig().check(size) {
-        return Err(why);
-    }
+    plan.sig().check(size)?;
     if plan.sig().mode != mode {
         return Err(Refusal::BadSignature {
             cause: SignatureFault::Mode,
@@ -152,17 +150,10 @@ impl Core {
     fn may_enter(&self, rank: u8, comm: u32, plan: &Plan, mode: Mode) -> Result<(), Refusal>
         ensures { result_err result ≡ first_of (entry_refusals self.now.queues rank comm mode (planned plan.now)) }
     {
-        let member = match self.queues.member(comm, rank) {
-            Ok(member) => member,
-            Err(why) => return Err(why),
-        };
-        if let Err(why) = fits(plan, self.queues.size(comm), member, mode) {
-            return Err(why);
-        }
-        match self.queues.judge(comm, rank, plan.sig()) {
-            Ok(_) => Ok(()),
-            Err(why) => Err(why),
-        }
+        let member = self.queues.member(comm, rank)?;
+        fits(plan, self.queues.size(comm), member, mode)?;
+        self.queues.judge(comm, rank, plan.sig())?;
+        Ok(())
     }
 
     /// A post isn't refused, but for want of memory.
@@ -171,9 +162,7 @@ impl Core {
     {
         is_sound(&self.arena);
         post_refused(&self.arena);
-        if let Err(why) = self.may_enter(rank, comm, &offer.plan, Mode::Once) {
-            return Err(why);
-        }
+        self.may_enter(rank, comm, &offer.plan, Mode::Once)?;
         let want = want(&offer.plan);
         let got = offer.bytes.len();
         if got != want as usize {
@@ -191,9 +180,7 @@ impl Core {
     {
         is_sound(&self.arena);
         init_refused(&self.arena);
-        if let Err(why) = self.may_enter(rank, comm, plan, Mode::Persistent) {
-            return Err(why);
-        }
+        self.may_enter(rank, comm, plan, Mode::Persistent)?;
         if !self.arena.has_free() {
             return Err(Refusal::Full);
         }
@@ -211,22 +198,16 @@ impl Core {
         self.queues.room(comm, rank)
     }
 
-    /// Makes room for what the members of a communicator give to the collective at the rank's next place.
-    fn make_instance(&mut self, rank: u8, comm: u32, n: u8) -> Result<(), Refusal>
-        requires member { member_refusal self.old.queues comm rank ≡ None }
-        requires members { n ≡ size (setting self.old) comm }
+    /// Makes room for what the members of a communicator give to a collective.
+    pub(crate) fn make_instance(&mut self, key: Key, n: u8) -> Result<(), Refusal>
+        requires { n ≡ size (setting self.old) key.comm }
         ensures unchanged { Unchanged self.old self.new }
-        ensures same { self.new.queues ≡ self.old.queues }
-        ensures room { OnOk result (n ≡ instances.size self.new.matches (next_instance self.new.queues rank comm)) }
+        ensures arena { self.new.arena ≡ self.old.arena }
+        ensures queues { self.new.queues ≡ self.old.queues }
+        ensures room { OnOk result (n ≡ instances.size self.new.matches key) }
         ensures refused { IfErr result (λ why. why ≡ Refusal.NoMemory) }
     {
         room_core(&self.arena);
-        let place = self.queues.place_of(comm, rank);
-        let key = Key {
-            comm,
-            place,
-            start: 0,
-        };
         self.matches.room(key, n)
     }
 
@@ -251,20 +232,16 @@ impl Core {
         is_sound(&self.arena);
         entry_core(&self.arena);
         is_planned(&offer.plan);
-        let buffer = match laid {
-            Ok(buffer) => buffer,
-            Err(why) => return Err(why),
+        let buffer = laid?;
+        self.make_place(rank, comm)?;
+        let key = Key {
+            comm,
+            place: self.queues.place_of(comm, rank),
+            start: 0,
         };
-        if let Err(why) = self.make_place(rank, comm) {
-            return Err(why);
-        }
-        if let Err(why) = self.make_instance(rank, comm, offer.plan.n()) {
-            return Err(why);
-        }
-        match offer.plan.shared_sig() {
-            Ok(sig) => Ok((sig, buffer)),
-            Err(why) => Err(why),
-        }
+        self.make_instance(key, offer.plan.n())?;
+        let sig = offer.plan.shared_sig()?;
+        Ok((sig, buffer))
     }
 
     /// Makes room for all that an initialisation takes, and answers the signature for the posting list.
@@ -282,9 +259,7 @@ impl Core {
     {
         is_sound(&self.arena);
         entry_core(&self.arena);
-        if let Err(why) = self.make_place(rank, comm) {
-            return Err(why);
-        }
+        self.make_place(rank, comm)?;
         plan.shared_sig()
     }
 

@@ -7,7 +7,8 @@ ghost use Rattle.coll_machine.specs.Calls.{Outcome as Completed, Nothing, Retire
 ghost use Rattle.coll_machine.specs.Machines.{MachineStep};
 ghost use Rattle.coll_machine.specs.Refusals.{refusal};
 ghost use Rattle.coll_sched.specs.Regions.{Inside, read_of};
-ghost use Rattle.coll_core.specs.Completions.{GivesUp, Rested};
+ghost use Rattle.coll_tables.specs.Engines.{Rests};
+ghost use Rattle.coll_core.specs.Completions.{GivesUp};
 ghost use Rattle.coll_core.specs.Cores.{seen, setting};
 ghost use Rattle.coll_core.specs.Requests.{schedule, shown};
 
@@ -38,10 +39,7 @@ impl Core {
     {
         laws::retire_core(&self.arena);
         laws::acting_core(&self.arena);
-        let request = match self.named(rank, ticket) {
-            Ok(request) => request,
-            Err(why) => return Err(why),
-        };
+        let request = self.named(rank, ticket)?;
         if !self.arena.is_on(ticket, ListName::Done(request.comm)) {
             return Ok(None);
         }
@@ -65,7 +63,7 @@ fn give_up(arena: &mut Arena<Request>, alloc: Global, ticket: Ticket) -> Vec<u8>
     requires named { names arena.old ticket ≡ true }
     requires can { IfSome (record_in arena.old ticket.slot) (GivesUp arena.old) }
     ensures bytes { IfSome (record_in arena.old ticket.slot) (λ x. result.items ≡ read_of x.buffer (schedule (shown x)).output) }
-    ensures rests { IfSome (record_in arena.old ticket.slot) (λ x. Rested x.plan.sig.mode arena.old arena.new ticket x) }
+    ensures rests { IfSome (record_in arena.old ticket.slot) (λ x. Rests shown x.plan.sig.mode arena.old arena.new ticket x) }
 {
     let Ok(request) = arena.get(ticket) else {
         unreachable!()
@@ -81,7 +79,7 @@ fn end(arena: &mut Arena<Request>, alloc: Global, ticket: Ticket) -> Vec<u8>
     requires named { names arena.old ticket ≡ true }
     requires can { IfSome (record_in arena.old ticket.slot) (GivesUp arena.old) }
     ensures bytes { IfSome (record_in arena.old ticket.slot) (λ x. result.items ≡ read_of x.buffer (schedule (shown x)).output) }
-    ensures rests { IfSome (record_in arena.old ticket.slot) (λ x. Rested Mode.Once arena.old arena.new ticket x) }
+    ensures rests { IfSome (record_in arena.old ticket.slot) (λ x. Rests shown Mode.Once arena.old arena.new ticket x) }
 {
     match arena.retire(ticket) {
         Ok(mut request) => request.take_outcome(alloc),
@@ -94,7 +92,7 @@ fn rest(arena: &mut Arena<Request>, alloc: Global, ticket: Ticket) -> Vec<u8>
     requires named { names arena.old ticket ≡ true }
     requires can { IfSome (record_in arena.old ticket.slot) (GivesUp arena.old) }
     ensures bytes { IfSome (record_in arena.old ticket.slot) (λ x. result.items ≡ read_of x.buffer (schedule (shown x)).output) }
-    ensures rests { IfSome (record_in arena.old ticket.slot) (λ x. Rested Mode.Persistent arena.old arena.new ticket x) }
+    ensures rests { IfSome (record_in arena.old ticket.slot) (λ x. Rests shown Mode.Persistent arena.old arena.new ticket x) }
 {
     is_sound(arena);
     let Ok(request) = arena.get_mut(ticket) else {

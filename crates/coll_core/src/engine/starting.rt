@@ -12,9 +12,9 @@ ghost use Rattle.coll_machine.specs.Machines.{MachineStep};
 ghost use Rattle.coll_machine.specs.Refusals.{refusal};
 ghost use Rattle.coll_tables.specs.Machines.{StepsTo};
 ghost use Rattle.coll_core.specs.Calls.{Refuses};
-ghost use Rattle.coll_core.specs.Cores.{seen, setting};
+ghost use Rattle.coll_core.specs.Cores.{seen, setting, Unchanged};
 ghost use Rattle.coll_core.specs.Requests.{schedule, shown};
-ghost use Rattle.coll_core.specs.Starts.{Begins, Begun, CanBegin, IsSame, next_instance};
+ghost use Rattle.coll_core.specs.Starts.{Begins, Begun, CanBegin, next_instance};
 
 use crate::buffer::Buffer;
 use crate::engine::Core;
@@ -43,7 +43,7 @@ impl Core {
         ensures starts { OnOk result (StepsTo (setting self.old) (seen self.old) (Start rank ticket bytes.items) Nothing (seen self.new)) }
         ensures back { IfErr result (λ refused. refused.back ≡ bytes) }
         ensures refused { IfErr result (λ refused. Refuses (setting self.old) (seen self.old) (Start rank ticket bytes.items) refused.why) }
-        ensures unchanged { OnErr result (IsSame self.old self.new) }
+        ensures unchanged { OnErr result (Unchanged self.old self.new) }
     {
         if let Err(why) = self.may_start(rank, ticket, &bytes) {
             return Err(Refused { why, back: bytes });
@@ -71,9 +71,7 @@ impl Core {
         ensures frees { OnOk result (MachineStep (setting self.old) (seen self.old) (Free rank ticket) Nothing (seen self.new)) }
     {
         laws::free_core(&self.arena);
-        if let Err(why) = self.may_free(rank, ticket) {
-            return Err(why);
-        }
+        self.may_free(rank, ticket)?;
         let Ok(_) = self.arena.retire(ticket) else {
             unreachable!()
         };
@@ -85,10 +83,7 @@ impl Core {
         ensures refused { result_err result ≡ refusal (setting self.now) (seen self.now).state (Free rank ticket) }
         ensures named { OnOk result (names self.now.arena ticket ≡ true) }
     {
-        let request = match self.named(rank, ticket) {
-            Ok(request) => request,
-            Err(why) => return Err(why),
-        };
+        let request = self.named(rank, ticket)?;
         if request.plan.sig().mode != Mode::Persistent {
             return Err(Refusal::NotPersistent);
         }
@@ -107,9 +102,7 @@ impl Core {
         ensures long { OnOk result (IfSome (record_in self.now.arena ticket.slot) (λ x. length bytes.now ≡ given_len x.plan.sig x.plan.n x.plan.member)) }
         ensures low { OnOk result (IfSome (record_in self.now.arena ticket.slot) (λ x. suc x.starts < 2 ^ 32)) }
     {
-        if let Err(why) = self.may_free(rank, ticket) {
-            return Err(why);
-        }
+        self.may_free(rank, ticket)?;
         lengths_are_small();
         let Ok(request) = self.arena.get(ticket) else {
             unreachable!()
@@ -132,28 +125,23 @@ impl Core {
     fn make_start_room(&mut self, ticket: Ticket, bytes: &[u8]) -> Result<Vec<u8>, Refusal>
         requires named { names self.old.arena ticket ≡ true }
         requires long { IfSome (record_in self.old.arena ticket.slot) (λ x. length bytes.now ≡ given_len x.plan.sig x.plan.n x.plan.member) }
-        ensures same { IsSame self.old self.new }
+        ensures same { Unchanged self.old self.new }
         ensures arena { self.new.arena ≡ self.old.arena }
         ensures room { OnOk result (IfSome (record_in self.old.arena ticket.slot) (λ x. x.plan.member < size self.new.matches (next_instance x))) }
         ensures buffer { IfOk result (λ buf. IfSome (record_in self.old.arena ticket.slot) (λ x. buf.items ≡ laid_in (schedule (shown x)) bytes.now)) }
         ensures refused { IfErr result (λ why. why ≡ Refusal.NoMemory) }
     {
-        laws::room_core(&self.arena);
         let Ok(request) = self.arena.get(ticket) else {
             unreachable!()
         };
-        let buffer = match request.plan.schedule().lay_in(self.alloc, bytes) {
-            Ok(buffer) => buffer,
-            Err(why) => return Err(why),
-        };
+        let buffer = request.plan.schedule().lay_in(self.alloc, bytes)?;
         let key = Key {
             comm: request.comm,
             place: request.place,
             start: request.starts,
         };
-        if let Err(why) = self.matches.room(key, request.plan.n()) {
-            return Err(why);
-        }
+        let n = request.plan.n();
+        self.make_instance(key, n)?;
         Ok(buffer)
     }
 }

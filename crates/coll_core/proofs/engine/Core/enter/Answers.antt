@@ -14,6 +14,7 @@ use Rattle.coll_core.specs.Requests.{shown}
 use Rattle.coll_core.specs.Cores.{Parts, seen, setting}
 use Rattle.coll_core.specs.Posts.{planned, refused_in, next_instance}
 use Rattle.coll_core.proofs.Posting.{Calls, accepted_from, emptied, given_now, lent_moved, not_given, parts_of, post_kept, post_steps}
+use Rattle.coll_match.specs.Instances.{LookUps}
 use Rattle.coll_core.proofs.engine.Core.enter.Goals as goal
 
 pub offer-place-requires-clause-judged : goal.offer-place-requires-clause-judged
@@ -37,7 +38,7 @@ join-hint-requires-clause-new c =
     ((c.new_core.ensures shown (setting p) p.arena p.queues p.matches c.self.invariant).0 c.args.rank c.args.comm plan bytes accepted)
 
 pub seat-requires : goal.seat-requires
-seat-requires c = given_now c.self.inside.matches c.join-hint.new.self c.key-key.result c.member-member.result c.args.offer.bytes.items c.join-hint.ensures.given
+seat-requires c = given_now c.self.inside.matches c.join-hint.new.self c.key-key.result c.member-member.result c.args.offer.bytes.items (ap (λ (s : LookUps). s.given) c.join-hint.ensures)
 
 pub invariant_of-self : goal.invariant_of-self
 invariant_of-self c =
@@ -56,7 +57,7 @@ invariant_of-self c =
       place_is = c.offer-place.ensures.place;
       key_is = key_is;
       member_is = c.member-member.ensures.member;
-      joins = record { members_is = c.join-hint.ensures.members; given_is = c.join-hint.ensures.given; seats_is = c.join-hint.ensures.seats; mail_is = c.join-hint.ensures.mail; then_members = c.seat.ensures.members; then_given = c.seat.ensures.given; then_seats = c.seat.ensures.seats; then_mail = c.seat.ensures.mail };
+      joins = record { members_is = (ap (λ (s : LookUps). s.members) c.join-hint.ensures); given_is = (ap (λ (s : LookUps). s.given) c.join-hint.ensures); seats_is = (ap (λ (s : LookUps). s.seats) c.join-hint.ensures); mail_is = (ap (λ (s : LookUps). s.mail) c.join-hint.ensures); then_members = (ap (λ (s : LookUps). s.members) c.seat.ensures); then_given = (ap (λ (s : LookUps). s.given) c.seat.ensures); then_seats = (ap (λ (s : LookUps). s.seats) c.seat.ensures); then_mail = (ap (λ (s : LookUps). s.mail) c.seat.ensures) };
       puts = c.in-Ok.ensures.puts;
       weight_is = c.lent-weight.ensures ∙ lent_moved c.sig.result.now plan.sig c.n.result plan.n c.member-member.result plan.member c.sig.ensures.sig c.n.ensures.n c.member-member.ensures.member;
       made_is = refl;
@@ -92,7 +93,7 @@ returns-clause-posted c =
       place_is = c.offer-place.ensures.place;
       key_is = key_is;
       member_is = c.member-member.ensures.member;
-      joins = record { members_is = c.join-hint.ensures.members; given_is = c.join-hint.ensures.given; seats_is = c.join-hint.ensures.seats; mail_is = c.join-hint.ensures.mail; then_members = c.seat.ensures.members; then_given = c.seat.ensures.given; then_seats = c.seat.ensures.seats; then_mail = c.seat.ensures.mail };
+      joins = record { members_is = (ap (λ (s : LookUps). s.members) c.join-hint.ensures); given_is = (ap (λ (s : LookUps). s.given) c.join-hint.ensures); seats_is = (ap (λ (s : LookUps). s.seats) c.join-hint.ensures); mail_is = (ap (λ (s : LookUps). s.mail) c.join-hint.ensures); then_members = (ap (λ (s : LookUps). s.members) c.seat.ensures); then_given = (ap (λ (s : LookUps). s.given) c.seat.ensures); then_seats = (ap (λ (s : LookUps). s.seats) c.seat.ensures); then_mail = (ap (λ (s : LookUps). s.mail) c.seat.ensures) };
       puts = c.in-Ok.ensures.puts;
       weight_is = c.lent-weight.ensures ∙ lent_moved c.sig.result.now plan.sig c.n.result plan.n c.member-member.result plan.member c.sig.ensures.sig c.n.ensures.n c.member-member.ensures.member;
       made_is = refl;

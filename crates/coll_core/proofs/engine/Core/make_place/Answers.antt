@@ -1,10 +1,10 @@
 use Rattle.std.proofs.Common.{inl, refl}
-use Rattle.coll_match.specs.declared.key.Key.{Key as MatchKey}
+use Rattle.coll_machine.specs.declared.key.Key.{Key}
 use Rattle.coll_core.specs.Cores.{Parts}
 use Rattle.coll_core.proofs.Rooming.{room_kept, room_unchanged, unchanged_from}
 use Rattle.coll_core.proofs.engine.Core.make_place.Goals as goal
 
-abbrev some_key : MatchKey
+abbrev some_key : Key
 some_key = record { comm = 0; place = 0; start = 0 }
 
 pub invariant_of-self : goal.invariant_of-self

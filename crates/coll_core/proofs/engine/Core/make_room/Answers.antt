@@ -3,7 +3,8 @@ use Rattle.coll_kinds.specs.declared.kind.Mode.TheVariants.{Once}
 use Rattle.coll_kinds.specs.Lengths.{given_len}
 use Rattle.coll_machine.specs.Calls.{Post}
 use Rattle.coll_machine.specs.Settings.{Setting, size}
-use Rattle.coll_queues.specs.Postings.{Postings, HasRoom}
+use Rattle.coll_match.specs.Instances as instances
+use Rattle.coll_queues.specs.Postings.{Postings, HasRoom, place_of}
 use Rattle.coll_tables.specs.EngineTests.{MayEnter}
 use Rattle.coll_core.specs.Requests.{shown}
 use Rattle.coll_core.specs.Cores.{Parts, setting}
@@ -17,17 +18,17 @@ use Rattle.coll_core.proofs.engine.Core.make_room.Goals as goal
 laid_for : (r : Result (Vec ℕ Global) Refusal) (offer : Offer) (buffer : Vec ℕ Global) → IfOk r (λ b. IsLaid offer b.items) → r ≡ Ok buffer → IsLaid offer buffer.items
 laid_for r offer buffer all is = subst (λ x. IfOk x (λ b. IsLaid offer b.items)) is all
 
-pub returns-in-Ok-shared_sig-clause-buffer : goal.returns-in-Ok-shared_sig-clause-buffer
-returns-in-Ok-shared_sig-clause-buffer c =
+pub returns-clause-buffer : goal.returns-clause-buffer
+returns-clause-buffer c =
     let p : Parts = record { ranks = c.self.inside.ranks; starts = c.self.inside.starts; trace = c.self.inside.trace; arena = c.self.inside.arena; queues = c.self.inside.queues; matches = c.self.inside.matches } in
     let plan = planned c.args.offer.now.plan in
     let bytes = c.args.offer.now.bytes.items in
     let accepted : refused_in p (Post c.args.rank c.args.comm plan bytes) ≡ None = accepted_from p c.args.self.now (Post c.args.rank c.args.comm plan bytes) c.self.view_is c.requires.accepted in
     let tested : MayEnter (setting p) p.arena p.queues c.args.rank c.args.comm Once plan × (length bytes ≡ given_len plan.sig plan.n plan.member) = (c.entry_core.ensures shown (setting p) p.arena p.queues p.matches c.args.rank c.args.comm plan c.self.invariant c.is_sound.ensures).0 bytes accepted in
-    laid_for c.args.laid c.args.offer.now c.in-Ok.buffer c.requires.laid c.in-Ok.is (tested.1 ∙ sym (c.is_planned.ensures.serves.takes_given plan.member tested.0.low))
+    laid_for c.args.laid c.args.offer.now c.in_ok-buffer.buffer c.requires.laid c.in_ok-buffer.was (tested.1 ∙ sym (c.is_planned.ensures.serves.takes_given plan.member tested.0.low))
 
-pub make_instance-requires-clause-members : goal.make_instance-requires-clause-members
-make_instance-requires-clause-members c =
+pub make_instance-requires : goal.make_instance-requires
+make_instance-requires c =
     let p : Parts = record { ranks = c.self.inside.ranks; starts = c.self.inside.starts; trace = c.self.inside.trace; arena = c.self.inside.arena; queues = c.self.inside.queues; matches = c.self.inside.matches } in
     let plan = planned c.args.offer.now.plan in
     let bytes = c.args.offer.now.bytes.items in
@@ -39,14 +40,16 @@ make_instance-requires-clause-members c =
 low : (a b c d : ℕ) → a < b → c ≡ b → c ≡ d → a < d
 low a b c d h e f = omega arith
 
-pub returns-in-Ok-shared_sig-clause-room : goal.returns-in-Ok-shared_sig-clause-room
-returns-in-Ok-shared_sig-clause-room c =
+pub returns-clause-room : goal.returns-clause-room
+returns-clause-room c =
     let p : Parts = record { ranks = c.self.inside.ranks; starts = c.self.inside.starts; trace = c.self.inside.trace; arena = c.self.inside.arena; queues = c.self.inside.queues; matches = c.self.inside.matches } in
     let plan = planned c.args.offer.now.plan in
     let bytes = c.args.offer.now.bytes.items in
     let accepted : refused_in p (Post c.args.rank c.args.comm plan bytes) ≡ None = accepted_from p c.args.self.now (Post c.args.rank c.args.comm plan bytes) c.self.view_is c.requires.accepted in
     let tested : MayEnter (setting p) p.arena p.queues c.args.rank c.args.comm Once plan × (length bytes ≡ given_len plan.sig plan.n plan.member) = (c.entry_core.ensures shown (setting p) p.arena p.queues p.matches c.args.rank c.args.comm plan c.self.invariant c.is_sound.ensures).0 bytes accepted in
     record {
-      posting = subst (λ (q : Postings). HasRoom q c.args.comm c.args.rank) (sym c.make_instance.ensures.same) c.in_default.ensures.room;
-      sharing = low plan.member plan.n c.n.result _ tested.0.low c.n.ensures.n c.in_default-make_instance.ensures.room;
+      posting = subst (λ (q : Postings). HasRoom q c.args.comm c.args.rank) (sym c.make_instance.ensures.queues) c.in_ok-make_place.ensures.room;
+      sharing = subst (λ place. plan.member < instances.size c.make_instance.new.self.matches (record { comm = c.args.comm; place = place; start = 0 }))
+          (c.place_of.ensures ∙ ap (λ (p : Parts). place_of p.queues c.args.comm c.args.rank) c.self-2.view_is ∙ ap (λ (q : Postings). place_of q c.args.comm c.args.rank) (sym c.make_instance.ensures.queues))
+          (low plan.member plan.n c.n.result _ tested.0.low c.n.ensures.n c.in_ok-make_instance.ensures.room);
     }

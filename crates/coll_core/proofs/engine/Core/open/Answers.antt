@@ -4,6 +4,7 @@ use Rattle.std.specs.Global.{Global}
 use Rattle.coll_machine.specs.Runs.{opened}
 use Rattle.coll_core.specs.Cores.{IsCore, Parts, seen}
 use Rattle.coll_core.proofs.Opening.{opened_core, have_groups}
+use Rattle.coll_match.specs.Instances.{LookUps}
 use Rattle.coll_core.proofs.engine.Core.open.Goals as goal
 
 abbrev parts : goal.After-new → Parts
@@ -26,7 +27,7 @@ begun c =
     (ap length groups
     ∙ (length-map c.args.config.groups.items (λ (group : Vec ℕ Global). group.items) ∙ (sym c.args.config.groups.ok.0 ∙ sym c.len-comms.ensures)))
     (have_groups (parts c) c.args.config.groups.items groups fits.groups.2)
-    c.in_ok-queues.ensures.posts c.new.ensures.members c.new.ensures.given c.new.ensures.seats c.new.ensures.mail
+    c.in_ok-queues.ensures.posts (ap (λ (s : LookUps). s.members) c.new.ensures) (ap (λ (s : LookUps). s.given) c.new.ensures) (ap (λ (s : LookUps). s.seats) c.new.ensures) (ap (λ (s : LookUps). s.mail) c.new.ensures)
 
 pub invariant_of-result : goal.invariant_of-result
 invariant_of-result c = (begun c).0

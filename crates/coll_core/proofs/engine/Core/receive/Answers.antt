@@ -6,6 +6,7 @@ use Rattle.coll_core.specs.Steps.{Acts}
 use Rattle.coll_core.proofs.Acting.{can_go_on, parts}
 use Rattle.coll_core.proofs.Doing.{message_came, message_long, message_taken, received}
 use Rattle.coll_core.proofs.Reading.{acts_at}
+use Rattle.coll_match.specs.Instances.{LookUps}
 use Rattle.coll_core.proofs.engine.Core.receive.Goals as goal
 
 pub write-requires-clause-same : goal.write-requires-clause-same
@@ -29,9 +30,9 @@ invariant_of-self c =
     let at = acts_at _ c.args.self.now c.args.ticket x (Recv c.args.of c.args.into) c.self.view_is c.requires c.in-Ok.ensures.found in
     (received c.self.inside.ranks c.self.inside.starts c.self.inside.trace c.self.inside.arena c.go_on.new.arena c.self.inside.queues c.self.inside.matches c.take.new.self
     c.args.ticket x _ c.args.of c.args.into c.in-Some.message.items c.write.new.self c.go_on.result c.is_sound.ensures c.self.invariant at
-    (record { members = c.take.ensures.members; given = c.take.ensures.given; seats = c.take.ensures.seats })
+    (record { members = (ap (λ (s : LookUps). s.members) c.take.ensures.gone); given = (ap (λ (s : LookUps). s.given) c.take.ensures.gone); seats = (ap (λ (s : LookUps). s.seats) c.take.ensures.gone) })
     (message_came c.self.inside.matches x c.args.of c.key-key.result c.member-member.result c.key-key.ensures c.member-member.ensures.member c.in-Some.message.items c.in-Some.ensures.taken)
-    (message_taken c.self.inside.matches x c.args.of c.key-key.result c.member-member.result c.key-key.ensures c.member-member.ensures.member c.take.new.self c.take.ensures.mail)
+    (message_taken c.self.inside.matches x c.args.of c.key-key.result c.member-member.result c.key-key.ensures c.member-member.ensures.member c.take.new.self (ap (λ (s : LookUps). s.mail) c.take.ensures.gone))
     (c.write.ensures ∙ (λ z. written x.buffer c.args.into (c.deref.ensures z)))
     (record { is = refl; round_is = refl; index_is = refl; buf = refl }) c.go_on.ensures).0
 
@@ -42,8 +43,8 @@ returns c =
     subst (λ (p : Parts). Acts p (parts c.self.inside.ranks c.self.inside.starts c.self.inside.trace c.go_on.new.arena c.self.inside.queues c.take.new.self) c.go_on.result) c.self.view_is
     (received c.self.inside.ranks c.self.inside.starts c.self.inside.trace c.self.inside.arena c.go_on.new.arena c.self.inside.queues c.self.inside.matches c.take.new.self
     c.args.ticket x _ c.args.of c.args.into c.in-Some.message.items c.write.new.self c.go_on.result c.is_sound.ensures c.self.invariant at
-    (record { members = c.take.ensures.members; given = c.take.ensures.given; seats = c.take.ensures.seats })
+    (record { members = (ap (λ (s : LookUps). s.members) c.take.ensures.gone); given = (ap (λ (s : LookUps). s.given) c.take.ensures.gone); seats = (ap (λ (s : LookUps). s.seats) c.take.ensures.gone) })
     (message_came c.self.inside.matches x c.args.of c.key-key.result c.member-member.result c.key-key.ensures c.member-member.ensures.member c.in-Some.message.items c.in-Some.ensures.taken)
-    (message_taken c.self.inside.matches x c.args.of c.key-key.result c.member-member.result c.key-key.ensures c.member-member.ensures.member c.take.new.self c.take.ensures.mail)
+    (message_taken c.self.inside.matches x c.args.of c.key-key.result c.member-member.result c.key-key.ensures c.member-member.ensures.member c.take.new.self (ap (λ (s : LookUps). s.mail) c.take.ensures.gone))
     (c.write.ensures ∙ (λ z. written x.buffer c.args.into (c.deref.ensures z)))
     (record { is = refl; round_is = refl; index_is = refl; buf = refl }) c.go_on.ensures).1

@@ -1,58 +1,59 @@
-use Rattle.std.proofs.Common.{◌+◌, ◌*◌, refl, arith}
+use Rattle.std.proofs.Common.{◌+◌, ◌*◌, refl, arith, ap}
 use Rattle.coll_core.proofs.Standings.{list_in}
 use Rattle.coll_core.proofs.Retiring.{completes, gives_up, kept, on_done, owned, seated, waits}
+use Rattle.coll_match.specs.Instances.{LookUps}
 use Rattle.coll_core.proofs.engine.Core.retire.Goals as goal
 
 pub is_on-requires : goal.is_on-requires
 is_on-requires c =
-    let owns = owned _ c.args.self.now c.args.rank c.args.ticket c.in-Ok.request.now c.self.view_is c.in-Ok.ensures.refused c.in-Ok.ensures.named c.in-Ok.ensures.found in
-    list_in _ c.self.inside.arena c.args.ticket.slot 6 c.in-Ok.request.now c.self.invariant refl owns.found (omega arith)
+    let owns = owned _ c.args.self.now c.args.rank c.args.ticket c.in_ok-request.request.now c.self.view_is c.in_ok-request.ensures.refused c.in_ok-request.ensures.named c.in_ok-request.ensures.found in
+    list_in _ c.self.inside.arena c.args.ticket.slot 6 c.in_ok-request.request.now c.self.invariant refl owns.found (omega arith)
 
 pub returns-then-not-is_on-clause-waits : goal.returns-then-not-is_on-clause-waits
 returns-then-not-is_on-clause-waits c none =
-    let owns = owned _ c.args.self.now c.args.rank c.args.ticket c.in-Ok.request.now c.self.view_is c.in-Ok.ensures.refused c.in-Ok.ensures.named c.in-Ok.ensures.found in
-    waits _ c.args.self.now c.args.rank c.args.ticket c.in-Ok.request.now c.self.view_is owns c.if-not-is_on.ensures
+    let owns = owned _ c.args.self.now c.args.rank c.args.ticket c.in_ok-request.request.now c.self.view_is c.in_ok-request.ensures.refused c.in_ok-request.ensures.named c.in_ok-request.ensures.found in
+    waits _ c.args.self.now c.args.rank c.args.ticket c.in_ok-request.request.now c.self.view_is owns c.if-not-is_on.ensures
 
 pub give_up-bytes-requires-clause-can : goal.give_up-bytes-requires-clause-can
 give_up-bytes-requires-clause-can c =
-    let owns = owned _ c.args.self.now c.args.rank c.args.ticket c.in-Ok.request.now c.self.view_is c.in-Ok.ensures.refused c.in-Ok.ensures.named c.in-Ok.ensures.found in
-    let on = on_done c.self.inside.arena c.args.ticket (6 + 3 * c.in-Ok.request.now.comm) c.if-not-is_on.ensures in
-    gives_up _ c.args.rank c.args.ticket c.in-Ok.request.now c.self.invariant owns on c.acting_core.ensures
+    let owns = owned _ c.args.self.now c.args.rank c.args.ticket c.in_ok-request.request.now c.self.view_is c.in_ok-request.ensures.refused c.in_ok-request.ensures.named c.in_ok-request.ensures.found in
+    let on = on_done c.self.inside.arena c.args.ticket (6 + 3 * c.in_ok-request.request.now.comm) c.if-not-is_on.ensures in
+    gives_up _ c.args.rank c.args.ticket c.in_ok-request.request.now c.self.invariant owns on c.acting_core.ensures
 
 pub leave-requires : goal.leave-requires
 leave-requires c =
-    let owns = owned _ c.args.self.now c.args.rank c.args.ticket c.in-Ok.request.now c.self.view_is c.in-Ok.ensures.refused c.in-Ok.ensures.named c.in-Ok.ensures.found in
-    let on = on_done c.self.inside.arena c.args.ticket (6 + 3 * c.in-Ok.request.now.comm) c.if-not-is_on.ensures in
-    seated _ c.args.rank c.args.ticket c.in-Ok.request.now c.self.invariant owns on c.acting_core.ensures
+    let owns = owned _ c.args.self.now c.args.rank c.args.ticket c.in_ok-request.request.now c.self.view_is c.in_ok-request.ensures.refused c.in_ok-request.ensures.named c.in_ok-request.ensures.found in
+    let on = on_done c.self.inside.arena c.args.ticket (6 + 3 * c.in_ok-request.request.now.comm) c.if-not-is_on.ensures in
+    seated _ c.args.rank c.args.ticket c.in_ok-request.request.now c.self.invariant owns on c.acting_core.ensures
     c.key-key.result c.member-member.result c.key-key.ensures c.member-member.ensures.member
 
 pub invariant_of-self : goal.invariant_of-self
 invariant_of-self c =
-    let owns = owned _ c.args.self.now c.args.rank c.args.ticket c.in-Ok.request.now c.self.view_is c.in-Ok.ensures.refused c.in-Ok.ensures.named c.in-Ok.ensures.found in
-    let on = on_done c.self.inside.arena c.args.ticket (6 + 3 * c.in-Ok.request.now.comm) c.if-not-is_on.ensures in
-    kept _ c.give_up-bytes.new.arena c.leave.new.self c.args.ticket c.args.rank c.in-Ok.request.now c.give_up-bytes.result.items c.leave.result
+    let owns = owned _ c.args.self.now c.args.rank c.args.ticket c.in_ok-request.request.now c.self.view_is c.in_ok-request.ensures.refused c.in_ok-request.ensures.named c.in_ok-request.ensures.found in
+    let on = on_done c.self.inside.arena c.args.ticket (6 + 3 * c.in_ok-request.request.now.comm) c.if-not-is_on.ensures in
+    kept _ c.give_up-bytes.new.arena c.leave.new.self c.args.ticket c.args.rank c.in_ok-request.request.now c.give_up-bytes.result.items c.leave.result
     c.key-key.result c.member-member.result c.retire_core.ensures c.self.invariant owns on
     c.give_up-bytes.ensures.bytes c.give_up-bytes.ensures.rests c.key-key.ensures c.member-member.ensures.member
     (record {
       last_is = c.leave.ensures.last;
-      members = c.leave.ensures.members;
-      given = c.leave.ensures.given;
-      seats = c.leave.ensures.seats;
-      mail = c.leave.ensures.mail;
+      members = (ap (λ (s : LookUps). s.members) c.leave.ensures.left);
+      given = (ap (λ (s : LookUps). s.given) c.leave.ensures.left);
+      seats = (ap (λ (s : LookUps). s.seats) c.leave.ensures.left);
+      mail = (ap (λ (s : LookUps). s.mail) c.leave.ensures.left);
     })
 
 pub returns-clause-completes : goal.returns-clause-completes
 returns-clause-completes c =
-    let owns = owned _ c.args.self.now c.args.rank c.args.ticket c.in-Ok.request.now c.self.view_is c.in-Ok.ensures.refused c.in-Ok.ensures.named c.in-Ok.ensures.found in
-    let on = on_done c.self.inside.arena c.args.ticket (6 + 3 * c.in-Ok.request.now.comm) c.if-not-is_on.ensures in
-    completes _ c.give_up-bytes.new.arena c.leave.new.self c.args.ticket c.args.rank c.in-Ok.request.now c.give_up-bytes.result.items c.leave.result
+    let owns = owned _ c.args.self.now c.args.rank c.args.ticket c.in_ok-request.request.now c.self.view_is c.in_ok-request.ensures.refused c.in_ok-request.ensures.named c.in_ok-request.ensures.found in
+    let on = on_done c.self.inside.arena c.args.ticket (6 + 3 * c.in_ok-request.request.now.comm) c.if-not-is_on.ensures in
+    completes _ c.give_up-bytes.new.arena c.leave.new.self c.args.ticket c.args.rank c.in_ok-request.request.now c.give_up-bytes.result.items c.leave.result
     c.key-key.result c.member-member.result c.retire_core.ensures c.self.invariant owns on
     c.give_up-bytes.ensures.bytes c.give_up-bytes.ensures.rests c.key-key.ensures c.member-member.ensures.member
     (record {
       last_is = c.leave.ensures.last;
-      members = c.leave.ensures.members;
-      given = c.leave.ensures.given;
-      seats = c.leave.ensures.seats;
-      mail = c.leave.ensures.mail;
+      members = (ap (λ (s : LookUps). s.members) c.leave.ensures.left);
+      given = (ap (λ (s : LookUps). s.given) c.leave.ensures.left);
+      seats = (ap (λ (s : LookUps). s.seats) c.leave.ensures.left);
+      mail = (ap (λ (s : LookUps). s.mail) c.leave.ensures.left);
     })
     c.args.self.now c.self.view_is

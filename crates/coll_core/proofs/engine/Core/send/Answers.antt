@@ -6,6 +6,7 @@ use Rattle.coll_core.specs.Steps.{Acts}
 use Rattle.coll_core.proofs.Acting.{parts}
 use Rattle.coll_core.proofs.Sending.{can_go_then, has_given, no_message, sent, stands_sent, stood}
 use Rattle.coll_core.proofs.Reading.{acts_at, have_lists}
+use Rattle.coll_match.specs.Instances.{LookUps}
 use Rattle.coll_core.proofs.engine.Core.send.Goals as goal
 
 pub put-requires-clause-joined : goal.put-requires-clause-joined
@@ -23,8 +24,8 @@ put-requires-clause-new c =
 pub deliver-requires : goal.deliver-requires
 deliver-requires c = record {
   lists = have_lists (parts c.self.inside.ranks c.self.inside.starts c.self.inside.trace c.self.inside.arena c.self.inside.queues c.self.inside.matches) c.self.invariant;
-  sent = stands_sent c.self.inside.matches c.put.new.self c.key-key.result c.member-member.result c.args.to c.in-Ok.request.now.round c.in_ok-message.message.items c.in-Ok-put.ensures.mail;
-  seat = c.in-Ok-put.ensures.receiver ∙ ap (λ f. f c.key-key.result c.args.to) (sym c.in-Ok-put.ensures.seats);
+  sent = stands_sent c.self.inside.matches c.put.new.self c.key-key.result c.member-member.result c.args.to c.in-Ok.request.now.round c.in_ok-message.message.items (ap (λ (s : LookUps). s.mail) c.in-Ok-put.ensures.kept);
+  seat = c.in-Ok-put.ensures.receiver ∙ ap (λ f. f c.key-key.result c.args.to) (sym (ap (λ (s : LookUps). s.seats) c.in-Ok-put.ensures.kept));
 }
 
 pub go_on-requires : goal.go_on-requires
@@ -41,8 +42,8 @@ invariant_of-self-2 c =
     (sent c.self.inside.ranks c.self.inside.starts c.self.inside.trace c.self.inside.arena c.deliver.new.arena c.go_on.new.arena c.self.inside.queues c.self.inside.matches c.put.new.self
     c.args.ticket x c.args.to c.args.from c.key-key.result c.member-member.result c.in_ok-message.message.items c.go_on.result c.self.invariant at c.key-key.ensures c.member-member.ensures.member
     (c.in_ok-message.ensures.ok ∙ c.read.ensures ∙ ap (λ b. read_of b c.args.from) c.bytes.ensures)
-    (record { members = c.in-Ok-put.ensures.members; given = c.in-Ok-put.ensures.given; seats = c.in-Ok-put.ensures.seats })
-    c.in-Ok-put.ensures.mail c.deliver.ensures.delivers c.deliver.ensures.running c.deliver.ensures.first c.go_on.ensures).0
+    (record { members = (ap (λ (s : LookUps). s.members) c.in-Ok-put.ensures.kept); given = (ap (λ (s : LookUps). s.given) c.in-Ok-put.ensures.kept); seats = (ap (λ (s : LookUps). s.seats) c.in-Ok-put.ensures.kept) })
+    (ap (λ (s : LookUps). s.mail) c.in-Ok-put.ensures.kept) c.deliver.ensures.delivers c.deliver.ensures.running c.deliver.ensures.first c.go_on.ensures).0
 
 pub returns-clause-acts : goal.returns-clause-acts
 returns-clause-acts c =
@@ -52,5 +53,5 @@ returns-clause-acts c =
     (sent c.self.inside.ranks c.self.inside.starts c.self.inside.trace c.self.inside.arena c.deliver.new.arena c.go_on.new.arena c.self.inside.queues c.self.inside.matches c.put.new.self
     c.args.ticket x c.args.to c.args.from c.key-key.result c.member-member.result c.in_ok-message.message.items c.go_on.result c.self.invariant at c.key-key.ensures c.member-member.ensures.member
     (c.in_ok-message.ensures.ok ∙ c.read.ensures ∙ ap (λ b. read_of b c.args.from) c.bytes.ensures)
-    (record { members = c.in-Ok-put.ensures.members; given = c.in-Ok-put.ensures.given; seats = c.in-Ok-put.ensures.seats })
-    c.in-Ok-put.ensures.mail c.deliver.ensures.delivers c.deliver.ensures.running c.deliver.ensures.first c.go_on.ensures).1
+    (record { members = (ap (λ (s : LookUps). s.members) c.in-Ok-put.ensures.kept); given = (ap (λ (s : LookUps). s.given) c.in-Ok-put.ensures.kept); seats = (ap (λ (s : LookUps). s.seats) c.in-Ok-put.ensures.kept) })
+    (ap (λ (s : LookUps). s.mail) c.in-Ok-put.ensures.kept) c.deliver.ensures.delivers c.deliver.ensures.running c.deliver.ensures.first c.go_on.ensures).1

@@ -1,12 +1,13 @@
-use Rattle.std.proofs.Common.{◌∙◌}
+use Rattle.std.proofs.Common.{◌∙◌, ap}
 use Rattle.coll_kinds.specs.Lengths.{lent}
 use Rattle.coll_match.proofs.Sizes.{joined_gave}
 use Rattle.coll_core.proofs.Beginning.{begun_there, joined}
+use Rattle.coll_match.specs.Instances.{LookUps}
 use Rattle.coll_core.proofs.engine.starting.begin.Goals as goal
 
 pub seat-requires : goal.seat-requires
 seat-requires c =
-    joined_gave c.args.matches.now c.join-request.new.self c.key-key.result c.member-member.result c.args.bytes.items c.join-request.ensures.given
+    joined_gave c.args.matches.now c.join-request.new.self c.key-key.result c.member-member.result c.args.bytes.items (ap (λ (s : LookUps). s.given) c.join-request.ensures)
 
 pub returns : goal.returns
 returns c =
@@ -17,6 +18,6 @@ returns c =
     (c.lent-weight.ensures ∙ (λ z. lent (c.sig.ensures.sig z) (c.n.ensures.n z) (c.member-member.ensures.member z))) c.in-Ok-reweigh.ensures.puts c.in-Ok-shift.ensures.puts
     c.key-key.ensures c.member-member.ensures.member
     (joined c.args.matches.now c.join-request.new.self c.seat.new.self c.key-key.result c.member-member.result c.args.ticket.slot c.args.bytes.items
-    c.join-request.ensures.members c.join-request.ensures.given c.join-request.ensures.seats c.join-request.ensures.mail
-    c.seat.ensures.members c.seat.ensures.given c.seat.ensures.seats c.seat.ensures.mail)
+    (ap (λ (s : LookUps). s.members) c.join-request.ensures) (ap (λ (s : LookUps). s.given) c.join-request.ensures) (ap (λ (s : LookUps). s.seats) c.join-request.ensures) (ap (λ (s : LookUps). s.mail) c.join-request.ensures)
+    (ap (λ (s : LookUps). s.members) c.seat.ensures) (ap (λ (s : LookUps). s.given) c.seat.ensures) (ap (λ (s : LookUps). s.seats) c.seat.ensures) (ap (λ (s : LookUps). s.mail) c.seat.ensures))
     c.list-list.ensures.stands

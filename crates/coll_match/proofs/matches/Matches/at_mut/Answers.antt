@@ -3,7 +3,8 @@ use Rattle.std.specs.Map.{set_value}
 use Rattle.std.specs.Option.{ghost_name_of}
 use borrow.Follows.Closed.{read_of}
 use Rattle.coll_match.specs.Held.{Held}
-use Rattle.coll_match.specs.Instances.{same_key, standing}
+use Rattle.coll_machine.specs.Changes.{same_key}
+use Rattle.coll_match.specs.Instances.{standing}
 use Rattle.coll_match.proofs.Hints.{set_value_at-set_value, standing-at}
 use Rattle.coll_match.proofs.matches.Matches.at_mut.Goals as goal
 

@@ -5,18 +5,10 @@ use Rattle.coll_match.proofs.matches.Matches.join.Goals as goal
 pub join-requires : goal.join-requires
 join-requires c = sized c.args.self.now c.args.self.now refl c.args.key c.in-Some.instance.now c.in-Some.ensures.value c.args.member c.requires.room
 
-pub returns-clause-members : goal.returns-clause-members
-returns-clause-members c =
-    members_kept c.args.self.now c.args.key c.in-Some.instance.now c.join.new.self c.in-Some.ensures.value c.join.ensures.members
-
-pub returns-clause-given : goal.returns-clause-given
-returns-clause-given c =
-    given_put c.args.self.now c.args.key c.in-Some.instance.now c.join.new.self c.in-Some.ensures.value c.args.member _ c.join.ensures.given
-
-pub returns-clause-seats : goal.returns-clause-seats
-returns-clause-seats c =
-    seats_kept c.args.self.now c.args.key c.in-Some.instance.now c.join.new.self c.in-Some.ensures.value c.join.ensures.seats
-
-pub returns-clause-mail : goal.returns-clause-mail
-returns-clause-mail c =
-    mail_kept c.args.self.now c.args.key c.in-Some.instance.now c.join.new.self c.in-Some.ensures.value c.join.ensures.mail
+pub returns : goal.returns
+returns c = λ z. record {
+  members = members_kept c.args.self.now c.args.key c.in-Some.instance.now c.join.new.self c.in-Some.ensures.value c.join.ensures.members z;
+  given = given_put c.args.self.now c.args.key c.in-Some.instance.now c.join.new.self c.in-Some.ensures.value c.args.member _ c.join.ensures.given z;
+  seats = seats_kept c.args.self.now c.args.key c.in-Some.instance.now c.join.new.self c.in-Some.ensures.value c.join.ensures.seats z;
+  mail = mail_kept c.args.self.now c.args.key c.in-Some.instance.now c.join.new.self c.in-Some.ensures.value c.join.ensures.mail z;
+}

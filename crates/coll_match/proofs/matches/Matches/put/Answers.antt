@@ -1,23 +1,12 @@
 use Rattle.std.proofs.Common.{◌∙◌, ap, refl, sym, Some}
-use Rattle.coll_match.proofs.Standing.{gave, given_kept, mail_put, if_ok, members_kept, on_err, on_ok, seats_kept, set_value_own, stands}
+use Rattle.coll_match.proofs.Standing.{gave, if_ok, on_err, put_kept, set_value_own, stands}
 use Rattle.coll_match.specs.Instances.{mail_of, seats_of}
 use Rattle.coll_match.proofs.matches.Matches.put.Goals as goal
 
-pub returns-clause-members : goal.returns-clause-members
-returns-clause-members c =
-    on_ok c.put.result (members_kept c.args.self.now c.args.key c.in-Some.instance.now c.put.new.self c.in-Some.ensures.value) c.put.ensures.members
-
-pub returns-clause-given : goal.returns-clause-given
-returns-clause-given c =
-    on_ok c.put.result (given_kept c.args.self.now c.args.key c.in-Some.instance.now c.put.new.self c.in-Some.ensures.value) c.put.ensures.given
-
-pub returns-clause-seats : goal.returns-clause-seats
-returns-clause-seats c =
-    on_ok c.put.result (seats_kept c.args.self.now c.args.key c.in-Some.instance.now c.put.new.self c.in-Some.ensures.value) c.put.ensures.seats
-
-pub returns-clause-mail : goal.returns-clause-mail
-returns-clause-mail c =
-    on_ok c.put.result (mail_put c.args.self.now c.args.key c.in-Some.instance.now c.put.new.self c.in-Some.ensures.value c.args.from c.args.to c.args.round _) c.put.ensures.mail
+pub returns-clause-kept : goal.returns-clause-kept
+returns-clause-kept c =
+    put_kept c.put.result c.args.self.now c.args.key c.in-Some.instance.now c.put.new.self c.in-Some.ensures.value c.args.from c.args.to c.args.round (Some c.args.message.items)
+    c.put.ensures.members c.put.ensures.given c.put.ensures.seats c.put.ensures.mail
 
 pub returns-clause-err : goal.returns-clause-err
 returns-clause-err c =

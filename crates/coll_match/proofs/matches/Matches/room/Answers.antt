@@ -1,12 +1,14 @@
 use Rattle.std.proofs.Common.{◌≡◌, ◌∙◌, ap, sym, false}
 use Rattle.std.specs.Prelude.{is_some}
-use Rattle.coll_match.specs.Instances.{given, mail, members, seats, standing}
+use Rattle.coll_match.specs.Instances.{given, look_ups, mail, seats, standing}
 use Rattle.coll_match.proofs.Standing.{given_new, kept_members, mail_new, members_new, seats_new}
 use Rattle.coll_match.proofs.matches.Matches.room.Goals as goal
 use Rattle.coll_match.proofs.matches.Matches.room.Goals.{in-Some-1, in-None-1}
 
-pub returns-else-not-contains_key-clause-members : goal.returns-else-not-contains_key-clause-members
-returns-else-not-contains_key-clause-members c = kept_members _ _ c.self.view_is c.args.key c.args.n (sym c.contains_key.ensures ∙ c.if-not-contains_key.false)
+pub returns-else-not-contains_key-clause-room : goal.returns-else-not-contains_key-clause-room
+returns-else-not-contains_key-clause-room c =
+    ap (λ m. record { members = m; given = given c.args.self.now; seats = seats c.args.self.now; mail = mail c.args.self.now })
+    (kept_members _ _ c.self.view_is c.args.key c.args.n (sym c.contains_key.ensures ∙ c.if-not-contains_key.false))
 
 entered : (c : goal.Joined-branch-3) → c.match-branch-3.self ≡ c.insert.new.self.entries
 entered c = elim c.match-branch-3.branch [ in-Some-1 w ↦ w.self-is | in-None-1 w ↦ w.self-is ]
@@ -14,14 +16,10 @@ entered c = elim c.match-branch-3.branch [ in-Some-1 w ↦ w.self-is | in-None-1
 absent : (c : goal.Joined-branch-3) → is_some (standing c.self.inside.instances.entries c.args.key) ≡ false
 absent c = sym c.contains_key.ensures ∙ c.if-not-contains_key.true
 
-pub returns-in_ok-insert-clause-members : goal.returns-in_ok-insert-clause-members
-returns-in_ok-insert-clause-members c = ap members (entered c) ∙ members_new _ _ _ c.self.view_is c.args.key c.in_ok-instance.instance (absent c) c.in_ok-insert.ensures.updates.0 c.args.n c.in_ok-instance.ensures.members
-
-pub returns-in_ok-insert-clause-given : goal.returns-in_ok-insert-clause-given
-returns-in_ok-insert-clause-given c = ap given (entered c) ∙ given_new _ _ _ c.self.view_is c.args.key c.in_ok-instance.instance (absent c) c.in_ok-insert.ensures.updates.0 c.in_ok-instance.ensures.given
-
-pub returns-in_ok-insert-clause-seats : goal.returns-in_ok-insert-clause-seats
-returns-in_ok-insert-clause-seats c = ap seats (entered c) ∙ seats_new _ _ _ c.self.view_is c.args.key c.in_ok-instance.instance (absent c) c.in_ok-insert.ensures.updates.0 c.in_ok-instance.ensures.seats
-
-pub returns-in_ok-insert-clause-mail : goal.returns-in_ok-insert-clause-mail
-returns-in_ok-insert-clause-mail c = ap mail (entered c) ∙ mail_new _ _ _ c.self.view_is c.args.key c.in_ok-instance.instance (absent c) c.in_ok-insert.ensures.updates.0 c.in_ok-instance.ensures.mail
+pub returns-in_ok-insert-clause-room : goal.returns-in_ok-insert-clause-room
+returns-in_ok-insert-clause-room c = ap look_ups (entered c) ∙ (λ z. record {
+  members = members_new _ _ _ c.self.view_is c.args.key c.in_ok-instance.instance (absent c) c.in_ok-insert.ensures.updates.0 c.args.n c.in_ok-instance.ensures.members z;
+  given = given_new _ _ _ c.self.view_is c.args.key c.in_ok-instance.instance (absent c) c.in_ok-insert.ensures.updates.0 c.in_ok-instance.ensures.given z;
+  seats = seats_new _ _ _ c.self.view_is c.args.key c.in_ok-instance.instance (absent c) c.in_ok-insert.ensures.updates.0 c.in_ok-instance.ensures.seats z;
+  mail = mail_new _ _ _ c.self.view_is c.args.key c.in_ok-instance.instance (absent c) c.in_ok-insert.ensures.updates.0 c.in_ok-instance.ensures.mail z;
+})

@@ -5,18 +5,10 @@ use Rattle.coll_match.proofs.matches.Matches.seat.Goals as goal
 pub seat-requires : goal.seat-requires
 seat-requires c = gave c.args.self.now c.args.self.now refl c.args.key c.in-Some.instance.now c.in-Some.ensures.value c.args.member c.requires
 
-pub returns-clause-members : goal.returns-clause-members
-returns-clause-members c =
-    members_kept c.args.self.now c.args.key c.in-Some.instance.now c.seat.new.self c.in-Some.ensures.value c.seat.ensures.members
-
-pub returns-clause-given : goal.returns-clause-given
-returns-clause-given c =
-    given_kept c.args.self.now c.args.key c.in-Some.instance.now c.seat.new.self c.in-Some.ensures.value c.seat.ensures.given
-
-pub returns-clause-seats : goal.returns-clause-seats
-returns-clause-seats c =
-    seats_put c.args.self.now c.args.key c.in-Some.instance.now c.seat.new.self c.in-Some.ensures.value c.args.member _ c.seat.ensures.seats
-
-pub returns-clause-mail : goal.returns-clause-mail
-returns-clause-mail c =
-    mail_kept c.args.self.now c.args.key c.in-Some.instance.now c.seat.new.self c.in-Some.ensures.value c.seat.ensures.mail
+pub returns : goal.returns
+returns c = λ z. record {
+  members = members_kept c.args.self.now c.args.key c.in-Some.instance.now c.seat.new.self c.in-Some.ensures.value c.seat.ensures.members z;
+  given = given_kept c.args.self.now c.args.key c.in-Some.instance.now c.seat.new.self c.in-Some.ensures.value c.seat.ensures.given z;
+  seats = seats_put c.args.self.now c.args.key c.in-Some.instance.now c.seat.new.self c.in-Some.ensures.value c.args.member _ c.seat.ensures.seats z;
+  mail = mail_kept c.args.self.now c.args.key c.in-Some.instance.now c.seat.new.self c.in-Some.ensures.value c.seat.ensures.mail z;
+}

@@ -4,7 +4,8 @@ use Rattle.std.specs.List.{position}
 use Rattle.std.proofs.lemmas.List.{get_or_default}
 use Rattle.std.proofs.lemmas.Option.{none-some, same_Some}
 use Rattle.coll_kinds.specs.declared.signature.Signature.{Signature}
-use Rattle.coll_queues.specs.Lists.{Lists, first_there, posts_in, signed_in}
+use Rattle.coll_machine.specs.Refusals.{first_there}
+use Rattle.coll_queues.specs.Lists.{Lists, posts_in, signed_in}
 use Rattle.coll_queues.proofs.Fronts.{stood}
 use Rattle.coll_queues.proofs.posting_lists.PostingLists.first_rank.Goals as goal
 
