@@ -18,6 +18,7 @@ use stall::is_explained;
 use std::fs::{Files, read_dir};
 use std::io;
 use std::process::ExitCode;
+use std::rt::Clock;
 use std::sync::Wait;
 use std::thread::Threads;
 use words::{TEXTS, are_answered};
@@ -30,7 +31,7 @@ fn main(rt: HostRuntime) -> ExitCode {
 }
 
 /// Answers each example and each stored text of the program's words, and prints a line for it.
-fn answer_all<M: Threads + Wait + Sync + Files>(
+fn answer_all<M: Threads + Wait + Sync + Files + Clock>(
     rt: &HostRuntime,
     machine: &M,
 ) -> anyhow::Result<()> {
