@@ -10,7 +10,10 @@ use std::{env, io};
 
 /// Runs the program on the machine's words, files and standard streams, and gives its exit status. The leave to start
 /// threads comes from `main`, which passes its runtime for it.
-pub fn main_of<M: Threads + Wait + Sync + Files + Clock>(rt: &HostRuntime, machine: &M) -> ExitCode {
+pub fn main_of<M: Threads + Wait + Sync + Files + Clock>(
+    rt: &HostRuntime,
+    machine: &M,
+) -> ExitCode {
     let alloc = rt.alloc();
     let stderr = rt.stderr();
     let mut errors = io::writer(&stderr);

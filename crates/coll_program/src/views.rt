@@ -65,6 +65,11 @@ impl<'w> Views<'w> {
     }
 }
 
+/// What stands below the help of `run`.
+const WHEN: &str = "\
+Each file is written whole or not at all. Those of --trace, --stats, --timeline, --picture and --out are written where the run ends
+well, before standard output; where one of them can't be written, standard output stays empty.";
+
 /// The command that takes these words too.
 pub(crate) fn with_views<'a>(
     alloc: Global,
@@ -75,27 +80,30 @@ pub(crate) fn with_views<'a>(
         .value_name("FORMAT")
         .value_parser(ValueParser::Names(&OUT_FORMS))
         .requires_arg(OUT)?
-        .help("How OUT is written: text as on standard output, or json with an object in each line");
+        .help(
+            "How the file of --out is written: text as standard output, or json with an object in each line; text where it isn't said",
+        );
     command
+        .after_help(WHEN)
         .arg(file(
             alloc,
             TRACE,
-            "Writes each accepted call to FILE, in one order, with its line in the job text",
+            "Writes each accepted call to the file OUT, in one order, with its line in the job text",
         ))?
         .arg(file(
             alloc,
             STATS,
-            "Writes to FILE what each rank and each collective posted, gave, got and sent",
+            "Writes to the file OUT what each rank and each collective posted, gave, got and sent",
         ))?
         .arg(file(
             alloc,
             TIMELINE,
-            "Writes to FILE when each collective was under way, as trace events that Perfetto opens",
+            "Writes to the file OUT when each collective was under way, as trace events that Perfetto opens",
         ))?
         .arg(file(
             alloc,
             PICTURE,
-            "Draws to FILE a column for each rank, with a bar from each post to its completion",
+            "Draws to the file OUT a column for each rank, with a bar from each post or start to its completion",
         ))?
         .arg(form)?
         .arg(
@@ -108,7 +116,10 @@ pub(crate) fn with_views<'a>(
 
 /// A word that names a file.
 fn file<'a>(alloc: Global, name: &'static str, help: &'static str) -> Arg<'a> {
-    Arg::new(alloc, name).long(name).value_name("FILE").help(help)
+    Arg::new(alloc, name)
+        .long(name)
+        .value_name("OUT")
+        .help(help)
 }
 
 /// The files that the words behind `run` name.

@@ -145,12 +145,7 @@ fn config_of(alloc: Global, script: &Script) -> Result<Config, Refusal> {
 }
 
 /// Runs a script on an engine of its own. `entries` names the ledger of the engine's entries.
-fn run_in<
-    L: Entries + Send + Sync,
-    R: Threads + Wait + Sync,
-    G: Gate + Sync,
-    T: Timer + Sync,
->(
+fn run_in<L: Entries + Send + Sync, R: Threads + Wait + Sync, G: Gate + Sync, T: Timer + Sync>(
     rt: &R,
     alloc: Global,
     script: &Script,

@@ -61,6 +61,16 @@ trace_text all lines es =
 
 -- ---- outcomes as JSON
 
+-- in an outcome's object, where its request stands
+abbrev pub stand_text : Request → List ℕ
+stand_text p = codes ",\"comm\":" ++ (decimal p.comm ++ (codes ",\"place\":" ++ decimal p.place))
+
+-- and its collective and type
+abbrev pub kind_text : Request → List ℕ
+kind_text p =
+    codes ",\"kind\":\""
+    ++ (kind_word p.sig.kind ++ (codes "\",\"type\":\"" ++ (datatype_word p.sig.ty ++ codes "\",\"values\":[")))
+
 -- the object of an outcome before its values
 abbrev pub object_text : ℕ → ℕ → Named → List ℕ
 object_text rank start found =
@@ -68,17 +78,7 @@ object_text rank start found =
     ++ (decimal rank
     ++ (codes ",\"req\":"
     ++ (decimal found.number
-    ++ (codes ",\"start\":"
-    ++ (decimal start
-    ++ (codes ",\"comm\":"
-    ++ (decimal found.request.comm
-    ++ (codes ",\"place\":"
-    ++ (decimal found.request.place
-    ++ (codes ",\"kind\":\""
-    ++ (kind_word found.request.sig.kind
-    ++ (codes "\",\"type\":\""
-    ++ (datatype_word found.request.sig.ty
-    ++ codes "\",\"values\":["))))))))))))) 
+    ++ (codes ",\"start\":" ++ (decimal start ++ (stand_text found.request ++ kind_text found.request))))))
 
 -- that of an outcome of this request; the first value has no comma before it
 abbrev pub found_object : Option Named → ℕ → ℕ → List ℕ → List ℕ

@@ -59,10 +59,13 @@ all_requests ranks groups es = map (requests_by groups es) (range_with_len 0 ran
 abbrev pub names : Ticket → Request → Bool
 names t p = p.ticket.slot == t.slot && p.ticket.generation == t.generation
 
--- the one of a rank's requests that has the ticket, with its number among them
+-- the one of a rank's requests that has a number
+abbrev pub named_at : List Request → ℕ → Option Named
+named_at own k = option_map (λ p. record { number = k; request = p }) (slice_get own k)
+
+-- the one that has the ticket
 abbrev pub own_named : Ticket → List Request → Option Named
-own_named t own =
-    option_and_then (λ k. option_map (λ p. record { number = k; request = p }) (slice_get own k)) (position (names t) own)
+own_named t own = option_and_then (named_at own) (position (names t) own)
 
 abbrev pub named_in : List (List Request) → ℕ → Ticket → Option Named
 named_in all rank t = option_and_then (own_named t) (slice_get all rank)

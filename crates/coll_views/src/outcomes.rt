@@ -3,13 +3,13 @@
 ghost use Rattle.std.specs.Prelude.{◌≡◌, ◌++◌, ◌∷◌, [], drop, count_by, map, IfOk, OnOk};
 ghost use Rattle.std.specs.String.{string_bytes};
 ghost use Rattle.coll_report.specs.Views.{seen, trace_seen};
-ghost use Rattle.coll_views.specs.Lines.{done_text, found_object, is_completion, object_text, outcome_of, outcomes_json, outcomes_of};
+ghost use Rattle.coll_views.specs.Lines.{done_text, found_object, is_completion, kind_text, object_text, outcome_of, outcomes_json, outcomes_of, stand_text};
 ghost use Rattle.coll_views.specs.Requests.{named};
 ghost use Rattle.coll_views.specs.Texts.{elements_text};
 
 use crate::elements::{Style, print_elements};
 use crate::fault::ViewFault;
-use crate::request::{Named, Requests};
+use crate::request::{Named, Request, Requests};
 use coll_kinds::Datatype;
 use coll_report::Entry;
 use std::alloc::{AllocError, Global};
@@ -88,7 +88,10 @@ fn print_entry(
         Entry::Inited { .. } => Ok(()),
         Entry::Started { .. } => Ok(()),
         Entry::Retired {
-            rank, start, bytes, ..
+            rank,
+            start,
+            bytes,
+            ..
         } => {
             if *rank != of {
                 return Ok(());
@@ -119,12 +122,7 @@ fn print_object(
 }
 
 /// Appends the values of a row, with commas between them.
-fn print_values(
-    alloc: Global,
-    ty: Datatype,
-    row: &[u8],
-    out: &mut Vec<u8>,
-) -> Result<(), ViewFault>
+fn print_values(alloc: Global, ty: Datatype, row: &[u8], out: &mut Vec<u8>) -> Result<(), ViewFault>
     ensures { OnOk result (out.new.items ≡ out.old.items ++ drop 1 (elements_text Style.Json ty row.now)) }
 {
     let mut values = Vec::new(alloc);
@@ -145,11 +143,27 @@ fn object_text(
     ensures { IfOk result (λ text. string_bytes text ≡ object_text rank start found.now) }
 {
     let number = found.number;
-    let comm = found.request.comm;
-    let place = found.request.place;
-    let kind = found.request.sig.kind.word();
-    let ty = found.request.sig.ty.word();
+    let stand = stand_text(alloc, &found.request)?;
+    let kind = kind_text(alloc, &found.request)?;
     format!(
-        in alloc; "{{\"reason\":\"outcome\",\"rank\":{rank},\"req\":{number},\"start\":{start},\"comm\":{comm},\"place\":{place},\"kind\":\"{kind}\",\"type\":\"{ty}\",\"values\":["
+        in alloc; "{{\"reason\":\"outcome\",\"rank\":{rank},\"req\":{number},\"start\":{start}{stand}{kind}"
     )
+}
+
+/// Where the request stands.
+fn stand_text(alloc: Global, request: &Request) -> Result<String, AllocError>
+    ensures { IfOk result (λ text. string_bytes text ≡ stand_text request.now) }
+{
+    let comm = request.comm;
+    let place = request.place;
+    format!(in alloc; ",\"comm\":{comm},\"place\":{place}")
+}
+
+/// The request's collective and type, and what opens the array of values.
+fn kind_text(alloc: Global, request: &Request) -> Result<String, AllocError>
+    ensures { IfOk result (λ text. string_bytes text ≡ kind_text request.now) }
+{
+    let kind = request.sig.kind.word();
+    let ty = request.sig.ty.word();
+    format!(in alloc; ",\"kind\":\"{kind}\",\"type\":\"{ty}\",\"values\":[")
 }

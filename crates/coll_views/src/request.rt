@@ -1,17 +1,17 @@
 //! The requests of a trace.
 
-ghost use Rattle.std.specs.Prelude.{◌≡◌, ◌<◌, ◌≤◌, ◌-◌, List, map, filter_map, length, Some, None, IfOk, IfSome};
-ghost use Rattle.std.specs.List.{range_with_len};
+ghost use Rattle.std.specs.Prelude.{◌≡◌, ◌==◌, ◌++◌, [], OnOk, ◌<◌, ◌≤◌, ◌-◌, List, map, filter_map, length, Some, None, IfOk, IfSome};
+ghost use Rattle.std.specs.List.{cons_option, position, range_with_len};
 ghost use Rattle.std.specs.Arc.{arc_value};
 ghost use Rattle.coll_report.specs.Views.{groups_seen, seen, trace_seen};
-ghost use Rattle.coll_views.specs.Requests.{all_requests, made_by, member_at, named, named_in, names, own_named, request_on, requests_by, ticket_of};
+ghost use Rattle.coll_views.specs.Requests.{all_requests, made_by, member_at, named, named_at, named_in, names, own_named, request_on, requests_by, ticket_of};
 
 use crate::fault::ViewFault;
 use crate::work::{Work, work_of};
 use coll_kinds::{Signature, Ticket};
 use coll_plans::plan;
 use coll_report::Entry;
-use std::alloc::Global;
+use std::alloc::{AllocError, Global};
 use std::marker::Model;
 
 /// What a trace tells of a request.
@@ -69,7 +69,8 @@ impl Requests {
     {
         let mut all = Vec::new(alloc);
         for rank in 0..ranks {
-            all.push(requests_by(alloc, groups, rank, trace)?)?;
+            let own = requests_by(alloc, groups, rank, trace)?;
+            all.push(own)?;
         }
         Ok(Requests { ranks: all })
     }
@@ -108,12 +109,28 @@ fn find(ranks: &[Vec<Request>], rank: u8, ticket: Ticket) -> Option<Named>
 fn find_own(own: &[Request], ticket: Ticket) -> Option<Named>
     ensures { result ≡ own_named ticket own.now }
 {
-    let number = own.iter().position(|request| has_ticket(request, ticket))?;
-    let request = own.get(number)?;
-    Some(Named {
-        number,
-        request: *request,
-    })
+    let number = number_of(own, ticket)?;
+    named_at(own, number)
+}
+
+/// The request of that number.
+fn named_at(own: &[Request], number: usize) -> Option<Named>
+    ensures { result ≡ named_at own.now number }
+{
+    match own.get(number) {
+        Some(request) => Some(Named {
+            number,
+            request: *request,
+        }),
+        None => None,
+    }
+}
+
+/// The number of the one that was made with the ticket.
+fn number_of(own: &[Request], ticket: Ticket) -> Option<usize>
+    ensures { result ≡ position (names ticket) own.now }
+{
+    own.iter().position(|request| has_ticket(request, ticket))
 }
 
 fn has_ticket(request: &Request, ticket: Ticket) -> bool
@@ -146,11 +163,23 @@ fn requests_by(
 {
     let mut own = Vec::new(alloc);
     for entry in trace {
-        if let Some(request) = made_by(alloc, groups, rank, entry)? {
-            own.push(request)?;
-        }
+        let made = made_by(alloc, groups, rank, entry)?;
+        push_made(made, &mut own)?;
     }
     Ok(own)
+}
+
+/// Appends a request, if there is one.
+fn push_made(made: Option<Request>, own: &mut Vec<Request>) -> Result<(), AllocError>
+    ensures { OnOk result (own.new.items ≡ own.old.items ++ cons_option made []) }
+{
+    match made {
+        Some(request) => {
+            own.push(request)?;
+            Ok(())
+        }
+        None => Ok(()),
+    }
 }
 
 /// The request that the rank makes by the entry.
@@ -228,7 +257,7 @@ fn member_in(group: &[u8], rank: u8) -> Result<(u8, u8), ViewFault>
     ensures low { IfOk result (λ found. found.1 < found.0) }
     ensures few { IfOk result (λ found. found.0 ≤ 64) }
 {
-    let Some(member) = group.iter().position(|one| *one == rank) else {
+    let Some(member) = place_in(group, rank) else {
         return Err(ViewFault::Torn);
     };
     let members = group.len();
@@ -236,4 +265,11 @@ fn member_in(group: &[u8], rank: u8) -> Result<(u8, u8), ViewFault>
         return Err(ViewFault::Torn);
     }
     Ok((members as u8, member as u8))
+}
+
+/// Where the rank stands in a group.
+fn place_in(group: &[u8], rank: u8) -> Option<usize>
+    ensures { result ≡ position (λ one. one == rank) group.now }
+{
+    group.iter().position(|one| *one == rank)
 }

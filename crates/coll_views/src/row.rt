@@ -71,11 +71,7 @@ impl Row {
 /// # Errors
 ///
 /// [`ViewFault::Torn`] where an entry names a request that its rank didn't make, and [`ViewFault::NoMemory`].
-pub fn rows_of(
-    alloc: Global,
-    requests: &Requests,
-    trace: &[Entry],
-) -> Result<Vec<Row>, ViewFault>
+pub fn rows_of(alloc: Global, requests: &Requests, trace: &[Entry]) -> Result<Vec<Row>, ViewFault>
     ensures { IfOk result (λ rows. rows.items ≡ rows_of requests.now (trace_seen trace.now)) }
 {
     let mut rows = Vec::with_capacity(alloc, trace.len())?;
@@ -117,11 +113,11 @@ fn row_of(found: &Named, entry: &Entry) -> Row
 /// The row with what a collective that begins adds.
 fn begun(row: Row, request: &Request, len: u64, lent: u64) -> Row
     ensures { result ≡ record row {
-        given = len;
-        lends = lent;
-        messages = request.now.work.messages;
-        sent = request.now.work.bytes;
-        combinations = request.now.work.combinations;
+      given = len;
+      lends = lent;
+      messages = request.now.work.messages;
+      sent = request.now.work.bytes;
+      combinations = request.now.work.combinations;
     } }
 {
     Row {

@@ -11,9 +11,11 @@ use crate::totals::{Totals, totals_of};
 use coll_kinds::Kind;
 use std::alloc::{AllocError, Global};
 
-const HEAD_OF_RANKS: &str = "rank  posts  inits  starts  completed  bytes given  bytes got  most lent  messages  their bytes  combinations\n";
+const HEAD_OF_RANKS: &str =
+    "rank  posts  inits  starts  completed  bytes given  bytes got  most lent  messages  their bytes  combinations\n";
 
-const HEAD_OF_COLLECTIVES: &str = "\ncommunicator  members  collective  posts  inits  starts  completed  bytes given  bytes got  most lent  messages  their bytes  combinations\n";
+const HEAD_OF_COLLECTIVES: &str =
+    "\ncommunicator  members  collective  posts  inits  starts  completed  bytes given  bytes got  most lent  messages  their bytes  combinations\n";
 
 /// A number that stands at the right end of its column.
 #[derive(Clone, Copy, Debug, PartialEq, Eq)]
@@ -43,12 +45,7 @@ pub fn tables_text(
 }
 
 /// Appends a line for each rank, and one for all.
-fn print_ranks(
-    alloc: Global,
-    ranks: u8,
-    rows: &[Row],
-    out: &mut Vec<u8>,
-) -> Result<(), ViewFault>
+fn print_ranks(alloc: Global, ranks: u8, rows: &[Row], out: &mut Vec<u8>) -> Result<(), ViewFault>
     ensures { OnOk result (out.new.items ≡ out.old.items ++ ranks_text ranks rows.now) }
 {
     out.extend_from_slice(HEAD_OF_RANKS.as_bytes())?;
@@ -63,7 +60,11 @@ fn print_ranks(
 fn print_rank(alloc: Global, rank: u8, rows: &[Row], out: &mut Vec<u8>) -> Result<(), ViewFault>
     ensures { OnOk result (out.new.items ≡ out.old.items ++ rank_line rows.now rank) }
 {
-    let mine: Vec<Row> = rows.iter().filter(|row| row.rank == rank).copied().collect(alloc)?;
+    let mine: Vec<Row> = rows
+        .iter()
+        .filter(|row| row.rank == rank)
+        .copied()
+        .collect(alloc)?;
     let label = format!(in alloc; "{rank}")?;
     print_aligned(alloc, 4, label.as_bytes(), out)?;
     print_totals(alloc, &mine, out)
@@ -165,16 +166,46 @@ fn cells_of(totals: Totals) -> [Cell; 10]
     ensures { result ≡ cells_of totals }
 {
     [
-        Cell { width: 7, number: totals.posts },
-        Cell { width: 7, number: totals.inits },
-        Cell { width: 8, number: totals.starts },
-        Cell { width: 11, number: totals.completed },
-        Cell { width: 13, number: totals.given },
-        Cell { width: 11, number: totals.got },
-        Cell { width: 11, number: totals.lent },
-        Cell { width: 10, number: totals.messages },
-        Cell { width: 13, number: totals.sent },
-        Cell { width: 14, number: totals.combinations },
+        Cell {
+            width: 7,
+            number: totals.posts,
+        },
+        Cell {
+            width: 7,
+            number: totals.inits,
+        },
+        Cell {
+            width: 8,
+            number: totals.starts,
+        },
+        Cell {
+            width: 11,
+            number: totals.completed,
+        },
+        Cell {
+            width: 13,
+            number: totals.given,
+        },
+        Cell {
+            width: 11,
+            number: totals.got,
+        },
+        Cell {
+            width: 11,
+            number: totals.lent,
+        },
+        Cell {
+            width: 10,
+            number: totals.messages,
+        },
+        Cell {
+            width: 13,
+            number: totals.sent,
+        },
+        Cell {
+            width: 14,
+            number: totals.combinations,
+        },
     ]
 }
 

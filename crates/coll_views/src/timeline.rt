@@ -69,8 +69,8 @@ fn span_at(spans: &[Span], index: usize) -> Span {
 /// Names the process of a rank, and says where it stands among the others.
 fn name_rank(alloc: Global, rank: u8, out: &mut String) -> Result<(), AllocError> {
     let comma = if rank == 0 { "" } else { "," };
-    let text = format!(
-        in alloc; "{comma}\n{{\"ph\":\"M\",\"pid\":{rank},\"tid\":0,\"name\":\"process_name\",\"args\":{{\"name\":\"rank {rank}\"}}}},\n{{\"ph\":\"M\",\"pid\":{rank},\"tid\":0,\"name\":\"process_sort_index\",\"args\":{{\"sort_index\":{rank}}}}}"
+    let text = format!(in alloc;
+        "{comma}\n{{\"ph\":\"M\",\"pid\":{rank},\"tid\":0,\"name\":\"process_name\",\"args\":{{\"name\":\"rank {rank}\"}}}},\n{{\"ph\":\"M\",\"pid\":{rank},\"tid\":0,\"name\":\"process_sort_index\",\"args\":{{\"sort_index\":{rank}}}}}"
     )?;
     out.push_str(text.as_str())
 }
@@ -93,13 +93,13 @@ impl Event {
         let time = microseconds(alloc, self.end.until.saturating_sub(self.begin.from))?;
         let (rank, lane, start) = (self.rank, self.lane, self.start);
         let (number, comm, place) = (found.number, request.comm, request.place);
-        let head = format!(
-            in alloc; ",\n{{\"ph\":\"X\",\"pid\":{rank},\"tid\":{lane},\"ts\":{from},\"dur\":{time},\"cat\":\"collective\",\"name\":\"{name}\""
+        let head = format!(in alloc;
+            ",\n{{\"ph\":\"X\",\"pid\":{rank},\"tid\":{lane},\"ts\":{from},\"dur\":{time},\"cat\":\"collective\",\"name\":\"{name}\""
         )?;
         out.push_str(head.as_str())?;
         let (line, completed) = (self.begin.line, self.end.line);
-        let behind = format!(
-            in alloc; ",\"args\":{{\"req\":{number},\"start\":{start},\"comm\":{comm},\"place\":{place},\"line\":{line},\"completed_in_line\":{completed}}}}}"
+        let behind = format!(in alloc;
+            ",\"args\":{{\"req\":{number},\"start\":{start},\"comm\":{comm},\"place\":{place},\"line\":{line},\"completed_in_line\":{completed}}}}}"
         )?;
         out.push_str(behind.as_str())
     }

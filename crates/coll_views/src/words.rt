@@ -63,11 +63,7 @@ fn block_text(alloc: Global, sig: &Signature, members: u8) -> Result<String, All
 }
 
 /// The counts of so many members.
-fn counts_text(
-    alloc: Global,
-    counts: &[u32; MAX_RANKS],
-    members: u8,
-) -> Result<String, AllocError>
+fn counts_text(alloc: Global, counts: &[u32; MAX_RANKS], members: u8) -> Result<String, AllocError>
     ensures { IfOk result (λ text. string_bytes text ≡ counts_text counts.now members) }
 {
     let mut text = String::new(alloc);

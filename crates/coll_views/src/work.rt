@@ -1,6 +1,6 @@
 //! What a schedule has its member do.
 
-ghost use Rattle.std.specs.Prelude.{◌≡◌, ◌<◌, ◌^◌, List, count_by, flat_map, map, sum, IfOk};
+ghost use Rattle.std.specs.Prelude.{◌≡◌, ◌++◌, ◌<◌, ◌^◌, List, count_by, flat_map, map, sum, IfOk, OnOk};
 ghost use Rattle.coll_sched.specs.declared.action.Action.{Action as AnAction};
 ghost use Rattle.coll_views.specs.Works.{actions_in, is_combine, is_send, sent_by, work_in};
 
@@ -24,7 +24,10 @@ pub(crate) fn work_of(alloc: Global, rounds: &[Round]) -> Result<Work, ViewFault
     ensures { IfOk result (λ work. work ≡ work_in rounds.now) }
 {
     let actions = all_actions(alloc, rounds)?;
-    let sent: Vec<u64> = actions.iter().map(|action| sent_by(*action)).collect(alloc)?;
+    let sent: Vec<u64> = actions
+        .iter()
+        .map(|action| sent_by(*action))
+        .collect(alloc)?;
     Ok(Work {
         messages: count_sends(&actions),
         bytes: sum_of(&sent)?,
@@ -38,9 +41,19 @@ fn all_actions(alloc: Global, rounds: &[Round]) -> Result<Vec<Action>, AllocErro
 {
     let mut actions = Vec::new(alloc);
     for round in rounds {
-        actions.extend_from_slice(round.actions())?;
+        push_all(round.actions(), &mut actions)?;
     }
     Ok(actions)
+}
+
+/// Appends these actions.
+fn push_all(more: &[Action], actions: &mut Vec<Action>) -> Result<(), AllocError>
+    ensures { OnOk result (actions.new.items ≡ actions.old.items ++ more.now) }
+{
+    for action in more {
+        actions.push(*action)?;
+    }
+    Ok(())
 }
 
 fn count_sends(actions: &[Action]) -> u64
