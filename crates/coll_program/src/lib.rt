@@ -7,6 +7,7 @@
 //! | `machine` | `main_of`, which takes words and streams from the machine |
 //! | `opening`, `keeping` | the file that the words name is opened; a file is written whole or not at all |
 //! | `running` | `run`, which checks the words and does what they ask for |
+//! | `views`, `viewing` | the words for files on what a run did, and these files |
 //! | `words` | `Task`, what the words of the command line ask for |
 #![tactic(auto)]
 
@@ -14,8 +15,11 @@ mod keeping;
 mod machine;
 mod opening;
 mod running;
+mod viewing;
+mod views;
 mod words;
 
 pub use machine::main_of;
 pub use running::{do_task, run, run_colored};
+pub use views::{OutcomeForm, Views};
 pub use words::{Task, Way};

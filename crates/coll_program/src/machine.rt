@@ -3,13 +3,17 @@ use coll_job::JobFault;
 use std::fs::Files;
 use std::io::IsTerminal;
 use std::process::ExitCode;
+use std::rt::Clock;
 use std::sync::Wait;
 use std::thread::Threads;
 use std::{env, io};
 
 /// Runs the program on the machine's words, files and standard streams, and gives its exit status. The leave to start
 /// threads comes from `main`, which passes its runtime for it.
-pub fn main_of<M: Threads + Wait + Sync + Files>(rt: &HostRuntime, machine: &M) -> ExitCode {
+pub fn main_of<M: Threads + Wait + Sync + Files + Clock>(
+    rt: &HostRuntime,
+    machine: &M,
+) -> ExitCode {
     let alloc = rt.alloc();
     let stderr = rt.stderr();
     let mut errors = io::writer(&stderr);

@@ -5,16 +5,18 @@ ghost use Rattle.coll_program.specs.Tasks.{workers_of, may_write, IsStatusOf};
 
 use crate::keeping::keep;
 use crate::opening::open_text;
+use crate::viewing::keep_views;
 use crate::words::{Task, Way, task_of};
 use clap::Error;
 use clap::error::ErrorKind;
 use coll_diagnosis::{ExplainOptions, Form, explain_job, explain_text};
 use coll_faults::check_job;
-use coll_job::{Counted, JobFault, plain_job, read_text};
-use coll_run::threaded_job;
+use coll_job::{Counted, JobFault, plain_job, read_text, write_lines};
+use coll_run::{recorded_job, threaded_job};
 use std::alloc::Global;
 use std::fs::Files;
 use std::io::{Cursor, Read, Write};
+use std::rt::Clock;
 use std::sync::Wait;
 use std::thread::Threads;
 
@@ -38,7 +40,7 @@ const STANDARD_INPUT: &str = "<stdin>";
 /// writes whether its runs stall, and `colljob check` tells its faults. The text stands in the file of `machine` that the words
 /// name, or comes from `input`. Answers the exit status. At a fault nothing is written to `output`, but at a write fault, and
 /// the fault's line goes to `errors`; where that fails too, nobody is left to be told.
-pub fn run<M: Threads + Wait + Sync + Files, R: Read, W: Write, E: Write>(
+pub fn run<M: Threads + Wait + Sync + Files + Clock, R: Read, W: Write, E: Write>(
     machine: &M,
     alloc: Global,
     words: &[String],
@@ -54,7 +56,7 @@ pub fn run<M: Threads + Wait + Sync + Files, R: Read, W: Write, E: Write>(
 }
 
 /// As `run`, where `errors` may take colours.
-pub fn run_colored<M: Threads + Wait + Sync + Files, R: Read, W: Write, E: Write>(
+pub fn run_colored<M: Threads + Wait + Sync + Files + Clock, R: Read, W: Write, E: Write>(
     machine: &M,
     alloc: Global,
     takes_colors: bool,
@@ -73,7 +75,7 @@ pub fn run_colored<M: Threads + Wait + Sync + Files, R: Read, W: Write, E: Write
 }
 
 /// Does a task, as `run` does what its words ask for.
-pub fn do_task<M: Threads + Wait + Sync + Files, R: Read, W: Write, E: Write>(
+pub fn do_task<M: Threads + Wait + Sync + Files + Clock, R: Read, W: Write, E: Write>(
     machine: &M,
     alloc: Global,
     task: Task<'_>,
@@ -103,7 +105,7 @@ pub fn do_task<M: Threads + Wait + Sync + Files, R: Read, W: Write, E: Write>(
 }
 
 /// Reads a job text, which has this name, and writes what was asked for. Answers the exit status.
-fn write_answer<M: Threads + Wait + Sync + Files, R: Read, W: Write, E: Write>(
+fn write_answer<M: Threads + Wait + Sync + Files + Clock, R: Read, W: Write, E: Write>(
     machine: &M,
     alloc: Global,
     task: Task<'_>,
@@ -120,17 +122,28 @@ fn write_answer<M: Threads + Wait + Sync + Files, R: Read, W: Write, E: Write>(
     let mut reader = Counted::new(text);
     match (task.way, task.explanation) {
         (Way::Plain, _) => plain_job(alloc, &mut reader, output)?,
+        (Way::Run { workers }, explanation) if task.views.are_wanted() => {
+            let text = read_text(alloc, &mut reader)?;
+            let recorded = recorded_job(machine, alloc, &text, workers);
+            if let (Some(file), Err(JobFault::Stalled)) = (explanation, &recorded) {
+                if !is_explained(machine, alloc, name, &text, task.file, file, errors)? {
+                    return Ok(UNEXPLAINED);
+                }
+            }
+            let recording = recorded?;
+            if let Some(status) = keep_views(machine, alloc, &task.views, &recording, errors)? {
+                return Ok(status);
+            }
+            write_lines(output, &recording.lines)?
+        }
         (Way::Run { workers }, None) => threaded_job(machine, alloc, workers, &mut reader, output)?,
         (Way::Run { workers }, Some(file)) => {
             let text = read_text(alloc, &mut reader)?;
             let run = run_text(machine, alloc, workers, &text, output);
-            if run == Err(JobFault::Stalled) {
-                let lines = explain_text(alloc, name, EXPLAINED, &text)?.lines;
-                if let Err(error) = keep(machine, alloc, file, lines.as_str().as_bytes()) {
-                    let _ = told(task.file, JobFault::Stalled, errors);
-                    let _ = writeln!(errors, "{file}: {error}");
-                    return Ok(UNEXPLAINED);
-                }
+            if run == Err(JobFault::Stalled)
+                && !is_explained(machine, alloc, name, &text, task.file, file, errors)?
+            {
+                return Ok(UNEXPLAINED);
             }
             run?
         }
@@ -138,6 +151,27 @@ fn write_answer<M: Threads + Wait + Sync + Files, R: Read, W: Write, E: Write>(
         (Way::Check(form), _) => return check_job(alloc, name, form, &mut reader, output, errors),
     }
     Ok(0)
+}
+
+/// Whether the file got why the runs of a text stall. If not, the stall and the fault of the file are told.
+fn is_explained<F: Files, E: Write>(
+    files: &F,
+    alloc: Global,
+    name: &str,
+    text: &[u8],
+    named: Option<&str>,
+    file: &str,
+    errors: &mut E,
+) -> Result<bool, JobFault> {
+    let lines = explain_text(alloc, name, EXPLAINED, text)?.lines;
+    match keep(files, alloc, file, lines.as_str().as_bytes()) {
+        Ok(()) => Ok(true),
+        Err(error) => {
+            let _ = told(named, JobFault::Stalled, errors);
+            let _ = writeln!(errors, "{file}: {error}");
+            Ok(false)
+        }
+    }
 }
 
 /// Has a text that was read carried out.

@@ -3,6 +3,7 @@
 ghost use Rattle.std.specs.Prelude.{◌≡◌, ◌≤◌, IfOk};
 ghost use Rattle.coll_program.specs.Tasks.{workers_of};
 
+use crate::views::{Views, views_of, with_views};
 use clap::builder::ValueParser;
 use clap::{Arg, ArgAction, ArgMatches, Command, Error};
 use coll_diagnosis::{ExplainOptions, Form};
@@ -17,6 +18,8 @@ pub struct Task<'w> {
     pub file: Option<&'w str>,
     /// The file that gets the explanation of a run that stalls, if one is wanted.
     pub explanation: Option<&'w str>,
+    /// The files that get what a run did.
+    pub views: Views<'w>,
 }
 
 /// What is done with a job text.
@@ -105,13 +108,13 @@ fn run_command<'a>(alloc: Global) -> Result<Command<'a>, AllocError> {
         .long("explain")
         .value_name("OUT")
         .help("Where the run stalls, writes to the file OUT why it does");
-    Command::new(alloc, "run")
+    let run = Command::new(alloc, "run")
         .about(
             "Has a job text carried out by threads on one engine, and writes the values that they got",
         )
         .arg(workers)?
-        .arg(explanation)?
-        .arg(text_file(alloc))
+        .arg(explanation)?;
+    with_views(alloc, run)?.arg(text_file(alloc))
 }
 
 fn plain_command<'a>(alloc: Global) -> Result<Command<'a>, AllocError> {
@@ -192,6 +195,7 @@ pub fn task_of<'w>(
             way: Way::Run { workers },
             file: file_of(run),
             explanation: run.get_str(EXPLANATION),
+            views: views_of(run),
         });
     }
     if let Some(explain) = matches.subcommand_matches("explain") {
@@ -210,6 +214,7 @@ pub fn task_of<'w>(
             way: Way::Plain,
             file: None,
             explanation: None,
+            views: Views::NONE,
         }),
     }
 }
@@ -222,6 +227,7 @@ fn task_on<'w>(way: Way, matches: &ArgMatches<'w>) -> Task<'w>
         way,
         file: file_of(matches),
         explanation: None,
+        views: Views::NONE,
     }
 }
 

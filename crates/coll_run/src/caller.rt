@@ -1,5 +1,6 @@
 ghost use Rattle.std.specs.Prelude.{◌≡◌, ◌≤◌, IfOk, length, vec_len};
 
+use crate::marks::{Mark, Marks};
 use coll_complete::{Request, are_distinct};
 use coll_core::{Offer, Outcome};
 use coll_kinds::{Refusal, Signature};
@@ -9,13 +10,22 @@ use std::alloc::Global;
 use std::mem;
 use std::sync::Wait;
 
-/// A rank's port with its requests, by their numbers, and the outcomes that it got.
+/// A rank's port with its requests, by their numbers, the outcomes that it got, and which calls made its entries.
 #[derive(Drop)]
 pub(crate) struct Caller<L: Entries> {
     alloc: Global,
     port: Port<L>,
     requests: Vec<Request>,
     outcomes: Vec<Outcome>,
+    marks: Vec<Mark>,
+}
+
+/// What is left of a caller.
+#[derive(Drop)]
+pub(crate) struct Left<L: Entries> {
+    pub(crate) spent: Spent<L>,
+    pub(crate) outcomes: Vec<Outcome>,
+    pub(crate) marks: Marks,
 }
 
 impl<L: Entries> Caller<L> {
@@ -26,7 +36,21 @@ impl<L: Entries> Caller<L> {
             port,
             requests: Vec::new(alloc),
             outcomes: Vec::new(alloc),
+            marks: Vec::new(alloc),
         }
+    }
+
+    /// How many outcomes it got so far.
+    pub(crate) fn got(&self) -> usize {
+        self.outcomes.len()
+    }
+
+    /// Notes which call made the rank's next entries.
+    pub(crate) fn note(&mut self, mark: Mark, entries: usize) -> Result<(), Refusal> {
+        for _ in 0..entries {
+            self.marks.push(mark)?;
+        }
+        Ok(())
     }
 
     /// Does what a line says. A number that names no request is refused as a null request.
@@ -55,10 +79,20 @@ impl<L: Entries> Caller<L> {
         }
     }
 
-    /// Ends the port. What is left of it, and the outcomes that the rank got.
-    pub(crate) fn finish<R: Wait>(self, rt: &R) -> (Spent<L>, Vec<Outcome>) {
-        let Caller { port, outcomes, .. } = self;
-        (port.finish(rt), outcomes)
+    /// Ends the port.
+    pub(crate) fn finish<R: Wait>(self, rt: &R) -> Left<L> {
+        let Caller {
+            port,
+            outcomes,
+            marks,
+            ..
+        } = self;
+        let rank = port.rank();
+        Left {
+            spent: port.finish(rt),
+            outcomes,
+            marks: Marks { rank, marks },
+        }
     }
 
     fn post<R: Wait>(

@@ -2,18 +2,21 @@
 //!
 //! | Module | Has |
 //! |---|---|
-//! | `running` | `run_job`, from a text to its lines and the report of its run |
+//! | `running` | `run_job`, from a text to its lines and the report of its run, and `recorded_job`, which tells also when |
 //! | `threaded` | `threaded_job`, from a reader to a writer by a run |
 //! | `rank` | what the thread of a rank does, and how it ends |
 //! | `caller` | `Caller`, a rank's port and its requests, and what each command does with them |
+//! | `marks` | `Mark`, which call made an entry of the trace, and when |
 //! | `ends` | which fault of the threads is told |
 #![tactic(auto)]
 
 mod caller;
 mod ends;
+mod marks;
 mod rank;
 mod running;
 mod threaded;
 
-pub use running::run_job;
+pub use marks::Mark;
+pub use running::{Recording, recorded_job, run_job};
 pub use threaded::threaded_job;

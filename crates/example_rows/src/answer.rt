@@ -2,6 +2,7 @@ use coll_program::run;
 use std::alloc::Global;
 use std::fs::Files;
 use std::io::{self, Cursor};
+use std::rt::Clock;
 use std::sync::Wait;
 use std::thread::Threads;
 
@@ -15,7 +16,7 @@ pub struct Answer {
 
 impl Answer {
     /// What the program answers to the words behind its name, with that text on standard input.
-    pub fn to<M: Threads + Wait + Sync + Files>(
+    pub fn to<M: Threads + Wait + Sync + Files + Clock>(
         machine: &M,
         alloc: Global,
         words: &[&str],

@@ -4,6 +4,7 @@ use std::alloc::Global;
 use std::fs::{self, File, Files, remove_file};
 use std::io;
 use std::io::Read;
+use std::rt::Clock;
 use std::sync::Wait;
 use std::thread::Threads;
 
@@ -60,7 +61,7 @@ impl Example {
 
     /// Whether the text is answered as stored, computed directly and run by threads, from standard input and from its
     /// file, and explained from its file.
-    pub fn is_answered<M: Threads + Wait + Sync + Files>(
+    pub fn is_answered<M: Threads + Wait + Sync + Files + Clock>(
         &self,
         machine: &M,
         alloc: Global,
@@ -84,7 +85,7 @@ impl Example {
     }
 
     /// Whether a check tells of a text without a fault what explains it, and of another one the fault first.
-    fn is_checked<M: Threads + Wait + Sync + Files>(
+    fn is_checked<M: Threads + Wait + Sync + Files + Clock>(
         &self,
         machine: &M,
         alloc: Global,
@@ -100,7 +101,7 @@ impl Example {
     }
 
     /// Whether a run that stalls writes why to the file that is named, and another run writes none; each answers as ever.
-    fn is_run_explained<M: Threads + Wait + Sync + Files>(
+    fn is_run_explained<M: Threads + Wait + Sync + Files + Clock>(
         &self,
         machine: &M,
         alloc: Global,
@@ -120,7 +121,7 @@ impl Example {
     }
 
     /// Whether the word with the text's file behind it has that answer.
-    fn is_answered_by_name<M: Threads + Wait + Sync + Files>(
+    fn is_answered_by_name<M: Threads + Wait + Sync + Files + Clock>(
         &self,
         machine: &M,
         alloc: Global,

@@ -1,23 +1,26 @@
 //! Answers the stored examples, directly and by threads: each job text of the folder that this program runs in, against
 //! the lines or the fault that are stored beside it, and why it stalls. It prints one line for each text, then one for each
-//! job text of `stalls/`, which is only explained, one for each of `mistakes/`, which is only checked, and then one for each text of
-//! `words/`, which the program prints of its own words. Then it goes on as `colljob` does with its own words and standard
+//! job text of `stalls/`, which is only explained, one for each of `mistakes/`, which is only checked, one for each text of whose runs
+//! `runs/` tells what they do, and then one for each text of `words/`, which the program prints of its own words. Then it goes on as `colljob` does with its own words and standard
 //! input, which has a text with a fault: so it ends with the status for that, and writes no more.
 #![tactic(auto)]
 
 mod answer;
 mod example;
 mod mistake;
+mod shown;
 mod stall;
 mod words;
 
 use coll_program::main_of;
 use example::Example;
 use mistake::is_checked;
+use shown::{SHOWN, is_shown};
 use stall::is_explained;
 use std::fs::{Files, read_dir};
 use std::io;
 use std::process::ExitCode;
+use std::rt::Clock;
 use std::sync::Wait;
 use std::thread::Threads;
 use words::{TEXTS, are_answered};
@@ -30,7 +33,7 @@ fn main(rt: HostRuntime) -> ExitCode {
 }
 
 /// Answers each example and each stored text of the program's words, and prints a line for it.
-fn answer_all<M: Threads + Wait + Sync + Files>(
+fn answer_all<M: Threads + Wait + Sync + Files + Clock>(
     rt: &HostRuntime,
     machine: &M,
 ) -> anyhow::Result<()> {
@@ -43,6 +46,9 @@ fn answer_all<M: Threads + Wait + Sync + Files>(
     }
     for name in &names(rt, "mistakes")? {
         print(rt, name, is_checked(rt, machine, name)?)?;
+    }
+    for name in SHOWN {
+        print(rt, name, is_shown(rt, machine, name)?)?;
     }
     for (text, words) in TEXTS {
         print(rt, text, are_answered(rt, machine, text, words)?)?;

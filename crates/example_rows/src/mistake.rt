@@ -2,12 +2,13 @@ use crate::answer::Answer;
 use std::alloc::Global;
 use std::fs::{self, Files};
 use std::io;
+use std::rt::Clock;
 use std::sync::Wait;
 use std::thread::Threads;
 
 /// Whether the faults of the text `mistakes/NAME.job` are told as stored: for a reader in `NAME.text`, as JSON in `NAME.json`,
 /// and if it is there painted in `NAME.color`.
-pub fn is_checked<M: Threads + Wait + Sync + Files>(
+pub fn is_checked<M: Threads + Wait + Sync + Files + Clock>(
     rt: &HostRuntime,
     machine: &M,
     name: &str,

@@ -2,6 +2,7 @@ use crate::answer::Answer;
 use std::alloc::Global;
 use std::fs::{self, Files};
 use std::io;
+use std::rt::Clock;
 use std::sync::Wait;
 use std::thread::Threads;
 
@@ -9,7 +10,7 @@ use std::thread::Threads;
 const FORMS: [&str; 3] = ["text", "json", "dot"];
 
 /// Whether the text `stalls/NAME.job` is explained as stored, in each form that is stored beside it.
-pub fn is_explained<M: Threads + Wait + Sync + Files>(
+pub fn is_explained<M: Threads + Wait + Sync + Files + Clock>(
     rt: &HostRuntime,
     machine: &M,
     name: &str,

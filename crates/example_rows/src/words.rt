@@ -1,6 +1,7 @@
 use crate::answer::Answer;
 use std::fs::{self, Files};
 use std::io;
+use std::rt::Clock;
 use std::sync::Wait;
 use std::thread::Threads;
 
@@ -27,7 +28,7 @@ pub const TEXTS: [(&str, &[&str]); 18] = [
 ];
 
 /// Whether the words print the stored text: on standard output, or where no words stand on standard error.
-pub fn are_answered<M: Threads + Wait + Sync + Files>(
+pub fn are_answered<M: Threads + Wait + Sync + Files + Clock>(
     rt: &HostRuntime,
     machine: &M,
     text: &str,

@@ -6,6 +6,7 @@ use std::alloc::Global;
 use std::fs::Files;
 use std::io;
 use std::io::{Cursor, Write};
+use std::rt::Clock;
 use std::sync::Wait;
 use std::test::Fail;
 use std::thread::Threads;
@@ -48,7 +49,7 @@ impl Write for Short {
 }
 
 /// What a user sees: the exit status, what went to standard output, and what to standard error.
-fn seen<M: Threads + Wait + Sync + Files>(
+fn seen<M: Threads + Wait + Sync + Files + Clock>(
     machine: &M,
     alloc: Global,
     words: &[&str],

@@ -1,0 +1,50 @@
+# Completions of colljob for bash; completions/generate.py writes this file.
+_colljob() {
+    local word=${COMP_WORDS[COMP_CWORD]} before=${COMP_WORDS[COMP_CWORD - 1]} options
+    if [ "$COMP_CWORD" -eq 1 ]; then
+        COMPREPLY=($(compgen -W 'run plain explain check help -h --help -V --version' -- "$word"))
+        return
+    fi
+    case "${COMP_WORDS[1]}" in
+        run)
+            case "$before" in
+                --format) COMPREPLY=($(compgen -W 'text json' -- "$word")); return ;;
+                --workers) COMPREPLY=($(compgen -f -- "$word")); return ;;
+                --explain) COMPREPLY=($(compgen -f -- "$word")); return ;;
+                --trace) COMPREPLY=($(compgen -f -- "$word")); return ;;
+                --stats) COMPREPLY=($(compgen -f -- "$word")); return ;;
+                --timeline) COMPREPLY=($(compgen -f -- "$word")); return ;;
+                --picture) COMPREPLY=($(compgen -f -- "$word")); return ;;
+                --out) COMPREPLY=($(compgen -f -- "$word")); return ;;
+            esac
+            options='--workers --explain --trace --stats --timeline --picture --format --out -h --help'
+            ;;
+        plain)
+            options='-h --help'
+            ;;
+        explain)
+            case "$before" in
+                --format) COMPREPLY=($(compgen -W 'text json dot' -- "$word")); return ;;
+            esac
+            options='--format --strict -h --help'
+            ;;
+        check)
+            case "$before" in
+                --format) COMPREPLY=($(compgen -W 'text json' -- "$word")); return ;;
+                --color) COMPREPLY=($(compgen -W 'auto always never' -- "$word")); return ;;
+            esac
+            options='--format --color -h --help'
+            ;;
+        help)
+            COMPREPLY=($(compgen -W 'run plain explain check help' -- "$word"))
+            return
+            ;;
+        *) return ;;
+    esac
+    if [[ $word == -* ]]; then
+        COMPREPLY=($(compgen -W "$options" -- "$word"))
+    else
+        COMPREPLY=($(compgen -f -- "$word"))
+    fi
+}
+complete -o filenames -F _colljob colljob

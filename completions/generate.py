@@ -1,0 +1,198 @@
+#!/usr/bin/env python3
+"""generate.py [--check]: writes the manual page `docs/colljob.1` and the completions `completions/colljob.bash` and
+`completions/_colljob` from what the program prints of its own words, which is stored in `crates/example_rows/data/words/` and which
+the tests compare with the program. With --check nothing is written, and the status is 1 where a file isn't what would be written."""
+import pathlib
+import re
+import sys
+
+TOP = pathlib.Path(__file__).resolve().parent.parent
+WORDS = TOP / "crates/example_rows/data/words"
+VALUES = re.compile(r" \[possible values: ([^\]]*)\]")
+
+
+class Option:
+    """An option: its names, the name of its value if it takes one, what it does, and the values that it may have."""
+
+    def __init__(self, head, told):
+        self.names = re.findall(r"--?[\w-]+", head.split("<")[0])
+        value = re.search(r"<(\w+)>", head)
+        self.value = value and value.group(1)
+        found = VALUES.search(told)
+        self.values = found.group(1).split(", ") if found else []
+        self.told = told
+
+
+class Page:
+    """What `--help` prints, taken apart."""
+
+    def __init__(self, name, text):
+        self.name = name
+        about, _, rest = text.partition("\n\nUsage: ")
+        self.about = about
+        self.usage, _, rest = rest.partition("\n\n")
+        parts = {"Commands": [], "Arguments": [], "Options": []}
+        behind = []
+        for block in rest.rstrip("\n").split("\n\n"):
+            head, _, lines = block.partition(":\n")
+            if head in parts and not behind:
+                parts[head] = [re.split(r"  +", line.strip(), maxsplit=1) for line in lines.split("\n")]
+            else:
+                behind.append(block)
+        self.commands = parts["Commands"]
+        self.arguments = parts["Arguments"]
+        self.options = [Option(head, told) for head, told in parts["Options"]]
+        self.behind = behind
+
+
+def pages():
+    whole = Page("colljob", (WORDS / "help").read_text())
+    names = [name for name, _ in whole.commands if name != "help"]
+    return whole, [Page(name, (WORDS / f"help_{name}").read_text()) for name in names]
+
+
+# ---- the manual page
+
+
+def roff(text):
+    return re.sub(r"(?m)^([.'])", r"\\&\1", text.replace("\\", "\\e").replace("-", "\\-"))
+
+
+def item(head, told):
+    return f".TP\n{head}\n{roff(told)}\n"
+
+
+def option_item(option):
+    names = ", ".join(f"\\fB{roff(name)}\\fR" for name in option.names)
+    return item(names + (f" \\fI{option.value}\\fR" if option.value else ""), option.told)
+
+
+def blocks(texts):
+    out = ""
+    for text in texts:
+        lines = text.split("\n")
+        is_example = any(line.startswith("  ") for line in lines)
+        out += ".PP\n" + (".nf\n" if is_example else "") + roff(text) + "\n" + (".fi\n" if is_example else "")
+    return out
+
+
+def manual(whole, commands, version):
+    out = f'.TH COLLJOB 1 "" "{version}" "User Commands"\n.SH NAME\ncolljob \\- {roff(whole.about)}\n.SH SYNOPSIS\n'
+    out += "".join(f".PP\n.B {roff(page.usage)}\n" for page in [whole, *commands])
+    out += ".SH OPTIONS\n" + "".join(map(option_item, whole.options))
+    out += ".SH COMMANDS\n"
+    for page in commands:
+        out += f".SS {roff(page.name)}\n{roff(page.about)}.\n"
+        out += "".join(item(f"\\fI{head}\\fR", told) for head, told in page.arguments)
+        out += "".join(map(option_item, page.options)) + blocks(page.behind)
+    return out + ".SH DESCRIPTION\n" + blocks(whole.behind)
+
+
+# ---- completions
+
+
+def bash(whole, commands):
+    names = " ".join(name for name, _ in whole.commands)
+    options = " ".join(name for option in whole.options for name in option.names)
+    cases = ""
+    for page in commands:
+        all_names = " ".join(name for option in page.options for name in option.names)
+        values = "".join(
+            f"                {'|'.join(option.names)}) COMPREPLY=($(compgen -W '{' '.join(option.values)}' -- \"$word\")); return ;;\n"
+            for option in page.options
+            if option.values
+        )
+        values += "".join(
+            f"                {'|'.join(option.names)}) COMPREPLY=($(compgen -f -- \"$word\")); return ;;\n"
+            for option in page.options
+            if option.value and not option.values
+        )
+        inner = f'            case "$before" in\n{values}            esac\n' if values else ""
+        cases += f"        {page.name})\n{inner}            options='{all_names}'\n            ;;\n"
+    cases += f"        help)\n            COMPREPLY=($(compgen -W '{names}' -- \"$word\"))\n            return\n            ;;\n"
+    return f"""# Completions of colljob for bash; completions/generate.py writes this file.
+_colljob() {{
+    local word=${{COMP_WORDS[COMP_CWORD]}} before=${{COMP_WORDS[COMP_CWORD - 1]}} options
+    if [ "$COMP_CWORD" -eq 1 ]; then
+        COMPREPLY=($(compgen -W '{names} {options}' -- "$word"))
+        return
+    fi
+    case "${{COMP_WORDS[1]}}" in
+{cases}        *) return ;;
+    esac
+    if [[ $word == -* ]]; then
+        COMPREPLY=($(compgen -W "$options" -- "$word"))
+    else
+        COMPREPLY=($(compgen -f -- "$word"))
+    fi
+}}
+complete -o filenames -F _colljob colljob
+"""
+
+
+def quoted(text):
+    return text.replace("'", "'\\''").replace("[", "\\[").replace("]", "\\]").replace(":", "\\:")
+
+
+def zsh_option(option):
+    told = quoted(VALUES.sub("", option.told))
+    value = ""
+    if option.value:
+        value = f":{option.value}:" + (f"({' '.join(option.values)})" if option.values else "_files")
+    if len(option.names) == 1:
+        return f"'{option.names[0]}[{told}]{value}'"
+    both = " ".join(option.names)
+    return f"'({both})'{{{','.join(option.names)}}}'[{told}]{value}'"
+
+
+def zsh(whole, commands):
+    listed = "".join(f"                '{name}:{quoted(told)}'\n" for name, told in whole.commands)
+    cases = ""
+    for page in commands:
+        lines = [zsh_option(option) for option in page.options]
+        lines += [f"'::{head.strip('[]')}:_files'" for head, _ in page.arguments]
+        cases += f"                {page.name})\n                    _arguments " + " \\\n                        ".join(lines) + "\n                    ;;\n"
+    own = " \\\n        ".join(zsh_option(option) for option in whole.options)
+    return f"""#compdef colljob
+# Completions of colljob for zsh; completions/generate.py writes this file.
+_colljob() {{
+    local state line
+    local -a commands
+    _arguments -C \\
+        {own} \\
+        '1: :->command' \\
+        '*:: :->words'
+    case $state in
+        command)
+            commands=(
+{listed}            )
+            _describe command commands
+            ;;
+        words)
+            case $line[1] in
+{cases}            esac
+            ;;
+    esac
+}}
+_colljob "$@"
+"""
+
+
+def main():
+    whole, commands = pages()
+    version = (WORDS / "version").read_text().strip()
+    files = {
+        TOP / "docs/colljob.1": manual(whole, commands, version),
+        TOP / "completions/colljob.bash": bash(whole, commands),
+        TOP / "completions/_colljob": zsh(whole, commands),
+    }
+    stale = [path for path, text in files.items() if not path.exists() or path.read_text() != text]
+    if sys.argv[1:] == ["--check"]:
+        for path in stale:
+            print(f"{path.relative_to(TOP)} isn't what completions/generate.py writes", file=sys.stderr)
+        sys.exit(bool(stale))
+    for path in stale:
+        path.write_text(files[path])
+
+
+main()

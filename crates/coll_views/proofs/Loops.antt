@@ -1,0 +1,77 @@
+-- What loops over a list keep, element by element.
+use Rattle.std.proofs.Common.{◌≡◌, ℕ, zero, suc, ◌+◌, ◌-◌, ◌<◌, ◌≤◌, List, [], ◌∷◌, ◌++◌, map, drop, length, refl, ap, sym, ◌∙◌, append_assoc, arith}
+use Rattle.std.specs.Prelude.{flat_map, filter_map, sum, Option, Some, None}
+use Rattle.std.specs.Prelude.{Vec}
+use Rattle.std.specs.Global.{Global}
+use Rattle.std.specs.List.{cons_option, range_with_len}
+use Rattle.std.proofs.lemmas.List.{map-append}
+use Rattle.coll_script.proofs.Loops.{map_range-more}
+use Rattle.std.proofs.lemmas.List.Concat.{flat_map-cons}
+use Rattle.coll_kinds.specs.declared.datatype.Datatype.{Datatype}
+use Rattle.coll_kinds.specs.Elements.{Element, element_at, width}
+use Rattle.coll_ops.specs.Combinations.{elements}
+
+-- a list that grows by what f makes of the next element
+pub flat_map-more : {X A : Type 0} (f : X → List A) (xs : List X) (k : ℕ) (x : X) (out total : List A)
+    → drop k xs ≡ x ∷ drop (k + 1) xs
+    → out ++ flat_map f (drop k xs) ≡ total
+    → (out ++ f x) ++ flat_map f (drop (k + 1) xs) ≡ total
+flat_map-more {X} {A} f xs k x out total front so_far =
+    append_assoc out (f x) (flat_map f (drop (k + 1) xs))
+    ∙ ap (λ (rest : List A). out ++ rest) (sym (flat_map-cons f x (drop (k + 1) xs)))
+    ∙ ap (λ (rest : List X). out ++ flat_map f rest) (sym front) ∙ so_far
+
+-- a list that grows by what f makes of the next element, if anything
+pub filter_map-more : {X A : Type 0} (f : X → Option A) (xs : List X) (k : ℕ) (x : X) (made : Option A) (out total : List A)
+    → drop k xs ≡ x ∷ drop (k + 1) xs
+    → made ≡ f x
+    → out ++ filter_map f (drop k xs) ≡ total
+    → (out ++ cons_option made []) ++ filter_map f (drop (k + 1) xs) ≡ total
+filter_map-more {X} {A} f xs k x made out total front is so_far =
+    append_assoc out (cons_option made []) (filter_map f (drop (k + 1) xs))
+    ∙ ap (λ (rest : List A). out ++ rest) (one made)
+    ∙ ap (λ (o : Option A). out ++ cons_option o (filter_map f (drop (k + 1) xs))) is
+    ∙ ap (λ (rest : List X). out ++ filter_map f rest) (sym front) ∙ so_far
+  where
+    one : (o : Option A) → cons_option o [] ++ filter_map f (drop (k + 1) xs) ≡ cons_option o (filter_map f (drop (k + 1) xs))
+    one None = refl
+    one (Some a) = refl
+
+-- a copy that grows by the next element
+pub append-more : {X : Type 0} (xs : List X) (k : ℕ) (x : X) (out total : List X)
+    → drop k xs ≡ x ∷ drop (k + 1) xs
+    → out ++ drop k xs ≡ total
+    → (out ++ x ∷ []) ++ drop (k + 1) xs ≡ total
+append-more {X} xs k x out total front so_far =
+    append_assoc out (x ∷ []) (drop (k + 1) xs) ∙ ap (λ (rest : List X). out ++ rest) (sym front) ∙ so_far
+
+-- lists of lists that grow by what f makes of the next number
+pub rows-more : {X : Type 0} (f : ℕ → List X) (end k : ℕ) (all : List (Vec X Global)) (own : Vec X Global) (total : List (List X))
+    → k < end
+    → own.items ≡ f k
+    → map (λ (v : Vec X Global). v.items) all ++ map f (range_with_len k (end - k)) ≡ total
+    → map (λ (v : Vec X Global). v.items) (all ++ own ∷ []) ++ map f (range_with_len (k + 1) (end - (k + 1))) ≡ total
+rows-more {X} f end k all own total lt made so_far =
+    rw map-append (map_range-more f end k (map (λ (v : Vec X Global). v.items) all) total own.items lt made so_far)
+
+-- a sum that grows by the next number
+pub sum-more : (xs : List ℕ) (k x now total : ℕ)
+    → drop k xs ≡ x ∷ drop (k + 1) xs
+    → now + sum (drop k xs) ≡ total
+    → now + x + sum (drop (k + 1) xs) ≡ total
+sum-more xs k x now total front so_far =
+    let here : sum (drop k xs) ≡ x + sum (drop (k + 1) xs) = ap sum front in
+    omega (arith, here, so_far)
+
+-- text that grows by the next element of a row
+pub elements-more : (f : Element → List ℕ) (ty : Datatype) (end i : ℕ) (rest out total : List ℕ)
+    → i < end
+    → out ++ flat_map f (elements ty (end - i) rest) ≡ total
+    → (out ++ f (element_at ty rest)) ++ flat_map f (elements ty (end - (i + 1)) (drop (width ty) rest)) ≡ total
+elements-more f ty end i rest out total lt so_far =
+    let left : end - i ≡ suc (end - (i + 1)) = omega arith in
+    let others = flat_map f (elements ty (end - (i + 1)) (drop (width ty) rest)) in
+    let here : flat_map f (elements ty (end - i) rest) ≡ f (element_at ty rest) ++ others =
+    ap (λ n. flat_map f (elements ty n rest)) left
+    ∙ flat_map-cons f (element_at ty rest) (elements ty (end - (i + 1)) (drop (width ty) rest)) in
+    append_assoc out (f (element_at ty rest)) others ∙ ap (λ (xs : List ℕ). out ++ xs) (sym here) ∙ so_far

@@ -1,0 +1,169 @@
+//! Outcomes as JSON, an object in each line.
+
+ghost use Rattle.std.specs.Prelude.{◌≡◌, ◌++◌, ◌∷◌, [], drop, count_by, map, IfOk, OnOk};
+ghost use Rattle.std.specs.String.{string_bytes};
+ghost use Rattle.coll_report.specs.Views.{seen, trace_seen};
+ghost use Rattle.coll_views.specs.Lines.{done_text, found_object, is_completion, kind_text, object_text, outcome_of, outcomes_json, outcomes_of, stand_text};
+ghost use Rattle.coll_views.specs.Requests.{named};
+ghost use Rattle.coll_views.specs.Texts.{elements_text};
+
+use crate::elements::{Style, print_elements};
+use crate::fault::ViewFault;
+use crate::request::{Named, Request, Requests};
+use coll_kinds::Datatype;
+use coll_report::Entry;
+use std::alloc::{AllocError, Global};
+
+/// What the completions of a trace handed out, an object in each line: in rising rank, those of a rank in the order in which it
+/// completed them; the last line says how many there are. The cost is linear in the text, for each rank in the trace, and for each
+/// completion in its rank's requests.
+///
+/// # Errors
+///
+/// [`ViewFault::Torn`] where an entry names a request that its rank didn't make, and [`ViewFault::NoMemory`].
+pub fn outcomes_json(
+    alloc: Global,
+    ranks: u8,
+    requests: &Requests,
+    trace: &[Entry],
+) -> Result<Vec<u8>, ViewFault>
+    ensures { IfOk result (λ text. text.items ≡ outcomes_json ranks requests.now (trace_seen trace.now)) }
+{
+    let mut out = Vec::new(alloc);
+    for rank in 0..ranks {
+        print_rank(alloc, rank, requests, trace, &mut out)?;
+    }
+    let count = trace.iter().filter(|entry| is_completion(entry)).count();
+    let done = done_text(alloc, count)?;
+    out.extend_from_slice(done.as_bytes())?;
+    Ok(out)
+}
+
+fn done_text(alloc: Global, count: usize) -> Result<String, AllocError>
+    ensures { IfOk result (λ text. string_bytes text ≡ done_text count) }
+{
+    format!(in alloc; "{{\"reason\":\"done\",\"outcomes\":{count},\"status\":0}}\n")
+}
+
+fn is_completion(entry: &Entry) -> bool
+    ensures { result ≡ is_completion (seen entry.now) }
+{
+    match entry {
+        Entry::Posted { .. } => false,
+        Entry::Inited { .. } => false,
+        Entry::Started { .. } => false,
+        Entry::Retired { .. } => true,
+        Entry::Freed { .. } => false,
+    }
+}
+
+/// Appends the outcomes of a rank.
+fn print_rank(
+    alloc: Global,
+    rank: u8,
+    requests: &Requests,
+    trace: &[Entry],
+    out: &mut Vec<u8>,
+) -> Result<(), ViewFault>
+    ensures { OnOk result (out.new.items ≡ out.old.items ++ outcomes_of requests.now (trace_seen trace.now) rank) }
+{
+    for entry in trace {
+        print_entry(alloc, rank, requests, entry, out)?;
+    }
+    Ok(())
+}
+
+/// Appends the outcome that an entry handed out to the rank, if it did.
+fn print_entry(
+    alloc: Global,
+    of: u8,
+    requests: &Requests,
+    entry: &Entry,
+    out: &mut Vec<u8>,
+) -> Result<(), ViewFault>
+    ensures { OnOk result (out.new.items ≡ out.old.items ++ outcome_of requests.now of (seen entry.now)) }
+{
+    match entry {
+        Entry::Posted { .. } => Ok(()),
+        Entry::Inited { .. } => Ok(()),
+        Entry::Started { .. } => Ok(()),
+        Entry::Retired {
+            rank,
+            start,
+            bytes,
+            ..
+        } => {
+            if *rank != of {
+                return Ok(());
+            }
+            let found = requests.named_by(entry)?;
+            print_object(alloc, *rank, *start, &found, bytes.as_slice(), out)
+        }
+        Entry::Freed { .. } => Ok(()),
+    }
+}
+
+/// Appends the object of an outcome.
+fn print_object(
+    alloc: Global,
+    rank: u8,
+    start: u32,
+    found: &Named,
+    bytes: &[u8],
+    out: &mut Vec<u8>,
+) -> Result<(), ViewFault>
+    ensures { OnOk result (out.new.items ≡ out.old.items ++ found_object (Some found.now) rank start bytes.now) }
+{
+    let head = object_text(alloc, rank, start, found)?;
+    out.extend_from_slice(head.as_bytes())?;
+    print_values(alloc, found.request.sig.ty, bytes, out)?;
+    out.extend_from_slice(b"]}\n")?;
+    Ok(())
+}
+
+/// Appends the values of a row, with commas between them.
+fn print_values(alloc: Global, ty: Datatype, row: &[u8], out: &mut Vec<u8>) -> Result<(), ViewFault>
+    ensures { OnOk result (out.new.items ≡ out.old.items ++ drop 1 (elements_text Style.Json ty row.now)) }
+{
+    let mut values = Vec::new(alloc);
+    print_elements(Style::Json, ty, row, &mut values)?;
+    if let Some((_, behind)) = values.split_first() {
+        out.extend_from_slice(behind)?;
+    }
+    Ok(())
+}
+
+/// What stands before the values.
+fn object_text(
+    alloc: Global,
+    rank: u8,
+    start: u32,
+    found: &Named,
+) -> Result<String, AllocError>
+    ensures { IfOk result (λ text. string_bytes text ≡ object_text rank start found.now) }
+{
+    let number = found.number;
+    let stand = stand_text(alloc, &found.request)?;
+    let kind = kind_text(alloc, &found.request)?;
+    format!(
+        in alloc; "{{\"reason\":\"outcome\",\"rank\":{rank},\"req\":{number},\"start\":{start}{stand}{kind}"
+    )
+}
+
+/// Where the request stands.
+fn stand_text(alloc: Global, request: &Request) -> Result<String, AllocError>
+    ensures { IfOk result (λ text. string_bytes text ≡ stand_text request.now) }
+{
+    let comm = request.comm;
+    let place = request.place;
+    format!(in alloc; ",\"comm\":{comm},\"place\":{place}")
+}
+
+/// The request's collective and type, and what opens the array of values.
+fn kind_text(alloc: Global, request: &Request) -> Result<String, AllocError>
+    ensures { IfOk result (λ text. string_bytes text ≡ kind_text request.now) }
+{
+    let kind = request.sig.kind.word();
+    let ty = request.sig.ty.word();
+    format!(in alloc; ",\"kind\":\"{kind}\",\"type\":\"{ty}\",\"values\":[")
+}
