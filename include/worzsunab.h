@@ -17,6 +17,7 @@
 #include <stdbool.h>
 #include <stddef.h>
 #include <stdint.h>
+#include <stdio.h>
 
 #ifdef __cplusplus
 extern "C" {
@@ -234,6 +235,53 @@ static inline const char *wz_name(int32_t code) {
     };
     if (code == WZ_PENDING) return "Pending";
     return code >= 0 && code <= WZ_HAS_WORK ? names[code] : "Unknown";
+}
+
+/* The word of a kind, an operation or a type, as job texts have it; "?" for a number that names none. */
+static inline const char *wz_kind_word(uint8_t kind) {
+    static const char *const words[] = { "barrier", "bcast", "gather", "scatter", "allgather", "alltoall", "reduce", "allreduce",
+                                         "rsblock", "scan", "exscan", "allgatherv" };
+    return kind <= WZ_ALLGATHERV ? words[kind] : "?";
+}
+
+static inline const char *wz_operation_word(uint8_t op) {
+    static const char *const words[] = { "max", "min", "sum", "prod", "land", "lor", "lxor", "band", "bor", "bxor", "lastnz",
+                                         "maxloc", "minloc" };
+    return op <= WZ_MINLOC ? words[op] : op == WZ_NO_OPERATION ? "no operation" : "?";
+}
+
+static inline const char *wz_type_word(uint8_t type) {
+    static const char *const words[] = { "i8", "i16", "i32", "i64", "u8", "u16", "u32", "u64", "byte", "pair" };
+    return type <= WZ_2INT ? words[type] : "?";
+}
+
+/* Writes a sentence with what is known of a refusal, as snprintf does: at most size bytes, the last of them 0. */
+static inline int wz_explain(const wz_reason *reason, char *text, size_t size) {
+    static const char *const rules[] = { "", "the root isn't a member, or isn't 0 for a collective without a root",
+                                         "the operation is missing, isn't for that type, or is one too many",
+                                         "a count is above 65,536, or one is given that has no meaning",
+                                         "some member gives or gets more than 16,777,216 bytes" };
+    static const char *const fields[] = { "", "number of ranks", "communicators", "slots", "places", "wear", "starts" };
+    const wz_call *call = &reason->call;
+    switch (reason->code) {
+    case WZ_BAD_COMM: return snprintf(text, size, "there is no communicator %lu", (unsigned long)reason->comm);
+    case WZ_NOT_MEMBER: return snprintf(text, size, "rank %u isn't in the communicator's group", reason->rank);
+    case WZ_BAD_SIGNATURE:
+        if (reason->cause < WZ_RULE_ROOT || reason->cause > WZ_RULE_SIZE) break;
+        return snprintf(text, size, "%s", rules[reason->cause]);
+    case WZ_BAD_LENGTH:
+        return snprintf(text, size, "%lu bytes are due, not %lu", (unsigned long)reason->want, (unsigned long)reason->got);
+    case WZ_MISMATCH:
+        return snprintf(text, size, "at place %lu rank %u has another collective: %s%s, %s, %s, root %u, count %lu",
+                        (unsigned long)reason->place, reason->first, reason->persistent ? "persistent " : "",
+                        wz_kind_word(call->kind), wz_operation_word(call->op), wz_type_word(call->type), call->root,
+                        (unsigned long)call->count);
+    case WZ_BAD_CONFIG:
+        if (reason->cause < WZ_FIELD_RANKS || reason->cause > WZ_FIELD_STARTS) break;
+        return snprintf(text, size, "what is given as %s is out of its range", fields[reason->cause]);
+    default: break;
+    }
+    return snprintf(text, size, "%s", wz_message(reason->code));
 }
 
 /* The MPI error class that an answer stands for (MPI 4.1, 9.4), by its name. */
