@@ -6,7 +6,8 @@
 
    Whoever calls owes this:
    - an engine goes to one call at a time: threads that share one have a lock (worzsunab_threads.h has one);
-   - a wz_engine is all zeros, or was last written by a function of this library, and is neither copied nor changed between;
+   - a wz_engine or wz_work is all zeros, or was last written by a function of this library, and is neither copied nor changed
+     between; a wz_work, too, goes to one call at a time;
    - pointers are good for as many bytes as are said, and no two of one call overlap. With length 0 a pointer may be NULL;
    - malloc, realloc and free are of one allocator.
    All else is told: a wrong number, length, rank, communicator or request, and a closed engine, have codes of their own. */
@@ -16,6 +17,7 @@
 #include <stdbool.h>
 #include <stddef.h>
 #include <stdint.h>
+#include <stdio.h>
 
 #ifdef __cplusplus
 extern "C" {
@@ -35,7 +37,9 @@ enum {
     WZ_ALLREDUCE = 7,            /* MPI_Iallreduce             a block                       a block                      */
     WZ_REDUCE_SCATTER_BLOCK = 8, /* MPI_Ireduce_scatter_block  n blocks                      a block                      */
     WZ_SCAN = 9,                 /* MPI_Iscan                  a block                       a block                      */
-    WZ_EXSCAN = 10               /* MPI_Iexscan                a block                       a block, member 0 gets 0     */
+    WZ_EXSCAN = 10,              /* MPI_Iexscan                a block                       a block, member 0 gets 0     */
+    WZ_ALLGATHERV = 11           /* MPI_Iallgatherv            counts[r] elements            what all give, in order;
+                                    it has functions of its own, since a wz_call has no counts: wz_post_allgatherv */
 };
 
 /* Operations (wz_call.op), with their MPI names (MPI 4.1, 6.9.2 and 6.9.4). */
@@ -80,6 +84,36 @@ typedef struct wz_call {
     uint32_t count; /* elements of a block: up to 65,536; nobody gives or gets more than 16,777,216 bytes */
 } wz_call;
 
+/* Why a call was refused, with what is known of it; a field that a refusal has no use for is 0. */
+typedef struct wz_reason {
+    int32_t code;    /* WZ_BAD_COMM to WZ_BAD_CONFIG; 0: no call was refused */
+    uint8_t rank;    /* WZ_NOT_MEMBER: the rank that isn't one */
+    uint8_t cause;   /* WZ_BAD_SIGNATURE: WZ_RULE_ROOT and so on; WZ_BAD_CONFIG: WZ_FIELD_RANKS and so on */
+    uint8_t first;   /* WZ_MISMATCH: the lowest rank that has that place */
+    bool persistent; /* WZ_MISMATCH: whether that rank's collective is persistent */
+    wz_call call;    /* WZ_MISMATCH: that rank's collective, without the counts of an allgatherv */
+    uint32_t comm;   /* WZ_BAD_COMM: the number that names none */
+    uint32_t place;  /* WZ_MISMATCH: the place in the posting lists, from 0 on */
+    uint32_t want;   /* WZ_BAD_LENGTH: the bytes that are due; in wz_test, those of the outcome */
+    size_t got;      /* WZ_BAD_LENGTH: the bytes that were given, or the room */
+} wz_reason;
+
+/* Rules that a signature may break (wz_reason.cause), and fields of a configuration. */
+enum {
+    WZ_RULE_ROOT = 1,      /* the root isn't below the number of members, or isn't 0 for a kind without a root */
+    WZ_RULE_OPERATION = 2, /* the operation is missing, isn't for that type, or is given to a kind that has none */
+    WZ_RULE_COUNT = 3,     /* a count is above 65,536, a barrier's isn't 0, or a count stands behind the last member's */
+    WZ_RULE_SIZE = 4       /* some member gives or gets more than 16,777,216 bytes */
+};
+enum {
+    WZ_FIELD_RANKS = 1,
+    WZ_FIELD_GROUPS = 2, /* the communicators */
+    WZ_FIELD_SLOTS = 3,
+    WZ_FIELD_PLACES = 4,
+    WZ_FIELD_WEAR = 5,
+    WZ_FIELD_STARTS = 6
+};
+
 /* A request (MPI_Request). All zeros is null (MPI_REQUEST_NULL). A copy names the same request. */
 typedef struct wz_request {
     uint32_t slot;
@@ -90,10 +124,29 @@ typedef struct wz_request {
 typedef struct wz_engine {
     void *at;
     bool opened;
+    wz_reason reason; /* of the last refusal; to be read, between calls */
 } wz_engine;
 
-#define WZ_CLOSED_ENGINE { NULL, false }
+/* What a request is (wz_about). */
+typedef struct wz_about_request {
+    uint8_t rank;    /* whose it is */
+    bool persistent;
+    uint32_t comm;
+    uint32_t place;  /* its place in its member's posting list, from 0 on */
+    uint32_t starts; /* how often it was started */
+} wz_about_request;
+
+/* A combination that was taken out of an engine, so that it is computed outside the lock. All zeros is none:
+   wz_work work = WZ_EMPTY_WORK; */
+typedef struct wz_work {
+    void *at;
+    bool full;
+} wz_work;
+
+#define WZ_NO_REASON { 0, 0, 0, 0, false, { 0, 0, 0, 0, 0 }, 0, 0, 0, 0 }
+#define WZ_CLOSED_ENGINE { NULL, false, WZ_NO_REASON }
 #define WZ_NULL_REQUEST { 0, 0 }
+#define WZ_EMPTY_WORK { NULL, false }
 
 /* What an engine is opened with. */
 typedef struct wz_limits {
@@ -136,7 +189,9 @@ enum {
     WZ_BAD_CONFIG = 18,     /* a limit or a communicator is out of its range */
     WZ_BAD_NUMBER = 19,     /* a number that names no kind, operation or type */
     WZ_CLOSED = 20,         /* the engine is closed */
-    WZ_OPEN = 21            /* the engine is open already */
+    WZ_OPEN = 21,           /* the engine is open already */
+    WZ_NO_WORK = 22,        /* there is no combination: none is left to take, or the wz_work has none */
+    WZ_HAS_WORK = 23        /* the wz_work has a combination already */
 };
 
 /* A sentence for an answer. */
@@ -165,6 +220,8 @@ static inline const char *wz_message(int32_t code) {
     case WZ_BAD_NUMBER: return "a number names no kind, operation or type";
     case WZ_CLOSED: return "the engine is closed";
     case WZ_OPEN: return "the engine is open already";
+    case WZ_NO_WORK: return "there is no combination";
+    case WZ_HAS_WORK: return "there is a combination already";
     default: return "no answer of this library";
     }
 }
@@ -174,10 +231,57 @@ static inline const char *wz_name(int32_t code) {
     static const char *const names[] = {
         "Done", "BadComm", "NotMember", "BadSignature", "BadLength", "Mismatch", "Stale", "NotYours", "Active", "NotPersistent",
         "PlacesUsed", "StartsUsed", "Full", "TraceFull", "Stalled", "StillActive", "Torn", "NoMemory", "BadConfig", "BadNumber",
-        "Closed", "Open"
+        "Closed", "Open", "NoWork", "HasWork"
     };
     if (code == WZ_PENDING) return "Pending";
-    return code >= 0 && code <= WZ_OPEN ? names[code] : "Unknown";
+    return code >= 0 && code <= WZ_HAS_WORK ? names[code] : "Unknown";
+}
+
+/* The word of a kind, an operation or a type, as job texts have it; "?" for a number that names none. */
+static inline const char *wz_kind_word(uint8_t kind) {
+    static const char *const words[] = { "barrier", "bcast", "gather", "scatter", "allgather", "alltoall", "reduce", "allreduce",
+                                         "rsblock", "scan", "exscan", "allgatherv" };
+    return kind <= WZ_ALLGATHERV ? words[kind] : "?";
+}
+
+static inline const char *wz_operation_word(uint8_t op) {
+    static const char *const words[] = { "max", "min", "sum", "prod", "land", "lor", "lxor", "band", "bor", "bxor", "lastnz",
+                                         "maxloc", "minloc" };
+    return op <= WZ_MINLOC ? words[op] : op == WZ_NO_OPERATION ? "no operation" : "?";
+}
+
+static inline const char *wz_type_word(uint8_t type) {
+    static const char *const words[] = { "i8", "i16", "i32", "i64", "u8", "u16", "u32", "u64", "byte", "pair" };
+    return type <= WZ_2INT ? words[type] : "?";
+}
+
+/* Writes a sentence with what is known of a refusal, as snprintf does: at most size bytes, the last of them 0. */
+static inline int wz_explain(const wz_reason *reason, char *text, size_t size) {
+    static const char *const rules[] = { "", "the root isn't a member, or isn't 0 for a collective without a root",
+                                         "the operation is missing, isn't for that type, or is one too many",
+                                         "a count is above 65,536, or one is given that has no meaning",
+                                         "some member gives or gets more than 16,777,216 bytes" };
+    static const char *const fields[] = { "", "number of ranks", "communicators", "slots", "places", "wear", "starts" };
+    const wz_call *call = &reason->call;
+    switch (reason->code) {
+    case WZ_BAD_COMM: return snprintf(text, size, "there is no communicator %lu", (unsigned long)reason->comm);
+    case WZ_NOT_MEMBER: return snprintf(text, size, "rank %u isn't in the communicator's group", reason->rank);
+    case WZ_BAD_SIGNATURE:
+        if (reason->cause < WZ_RULE_ROOT || reason->cause > WZ_RULE_SIZE) break;
+        return snprintf(text, size, "%s", rules[reason->cause]);
+    case WZ_BAD_LENGTH:
+        return snprintf(text, size, "%lu bytes are due, not %lu", (unsigned long)reason->want, (unsigned long)reason->got);
+    case WZ_MISMATCH:
+        return snprintf(text, size, "at place %lu rank %u has another collective: %s%s, %s, %s, root %u, count %lu",
+                        (unsigned long)reason->place, reason->first, reason->persistent ? "persistent " : "",
+                        wz_kind_word(call->kind), wz_operation_word(call->op), wz_type_word(call->type), call->root,
+                        (unsigned long)call->count);
+    case WZ_BAD_CONFIG:
+        if (reason->cause < WZ_FIELD_RANKS || reason->cause > WZ_FIELD_STARTS) break;
+        return snprintf(text, size, "what is given as %s is out of its range", fields[reason->cause]);
+    default: break;
+    }
+    return snprintf(text, size, "%s", wz_message(reason->code));
 }
 
 /* The MPI error class that an answer stands for (MPI 4.1, 9.4), by its name. */
@@ -197,7 +301,9 @@ static inline const char *wz_mpi_class(int32_t code) {
     case WZ_BAD_CONFIG:
     case WZ_BAD_NUMBER:
     case WZ_CLOSED:
-    case WZ_OPEN: return "MPI_ERR_ARG";
+    case WZ_OPEN:
+    case WZ_NO_WORK:
+    case WZ_HAS_WORK: return "MPI_ERR_ARG";
     case WZ_NO_MEMORY: return "MPI_ERR_NO_MEM";
     case WZ_PLACES_USED:
     case WZ_STARTS_USED:
@@ -211,7 +317,8 @@ static inline const char *wz_mpi_class(int32_t code) {
 }
 
 /* ---- functions. After an answer that isn't WZ_DONE nothing has changed, in the engine, the request or the memory, unless
-        it is said otherwise. The codes of each stand in the order in which they are looked for. */
+        it is said otherwise. Where the answer is 1 to 18, the engine's reason tells more of it; else that stays. The codes of
+        each stand in the order in which they are looked for. */
 
 /* Opens an engine (MPI_Init, as far as it goes). Its communicators lie one after the other: sizes has the number of members of each,
    members their ranks, in the order of their member numbers; there are 1 to 16, each of one rank or more, none twice.
@@ -231,11 +338,22 @@ int32_t wz_close(wz_engine *engine);
 int32_t wz_post(wz_engine *engine, uint8_t rank, uint32_t comm, const wz_call *call, const void *bytes, size_t length,
                 wz_request *request);
 
+/* Starts an allgatherv (MPI_Iallgatherv): member i gives counts[i] elements of the type, and all get what all give, one after
+   the other. counts has many elements, mostly as many as the communicator has members; a member behind them gives none.
+   WZ_BAD_NUMBER (the type's number, or more than 64 counts), and from WZ_CLOSED on as wz_post. */
+int32_t wz_post_allgatherv(wz_engine *engine, uint8_t rank, uint32_t comm, uint8_t type, const uint32_t *counts, size_t many,
+                           const void *bytes, size_t length, wz_request *request);
+
 /* Makes a persistent request, which isn't started yet (MPI_Barrier_init, MPI_Bcast_init and so on). It takes a place as a post
    does.
    WZ_BAD_NUMBER, WZ_CLOSED, WZ_BAD_COMM, WZ_NOT_MEMBER, WZ_BAD_SIGNATURE, WZ_MISMATCH, WZ_PLACES_USED, WZ_FULL; WZ_NO_MEMORY
    may come in place of one from WZ_MISMATCH on. */
 int32_t wz_init(wz_engine *engine, uint8_t rank, uint32_t comm, const wz_call *call, wz_request *request);
+
+/* The same of an allgatherv (MPI_Allgatherv_init), with counts as wz_post_allgatherv has them.
+   WZ_BAD_NUMBER (the type's number, or more than 64 counts), and from WZ_CLOSED on as wz_init. */
+int32_t wz_init_allgatherv(wz_engine *engine, uint8_t rank, uint32_t comm, uint8_t type, const uint32_t *counts, size_t many,
+                           wz_request *request);
 
 /* Starts a persistent request with bytes that the rank gives, which are copied (MPI_Start).
    WZ_CLOSED, WZ_STALE, WZ_NOT_YOURS, WZ_NOT_PERSISTENT, WZ_ACTIVE, WZ_BAD_LENGTH, WZ_STARTS_USED; WZ_NO_MEMORY may come in place
@@ -257,6 +375,10 @@ int32_t wz_test(wz_engine *engine, uint8_t rank, wz_request *request, void *out,
 enum { WZ_IDLE = 0, WZ_IS_PENDING = 1, WZ_IS_DONE = 2 };
 int32_t wz_phase(wz_engine *engine, uint8_t rank, const wz_request *request, uint8_t *phase);
 
+/* What a live request of any rank is.
+   WZ_CLOSED, WZ_STALE. */
+int32_t wz_about(wz_engine *engine, const wz_request *request, wz_about_request *about);
+
 /* The bytes of the outcome that a live request will have, or has.
    WZ_CLOSED, WZ_STALE, WZ_NOT_YOURS. */
 int32_t wz_outcome_length(wz_engine *engine, uint8_t rank, const wz_request *request, size_t *bytes);
@@ -273,6 +395,30 @@ int32_t wz_settle(wz_engine *engine);
 /* The bytes that active requests lend to the engine, given and got together.
    WZ_CLOSED. */
 int32_t wz_lent(wz_engine *engine, uint64_t *bytes);
+
+/* ---- combinations outside the lock. The rows that an operation combines may be long. So that other threads go on meanwhile, one
+        takes the combination out under the lock, runs it without, and returns it under the lock:
+
+            while (wz_take_work(&engine, &work) == WZ_DONE) { unlock; wz_run_work(&work); lock; wz_return_work(&engine, &work); }
+
+        Its request is pending for so long, and wz_step and wz_settle go past it. Several may be outside at one time. */
+
+/* Makes actions until the next one is a combination, and takes that out.
+   WZ_HAS_WORK, WZ_CLOSED, WZ_NO_WORK (no action is left, as after wz_settle); WZ_NO_MEMORY. The actions that were made stay made. */
+int32_t wz_take_work(wz_engine *engine, wz_work *work);
+
+/* Computes the combination, if that isn't done yet. It needs no engine, and so no lock.
+   WZ_NO_WORK, WZ_NO_MEMORY (it can be run again, or returned undone). */
+int32_t wz_run_work(wz_work *work);
+
+/* Returns the combination to the engine that it was taken out of: its request goes on with the result. One that wasn't run can be
+   taken, or made by wz_step and wz_settle, again.
+   WZ_NO_WORK, WZ_CLOSED; WZ_STALE where the engine has no such combination outside: it is given up then. */
+int32_t wz_return_work(wz_engine *engine, wz_work *work);
+
+/* Gives up a combination, whose engine was closed. (In an engine that is open its request stays pending.)
+   WZ_NO_WORK. */
+int32_t wz_drop_work(wz_work *work);
 
 /* ---- lists of requests of one rank, in which none stands twice (MPI 4.1, 3.7.5 and 3.9). outs[i] has room for rooms[i] bytes,
         and counts[i] is set for each request that is completed. All requests are looked at before anything changes. They are

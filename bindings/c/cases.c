@@ -67,6 +67,74 @@ static void values(void) {
     value((wz_call){ WZ_REDUCE, WZ_MINLOC, WZ_2INT, 0, 1 }, 2, (int32_t[]){ 7, 4, 7, 2 }, (size_t[]){ 8, 8 }, (int32_t[]){ 7, 2 }, (size_t[]){ 8, 0 });
 }
 
+/* Member r gives counts[r] numbers of `given`, and each gets all of them; then the same by persistent requests, twice. */
+static void rows(uint8_t ranks, const uint32_t *counts, const int16_t *given, size_t total) {
+    wz_engine engine = opened(ranks, 64, 9);
+    wz_request once[8], again[8];
+    for (int start = 0; start < 3; start++) {
+        const int16_t *from = given;
+        for (uint8_t rank = 0; rank < ranks; rank++) {
+            size_t length = 2 * counts[rank];
+            if (start == 0) {
+                DONE(wz_post_allgatherv(&engine, rank, 0, WZ_INT16, counts, ranks, from, length, &once[rank]));
+                DONE(wz_init_allgatherv(&engine, rank, 0, WZ_INT16, counts, ranks, &again[rank]));
+            } else {
+                DONE(wz_start(&engine, rank, &again[rank], from, length));
+            }
+            from += counts[rank];
+        }
+        DONE(wz_settle(&engine));
+        for (uint8_t rank = 0; rank < ranks; rank++) {
+            wz_request *request = start == 0 ? &once[rank] : &again[rank];
+            int16_t out[32];
+            size_t count = 99, length = 98;
+            DONE(wz_outcome_length(&engine, rank, request, &length));
+            DONE(wz_test(&engine, rank, request, out, sizeof out, &count));
+            HOLDS(count == 2 * total && length == count && memcmp(out, given, count) == 0);
+        }
+    }
+    DONE(wz_close(&engine));
+}
+
+/* allgatherv_of_three, of one, and where nobody gives anything */
+static void rows_that_differ(void) {
+    rows(3, (uint32_t[]){ 2, 0, 1 }, (int16_t[]){ 1, 2, 9 }, 3);
+    rows(1, (uint32_t[]){ 4 }, (int16_t[]){ 1, 2, 3, 4 }, 4);
+    rows(4, (uint32_t[]){ 0, 0, 0, 0 }, (int16_t[]){ 0 }, 0);
+}
+
+/* The values once more, where each combination is taken out, and what isn't run comes again. */
+static void combined_outside(void) {
+    wz_engine engine = opened(5, 10, 9);
+    wz_call reduce = { WZ_REDUCE, WZ_LASTNZ, WZ_INT32, 2, 1 }, scan = { WZ_SCAN, WZ_SUM, WZ_INT32, 0, 1 };
+    int32_t given[5] = { 3, 0, 5, 0, 0 }, sums[5] = { 3, 3, 8, 8, 8 };
+    wz_request reduces[5], scans[5];
+    wz_work works[3] = { WZ_EMPTY_WORK, WZ_EMPTY_WORK, WZ_EMPTY_WORK };
+    size_t count;
+    for (uint8_t rank = 0; rank < 5; rank++) {
+        DONE(wz_post(&engine, rank, 0, &reduce, &given[rank], 4, &reduces[rank]));
+        DONE(wz_post(&engine, rank, 0, &scan, &given[rank], 4, &scans[rank]));
+    }
+    for (int turn = 0;; turn++) {
+        int full = 0;
+        for (int i = 0; i < 3; i++) full += wz_take_work(&engine, &works[i]) == WZ_DONE;
+        if (full == 0) break;
+        for (int i = 3; i-- > 0;) {
+            if (!works[i].full) continue;
+            if ((turn + i) % 2 == 0) DONE(wz_run_work(&works[i]));
+            DONE(wz_return_work(&engine, &works[i]));
+        }
+    }
+    for (uint8_t rank = 0; rank < 5; rank++) {
+        int32_t out = -1;
+        DONE(wz_test(&engine, rank, &reduces[rank], &out, 4, &count));
+        HOLDS(rank == 2 ? out == 5 && count == 4 : count == 0);
+        DONE(wz_test(&engine, rank, &scans[rank], &out, 4, &count));
+        HOLDS(out == sums[rank]);
+    }
+    DONE(wz_close(&engine));
+}
+
 static const wz_call bcast = { WZ_BCAST, WZ_NO_OPERATION, WZ_INT32, 0, 1 };
 static const wz_call sum = { WZ_ALLREDUCE, WZ_SUM, WZ_INT32, 0, 1 };
 
@@ -187,6 +255,8 @@ static void gather_size_limit(void) {
 
 int main(void) {
     values();
+    rows_that_differ();
+    combined_outside();
     late_member_gets_its_bcast();
     barrier_waits_for_all();
     lent_bytes();

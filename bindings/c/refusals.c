@@ -46,9 +46,20 @@ static void closed(void) {
     uint8_t phase = 7;
     uint32_t actions = 7;
     uint64_t bytes = 7;
+    uint32_t counts[] = { 1, 1 };
+    wz_about_request about = { 7, true, 7, 7, 7 };
+    wz_work work = WZ_EMPTY_WORK;
     for (int again = 0; again < 2; again++) {
         WANT(WZ_CLOSED, wz_post(&engine, 0, 0, &sum, &number, 4, &request));
         WANT(WZ_CLOSED, wz_init(&engine, 0, 0, &sum, &request));
+        WANT(WZ_CLOSED, wz_post_allgatherv(&engine, 0, 0, WZ_INT32, counts, 2, &number, 4, &request));
+        WANT(WZ_CLOSED, wz_init_allgatherv(&engine, 0, 0, WZ_INT32, counts, 2, &request));
+        WANT(WZ_CLOSED, wz_about(&engine, &request, &about));
+        WANT(WZ_CLOSED, wz_take_work(&engine, &work));
+        WANT(WZ_NO_WORK, wz_run_work(&work));
+        WANT(WZ_NO_WORK, wz_return_work(&engine, &work));
+        WANT(WZ_NO_WORK, wz_drop_work(&work));
+        HOLDS(about.rank == 7 && about.starts == 7 && !work.full && engine.reason.code == 0);
         WANT(WZ_CLOSED, wz_start(&engine, 0, &request, &number, 4));
         WANT(WZ_CLOSED, wz_free(&engine, 0, &request));
         WANT(WZ_CLOSED, wz_test(&engine, 0, &request, &number, 4, &count));
@@ -141,6 +152,196 @@ static void posts(void) {
     WANT(WZ_DONE, wz_post(&engine, 0, 0, &sum, &number, 4, &request));
     WANT(WZ_PLACES_USED, wz_post(&engine, 0, 0, &sum, &number, 4, &request));
     WANT(WZ_DONE, wz_close(&engine));
+}
+
+static void tells(const wz_engine *engine, const char *sentence) {
+    char text[200];
+    HOLDS(wz_explain(&engine->reason, text, sizeof text) == (int)strlen(sentence));
+    HOLDS(strcmp(text, sentence) == 0);
+}
+
+/* What is known of a refusal. */
+static void reasons(void) {
+    wz_engine engine = opened(4, 3, 1);
+    wz_request request, held;
+    wz_call call = sum;
+    int32_t number = 1;
+    size_t count = 0;
+    wz_limits limits = wz_greatest_limits(2);
+    uint8_t two = 2;
+    HOLDS(engine.reason.code == 0);
+    WANT(WZ_BAD_COMM, wz_post(&engine, 0, 7, &sum, &number, 4, &request));
+    HOLDS(engine.reason.code == WZ_BAD_COMM && engine.reason.comm == 7);
+    tells(&engine, "there is no communicator 7");
+    WANT(WZ_NOT_MEMBER, wz_post(&engine, 0, 1, &sum, &number, 4, &request));
+    HOLDS(engine.reason.code == WZ_NOT_MEMBER && engine.reason.rank == 0 && engine.reason.comm == 0);
+    tells(&engine, "rank 0 isn't in the communicator's group");
+    call.root = 1;
+    WANT(WZ_BAD_SIGNATURE, wz_init(&engine, 0, 0, &call, &request));
+    HOLDS(engine.reason.cause == WZ_RULE_ROOT);
+    call = sum;
+    call.op = WZ_MINLOC;
+    WANT(WZ_BAD_SIGNATURE, wz_init(&engine, 0, 0, &call, &request));
+    HOLDS(engine.reason.cause == WZ_RULE_OPERATION);
+    tells(&engine, "the operation is missing, isn't for that type, or is one too many");
+    call = sum;
+    call.count = 65537;
+    WANT(WZ_BAD_SIGNATURE, wz_init(&engine, 0, 0, &call, &request));
+    HOLDS(engine.reason.cause == WZ_RULE_COUNT);
+    WANT(WZ_BAD_LENGTH, wz_post(&engine, 1, 0, &sum, &number, 3, &request));
+    HOLDS(engine.reason.code == WZ_BAD_LENGTH && engine.reason.want == 4 && engine.reason.got == 3);
+    tells(&engine, "4 bytes are due, not 3");
+    WANT(WZ_DONE, wz_post(&engine, 0, 0, &sum, &number, 4, &held));
+    HOLDS(engine.reason.code == WZ_BAD_LENGTH); /* what is done leaves it */
+    call = sum;
+    call.type = WZ_UINT32;
+    WANT(WZ_MISMATCH, wz_post(&engine, 1, 0, &call, &number, 4, &request));
+    HOLDS(engine.reason.first == 0 && engine.reason.place == 0 && !engine.reason.persistent);
+    HOLDS(memcmp(&engine.reason.call, &sum, sizeof sum) == 0);
+    tells(&engine, "at place 0 rank 0 has another collective: allreduce, sum, i32, root 0, count 1");
+    WANT(WZ_DONE, wz_post(&engine, 1, 0, &sum, &number, 4, &request));
+    WANT(WZ_DONE, wz_settle(&engine));
+    WANT(WZ_BAD_LENGTH, wz_test(&engine, 0, &held, &number, 1, &count));
+    HOLDS(engine.reason.want == 4 && engine.reason.got == 1);
+    WANT(WZ_DONE, wz_close(&engine));
+    HOLDS(engine.reason.code == 0 && engine.at == NULL);
+    limits.places = 0;
+    WANT(WZ_BAD_CONFIG, wz_open(&engine, &limits, &two, 1, all_of_two, 2));
+    HOLDS(engine.reason.code == WZ_BAD_CONFIG && engine.reason.cause == WZ_FIELD_PLACES);
+    tells(&engine, "what is given as places is out of its range");
+}
+
+/* Allgathervs: member 0 gives two numbers, member 1 gives one. */
+static void counted(void) {
+    wz_engine engine = opened(4, 4, 2);
+    uint32_t counts[65] = { 2, 1 }, others[] = { 1, 2 };
+    int32_t two[] = { 5, 6 }, one = 7, out[4] = { -1, -1, -1, -1 };
+    wz_request mine = { 9, 9 }, yours;
+    wz_call call = { WZ_ALLGATHERV, WZ_NO_OPERATION, WZ_INT32, 0, 0 };
+    size_t count = 0;
+    WANT(WZ_BAD_NUMBER, wz_post(&engine, 0, 0, &call, two, 8, &mine)); /* a wz_call has no counts */
+    WANT(WZ_BAD_NUMBER, wz_post_allgatherv(&engine, 0, 0, 10, counts, 2, two, 8, &mine));
+    WANT(WZ_BAD_NUMBER, wz_post_allgatherv(&engine, 0, 0, WZ_INT32, counts, 65, two, 8, &mine));
+    WANT(WZ_BAD_NUMBER, wz_init_allgatherv(&engine, 0, 0, 10, counts, 2, &mine));
+    counts[2] = 1;
+    WANT(WZ_BAD_SIGNATURE, wz_post_allgatherv(&engine, 0, 0, WZ_INT32, counts, 3, two, 8, &mine)); /* behind the last member */
+    HOLDS(engine.reason.cause == WZ_RULE_COUNT);
+    WANT(WZ_BAD_SIGNATURE, wz_init_allgatherv(&engine, 0, 0, WZ_INT32, counts, 3, &mine));
+    counts[2] = 0;
+    WANT(WZ_BAD_COMM, wz_post_allgatherv(&engine, 0, 2, WZ_INT32, counts, 2, two, 8, &mine));
+    WANT(WZ_NOT_MEMBER, wz_init_allgatherv(&engine, 0, 1, WZ_INT32, counts, 1, &mine));
+    WANT(WZ_BAD_LENGTH, wz_post_allgatherv(&engine, 0, 0, WZ_INT32, counts, 2, two, 4, &mine));
+    HOLDS(engine.reason.want == 8 && engine.reason.got == 4 && mine.slot == 9 && mine.generation == 9);
+    WANT(WZ_DONE, wz_post_allgatherv(&engine, 0, 0, WZ_INT32, counts, 64, two, 8, &mine)); /* zeros behind may be left out */
+    WANT(WZ_MISMATCH, wz_post_allgatherv(&engine, 1, 0, WZ_INT32, others, 2, two, 8, &yours));
+    HOLDS(engine.reason.call.kind == WZ_ALLGATHERV && engine.reason.call.op == WZ_NO_OPERATION);
+    WANT(WZ_DONE, wz_post_allgatherv(&engine, 1, 0, WZ_INT32, counts, 2, &one, 4, &yours));
+    WANT(WZ_DONE, wz_settle(&engine));
+    WANT(WZ_DONE, wz_test(&engine, 1, &yours, out, sizeof out, &count));
+    HOLDS(count == 12 && out[0] == 5 && out[1] == 6 && out[2] == 7 && out[3] == -1);
+    WANT(WZ_DONE, wz_test(&engine, 0, &mine, out, sizeof out, &count));
+    HOLDS(count == 12);
+    WANT(WZ_DONE, wz_init_allgatherv(&engine, 0, 0, WZ_INT32, others, 2, &mine));
+    WANT(WZ_DONE, wz_init_allgatherv(&engine, 1, 0, WZ_INT32, others, 2, &yours));
+    for (int start = 0; start < 2; start++) {
+        out[0] = out[1] = out[2] = -1;
+        WANT(WZ_DONE, wz_start(&engine, 0, &mine, &one, 4));
+        WANT(WZ_DONE, wz_start(&engine, 1, &yours, two, 8));
+        WANT(WZ_DONE, wz_settle(&engine));
+        WANT(WZ_DONE, wz_test(&engine, 0, &mine, out, 12, &count));
+        HOLDS(count == 12 && out[0] == 7 && out[1] == 5 && out[2] == 6);
+        WANT(WZ_DONE, wz_test(&engine, 1, &yours, out, 12, &count));
+    }
+    WANT(WZ_DONE, wz_post_allgatherv(&engine, 1, 1, WZ_INT32, NULL, 0, NULL, 0, &yours)); /* nobody gives anything */
+    WANT(WZ_DONE, wz_settle(&engine));
+    WANT(WZ_DONE, wz_test(&engine, 1, &yours, NULL, 0, &count));
+    HOLDS(count == 0);
+    WANT(WZ_DONE, wz_close(&engine));
+}
+
+static void abouts(void) {
+    wz_engine engine = opened(4, 8, 2);
+    wz_request once, persistent, null = WZ_NULL_REQUEST;
+    wz_about_request about = { 9, true, 9, 9, 9 };
+    int32_t number = 1;
+    WANT(WZ_STALE, wz_about(&engine, &null, &about));
+    HOLDS(about.rank == 9 && engine.reason.code == WZ_STALE);
+    tells(&engine, "the request is null, completed or freed");
+    WANT(WZ_DONE, wz_post(&engine, 1, 1, &sum, &number, 4, &once));
+    WANT(WZ_DONE, wz_init(&engine, 1, 1, &sum, &persistent));
+    WANT(WZ_DONE, wz_about(&engine, &once, &about));
+    HOLDS(about.rank == 1 && !about.persistent && about.comm == 1 && about.place == 0 && about.starts == 1);
+    WANT(WZ_DONE, wz_about(&engine, &persistent, &about));
+    HOLDS(about.rank == 1 && about.persistent && about.comm == 1 && about.place == 1 && about.starts == 0);
+    WANT(WZ_DONE, wz_start(&engine, 1, &persistent, &number, 4));
+    WANT(WZ_DONE, wz_about(&engine, &persistent, &about));
+    HOLDS(about.starts == 1);
+    WANT(WZ_DONE, wz_close(&engine));
+}
+
+/* Combinations that are taken out, in every order. */
+static void works(void) {
+    wz_engine engine = opened(4, 8, 4), other = opened(4, 8, 4);
+    wz_work work = WZ_EMPTY_WORK, second = WZ_EMPTY_WORK, spent;
+    wz_request mine, yours, late;
+    int32_t two = 2, three = 3, out = -1;
+    size_t count = 0;
+    uint32_t actions = 9;
+    int taken = 0;
+    WANT(WZ_NO_WORK, wz_take_work(&engine, &work));
+    WANT(WZ_DONE, wz_post(&engine, 0, 0, &sum, &two, 4, &mine));
+    WANT(WZ_NO_WORK, wz_take_work(&engine, &work)); /* the other's bytes aren't there */
+    WANT(WZ_DONE, wz_post(&engine, 1, 0, &sum, &three, 4, &yours));
+    WANT(WZ_DONE, wz_take_work(&engine, &work));
+    HOLDS(work.full);
+    WANT(WZ_HAS_WORK, wz_take_work(&engine, &work));
+    WANT(WZ_DONE, wz_return_work(&engine, &work)); /* undone */
+    HOLDS(!work.full && work.at == NULL);
+    WANT(WZ_NO_WORK, wz_return_work(&engine, &work));
+    WANT(WZ_DONE, wz_take_work(&engine, &work));
+    WANT(WZ_DONE, wz_run_work(&work));
+    WANT(WZ_DONE, wz_run_work(&work)); /* once is enough */
+    WANT(WZ_DONE, wz_take_work(&engine, &second)); /* the other member's */
+    WANT(WZ_NO_WORK, wz_take_work(&engine, &(wz_work)WZ_EMPTY_WORK));
+    WANT(WZ_DONE, wz_step(&engine, 5, &actions)); /* nothing else can be done */
+    HOLDS(actions == 0);
+    WANT(WZ_PENDING, wz_test(&engine, 0, &mine, &out, 4, &count));
+    WANT(WZ_STALE, wz_return_work(&other, &second)); /* that engine has none outside: it is given up */
+    HOLDS(!second.full && other.reason.code == WZ_STALE);
+    WANT(WZ_DONE, wz_return_work(&engine, &work));
+    WANT(WZ_DONE, wz_settle(&engine));
+    WANT(WZ_DONE, wz_post(&engine, 0, 0, &sum, &two, 4, &late));
+    while (wz_take_work(&engine, &work) == WZ_DONE) {
+        taken++;
+        WANT(WZ_DONE, wz_run_work(&work));
+        WANT(WZ_DONE, wz_return_work(&engine, &work));
+    }
+    HOLDS(taken == 0);
+    WANT(WZ_DONE, wz_close(&engine));
+    engine = opened(4, 8, 4);
+    WANT(WZ_DONE, wz_post(&engine, 0, 0, &sum, &two, 4, &mine));
+    WANT(WZ_DONE, wz_post(&engine, 1, 0, &sum, &three, 4, &yours));
+    while (wz_take_work(&engine, &work) == WZ_DONE) {
+        taken++;
+        if (taken % 2 == 1) WANT(WZ_DONE, wz_run_work(&work)); /* every other one goes back undone, and comes again */
+        WANT(WZ_DONE, wz_return_work(&engine, &work));
+    }
+    HOLDS(taken == 3);
+    WANT(WZ_DONE, wz_test(&engine, 0, &mine, &out, 4, &count));
+    HOLDS(out == 5 && count == 4);
+    WANT(WZ_DONE, wz_test(&engine, 1, &yours, &out, 4, &count));
+    WANT(WZ_DONE, wz_post(&engine, 0, 0, &sum, &two, 4, &mine));
+    WANT(WZ_DONE, wz_post(&engine, 1, 0, &sum, &three, 4, &yours));
+    WANT(WZ_DONE, wz_take_work(&engine, &work));
+    WANT(WZ_DONE, wz_close(&engine));
+    WANT(WZ_CLOSED, wz_return_work(&engine, &work));
+    HOLDS(work.full);
+    WANT(WZ_DONE, wz_run_work(&work)); /* it needs no engine */
+    spent = work;
+    WANT(WZ_DONE, wz_drop_work(&work));
+    HOLDS(!work.full && work.at == NULL && spent.full);
+    WANT(WZ_NO_WORK, wz_drop_work(&work));
+    WANT(WZ_DONE, wz_close(&other));
 }
 
 static void requests(void) {
@@ -289,12 +490,16 @@ int main(int argc, char **argv) {
         for (int32_t code = 1; code <= WZ_BAD_CONFIG; code++) printf("%d %s\n", (int)code, wz_name(code));
         return 0;
     }
-    for (int32_t code = -1; code <= WZ_OPEN; code++)
+    for (int32_t code = -1; code <= WZ_HAS_WORK; code++)
         HOLDS(strlen(wz_message(code)) > 3 && strcmp(wz_name(code), "Unknown") != 0 && strncmp(wz_mpi_class(code), "MPI_", 4) == 0);
-    HOLDS(strcmp(wz_name(WZ_OPEN + 1), "Unknown") == 0);
+    HOLDS(strcmp(wz_name(WZ_HAS_WORK + 1), "Unknown") == 0);
     closed();
     configurations();
     posts();
+    reasons();
+    counted();
+    abouts();
+    works();
     requests();
     budgets();
     lists();

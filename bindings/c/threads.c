@@ -1,4 +1,5 @@
-/* Ranks as threads: many posts, a persistent loop, overlap, communicators of some ranks, and a stall that is told.
+/* Ranks as threads: many posts, a persistent loop, overlap, communicators of some ranks, allgathervs, long rows that are combined
+   with the lock free, refusals with their reasons, and a stall that is told.
    threads RANKS TIMES [quiet]: without `quiet` it prints the microseconds of an allreduce. */
 #include <stdio.h>
 #include <stdlib.h>
@@ -102,6 +103,60 @@ static void reversed(uint8_t me) {
     for (int i = 0; is_root && i < ranks; i++) HOLDS(all[i] == ranks - 1 - i);
 }
 
+/* Rank r gives r + 1 numbers, and all get what all give. */
+static void counted(uint8_t me) {
+    uint32_t counts[64];
+    int32_t mine[64], all[64 * 65 / 2];
+    size_t total = 0, at = 0, count = 0;
+    wz_request request;
+    for (int r = 0; r < ranks; r++) total += counts[r] = (uint32_t)r + 1;
+    for (int i = 0; i <= me; i++) mine[i] = 100 * me + i;
+    MUST(wz_shared_post_allgatherv(&shared, me, 0, WZ_INT32, counts, (size_t)ranks, mine, 4 * counts[me], &request));
+    MUST(wz_shared_wait(&shared, me, &request, all, sizeof all, &count));
+    HOLDS(count == 4 * total);
+    for (int r = 0; r < ranks; r++)
+        for (int i = 0; i <= r; i++) HOLDS(all[at++] == 100 * r + i);
+    MUST(wz_shared_init_allgatherv(&shared, me, 0, WZ_INT32, counts, (size_t)ranks, &request));
+    MUST(wz_shared_start(&shared, me, &request, mine, 4 * counts[me]));
+    MUST(wz_shared_wait(&shared, me, &request, all, sizeof all, &count));
+    HOLDS(count == 4 * total && all[0] == 0);
+    MUST(wz_shared_free(&shared, me, &request));
+}
+
+/* Rows so long that they are combined with the lock free, while short ones go on. */
+static void long_rows(uint8_t me) {
+    enum { LONG = 5000, ROUNDS = 8 };
+    static int32_t rows[64][LONG], sums[64][LONG];
+    int32_t *row = rows[me], *sum = sums[me];
+    wz_call of_rows = { WZ_ALLREDUCE, WZ_SUM, WZ_INT32, 0, LONG };
+    wz_call prefixes = { WZ_SCAN, WZ_MAX, WZ_INT32, 0, LONG };
+    for (int round = 0; round < ROUNDS; round++) {
+        wz_request whole, prefix, one;
+        int32_t mine = me + round, all = -1;
+        size_t count = 0;
+        for (int i = 0; i < LONG; i++) row[i] = me + round + i;
+        MUST(wz_shared_post(&shared, me, 0, &of_rows, row, sizeof rows[0], &whole));
+        MUST(wz_shared_post(&shared, me, 0, &prefixes, row, sizeof rows[0], &prefix));
+        MUST(wz_shared_post(&shared, me, 0, &allreduce, &mine, sizeof mine, &one));
+        MUST(wz_shared_wait(&shared, me, &one, &all, sizeof all, &count));
+        HOLDS(all == sum_at(round));
+        MUST(wz_shared_wait(&shared, me, &whole, sum, sizeof sums[0], &count));
+        for (int i = 0; i < LONG; i++) HOLDS(sum[i] == sum_at(round + i));
+        MUST(wz_shared_wait(&shared, me, &prefix, sum, sizeof sums[0], &count));
+        for (int i = 0; i < LONG; i++) HOLDS(sum[i] == me + round + i);
+    }
+}
+
+/* Each rank is told why its own call was refused. */
+static void refused(uint8_t me) {
+    int32_t number = 0;
+    wz_request request;
+    HOLDS(wz_shared_reason(&shared, me).code == 0);
+    HOLDS(wz_shared_post(&shared, me, 100u + me, &allreduce, &number, 4, &request) == WZ_BAD_COMM);
+    pthread_barrier_wait(&together);
+    HOLDS(wz_shared_reason(&shared, me).code == WZ_BAD_COMM && wz_shared_reason(&shared, me).comm == 100u + me);
+}
+
 /* Every rank waits for a barrier of its own, which the others never post: all are told. */
 static void stall(uint8_t me) {
     wz_call barrier = { WZ_BARRIER, WZ_NO_OPERATION, WZ_BYTE, 0, 0 };
@@ -122,6 +177,9 @@ static void *rank(void *number) {
     persistent(me);
     overlap(me);
     reversed(me);
+    refused(me);
+    counted(me);
+    long_rows(me);
     stall(me);
     return NULL;
 }

@@ -1,7 +1,7 @@
 use std::sync::{Condvar, Mutex, MutexGuard};
 
-use crate::call::Call;
-use crate::raw::{self, RawEngine, RawLimits, RawRequest};
+use crate::call::{Call, Type};
+use crate::raw::{self, RawEngine, RawLimits, RawReason, RawRequest};
 use crate::refusal::Refusal;
 
 /// What an engine is opened with. `Limits::default()` has the greatest numbers.
@@ -95,7 +95,7 @@ impl Engine {
             sizes.push(u8::try_from(members.len()).map_err(|_| Refusal::BadConfig)?);
         }
         let members = communicators.concat();
-        let mut raw = RawEngine { at: std::ptr::null_mut(), opened: false };
+        let mut raw = RawEngine { at: std::ptr::null_mut(), opened: false, reason: RawReason::default() };
         let limits = RawLimits {
             ranks: u32::from(ranks),
             slots: limits.slots,
@@ -141,6 +141,57 @@ impl Engine {
         let mut raw = RawRequest::default();
         // SAFETY: the engine is open, and this thread has the lock.
         answer(unsafe { raw::wz_init(&mut held.raw, rank, comm, &call, &mut raw) })?;
+        Ok(Request { rank, raw })
+    }
+
+    /// Starts an allgatherv (`MPI_Iallgatherv`): member `i` gives `counts[i]` elements, and all get what all give.
+    ///
+    /// # Errors
+    ///
+    /// As `post`; BadSignature also where there are more than 64 counts.
+    pub fn post_allgatherv(
+        &self,
+        rank: u8,
+        comm: u32,
+        ty: Type,
+        counts: &[u32],
+        bytes: &[u8],
+    ) -> Result<Request, Refusal> {
+        let mut held = self.lock();
+        let mut raw = RawRequest::default();
+        let many = few(counts)?;
+        // SAFETY: the engine is open and this thread has the lock; both lists are as long as is said.
+        answer(unsafe {
+            raw::wz_post_allgatherv(
+                &mut held.raw,
+                rank,
+                comm,
+                ty as u8,
+                counts.as_ptr(),
+                many,
+                bytes.as_ptr(),
+                bytes.len(),
+                &mut raw,
+            )
+        })?;
+        held.stalled = false;
+        self.progress(&mut held).ok();
+        Ok(Request { rank, raw })
+    }
+
+    /// Makes a persistent request of an allgatherv (`MPI_Allgatherv_init`).
+    ///
+    /// # Errors
+    ///
+    /// As `init`; BadSignature also where there are more than 64 counts.
+    pub fn init_allgatherv(&self, rank: u8, comm: u32, ty: Type, counts: &[u32]) -> Result<Request, Refusal> {
+        let mut held = self.lock();
+        let mut raw = RawRequest::default();
+        let many = few(counts)?;
+        // SAFETY: the engine is open and this thread has the lock; the list is as long as is said.
+        answer(unsafe {
+            raw::wz_init_allgatherv(&mut held.raw, rank, comm, ty as u8, counts.as_ptr(), many, &mut raw)
+        })?;
         Ok(Request { rank, raw })
     }
 
@@ -281,6 +332,15 @@ impl Drop for Engine {
         let code = unsafe { raw::wz_close(&mut held.raw) };
         debug_assert_eq!(code, 0);
     }
+}
+
+/// How many counts there are, which are no more than ranks may be.
+fn few(counts: &[u32]) -> Result<usize, Refusal> {
+    const MOST_RANKS: usize = 64;
+    if counts.len() > MOST_RANKS {
+        return Err(Refusal::BadSignature);
+    }
+    Ok(counts.len())
 }
 
 fn answer(code: i32) -> Result<(), Refusal> {

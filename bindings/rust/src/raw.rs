@@ -10,9 +10,35 @@ pub struct RawRequest {
 }
 
 #[repr(C)]
+#[derive(Clone, Copy, Debug, Default, PartialEq, Eq)]
+pub struct RawCall {
+    pub kind: u8,
+    pub op: u8,
+    pub ty: u8,
+    pub root: u8,
+    pub count: u32,
+}
+
+#[repr(C)]
+#[derive(Clone, Copy, Debug, Default, PartialEq, Eq)]
+pub struct RawReason {
+    pub code: i32,
+    pub rank: u8,
+    pub cause: u8,
+    pub first: u8,
+    pub persistent: bool,
+    pub call: RawCall,
+    pub comm: u32,
+    pub place: u32,
+    pub want: u32,
+    pub got: usize,
+}
+
+#[repr(C)]
 pub struct RawEngine {
     pub at: *mut u8,
     pub opened: bool,
+    pub reason: RawReason,
 }
 
 #[repr(C)]
@@ -48,6 +74,26 @@ extern "C" {
         rank: u8,
         comm: u32,
         call: &Call,
+        request: &mut RawRequest,
+    ) -> i32;
+    pub fn wz_post_allgatherv(
+        engine: &mut RawEngine,
+        rank: u8,
+        comm: u32,
+        ty: u8,
+        counts: *const u32,
+        many: usize,
+        bytes: *const u8,
+        length: usize,
+        request: &mut RawRequest,
+    ) -> i32;
+    pub fn wz_init_allgatherv(
+        engine: &mut RawEngine,
+        rank: u8,
+        comm: u32,
+        ty: u8,
+        counts: *const u32,
+        many: usize,
         request: &mut RawRequest,
     ) -> i32;
     pub fn wz_start(

@@ -148,3 +148,26 @@ fn sentences_and_numbers() {
     fn shared<T: Send + Sync>() {}
     shared::<Engine>();
 }
+
+#[test]
+fn members_of_an_allgatherv_give_as_many_as_is_counted() {
+    let engine = Engine::of_ranks(3).unwrap();
+    by_ranks(&engine, 3, |engine, rank| {
+        let counts = [2, 0, 3];
+        let mine = vec![rank + 10; counts[usize::from(rank)] as usize];
+        let mut once = engine.post_allgatherv(rank, 0, Type::U8, &counts, &mine).unwrap();
+        let mut out = [0; 6];
+        assert_eq!(engine.wait(&mut once, &mut out), Ok(5));
+        assert_eq!(out, [10, 10, 12, 12, 12, 0]);
+        let mut again = engine.init_allgatherv(rank, 0, Type::U8, &counts).unwrap();
+        for _ in 0..3 {
+            engine.start(&again, &mine).unwrap();
+            assert_eq!(engine.wait(&mut again, &mut out), Ok(5));
+        }
+        engine.free(&mut again).unwrap();
+    });
+    let counts = [1; 65];
+    assert_eq!(engine.post_allgatherv(0, 0, Type::U8, &counts, &[1]).err(), Some(Refusal::BadSignature));
+    assert_eq!(engine.post_allgatherv(0, 0, Type::U8, &counts[..4], &[1]).err(), Some(Refusal::BadSignature));
+    assert_eq!(engine.post_allgatherv(0, 0, Type::U8, &counts[..3], &[1, 2]).err(), Some(Refusal::BadLength));
+}

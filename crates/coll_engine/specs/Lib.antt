@@ -4,3 +4,4 @@ pub mod Lengths
 pub mod Engines
 pub mod Progress
 pub mod Tests
+pub mod Combinations

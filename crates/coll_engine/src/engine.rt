@@ -1,5 +1,6 @@
 //! The engine, its opening, and the questions on it.
 
+mod combining;
 mod posting;
 mod progress;
 mod testing;

@@ -9,19 +9,31 @@ use Rattle.std_alloc.proofs.BoxSteps.Form.{Bx}
 use Rattle.std_heap.specs.contracts.Global as heap
 use Rattle.std_heap.specs.contracts.GlobalAllocator.TheImpl.{ghosts, dict}
 use Rattle.std_heap.proofs.Global.TheLaws as heap_laws
+use Rattle.coll_engine.specs.contracts.combination.Combination as combination
 use Rattle.coll_engine.specs.contracts.engine.Engine as engine
+use Rattle.coll_engine.proofs.combination.Combination.TheLaws as combination_laws
 use Rattle.coll_engine.proofs.engine.Engine.TheLaws as engine_laws
 use Rattle.worzsunab.specs.contracts.parts.Parts as parts
 use Rattle.worzsunab.specs.contracts.held.Held as held
+use Rattle.worzsunab.specs.contracts.held_work.HeldWork as held_work
 
 abbrev pub Boxed : Bx
 Boxed = record { row = engine.the_row; laws = engine_laws.the_row_laws; al = record { row = heap.the_row; laws = heap_laws.the_row_laws; g = ghosts; d = dict; drops = impl [] tnil dnil } }
 
+abbrev pub BoxedWork : Bx
+BoxedWork = record { row = combination.the_row; laws = combination_laws.the_row_laws; al = Boxed.al }
+
 abbrev pub OfParts : Slot 0
 OfParts = plain (λ _. parts.the_row engine.the_row heap.the_row ghosts)
 
+abbrev pub OfWorkParts : Slot 0
+OfWorkParts = plain (λ _. parts.the_row combination.the_row heap.the_row ghosts)
+
 abbrev pub OfHeld : Slot 0
 OfHeld = plain (λ _. held.the_row)
+
+abbrev pub OfHeldWork : Slot 0
+OfHeldWork = plain (λ _. held_work.the_row)
 
 pub some_of : {X : Type 0} (o : Option X) → is_some o ≡ true → (x : X) × (o ≡ Some x)
 some_of None live = absurd (false≢true live)

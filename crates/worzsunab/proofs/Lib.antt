@@ -1,4 +1,5 @@
 mod Words
 mod Boxes
 mod Coding
+mod Padding
 mod Answering

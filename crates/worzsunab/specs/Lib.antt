@@ -1,3 +1,7 @@
 pub mod Owning
+pub mod OwningWork
+pub mod Calls
+pub mod Reasons
 pub mod Forms
 pub mod Answers
+pub mod Works

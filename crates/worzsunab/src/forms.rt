@@ -1,24 +1,12 @@
-//! Calls, requests and configurations as C gives them.
+//! Requests and configurations as C gives them.
 
-ghost use Rattle.std.specs.Prelude.{◌≡◌, IfSome};
-ghost use Rattle.worzsunab.specs.Forms.{IsCall, named_by, request_of};
+ghost use Rattle.std.specs.Prelude.{◌≡◌};
+ghost use Rattle.worzsunab.specs.Forms.{about_of, named_by, request_of};
 
 use coll_complete::Request as Held;
-use coll_core::Config;
-use coll_kinds::{ConfigField, Datatype, Kind, Mode, Op, Refusal, Signature, Ticket};
+use coll_core::{About as Told, Config};
+use coll_kinds::{ConfigField, Mode, Refusal, Ticket};
 use std::alloc::Global;
-
-/// What all members have to agree on, as the numbers of include/worzsunab.h.
-#[repr(C)]
-#[derive(Clone, Copy)]
-pub struct Call {
-    pub kind: u8,
-    /// 255 for a collective without an operation.
-    pub op: u8,
-    pub ty: u8,
-    pub root: u8,
-    pub count: u32,
-}
 
 /// What names a request.
 #[repr(C)]
@@ -26,6 +14,20 @@ pub struct Call {
 pub struct Request {
     pub slot: u32,
     pub generation: u32,
+}
+
+/// What a request is.
+#[repr(C)]
+#[derive(Clone, Copy)]
+pub struct About {
+    /// The world rank whose request it is.
+    pub rank: u8,
+    pub persistent: bool,
+    pub comm: u32,
+    /// Its index in its member's posting list on the communicator.
+    pub place: u32,
+    /// How often it was started.
+    pub starts: u32,
 }
 
 /// What an engine is opened with, but its communicators.
@@ -45,44 +47,6 @@ const MOST_ENTRIES: u32 = 1_048_576;
 const MISFIT: Refusal = Refusal::BadConfig {
     field: ConfigField::Groups,
 };
-
-const NO_OPERATION: u8 = 255;
-
-/// The collectives by their numbers. An allgatherv has none, since a call from C has no counts.
-const KINDS: [Kind; 11] = [
-    Kind::Barrier,
-    Kind::Bcast,
-    Kind::Gather,
-    Kind::Scatter,
-    Kind::Allgather,
-    Kind::Alltoall,
-    Kind::Reduce,
-    Kind::Allreduce,
-    Kind::Rsblock,
-    Kind::Scan,
-    Kind::Exscan,
-];
-
-impl Call {
-    /// The signature; none where a number names nothing.
-    pub fn signature(&self, mode: Mode) -> Option<Signature>
-        ensures { IfSome result (IsCall self.now mode) }
-    {
-        let op = match self.op {
-            NO_OPERATION => None,
-            number => Some(*Op::ALL.get(usize::from(number))?),
-        };
-        Some(Signature {
-            kind: *KINDS.get(usize::from(self.kind))?,
-            mode,
-            root: self.root,
-            op,
-            ty: *Datatype::ALL.get(usize::from(self.ty))?,
-            count: self.count,
-            each: None,
-        })
-    }
-}
 
 impl Request {
     /// A null one is all 0.
@@ -112,6 +76,20 @@ impl Request {
             slot: self.slot,
             generation: self.generation,
         })
+    }
+}
+
+impl About {
+    pub fn of(told: &Told) -> About
+        ensures { result ≡ about_of told.now }
+    {
+        About {
+            rank: told.rank,
+            persistent: matches!(told.mode, Mode::Persistent),
+            comm: told.comm,
+            place: told.place,
+            starts: told.starts,
+        }
     }
 }
 

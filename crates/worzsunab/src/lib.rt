@@ -5,14 +5,20 @@
 //! | `parts` | `Parts`, a box as its pointer |
 //! | `held` | `Held`, the pointer to an engine, and to none |
 //! | `handle` | `Handle`, what C holds of an engine |
-//! | `forms` | calls, requests and configurations as C gives them |
+//! | `held_work`, `work_handle` | the same of a combination that is computed outside |
+//! | `call` | `Call`, a collective as C gives it, and the counts of an allgatherv |
+//! | `forms` | requests and configurations as C gives them |
+//! | `reason` | `Reason`, a refusal with its data |
 //! | `codes` | what functions answer |
-//! | `lib` | the functions |
+//! | `posting` | the functions that post and initialise |
+//! | `working` | the functions over combinations |
+//! | `lib` | the other functions |
 #![tactic(auto)]
 
-ghost use Rattle.std.specs.Prelude.{◌≡◌, ◌<◌, ◌≤◌, ◌⊎◌, [], None, Some, IfOk, IfSome, IsSome, pos};
-ghost use Rattle.coll_kinds.specs.declared.kind.Mode.TheVariants.{Once, Persistent};
-ghost use Rattle.coll_kinds.specs.declared.signature.Signature.{Signature};
+ghost use Rattle.std.specs.Prelude.{◌≡◌, ◌<◌, ◌≤◌, ◌⊎◌, [], None, Some, IfOk, IfSome, IsSome, if◌then◌else◌, is_some, pos};
+ghost use Rattle.coll_kinds.specs.declared.refusal.Refusal.{Refusal as Why};
+ghost use Rattle.coll_kinds.specs.declared.refusal.Refusal.TheVariants.{Stale};
+ghost use Rattle.coll_kinds.specs.Refusals.{number_of};
 ghost use Rattle.coll_machine.specs.Lents.{lent_bytes};
 ghost use Rattle.coll_machine.specs.Runs.{Runs};
 ghost use Rattle.coll_core.specs.Configs.{idle};
@@ -21,21 +27,28 @@ ghost use Rattle.coll_core.specs.Steps.{Finishings, ready};
 ghost use Rattle.coll_complete.specs.Completing.{freeing};
 ghost use Rattle.coll_complete.specs.Requests.{free_refusal, phase_at};
 ghost use Rattle.coll_complete.specs.Starting.{StartsAt};
-ghost use Rattle.coll_engine.specs.Calls.{Denies, DeniesStart, InitsTo, PostsTo, init_by, naming_refusal, post_by};
+ghost use Rattle.coll_engine.specs.Calls.{DeniesStart, about_at, naming_refusal};
 ghost use Rattle.coll_engine.specs.Lengths.{IsOutcomeLengthAt};
 ghost use Rattle.coll_engine.specs.Progress.{Advances};
 ghost use Rattle.worzsunab.specs.Answers.{Answers, IsPhase, Tests, phase_number};
-ghost use Rattle.worzsunab.specs.Forms.{IsCall, IsMade, named_by, request_of};
+ghost use Rattle.worzsunab.specs.Forms.{IsAbout, named_by, request_of};
+ghost use Rattle.worzsunab.specs.Reasons.{no_reason, reason_of};
 
+mod call;
 mod codes;
 mod forms;
 mod handle;
 mod held;
+mod held_work;
 mod parts;
+mod posting;
+mod reason;
+mod work_handle;
+mod working;
 
-use codes::{BAD_NUMBER, CLOSED, DONE, OPEN, PENDING, code};
-use coll_engine::{Engine, Mode, Phase, Refusal, Test};
-use forms::{Call, Limits, Request, groups_of};
+use codes::{CLOSED, DONE, OPEN, PENDING};
+use coll_engine::{Engine, Phase, Refusal, Test};
+use forms::{About, Limits, Request, groups_of};
 use handle::Handle;
 use std::alloc::Global;
 
@@ -50,6 +63,7 @@ pub extern "C" fn wz_open(
     ensures open { IsSome handle.old.held.engine → (result ≡ pos 21) × (handle.new ≡ handle.old) }
     ensures done { result ≡ pos 0 → IfSome handle.new.held.engine (λ p. seen p ≡ idle) × IsSome handle.new.held.engine }
     ensures refused { (result ≡ pos 0) ⊎ (handle.new.held.engine ≡ handle.old.held.engine) }
+    ensures reason { (handle.new.reason ≡ handle.old.reason) ⊎ (why : Why) × (handle.new.reason ≡ reason_of why) × (result ≡ pos (number_of why)) }
 {
     if handle.is_open() {
         return OPEN;
@@ -59,7 +73,7 @@ pub extern "C" fn wz_open(
             handle.put(engine);
             DONE
         }
-        Err(why) => code(why),
+        Err(why) => handle.refuse(why),
     }
 }
 
@@ -79,72 +93,16 @@ fn open_engine(
 #[unsafe(no_mangle)]
 pub extern "C" fn wz_close(alloc: Global, handle: &mut Handle) -> i32
     ensures closed { handle.new.held.engine ≡ None }
+    ensures answers { result ≡ (if is_some handle.old.held.engine then pos 0 else pos 20) }
+    ensures reason { handle.new.reason ≡ (if is_some handle.old.held.engine then no_reason else handle.old.reason) }
 {
     match handle.take(alloc) {
         Some(engine) => {
             drop(engine);
+            handle.forget();
             DONE
         }
         None => CLOSED,
-    }
-}
-
-#[unsafe(no_mangle)]
-pub extern "C" fn wz_post(
-    alloc: Global,
-    handle: &mut Handle,
-    rank: u8,
-    comm: u32,
-    call: &Call,
-    bytes: &[u8],
-    request: &mut Request,
-) -> i32
-    ensures answers { (result ≡ pos 19) ⊎ (sig : Signature) × IsCall call.now Once sig × Answers handle.old.held.engine handle.new.held.engine result (request.new ≡ request.old) (λ p. Denies (setting p) (seen p) (post_by (setting p) rank comm sig bytes.now)) (λ p r. IsMade (PostsTo (setting p) (seen p) (post_by (setting p) rank comm sig bytes.now) (seen r)) request.new) }
-    ensures unnamed { result ≡ pos 19 → (handle.new ≡ handle.old) × (request.new ≡ request.old) }
-{
-    let Some(sig) = call.signature(Mode::Once) else {
-        return BAD_NUMBER;
-    };
-    let Some(mut engine) = handle.take(alloc) else {
-        return CLOSED;
-    };
-    let answer = engine.post(rank, comm, sig, bytes);
-    handle.put(engine);
-    match answer {
-        Ok(made) => {
-            *request = Request::of(&made);
-            DONE
-        }
-        Err(why) => code(why),
-    }
-}
-
-#[unsafe(no_mangle)]
-pub extern "C" fn wz_init(
-    alloc: Global,
-    handle: &mut Handle,
-    rank: u8,
-    comm: u32,
-    call: &Call,
-    request: &mut Request,
-) -> i32
-    ensures answers { (result ≡ pos 19) ⊎ (sig : Signature) × IsCall call.now Persistent sig × Answers handle.old.held.engine handle.new.held.engine result (request.new ≡ request.old) (λ p. Denies (setting p) (seen p) (init_by (setting p) rank comm sig)) (λ p r. IsMade (InitsTo (setting p) (seen p) (init_by (setting p) rank comm sig) (seen r)) request.new) }
-    ensures unnamed { result ≡ pos 19 → (handle.new ≡ handle.old) × (request.new ≡ request.old) }
-{
-    let Some(sig) = call.signature(Mode::Persistent) else {
-        return BAD_NUMBER;
-    };
-    let Some(mut engine) = handle.take(alloc) else {
-        return CLOSED;
-    };
-    let answer = engine.init(rank, comm, sig);
-    handle.put(engine);
-    match answer {
-        Ok(made) => {
-            *request = Request::of(&made);
-            DONE
-        }
-        Err(why) => code(why),
     }
 }
 
@@ -156,7 +114,7 @@ pub extern "C" fn wz_start(
     request: &Request,
     bytes: &[u8],
 ) -> i32
-    ensures answers { Answers handle.old.held.engine handle.new.held.engine result (Unit {0}) (λ p. DeniesStart (setting p) rank (seen p) (named_by request.now, bytes.now)) (λ p r. StartsAt (setting p) rank (seen p) (named_by request.now, bytes.now) (seen r)) }
+    ensures answers { Answers handle.old.held.engine handle.new.held.engine handle.old.reason handle.new.reason result (Unit {0}) (λ p. DeniesStart (setting p) rank (seen p) (named_by request.now, bytes.now)) (λ p r. StartsAt (setting p) rank (seen p) (named_by request.now, bytes.now) (seen r)) }
 {
     let Some(mut engine) = handle.take(alloc) else {
         return CLOSED;
@@ -165,7 +123,7 @@ pub extern "C" fn wz_start(
     handle.put(engine);
     match answer {
         Ok(()) => DONE,
-        Err(why) => code(why),
+        Err(why) => handle.refuse(why),
     }
 }
 
@@ -176,7 +134,7 @@ pub extern "C" fn wz_free(
     rank: u8,
     request: &mut Request,
 ) -> i32
-    ensures answers { Answers handle.old.held.engine handle.new.held.engine result (request.new ≡ request.old) (λ p why. free_refusal (setting p) (seen p).state rank (named_by request.old) ≡ Some why) (λ p r. Runs (setting p) (seen p) (freeing rank (named_by request.old)) (seen r) × (request.new ≡ request_of None)) }
+    ensures answers { Answers handle.old.held.engine handle.new.held.engine handle.old.reason handle.new.reason result (request.new ≡ request.old) (λ p why. free_refusal (setting p) (seen p).state rank (named_by request.old) ≡ Some why) (λ p r. Runs (setting p) (seen p) (freeing rank (named_by request.old)) (seen r) × (request.new ≡ request_of None)) }
 {
     let Some(mut engine) = handle.take(alloc) else {
         return CLOSED;
@@ -189,7 +147,7 @@ pub extern "C" fn wz_free(
             *request = Request::of(&held);
             DONE
         }
-        Err(why) => code(why),
+        Err(why) => handle.refuse(why),
     }
 }
 
@@ -202,7 +160,7 @@ pub extern "C" fn wz_test(
     out: &mut [u8],
     count: &mut usize,
 ) -> i32
-    ensures tests { Tests handle.old.held.engine handle.new.held.engine result rank request.old request.new out.old out.new count.old count.new }
+    ensures tests { Tests handle.old.held.engine handle.new.held.engine handle.old.reason handle.new.reason result rank request.old request.new out.old out.new count.old count.new }
 {
     let Some(mut engine) = handle.take(alloc) else {
         return CLOSED;
@@ -212,7 +170,7 @@ pub extern "C" fn wz_test(
     handle.put(engine);
     let test = match answer {
         Ok(test) => test,
-        Err(why) => return code(why),
+        Err(why) => return handle.refuse(why),
     };
     match test {
         Test::Completed(bytes) => {
@@ -236,7 +194,7 @@ pub extern "C" fn wz_phase(
     request: &Request,
     phase: &mut u8,
 ) -> i32
-    ensures answers { Answers handle.old.held.engine handle.new.held.engine result (phase.new ≡ phase.old) (λ p why. naming_refusal (setting p) (seen p).state rank (named_by request.now) ≡ Some why) (λ p r. (r ≡ p) × IsPhase (phase_at (seen p) (named_by request.now)) phase.new) }
+    ensures answers { Answers handle.old.held.engine handle.new.held.engine handle.old.reason handle.new.reason result (phase.new ≡ phase.old) (λ p why. naming_refusal (setting p) (seen p).state rank (named_by request.now) ≡ Some why) (λ p r. (r ≡ p) × IsPhase (phase_at (seen p) (named_by request.now)) phase.new) }
 {
     let Some(engine) = handle.take(alloc) else {
         return CLOSED;
@@ -248,7 +206,7 @@ pub extern "C" fn wz_phase(
             *phase = phase_number(found);
             DONE
         }
-        Err(why) => code(why),
+        Err(why) => handle.refuse(why),
     }
 }
 
@@ -270,7 +228,7 @@ pub extern "C" fn wz_outcome_length(
     request: &Request,
     bytes: &mut usize,
 ) -> i32
-    ensures answers { Answers handle.old.held.engine handle.new.held.engine result (bytes.new ≡ bytes.old) (λ p why. naming_refusal (setting p) (seen p).state rank (named_by request.now) ≡ Some why) (λ p r. (r ≡ p) × IsOutcomeLengthAt (setting p) (seen p).state (named_by request.now) bytes.new) }
+    ensures answers { Answers handle.old.held.engine handle.new.held.engine handle.old.reason handle.new.reason result (bytes.new ≡ bytes.old) (λ p why. naming_refusal (setting p) (seen p).state rank (named_by request.now) ≡ Some why) (λ p r. (r ≡ p) × IsOutcomeLengthAt (setting p) (seen p).state (named_by request.now) bytes.new) }
 {
     let Some(engine) = handle.take(alloc) else {
         return CLOSED;
@@ -282,7 +240,7 @@ pub extern "C" fn wz_outcome_length(
             *bytes = len;
             DONE
         }
-        Err(why) => code(why),
+        Err(why) => handle.refuse(why),
     }
 }
 
@@ -303,7 +261,7 @@ pub extern "C" fn wz_step(alloc: Global, handle: &mut Handle, budget: u32, actio
             *actions = made;
             DONE
         }
-        Err(why) => code(why),
+        Err(why) => handle.refuse(why),
     }
 }
 
@@ -320,13 +278,13 @@ pub extern "C" fn wz_settle(alloc: Global, handle: &mut Handle) -> i32
     handle.put(engine);
     match answer {
         Ok(()) => DONE,
-        Err(why) => code(why),
+        Err(why) => handle.refuse(why),
     }
 }
 
 #[unsafe(no_mangle)]
 pub extern "C" fn wz_lent(alloc: Global, handle: &mut Handle, bytes: &mut u64) -> i32
-    ensures answers { Answers handle.old.held.engine handle.new.held.engine result (bytes.new ≡ bytes.old) (λ p why. ⊥) (λ p r. (r ≡ p) × (bytes.new ≡ lent_bytes (setting p) (seen p).state)) }
+    ensures answers { Answers handle.old.held.engine handle.new.held.engine handle.old.reason handle.new.reason result (bytes.new ≡ bytes.old) (λ p why. ⊥) (λ p r. (r ≡ p) × (bytes.new ≡ lent_bytes (setting p) (seen p).state)) }
 {
     let Some(engine) = handle.take(alloc) else {
         return CLOSED;
@@ -334,4 +292,27 @@ pub extern "C" fn wz_lent(alloc: Global, handle: &mut Handle, bytes: &mut u64) -
     *bytes = engine.lent();
     handle.put(engine);
     DONE
+}
+
+#[unsafe(no_mangle)]
+pub extern "C" fn wz_about(
+    alloc: Global,
+    handle: &mut Handle,
+    request: &Request,
+    about: &mut About,
+) -> i32
+    ensures answers { Answers handle.old.held.engine handle.new.held.engine handle.old.reason handle.new.reason result (about.new ≡ about.old) (λ p why. (why ≡ Stale) × (about_at (seen p) (named_by request.now) ≡ None)) (λ p r. (r ≡ p) × IsAbout (about_at (seen p) (named_by request.now)) about.new) }
+{
+    let Some(engine) = handle.take(alloc) else {
+        return CLOSED;
+    };
+    let answer = engine.about(&request.held());
+    handle.put(engine);
+    match answer {
+        Some(told) => {
+            *about = About::of(&told);
+            DONE
+        }
+        None => handle.refuse(Refusal::Stale),
+    }
 }
