@@ -1,0 +1,328 @@
+ghost use Rattle.std.specs.Prelude.{◌≡◌, ◌+◌, ◌<◌, ◌≤◌, ◌^◌, ◌==◌, [], length, IfErr, IfOk, IsOk, vec_capacity, vec_len};
+ghost use Rattle.std.specs.Arc.{arc_value};
+ghost use Rattle.coll_sched.specs.Regions.{Inside, read_of};
+ghost use Rattle.coll_bytes.specs.Memories.{bytes_in};
+
+use coll_sched::Region;
+use std::alloc::{AllocError, Global};
+use std::marker::Model;
+use std::sync::Arc;
+
+/// So many bytes lie in place, and need no memory of their own. A type's few elements are the common case.
+pub const FEW: usize = 31;
+
+// Where bytes lie. A block keeps its length as long as some part of it is left.
+#[derive(Debug, Drop)]
+enum Memory {
+    InPlace { len: u8, row: [u8; FEW] },
+    /// A part of a block that has one owner.
+    Owned { block: Vec<u8>, place: Region },
+    /// A part of a block that counts its owners.
+    Shared { block: Arc<Vec<u8>>, place: Region },
+}
+
+/// Bytes that are never written again: a few in place, more as a part of a block, which others may have parts of too. Contracts see
+/// the bytes.
+#[derive(Debug, Drop)]
+pub struct Bytes {
+    memory: Memory,
+}
+
+impl Model for Bytes {
+    ghost use Rattle.std.specs.Prelude.{List, ℕ};
+    ghost use Rattle.coll_bytes.specs.Memories.{bytes_in, IsPlaced};
+
+    ghost Value = { List ℕ };
+
+    ghost view = { λ b. bytes_in b.memory };
+
+    ghost invariant = { λ b. IsPlaced b.memory };
+}
+
+// A part of a block that nobody else has.
+fn owned(block: Vec<u8>, place: Region) -> Bytes
+    requires inside { Inside (length block.items) place }
+    requires fits { place.at + place.len < 2 ^ 32 }
+    ensures { result ≡ read_of block.items place }
+{
+    Bytes {
+        memory: Memory::Owned { block, place },
+    }
+}
+
+// A part of a block that others may have parts of.
+fn shared(block: Arc<Vec<u8>>, place: Region) -> Bytes
+    requires inside { Inside (length (arc_value block).items) place }
+    requires fits { place.at + place.len < 2 ^ 32 }
+    ensures { result ≡ read_of (arc_value block).items place }
+{
+    Bytes {
+        memory: Memory::Shared { block, place },
+    }
+}
+
+// A region of a part of a block that nobody else has.
+#[tactic(auto, using(crate::proofs::Parts::read_read))]
+fn owned_part(block: Vec<u8>, place: Region, from: Region) -> Bytes
+    requires inside { Inside (length block.items) place }
+    requires fits { place.at + place.len < 2 ^ 32 }
+    requires part { Inside place.len from }
+    ensures { result ≡ read_of (read_of block.items place) from }
+{
+    Bytes {
+        memory: Memory::Owned {
+            block,
+            place: Region {
+                at: place.at + from.at,
+                len: from.len,
+            },
+        },
+    }
+}
+
+// A region of a part of a block that others may have parts of.
+#[tactic(auto, using(crate::proofs::Parts::read_read))]
+fn shared_part(block: Arc<Vec<u8>>, place: Region, from: Region) -> Bytes
+    requires inside { Inside (length (arc_value block).items) place }
+    requires fits { place.at + place.len < 2 ^ 32 }
+    requires part { Inside place.len from }
+    ensures { result ≡ read_of (read_of (arc_value block).items place) from }
+{
+    Bytes {
+        memory: Memory::Shared {
+            block,
+            place: Region {
+                at: place.at + from.at,
+                len: from.len,
+            },
+        },
+    }
+}
+
+// A copy of bytes in a vector that has room for them.
+fn copied(bytes: &[u8], room: Vec<u8>) -> Vec<u8>
+    requires empty { room.items ≡ [] }
+    requires none { vec_len room ≡ 0 }
+    requires room { length bytes.now ≤ vec_capacity room }
+    ensures { result.items ≡ bytes.now }
+{
+    let mut copy = room;
+    let Ok(()) = copy.extend_from_slice(bytes) else {
+        unreachable!()
+    };
+    copy
+}
+
+impl Bytes {
+    /// None.
+    pub fn empty() -> Bytes
+        ensures { result ≡ [] }
+    {
+        Bytes::few(&[])
+    }
+
+    /// A copy of a few bytes, in place.
+    pub fn few(bytes: &[u8]) -> Bytes
+        requires { length bytes.now ≤ FEW }
+        ensures { result ≡ bytes.now }
+    {
+        let mut row = [0; FEW];
+        row[..bytes.len()].copy_from_slice(bytes);
+        Bytes {
+            memory: Memory::InPlace {
+                len: bytes.len() as u8,
+                row,
+            },
+        }
+    }
+
+    /// The bytes of a vector. Only a few are copied; then the vector's memory is free.
+    pub fn from_vec(bytes: Vec<u8>) -> Bytes
+        requires { length bytes.items < 2 ^ 32 }
+        ensures { result ≡ bytes.items }
+    {
+        if bytes.len() <= FEW {
+            return Bytes::few(&bytes);
+        }
+        let place = Region::front(bytes.len() as u32);
+        owned(bytes, place)
+    }
+
+    /// A copy of bytes.
+    pub fn copy(alloc: Global, bytes: &[u8]) -> Result<Bytes, AllocError>
+        requires { length bytes.now < 2 ^ 32 }
+        ensures ok { IfOk result (λ copy. copy ≡ bytes.now) }
+        ensures few { length bytes.now ≤ FEW → IsOk result }
+    {
+        if bytes.len() <= FEW {
+            return Ok(Bytes::few(bytes));
+        }
+        let room = Vec::with_capacity(alloc, bytes.len())?;
+        Ok(Bytes::from_vec(copied(bytes, room)))
+    }
+
+    /// The bytes.
+    pub fn as_slice(&self) -> &[u8]
+        ensures { result.now ≡ self.now }
+    {
+        match &self.memory {
+            Memory::InPlace { len, row } => &row[..*len as usize],
+            Memory::Owned { block, place } => place.read(block),
+            Memory::Shared { block, place } => place.read(block),
+        }
+    }
+
+    /// How many there are.
+    pub fn len(&self) -> u32
+        ensures { result ≡ length self.now }
+    {
+        match &self.memory {
+            Memory::InPlace { len, .. } => u32::from(*len),
+            Memory::Owned { place, .. } => place.len,
+            Memory::Shared { place, .. } => place.len,
+        }
+    }
+
+    /// Whether there is none.
+    pub fn is_empty(&self) -> bool
+        ensures { result ≡ (length self.now == 0) }
+    {
+        self.len() == 0
+    }
+
+    /// A second owner of the bytes, which copies a few and no more. Memory is taken where it is the second one of a vector's bytes,
+    /// since the block begins to count its owners then.
+    ///
+    /// # Errors
+    ///
+    /// No memory for the count, or a count that is full, at 2^63 owners. Nothing changes.
+    pub fn share(&mut self, alloc: Global) -> Result<Bytes, AllocError>
+        ensures ok { IfOk result (λ other. other ≡ self.old) }
+        ensures few { length self.old ≤ FEW → IsOk result }
+        ensures same { self.new ≡ self.old }
+    {
+        let all = Region::front(self.len());
+        self.part(alloc, all)
+    }
+
+    /// The bytes of a region of these, with an owner of their own, as by `share`.
+    ///
+    /// # Errors
+    ///
+    /// As `share`.
+    pub fn part(&mut self, alloc: Global, from: Region) -> Result<Bytes, AllocError>
+        requires { Inside (length self.old) from }
+        ensures ok { IfOk result (λ part. part ≡ read_of self.old from) }
+        ensures few { from.len ≤ FEW → IsOk result }
+        ensures same { self.new ≡ self.old }
+    {
+        if from.len as usize <= FEW {
+            return Ok(Bytes::few(from.read(self.as_slice())));
+        }
+        self.count(alloc)?;
+        self.counted_part(from)
+    }
+
+    // Has the block count its owners.
+    fn count(&mut self, alloc: Global) -> Result<(), AllocError>
+        ensures { self.new ≡ self.old }
+    {
+        let Bytes { memory } = std::mem::replace(self, Bytes::empty());
+        let (counted, done) = match memory {
+            Memory::Owned { block, place } => match Arc::new(alloc, block) {
+                Ok(block) => (shared(block, place), Ok(())),
+                Err(failed) => (owned(failed.value, place), Err(AllocError)),
+            },
+            memory => (Bytes { memory }, Ok(())),
+        };
+        *self = counted;
+        done
+    }
+
+    // A region's bytes with an owner more, if the block counts its owners.
+    #[tactic(auto, using(crate::proofs::Parts::read_read))]
+    fn counted_part(&self, from: Region) -> Result<Bytes, AllocError>
+        requires { Inside (length self.now) from }
+        ensures { IfOk result (λ part. part ≡ read_of self.now from) }
+    {
+        match &self.memory {
+            Memory::Shared { block, place } => {
+                let other = Arc::try_clone(block)?;
+                Ok(shared_part(other, *place, from))
+            }
+            _ => Err(AllocError),
+        }
+    }
+
+    /// The bytes of a region of these, whose owner gives up the others. It takes no memory; a block stays whole.
+    #[tactic(auto, using(crate::proofs::Parts::read_read))]
+    pub fn into_part(self, from: Region) -> Bytes
+        requires { Inside (length self) from }
+        ensures { result ≡ read_of self from }
+    {
+        if from.len as usize <= FEW {
+            return Bytes::few(from.read(self.as_slice()));
+        }
+        let Bytes { memory } = self;
+        match memory {
+            Memory::InPlace { len, row } => Bytes {
+                memory: Memory::InPlace { len, row },
+            },
+            Memory::Owned { block, place } => owned_part(block, place, from),
+            Memory::Shared { block, place } => shared_part(block, place, from),
+        }
+    }
+
+    /// The bytes in a vector: the block's own, where nobody else has it and they are its front, else copied into the room that is
+    /// given. It takes no memory.
+    pub fn into_vec(self, room: Vec<u8>) -> Vec<u8>
+        requires empty { room.items ≡ [] }
+        requires none { vec_len room ≡ 0 }
+        requires room { length self ≤ vec_capacity room }
+        ensures { result.items ≡ self }
+    {
+        match self.into_front() {
+            Ok(front) => front,
+            Err(bytes) => copied(bytes.as_slice(), room),
+        }
+    }
+
+    // The block's vector, where nobody else has it and the bytes are its front; else the bytes back.
+    fn into_front(self) -> Result<Vec<u8>, Bytes>
+        ensures ok { IfOk result (λ front. front.items ≡ self) }
+        ensures err { IfErr result (λ bytes. bytes ≡ self) }
+    {
+        let Bytes { memory } = self;
+        match memory {
+            Memory::Owned { block, place } => front_of(block, place),
+            Memory::Shared { block, place } => match Arc::try_unwrap(block) {
+                Ok(block) => front_of(block, place),
+                Err(block) => Err(shared(block, place)),
+            },
+            memory => Err(Bytes { memory }),
+        }
+    }
+}
+
+// A block, cut to a region that is its front; else the region's bytes.
+fn front_of(block: Vec<u8>, place: Region) -> Result<Vec<u8>, Bytes>
+    requires inside { Inside (length block.items) place }
+    requires fits { place.at + place.len < 2 ^ 32 }
+    ensures ok { IfOk result (λ front. front.items ≡ read_of block.items place) }
+    ensures err { IfErr result (λ bytes. bytes ≡ read_of block.items place) }
+{
+    if place.at > 0 {
+        return Err(owned(block, place));
+    }
+    let mut front = block;
+    front.truncate(place.len as usize);
+    Ok(front)
+}
+
+impl Default for Bytes {
+    ghost is_default = { λ b. b ≡ [] };
+
+    fn default() -> Bytes {
+        Bytes::empty()
+    }
+}

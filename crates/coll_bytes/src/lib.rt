@@ -1,0 +1,16 @@
+//! Bytes that are never written again, so that several owners can have them in one memory; and a schedule's buffer that is made of
+//! such bytes, so that a write takes an owner in and a read gives one out.
+//!
+//! | Module | Has |
+//! |---|---|
+//! | `bytes` | `Bytes`, a few in place or a part of a block |
+//! | `segments` | `Segments`, a schedule's buffer |
+#![tactic(auto)]
+
+mod bytes;
+mod segments;
+#[cfg(test)]
+mod tests;
+
+pub use bytes::{Bytes, FEW};
+pub use segments::{Segments, WRITES_IN_PLACE};

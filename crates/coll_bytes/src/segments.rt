@@ -1,0 +1,384 @@
+ghost use Rattle.std.specs.Prelude.{◌≡◌, ℕ, ◌+◌, ◌<◌, ◌≤◌, ◌↔◌, List, [], length, remove, replicate, slice_index_or, IfNone, IfOk, IfSome, IsOk, IsTrue, OnErr, OnOk, vec_capacity, vec_len};
+ghost use Rattle.smallvec.specs.SmallVec.{HasRoomFor, small_vec_len};
+ghost use Rattle.coll_sched.specs.Regions.{Apart, Inside, read_of, written};
+ghost use Rattle.coll_bytes.specs.Laid.{AllInside, Shows, place_of, laid};
+ghost use Rattle.coll_bytes.specs.Overlaps.{IsCommon, Within, seen_from};
+
+use crate::bytes::{Bytes, FEW};
+use coll_sched::Region;
+use smallvec::SmallVec;
+use std::alloc::{AllocError, Global};
+use std::marker::Model;
+
+/// So many writes need no memory, before any room is made.
+pub const WRITES_IN_PLACE: usize = 4;
+
+// Bytes at their place in a buffer.
+#[derive(Debug, Default, Drop)]
+struct Segment {
+    at: u32,
+    bytes: Bytes,
+}
+
+/// A schedule's buffer: what was written lies there as segments, a newer one over the older ones, and all of them over zeros. So a write
+/// copies nothing, and a region that was written as a whole is read without a copy. Contracts see the buffer's bytes, and how many writes
+/// need no memory.
+///
+/// Each call looks at the segments from the newest one on: a schedule mostly reads what it wrote last, and a write takes out those that it
+/// hides.
+#[derive(Debug, Drop)]
+pub struct Segments {
+    size: u32,
+    segments: SmallVec<Segment, WRITES_IN_PLACE>,
+}
+
+impl Model for Segments {
+    ghost use Rattle.std.specs.Prelude.{◌-◌, length};
+    ghost use Rattle.coll_bytes.specs.Contents.{Contents};
+
+    ghost Value = { Contents };
+
+    ghost use Rattle.coll_bytes.specs.Laid.{AllInside, laid};
+
+    ghost view = { λ b. record { bytes = laid b.size b.segments.items; room = b.segments.capacity - length b.segments.items } };
+
+    ghost invariant = { λ b. AllInside b.size b.segments.items };
+}
+
+// Whether one region has all bytes of another.
+fn is_within(outer: Region, inner: Region) -> bool
+    ensures { IsTrue result ↔ Within outer inner }
+{
+    outer.at <= inner.at
+        && u64::from(inner.at) + u64::from(inner.len) <= u64::from(outer.at) + u64::from(outer.len)
+}
+
+// Where a region lies in another.
+fn seen_from(outer: Region, inner: Region) -> Region
+    requires { Within outer inner }
+    ensures { result ≡ seen_from outer inner }
+{
+    Region {
+        at: inner.at - outer.at,
+        len: inner.len,
+    }
+}
+
+// The bytes that two regions share, if there are any.
+fn common(first: Region, second: Region) -> Option<Region>
+    ensures common { IfSome result (IsCommon first second) }
+    ensures none { IfNone result (Apart first second) }
+{
+    if first.is_apart(second) {
+        return None;
+    }
+    let at = first.at.max(second.at);
+    let first_end = u64::from(first.at) + u64::from(first.len);
+    let second_end = u64::from(second.at) + u64::from(second.len);
+    let end = first_end.min(second_end);
+    if end <= u64::from(at) {
+        return None;
+    }
+    Some(Region {
+        at,
+        len: (end - u64::from(at)) as u32,
+    })
+}
+
+impl Segment {
+    fn place(&self) -> Region
+        ensures { result ≡ place_of self.now }
+    {
+        Region {
+            at: self.at,
+            len: self.bytes.len(),
+        }
+    }
+
+    // Where a region of the buffer lies in it.
+    fn inner(&self, from: Region) -> Region
+        requires { Within (place_of self.now) from }
+        ensures { result ≡ seen_from (place_of self.now) from }
+    {
+        seen_from(self.place(), from)
+    }
+
+    // Lays what it has of a region over the region's bytes.
+    fn lay_over(&self, from: Region, out: &mut [u8])
+        requires { length out.old ≡ from.len }
+        ensures { (buffer : List ℕ) → Inside (length buffer) (place_of self.now) → Inside (length buffer) from
+            → out.old ≡ read_of buffer from
+            → out.new ≡ read_of (written buffer (place_of self.now) self.now.bytes) from }
+    {
+        let place = self.place();
+        let Some(common) = common(place, from) else {
+            return;
+        };
+        let own = seen_from(place, common).read(self.bytes.as_slice());
+        seen_from(from, common).write(own, out);
+    }
+}
+
+// The index of the newest segment that has a byte of a region, if it has all of them.
+fn holder(segments: &[Segment], size: u32, from: Region) -> Option<usize>
+    requires all { AllInside size segments.now }
+    requires inside { Inside size from }
+    ensures { IfSome result (Shows size segments.now from) }
+{
+    let mut i = segments.len();
+    while i > 0 {
+        i -= 1;
+        let segment = &segments[i];
+        let place = segment.place();
+        if is_within(place, from) {
+            return Some(i);
+        }
+        if !place.is_apart(from) {
+            return None;
+        }
+    }
+    None
+}
+
+// Lays a region over as many zeros.
+fn compose(segments: &[Segment], size: u32, from: Region, out: &mut [u8])
+    requires all { AllInside size segments.now }
+    requires inside { Inside size from }
+    requires zeros { out.old ≡ replicate from.len 0 }
+    ensures { out.new ≡ read_of (laid size segments.now) from }
+{
+    for segment in segments {
+        segment.lay_over(from, out);
+    }
+}
+
+// A region of a few bytes, put together in place.
+fn composed_few(segments: &[Segment], size: u32, from: Region) -> Bytes
+    requires all { AllInside size segments.now }
+    requires inside { Inside size from }
+    requires few { from.len ≤ FEW }
+    ensures { result ≡ read_of (laid size segments.now) from }
+{
+    let mut row = [0; FEW];
+    let out = &mut row[..from.len as usize];
+    compose(segments, size, from, out);
+    Bytes::few(out)
+}
+
+// A region, put together in the room that is given.
+fn composed_in(segments: &[Segment], size: u32, from: Region, room: Vec<u8>) -> Bytes
+    requires all { AllInside size segments.now }
+    requires inside { Inside size from }
+    requires empty { room.items ≡ [] }
+    requires none { vec_len room ≡ 0 }
+    requires room { from.len ≤ vec_capacity room }
+    ensures { result ≡ read_of (laid size segments.now) from }
+{
+    let mut out = room;
+    let Ok(()) = out.resize(from.len as usize, 0) else {
+        unreachable!()
+    };
+    compose(segments, size, from, &mut out);
+    Bytes::from_vec(out)
+}
+
+// A region, put together.
+fn composed(
+    alloc: Global,
+    segments: &[Segment],
+    size: u32,
+    from: Region,
+) -> Result<Bytes, AllocError>
+    requires all { AllInside size segments.now }
+    requires inside { Inside size from }
+    ensures ok { IfOk result (λ part. part ≡ read_of (laid size segments.now) from) }
+    ensures few { from.len ≤ FEW → IsOk result }
+{
+    if from.len as usize <= FEW {
+        return Ok(composed_few(segments, size, from));
+    }
+    let room = Vec::with_capacity(alloc, from.len as usize)?;
+    Ok(composed_in(segments, size, from, room))
+}
+
+// A region's bytes, which one segment has.
+fn slice_at(segments: &[Segment], size: u32, i: usize, from: Region) -> &[u8]
+    requires { Shows size segments.now from i }
+    ensures { result.now ≡ read_of (laid size segments.now) from }
+{
+    let _size = size;
+    let segment = &segments[i];
+    let inner = segment.inner(from);
+    inner.read(segment.bytes.as_slice())
+}
+
+// An owner of a region's bytes, which one segment has.
+fn part_at(
+    segments: &mut SmallVec<Segment, WRITES_IN_PLACE>,
+    size: u32,
+    i: usize,
+    alloc: Global,
+    from: Region,
+) -> Result<Bytes, AllocError>
+    requires { Shows size segments.old.items from i }
+    ensures ok { IfOk result (λ part. part ≡ read_of (laid size segments.old.items) from) }
+    ensures few { from.len ≤ FEW → IsOk result }
+    ensures same { segments.new ≡ segments.old }
+{
+    let segment = &mut segments.as_mut_slice()[i];
+    let inner = segment.inner(from);
+    segment.bytes.part(alloc, inner)
+}
+
+// A region's bytes, which one segment has; the segments go.
+fn part_of(segments: SmallVec<Segment, WRITES_IN_PLACE>, size: u32, i: usize, from: Region) -> Bytes
+    requires { Shows size segments.items from i }
+    ensures { result ≡ read_of (laid size segments.items) from }
+{
+    let mut rest = segments;
+    let segment = rest.swap_remove(i);
+    let inner = segment.inner(from);
+    segment.bytes.into_part(inner)
+}
+
+// Takes a segment out.
+fn discard(segments: &mut SmallVec<Segment, WRITES_IN_PLACE>, i: usize)
+    requires { i < small_vec_len segments.old }
+    ensures items { segments.new.items ≡ remove segments.old.items i }
+    ensures len { small_vec_len segments.new + 1 ≡ small_vec_len segments.old }
+    ensures capacity { segments.new.capacity ≡ segments.old.capacity }
+{
+    let _segment = segments.remove(i);
+}
+
+// Takes out the segments that a write into the region hides.
+fn remove_hidden(segments: &mut SmallVec<Segment, WRITES_IN_PLACE>, size: u32, region: Region)
+    requires all { AllInside size segments.old.items }
+    requires inside { Inside size region }
+    ensures all { AllInside size segments.new.items }
+    ensures hidden { (bytes : List ℕ) → length bytes ≡ region.len
+        → written (laid size segments.new.items) region bytes ≡ written (laid size segments.old.items) region bytes }
+    ensures len { small_vec_len segments.new ≤ small_vec_len segments.old }
+    ensures capacity { segments.new.capacity ≡ segments.old.capacity }
+{
+    let mut i = segments.len();
+    while i > 0 {
+        i -= 1;
+        let place = segments.as_slice()[i].place();
+        if is_within(region, place) {
+            discard(segments, i);
+        }
+    }
+}
+
+// Lays bytes over a region.
+fn lay(segments: &mut SmallVec<Segment, WRITES_IN_PLACE>, size: u32, region: Region, bytes: Bytes)
+    requires all { AllInside size segments.old.items }
+    requires inside { Inside size region }
+    requires same { length bytes ≡ region.len }
+    requires room { HasRoomFor segments.old 1 }
+    ensures all { AllInside size segments.new.items }
+    ensures written { laid size segments.new.items ≡ written (laid size segments.old.items) region bytes }
+    ensures len { small_vec_len segments.new ≤ small_vec_len segments.old + 1 }
+    ensures capacity { segments.new.capacity ≡ segments.old.capacity }
+{
+    remove_hidden(segments, size, region);
+    segments.push_reserved(Segment {
+        at: region.at,
+        bytes,
+    });
+}
+
+impl Segments {
+    /// A buffer of zeros.
+    pub fn new(alloc: Global, size: u32) -> Segments
+        ensures { result ≡ record { bytes = replicate size 0; room = WRITES_IN_PLACE } }
+    {
+        Segments {
+            size,
+            segments: SmallVec::new(alloc),
+        }
+    }
+
+    /// A buffer of zeros with these bytes in a region.
+    pub fn lay_in(alloc: Global, size: u32, region: Region, bytes: Bytes) -> Segments
+        requires inside { Inside size region }
+        requires same { length bytes ≡ region.len }
+        ensures bytes { result.bytes ≡ written (replicate size 0) region bytes }
+        ensures room { WRITES_IN_PLACE ≤ result.room + 1 }
+    {
+        let mut buffer = Segments::new(alloc, size);
+        buffer.put(region, bytes);
+        buffer
+    }
+
+    /// How many bytes the buffer has.
+    pub fn size(&self) -> u32
+        ensures { result ≡ length self.now.bytes }
+    {
+        self.size
+    }
+
+    /// Makes room for so many writes.
+    pub fn reserve(&mut self, writes: usize) -> Result<(), AllocError>
+        ensures ok { OnOk result (writes ≤ self.new.room) }
+        ensures bytes { self.new.bytes ≡ self.old.bytes }
+        ensures err { OnErr result (self.new ≡ self.old) }
+    {
+        self.segments.reserve(writes)
+    }
+
+    /// Puts these bytes in place of a region's. It takes no memory.
+    pub fn put(&mut self, region: Region, bytes: Bytes)
+        requires inside { Inside (length self.old.bytes) region }
+        requires same { length bytes ≡ region.len }
+        requires room { 0 < self.old.room }
+        ensures written { self.new.bytes ≡ written self.old.bytes region bytes }
+        ensures room { self.old.room ≤ self.new.room + 1 }
+    {
+        lay(&mut self.segments, self.size, region, bytes);
+    }
+
+    /// The bytes of a region with an owner of their own: shared as by `Bytes::part` where one segment has them, else put together.
+    ///
+    /// # Errors
+    ///
+    /// As `Bytes::part`, or no memory for bytes that are put together. Nothing changes.
+    pub fn part(&mut self, alloc: Global, from: Region) -> Result<Bytes, AllocError>
+        requires { Inside (length self.old.bytes) from }
+        ensures ok { IfOk result (λ part. part ≡ read_of self.old.bytes from) }
+        ensures few { from.len ≤ FEW → IsOk result }
+        ensures same { self.new ≡ self.old }
+    {
+        match holder(self.segments.as_slice(), self.size, from) {
+            Some(i) => part_at(&mut self.segments, self.size, i, alloc, from),
+            None => composed(alloc, self.segments.as_slice(), self.size, from),
+        }
+    }
+
+    /// The bytes of a region where they lie, if one segment has them.
+    pub fn slice_of(&self, from: Region) -> Option<&[u8]>
+        requires { Inside (length self.now.bytes) from }
+        ensures { IfSome result (λ bytes. bytes.now ≡ read_of self.now.bytes from) }
+    {
+        let segments = self.segments.as_slice();
+        let i = holder(segments, self.size, from)?;
+        Some(slice_at(segments, self.size, i, from))
+    }
+
+    /// The bytes of a region, while the buffer goes: of the one segment that has them, else put together in the room that is given. It
+    /// takes no memory.
+    pub fn into_part(self, from: Region, room: Vec<u8>) -> Bytes
+        requires inside { Inside (length self.bytes) from }
+        requires empty { room.items ≡ [] }
+        requires none { vec_len room ≡ 0 }
+        requires room { from.len ≤ vec_capacity room }
+        ensures { result ≡ read_of self.bytes from }
+    {
+        let Segments { size, segments } = self;
+        match holder(segments.as_slice(), size, from) {
+            Some(i) => part_of(segments, size, i, from),
+            None => composed_in(segments.as_slice(), size, from, room),
+        }
+    }
+}
