@@ -3,6 +3,7 @@ ghost use Rattle.std.specs.Io.KnownBytes.{Keeps};
 ghost use Rattle.coll_job.specs.Faults.{status_of};
 ghost use Rattle.coll_program.specs.Tasks.{workers_of, may_write, IsStatusOf};
 
+use crate::drawing::{Draft, draw};
 use crate::keeping::keep;
 use crate::opening::open_text;
 use crate::viewing::keep_views;
@@ -38,7 +39,7 @@ const STANDARD_INPUT: &str = "<stdin>";
 /// Does what the words of a command line ask for, the program's own name first: `colljob plain` writes the lines of a
 /// job text, `colljob run` has the text carried out by threads of `machine` and writes what they got, `colljob explain`
 /// writes whether its runs stall, and `colljob check` tells its faults. The text stands in the file of `machine` that the words
-/// name, or comes from `input`. Answers the exit status. At a fault nothing is written to `output`, but at a write fault, and
+/// name, or comes from `input`. `colljob draw` draws the schedules of a collective, and takes no text. Answers the exit status. At a fault nothing is written to `output`, but at a write fault, and
 /// the fault's line goes to `errors`; where that fails too, nobody is left to be told.
 pub fn run<M: Threads + Wait + Sync + Files + Clock, R: Read, W: Write, E: Write>(
     machine: &M,
@@ -149,6 +150,15 @@ fn write_answer<M: Threads + Wait + Sync + Files + Clock, R: Read, W: Write, E: 
         }
         (Way::Explain(options), _) => return explain_job(alloc, name, options, &mut reader, output),
         (Way::Check(form), _) => return check_job(alloc, name, form, &mut reader, output, errors),
+        (Way::Draw { members, form }, _) => {
+            let draft = Draft {
+                words: task.words,
+                members,
+                form,
+                file: task.picture,
+            };
+            return draw(machine, alloc, draft, output, errors);
+        }
     }
     Ok(0)
 }

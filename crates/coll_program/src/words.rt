@@ -3,6 +3,7 @@
 ghost use Rattle.std.specs.Prelude.{◌≡◌, ◌≤◌, IfOk};
 ghost use Rattle.coll_program.specs.Tasks.{workers_of};
 
+use crate::drawing::DrawForm;
 use crate::views::{Views, views_of, with_views};
 use clap::builder::ValueParser;
 use clap::{Arg, ArgAction, ArgMatches, Command, Error};
@@ -10,7 +11,7 @@ use coll_diagnosis::{ExplainOptions, Form};
 use coll_faults::CheckForm;
 use std::alloc::{AllocError, Global};
 
-/// What the words of a command line ask for: something of a job text.
+/// What the words of a command line ask for: something of a job text, or a drawing.
 #[derive(Clone, Copy, Debug, PartialEq, Eq)]
 pub struct Task<'w> {
     pub way: Way,
@@ -20,9 +21,13 @@ pub struct Task<'w> {
     pub explanation: Option<&'w str>,
     /// The files that get what a run did.
     pub views: Views<'w>,
+    /// The words of the signature that is drawn; else none.
+    pub words: &'w str,
+    /// The file that gets the drawing. Without one it is written to standard output.
+    pub picture: Option<&'w str>,
 }
 
-/// What is done with a job text.
+/// What is done with a job text, or with a signature.
 #[derive(Clone, Copy, Debug, PartialEq, Eq)]
 pub enum Way {
     /// Each value is computed directly.
@@ -33,6 +38,8 @@ pub enum Way {
     Explain(ExplainOptions),
     /// All its faults are told, and where it has none what an explanation tells.
     Check(CheckForm),
+    /// The schedules of a collective among so many members are drawn.
+    Draw { members: u8, form: DrawForm },
 }
 
 const MAX_WORKERS: u8 = 8;
@@ -58,6 +65,16 @@ static CHECK_FORMS: [&str; 2] = ["text", "json"];
 /// When colours are wanted.
 static COLORS: [&str; 3] = ["auto", "always", "never"];
 
+const SIGNATURE: &str = "signature";
+
+const MEMBERS: &str = "members";
+
+const MAX_MEMBERS: u8 = 64;
+
+const SVG: &str = "svg";
+
+const OUT: &str = "out";
+
 const NAME: &str = "colljob";
 
 /// What stands below the help.
@@ -73,6 +90,9 @@ A job text begins so; docs/JOB_TEXT.md has the whole format:
 
 Its lines are `rank R req Q start S : VALUES`, here with the value 6 three times:
   colljob run --workers 2 examples/sum_of_three.job
+
+The schedules of a collective are drawn without a text:
+  colljob draw \"allreduce sum i32 1\" --members 6
 
 Exit status: 0 done; 1 a file can't be opened, read fault, write fault; 2 a fault of the text or of the words;
 3 stalled; 4 another refusal of the engine; 5 no memory, no thread, or a report that doesn't agree with the text;
@@ -94,7 +114,8 @@ fn command<'a>(alloc: Global) -> Result<Command<'a>, AllocError> {
         .subcommand(run_command(alloc)?)?
         .subcommand(plain_command(alloc)?)?
         .subcommand(explain_command(alloc)?)?
-        .subcommand(check_command(alloc)?)
+        .subcommand(check_command(alloc)?)?
+        .subcommand(draw_command(alloc)?)
 }
 
 fn run_command<'a>(alloc: Global) -> Result<Command<'a>, AllocError> {
@@ -169,6 +190,35 @@ fn check_command<'a>(alloc: Global) -> Result<Command<'a>, AllocError> {
         .arg(text_file(alloc))
 }
 
+fn draw_command<'a>(alloc: Global) -> Result<Command<'a>, AllocError> {
+    let signature = Arg::new(alloc, SIGNATURE)
+        .value_name("SIGNATURE")
+        .required(true)
+        .help("A collective as a job text says it behind `post C`, as one word: \"allreduce sum i32 1\"");
+    let members = Arg::new(alloc, MEMBERS)
+        .long("members")
+        .value_name("N")
+        .value_parser(ValueParser::unsigned(1, u64::from(MAX_MEMBERS)))
+        .required(true)
+        .help("How many members there are, 1 to 64");
+    let svg = Arg::new(alloc, SVG)
+        .long("svg")
+        .action(ArgAction::SetTrue)
+        .help("Draws a vector picture in place of lines");
+    let out = Arg::new(alloc, OUT)
+        .long("out")
+        .value_name("OUT")
+        .help("Writes to the file OUT, all of it or nothing");
+    Command::new(alloc, "draw")
+        .about(
+            "Draws the schedules of a collective: who sends what to whom in which round, and where it is combined",
+        )
+        .arg(signature)?
+        .arg(members)?
+        .arg(svg)?
+        .arg(out)
+}
+
 /// The word for a file.
 fn text_file<'a>(alloc: Global) -> Arg<'a> {
     Arg::new(alloc, FILE).value_name("FILE").help(
@@ -196,6 +246,8 @@ pub fn task_of<'w>(
             file: file_of(run),
             explanation: run.get_str(EXPLANATION),
             views: views_of(run),
+            words: "",
+            picture: None,
         });
     }
     if let Some(explain) = matches.subcommand_matches("explain") {
@@ -208,6 +260,9 @@ pub fn task_of<'w>(
     if let Some(check) = matches.subcommand_matches("check") {
         return Ok(task_on(Way::Check(check_form_of(check, takes_colors)), check));
     }
+    if let Some(draw) = matches.subcommand_matches("draw") {
+        return Ok(draw_task(draw));
+    }
     match matches.subcommand_matches("plain") {
         Some(plain) => Ok(task_on(Way::Plain, plain)),
         None => Ok(Task {
@@ -215,7 +270,30 @@ pub fn task_of<'w>(
             file: None,
             explanation: None,
             views: Views::NONE,
+            words: "",
+            picture: None,
         }),
+    }
+}
+
+/// The drawing that the words behind `draw` ask for.
+fn draw_task<'w>(matches: &ArgMatches<'w>) -> Task<'w>
+    ensures { workers_of result.way ≤ 8 }
+{
+    let form = if matches.get_flag(SVG) {
+        DrawForm::Svg
+    } else {
+        DrawForm::Text
+    };
+    Task {
+        way: Way::Draw {
+            members: matches.get_one::<u8>(MEMBERS).unwrap_or(1),
+            form,
+        },
+        file: None,
+        explanation: None,
+        words: matches.get_str(SIGNATURE).unwrap_or(""),
+        picture: matches.get_str(OUT),
     }
 }
 
@@ -228,6 +306,8 @@ fn task_on<'w>(way: Way, matches: &ArgMatches<'w>) -> Task<'w>
         file: file_of(matches),
         explanation: None,
         views: Views::NONE,
+        words: "",
+        picture: None,
     }
 }
 

@@ -1,11 +1,12 @@
 //! Answers the stored examples, directly and by threads: each job text of the folder that this program runs in, against
 //! the lines or the fault that are stored beside it, and why it stalls. It prints one line for each text, then one for each
-//! job text of `stalls/`, which is only explained, one for each of `mistakes/`, which is only checked, one for each text of whose runs
-//! `runs/` tells what they do, and then one for each text of `words/`, which the program prints of its own words. Then it goes on as `colljob` does with its own words and standard
+//! job text of `stalls/`, which is only explained, one for each of `mistakes/`, which is only checked, one for each text of `runs/`, whose
+//! run's files are compared, and then one for each text of `words/` and `draws/`, which the program prints of its own words. Then it goes on as `colljob` does with its own words and standard
 //! input, which has a text with a fault: so it ends with the status for that, and writes no more.
 #![tactic(auto)]
 
 mod answer;
+mod draw;
 mod example;
 mod mistake;
 mod shown;
@@ -13,6 +14,7 @@ mod stall;
 mod words;
 
 use coll_program::main_of;
+use draw::{DRAWS, is_drawn};
 use example::Example;
 use mistake::is_checked;
 use shown::{SHOWN, is_shown};
@@ -52,6 +54,9 @@ fn answer_all<M: Threads + Wait + Sync + Files + Clock>(
     }
     for (text, words) in TEXTS {
         print(rt, text, are_answered(rt, machine, text, words)?)?;
+    }
+    for (name, words) in DRAWS {
+        print(rt, name, is_drawn(rt, machine, name, words)?)?;
     }
     Ok(())
 }

@@ -6,7 +6,7 @@ use std::sync::Wait;
 use std::thread::Threads;
 
 /// Words of a command line, and the stored text of `words/` that they print. The script `colljob` answers them from it.
-pub const TEXTS: [(&str, &[&str]); 18] = [
+pub const TEXTS: [(&str, &[&str]); 21] = [
     ("help", &["--help"]),
     ("help", &["-h"]),
     ("help", &["help"]),
@@ -22,6 +22,9 @@ pub const TEXTS: [(&str, &[&str]); 18] = [
     ("help_check", &["check", "--help"]),
     ("help_check", &["check", "-h"]),
     ("help_check", &["help", "check"]),
+    ("help_draw", &["draw", "--help"]),
+    ("help_draw", &["draw", "-h"]),
+    ("help_draw", &["help", "draw"]),
     ("version", &["--version"]),
     ("version", &["-V"]),
     ("no_words", &[]),

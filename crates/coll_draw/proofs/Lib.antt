@@ -1,0 +1,5 @@
+pub mod Steps
+pub mod Messages
+pub mod Counting
+pub mod Drawn
+pub mod Refusing

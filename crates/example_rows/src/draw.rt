@@ -1,0 +1,50 @@
+use crate::answer::Answer;
+use std::fs::{self, Files};
+use std::io;
+use std::sync::Wait;
+use std::thread::Threads;
+
+/// The stored texts of `draws/`, and the words of a command line that print them: a drawing on standard output, or what is
+/// wrong with the words on standard error.
+pub const DRAWS: [(&str, &[&str]); 6] = [
+    (
+        "allreduce_of_six.txt",
+        &["draw", "allreduce sum i32 1", "--members", "6"],
+    ),
+    (
+        "exscan_of_five.txt",
+        &["draw", "exscan max i64 2", "--members", "5"],
+    ),
+    (
+        "rows_of_three.txt",
+        &["draw", "allgatherv i16 2 0 1", "--members", "3"],
+    ),
+    (
+        "alltoall_of_four.svg",
+        &["draw", "alltoall byte 3", "--members", "4", "--svg"],
+    ),
+    (
+        "other_operation.fault",
+        &["draw", "allreduce summ i32 1", "--members", "6"],
+    ),
+    (
+        "no_such_root.fault",
+        &["draw", "bcast 7 i32 1", "--members", "6"],
+    ),
+];
+
+/// Whether the words print the stored text.
+pub fn is_drawn<M: Threads + Wait + Sync + Files>(
+    rt: &HostRuntime,
+    machine: &M,
+    name: &str,
+    words: &[&str],
+) -> io::Result<bool> {
+    let stored = fs::read(rt, format!(in rt.alloc(); "draws/{name}")?)?;
+    let wanted = if name.ends_with(".fault") {
+        Answer::of_fault(rt.alloc(), 2, stored)
+    } else {
+        Answer::of_lines(rt.alloc(), stored)
+    };
+    Ok(Answer::to(machine, rt.alloc(), words, b"")? == wanted)
+}
