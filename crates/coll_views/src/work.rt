@@ -59,7 +59,8 @@ fn push_all(more: &[Action], actions: &mut Vec<Action>) -> Result<(), AllocError
 fn push_one(action: &Action, actions: &mut Vec<Action>) -> Result<(), AllocError>
     ensures { OnOk result (actions.new.items ≡ actions.old.items ++ action.now ∷ []) }
 {
-    actions.push(*action)
+    actions.push(*action)?;
+    Ok(())
 }
 
 fn count_sends(actions: &[Action]) -> u64
