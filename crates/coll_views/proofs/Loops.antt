@@ -1,10 +1,13 @@
 -- What loops over a list keep, element by element.
-use Rattle.std.proofs.Common.{◌≡◌, ℕ, zero, suc, ◌+◌, ◌-◌, ◌<◌, ◌≤◌, List, [], ◌∷◌, ◌++◌, map, drop, length, refl, ap, sym, ◌∙◌, append_assoc, arith}
+use Rattle.std.proofs.Common.{◌≡◌, ℕ, zero, suc, ◌+◌, ◌-◌, ◌*◌, ◌/◌, ◌<◌, ◌≤◌, List, [], ◌∷◌, ◌++◌, map, drop, length, refl, ap, sym, ◌∙◌, append_assoc, arith}
 use Rattle.std.specs.Prelude.{flat_map, filter_map, sum, Option, Some, None}
 use Rattle.std.specs.Prelude.{Vec}
 use Rattle.std.specs.Global.{Global}
 use Rattle.std.specs.List.{cons_option, range_with_len}
-use Rattle.std.proofs.lemmas.List.{map-append}
+use Rattle.std.proofs.lemmas.List.{map-append, length-drop}
+use Rattle.std.proofs.lemmas.List.Sums.{sum_by-cons}
+use Rattle.std.proofs.Math.Nat.{mul-le-mul_right}
+use Rattle.coll_history.proofs.Contributions.{width-positive}
 use Rattle.coll_script.proofs.Loops.{map_range-more}
 use Rattle.std.proofs.lemmas.List.Concat.{flat_map-cons}
 use Rattle.coll_kinds.specs.declared.datatype.Datatype.{Datatype}
@@ -60,7 +63,8 @@ pub sum-more : (xs : List ℕ) (k x now total : ℕ)
     → now + sum (drop k xs) ≡ total
     → now + x + sum (drop (k + 1) xs) ≡ total
 sum-more xs k x now total front so_far =
-    let here : sum (drop k xs) ≡ x + sum (drop (k + 1) xs) = ap sum front in
+    let cons : sum (x ∷ drop (k + 1) xs) ≡ x + sum (drop (k + 1) xs) = sum_by-cons (λ n. n) x (drop (k + 1) xs) in
+    let here : sum (drop k xs) ≡ x + sum (drop (k + 1) xs) = ap sum front ∙ cons in
     omega (arith, here, so_far)
 
 -- text that grows by the next element of a row
@@ -75,3 +79,19 @@ elements-more f ty end i rest out total lt so_far =
     ap (λ n. flat_map f (elements ty n rest)) left
     ∙ flat_map-cons f (element_at ty rest) (elements ty (end - (i + 1)) (drop (width ty) rest)) in
     append_assoc out (f (element_at ty rest)) others ∙ ap (λ (xs : List ℕ). out ++ xs) (sym here) ∙ so_far
+
+-- an element that is still to come lies in the rest of the row
+pub width-le : (ty : Datatype) (len i rest : ℕ) → i < len / width ty → rest + i * width ty ≡ len → width ty ≤ rest
+width-le ty len i rest lt split =
+    let positive = width-positive ty in
+    let more : i + 1 ≤ len / width ty = omega arith in
+    let scaled = mul-le-mul_right (width ty) more in
+    omega arith
+
+-- the row from the next element on
+pub rest-more : (ty : Datatype) (len i : ℕ) (row : List ℕ) → width ty ≤ length row → length row + i * width ty ≡ len
+    → length (drop (width ty) row) + (i + 1) * width ty ≡ len
+rest-more ty len i row le split = let dropped = length-drop (width ty) row in omega arith
+
+pub minus-zero : (n : ℕ) → n - 0 ≡ n
+minus-zero n = omega arith

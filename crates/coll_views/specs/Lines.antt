@@ -24,22 +24,24 @@ bytes_of (Freed rank t) = []
 abbrev pub place_text : Request → List ℕ
 place_text p = codes "comm " ++ (decimal p.comm ++ (codes " place " ++ decimal p.place))
 
--- whose call it was, what it did, and to which of the rank's requests
-abbrev pub call_text : ℕ → List ℕ → Named → List ℕ
-call_text rank did found =
-    codes "rank " ++ (decimal rank ++ (did ++ (decimal found.number ++ (codes " " ++ place_text found.request))))
+-- whose call it was, what it did, to which of the rank's requests, and what follows
+abbrev pub call_text : ℕ → List ℕ → Named → List ℕ → List ℕ
+call_text rank did found rest =
+    codes "rank " ++ (decimal rank ++ (did ++ (decimal found.number ++ (codes " " ++ (place_text found.request ++ rest)))))
 
 abbrev pub head_text : Named → Entry → List ℕ
 head_text found (Posted rank t comm place sig bytes) =
     call_text rank (codes " posted      req ") found
-    ++ (codes " " ++ (signature_text found.request.sig found.request.members ++ codes " :"))
+    (codes " " ++ (signature_text found.request.sig found.request.members ++ codes " :"))
 head_text found (Inited rank t comm place sig) =
-    call_text rank (codes " initialised req ") found ++ (codes " " ++ signature_text found.request.sig found.request.members)
+    call_text rank (codes " initialised req ") found (codes " " ++ signature_text found.request.sig found.request.members)
 head_text found (Started rank t start bytes) =
-    call_text rank (codes " started     req ") found ++ (codes " start " ++ (decimal start ++ codes " :"))
+    call_text rank (codes " started     req ") found (codes " start " ++ (decimal start ++ codes " :"))
 head_text found (Retired rank t comm place start bytes) =
-    call_text rank (codes " completed   req ") found ++ (codes " start " ++ (decimal start ++ codes " :"))
-head_text found (Freed rank t) = call_text rank (codes " freed       req ") found
+    call_text rank (codes " completed   req ") found (codes " start " ++ (decimal start ++ codes " :"))
+head_text found (Freed rank t) =
+    codes "rank "
+    ++ (decimal rank ++ (codes " freed       req " ++ (decimal found.number ++ (codes " " ++ place_text found.request))))
 
 -- the line of the call; none for the unwritten `waitall`
 abbrev pub line_text : ℕ → List ℕ

@@ -1,5 +1,5 @@
 -- The tables as text.
-use Rattle.std.specs.Prelude.{ℕ, ◌-◌, ◌==◌, Bool, ◌&&◌, List, [], ◌∷◌, ◌++◌, length, filter, flat_map, replicate, codes}
+use Rattle.std.specs.Prelude.{ℕ, ◌-◌, ◌==◌, Bool, ◌&&◌, List, [], ◌∷◌, ◌++◌, length, filter, flat_map, replicate, codes, if◌then◌else◌}
 use Rattle.std.specs.List.{enumerate_from, range_with_len}
 use Rattle.std.specs.Fmt.{decimal}
 use Rattle.coll_kinds.specs.declared.kind.Kind.{Kind}
@@ -47,10 +47,12 @@ by_rank rank row = row.rank == rank
 abbrev pub rank_line : List Row → ℕ → List ℕ
 rank_line rows rank = aligned 4 (decimal rank) ++ numbers_text (filter (by_rank rank) rows)
 
+abbrev pub rank_lines : ℕ → List Row → List ℕ
+rank_lines ranks rows = flat_map (rank_line rows) (range_with_len 0 ranks)
+
 -- the lines of the ranks, and one for all
 abbrev pub ranks_text : ℕ → List Row → List ℕ
-ranks_text ranks rows =
-    head_of_ranks ++ (flat_map (rank_line rows) (range_with_len 0 ranks) ++ (codes " all" ++ numbers_text rows))
+ranks_text ranks rows = head_of_ranks ++ (rank_lines ranks rows ++ (codes " all" ++ numbers_text rows))
 
 -- ---- by collective
 
@@ -70,8 +72,7 @@ label_of comm group kind =
 
 -- a collective that wasn't called has no line
 abbrev pub labelled : List ℕ → List Row → List ℕ
-labelled label [] = []
-labelled label (row ∷ rows) = label ++ numbers_text (row ∷ rows)
+labelled label rows = if length rows == 0 then [] else label ++ numbers_text rows
 
 abbrev pub collective_lines : List Row → ℕ → List ℕ → Kind → List ℕ
 collective_lines rows comm group kind = labelled (label_of comm group kind) (rows_on rows comm kind)
@@ -80,9 +81,11 @@ collective_lines rows comm group kind = labelled (label_of comm group kind) (row
 abbrev pub comm_lines : List Row → ℕ → List ℕ → List ℕ
 comm_lines rows comm group = flat_map (collective_lines rows comm group) kinds
 
+abbrev pub all_comm_lines : List (List ℕ) → List Row → List ℕ
+all_comm_lines groups rows = flat_map (λ (at : ℕ × List ℕ). comm_lines rows at.0 at.1) (enumerate_from 0 groups)
+
 abbrev pub collectives_text : List (List ℕ) → List Row → List ℕ
-collectives_text groups rows =
-    head_of_collectives ++ flat_map (λ (at : ℕ × List ℕ). comm_lines rows at.0 at.1) (enumerate_from 0 groups)
+collectives_text groups rows = head_of_collectives ++ all_comm_lines groups rows
 
 -- both tables
 abbrev pub tables_text : ℕ → List (List ℕ) → List Row → List ℕ

@@ -134,19 +134,14 @@ fn print_values(alloc: Global, ty: Datatype, row: &[u8], out: &mut Vec<u8>) -> R
 }
 
 /// What stands before the values.
-fn object_text(
-    alloc: Global,
-    rank: u8,
-    start: u32,
-    found: &Named,
-) -> Result<String, AllocError>
+fn object_text(alloc: Global, rank: u8, start: u32, found: &Named) -> Result<String, AllocError>
     ensures { IfOk result (λ text. string_bytes text ≡ object_text rank start found.now) }
 {
     let number = found.number;
     let stand = stand_text(alloc, &found.request)?;
     let kind = kind_text(alloc, &found.request)?;
-    format!(
-        in alloc; "{{\"reason\":\"outcome\",\"rank\":{rank},\"req\":{number},\"start\":{start}{stand}{kind}"
+    format!(in alloc;
+        "{{\"reason\":\"outcome\",\"rank\":{rank},\"req\":{number},\"start\":{start}{stand}{kind}"
     )
 }
 

@@ -3,7 +3,7 @@
 ghost use Rattle.std.specs.Prelude.{◌≡◌, ◌++◌, List, filter, flat_map, length, replicate, IfOk, OnOk};
 ghost use Rattle.std.specs.String.{string_bytes};
 ghost use Rattle.coll_report.specs.Views.{groups_seen};
-ghost use Rattle.coll_views.specs.Tables.{aligned, by_collective, by_rank, cell_text, cells_of, collective_lines, collectives_text, comm_lines, head_of_collectives, head_of_ranks, label_of, numbers_text, rank_line, ranks_text, rows_on, tables_text};
+ghost use Rattle.coll_views.specs.Tables.{aligned, all_comm_lines, by_collective, by_rank, cell_text, cells_of, collective_lines, collectives_text, label_of, numbers_text, rank_line, rank_lines, ranks_text, rows_on, tables_text};
 
 use crate::fault::ViewFault;
 use crate::row::Row;
@@ -49,25 +49,44 @@ fn print_ranks(alloc: Global, ranks: u8, rows: &[Row], out: &mut Vec<u8>) -> Res
     ensures { OnOk result (out.new.items ≡ out.old.items ++ ranks_text ranks rows.now) }
 {
     out.extend_from_slice(HEAD_OF_RANKS.as_bytes())?;
+    print_rank_lines(alloc, ranks, rows, out)?;
+    out.extend_from_slice(b" all")?;
+    print_totals(alloc, rows, out)
+}
+
+/// Appends a line for each rank.
+fn print_rank_lines(
+    alloc: Global,
+    ranks: u8,
+    rows: &[Row],
+    out: &mut Vec<u8>,
+) -> Result<(), ViewFault>
+    ensures { OnOk result (out.new.items ≡ out.old.items ++ rank_lines ranks rows.now) }
+{
     for rank in 0..ranks {
         print_rank(alloc, rank, rows, out)?;
     }
-    out.extend_from_slice(b" all")?;
-    print_totals(alloc, rows, out)
+    Ok(())
 }
 
 /// Appends the line of a rank.
 fn print_rank(alloc: Global, rank: u8, rows: &[Row], out: &mut Vec<u8>) -> Result<(), ViewFault>
     ensures { OnOk result (out.new.items ≡ out.old.items ++ rank_line rows.now rank) }
 {
-    let mine: Vec<Row> = rows
-        .iter()
-        .filter(|row| row.rank == rank)
-        .copied()
-        .collect(alloc)?;
+    let own = rows_by(alloc, rank, rows)?;
     let label = format!(in alloc; "{rank}")?;
     print_aligned(alloc, 4, label.as_bytes(), out)?;
-    print_totals(alloc, &mine, out)
+    print_totals(alloc, &own, out)
+}
+
+/// The rows of a rank.
+fn rows_by(alloc: Global, rank: u8, rows: &[Row]) -> Result<Vec<Row>, AllocError>
+    ensures { IfOk result (λ own. own.items ≡ filter (by_rank rank) rows.now) }
+{
+    rows.iter()
+        .filter(|row| row.rank == rank)
+        .copied()
+        .collect(alloc)
 }
 
 /// Appends a line for each collective that was called, by communicator.
@@ -80,24 +99,37 @@ fn print_collectives(
     ensures { OnOk result (out.new.items ≡ out.old.items ++ collectives_text (groups_seen groups.now) rows.now) }
 {
     out.extend_from_slice(HEAD_OF_COLLECTIVES.as_bytes())?;
+    print_communicators(alloc, groups, rows, out)
+}
+
+fn print_communicators(
+    alloc: Global,
+    groups: &[Vec<u8>],
+    rows: &[Row],
+    out: &mut Vec<u8>,
+) -> Result<(), ViewFault>
+    ensures { OnOk result (out.new.items ≡ out.old.items ++ all_comm_lines (groups_seen groups.now) rows.now) }
+{
     for (comm, group) in groups.iter().enumerate() {
-        print_communicator(alloc, comm, group, rows, out)?;
+        print_kinds(alloc, comm, group, &Kind::ALL, rows, out)?;
     }
     Ok(())
 }
 
-/// Appends a line for each collective that was called on a communicator.
-fn print_communicator(
+/// Appends a line for each of these collectives that was called on a communicator.
+fn print_kinds(
     alloc: Global,
     comm: usize,
     group: &[u8],
+    kinds: &[Kind],
     rows: &[Row],
     out: &mut Vec<u8>,
 ) -> Result<(), ViewFault>
-    ensures { OnOk result (out.new.items ≡ out.old.items ++ comm_lines rows.now comm group.now) }
+    ensures { OnOk result (out.new.items
+        ≡ out.old.items ++ flat_map (collective_lines rows.now comm group.now) kinds.now) }
 {
-    for kind in &Kind::ALL {
-        print_collective(alloc, comm, group, *kind, rows, out)?;
+    for kind in kinds {
+        print_collective(alloc, comm, group, kind, rows, out)?;
     }
     Ok(())
 }
@@ -107,22 +139,28 @@ fn print_collective(
     alloc: Global,
     comm: usize,
     group: &[u8],
-    kind: Kind,
+    kind: &Kind,
     rows: &[Row],
     out: &mut Vec<u8>,
 ) -> Result<(), ViewFault>
-    ensures { OnOk result (out.new.items ≡ out.old.items ++ collective_lines rows.now comm group.now kind) }
+    ensures { OnOk result (out.new.items ≡ out.old.items ++ collective_lines rows.now comm group.now kind.now) }
 {
-    let own: Vec<Row> = rows
-        .iter()
-        .filter(|row| is_on(row, comm, kind))
-        .copied()
-        .collect(alloc)?;
-    if own.is_empty() {
+    let own = rows_on(alloc, comm, *kind, rows)?;
+    if own.len() == 0 {
         return Ok(());
     }
-    print_label(alloc, comm, group, kind, out)?;
+    print_label(alloc, comm, group, *kind, out)?;
     print_totals(alloc, &own, out)
+}
+
+/// The rows of a collective on a communicator.
+fn rows_on(alloc: Global, comm: usize, kind: Kind, rows: &[Row]) -> Result<Vec<Row>, AllocError>
+    ensures { IfOk result (λ own. own.items ≡ rows_on rows.now comm kind) }
+{
+    rows.iter()
+        .filter(|row| is_on(row, comm, kind))
+        .copied()
+        .collect(alloc)
 }
 
 fn is_on(row: &Row, comm: usize, kind: Kind) -> bool
@@ -153,11 +191,18 @@ fn print_label(
 fn print_totals(alloc: Global, rows: &[Row], out: &mut Vec<u8>) -> Result<(), ViewFault>
     ensures { OnOk result (out.new.items ≡ out.old.items ++ numbers_text rows.now) }
 {
-    let cells = cells_of(totals_of(alloc, rows)?);
-    for cell in &cells {
-        print_cell(alloc, *cell, out)?;
+    let totals = totals_of(alloc, rows)?;
+    print_cells(alloc, &cells_of(totals), out)?;
+    out.extend_from_slice(b"\n")?;
+    Ok(())
+}
+
+fn print_cells(alloc: Global, cells: &[Cell], out: &mut Vec<u8>) -> Result<(), ViewFault>
+    ensures { OnOk result (out.new.items ≡ out.old.items ++ flat_map cell_text cells.now) }
+{
+    for cell in cells {
+        print_cell(alloc, cell, out)?;
     }
-    out.push(b'\n')?;
     Ok(())
 }
 
@@ -209,8 +254,8 @@ fn cells_of(totals: Totals) -> [Cell; 10]
     ]
 }
 
-fn print_cell(alloc: Global, cell: Cell, out: &mut Vec<u8>) -> Result<(), ViewFault>
-    ensures { OnOk result (out.new.items ≡ out.old.items ++ cell_text cell) }
+fn print_cell(alloc: Global, cell: &Cell, out: &mut Vec<u8>) -> Result<(), ViewFault>
+    ensures { OnOk result (out.new.items ≡ out.old.items ++ cell_text cell.now) }
 {
     let number = cell.number;
     let text = format!(in alloc; "{number}")?;

@@ -1,7 +1,7 @@
 //! Sums of rows.
 
-ghost use Rattle.std.specs.Prelude.{◌≡◌, List, map, sum, filter, IfOk};
-ghost use Rattle.coll_views.specs.Totals.{most_lent, totals_of};
+ghost use Rattle.std.specs.Prelude.{◌≡◌, ◌+◌, ◌-◌, IfOk};
+ghost use Rattle.coll_views.specs.Totals.{column_sum, most_lent, number_in, totals_of};
 
 use crate::fault::ViewFault;
 use crate::row::Row;
@@ -29,6 +29,20 @@ pub struct Totals {
     pub combinations: u64,
 }
 
+/// A number of a row that is summed.
+#[derive(Clone, Copy, Debug, PartialEq, Eq)]
+pub(crate) enum Column {
+    Posts,
+    Inits,
+    Starts,
+    Completed,
+    Given,
+    Got,
+    Messages,
+    Sent,
+    Combinations,
+}
+
 /// The totals of these rows.
 ///
 /// # Errors
@@ -37,27 +51,46 @@ pub struct Totals {
 pub fn totals_of(alloc: Global, rows: &[Row]) -> Result<Totals, ViewFault>
     ensures { IfOk result (λ totals. totals ≡ totals_of rows.now) }
 {
-    let posts: Vec<u64> = rows.iter().map(|row| row.posts).collect(alloc)?;
-    let inits: Vec<u64> = rows.iter().map(|row| row.inits).collect(alloc)?;
-    let starts: Vec<u64> = rows.iter().map(|row| row.starts).collect(alloc)?;
-    let completed: Vec<u64> = rows.iter().map(|row| row.completed).collect(alloc)?;
-    let given: Vec<u64> = rows.iter().map(|row| row.given).collect(alloc)?;
-    let got: Vec<u64> = rows.iter().map(|row| row.got).collect(alloc)?;
-    let messages: Vec<u64> = rows.iter().map(|row| row.messages).collect(alloc)?;
-    let sent: Vec<u64> = rows.iter().map(|row| row.sent).collect(alloc)?;
-    let combinations: Vec<u64> = rows.iter().map(|row| row.combinations).collect(alloc)?;
     Ok(Totals {
-        posts: sum_of(&posts)?,
-        inits: sum_of(&inits)?,
-        starts: sum_of(&starts)?,
-        completed: sum_of(&completed)?,
-        given: sum_of(&given)?,
-        got: sum_of(&got)?,
+        posts: column_sum(alloc, Column::Posts, rows)?,
+        inits: column_sum(alloc, Column::Inits, rows)?,
+        starts: column_sum(alloc, Column::Starts, rows)?,
+        completed: column_sum(alloc, Column::Completed, rows)?,
+        given: column_sum(alloc, Column::Given, rows)?,
+        got: column_sum(alloc, Column::Got, rows)?,
         lent: most_lent(rows)?,
-        messages: sum_of(&messages)?,
-        sent: sum_of(&sent)?,
-        combinations: sum_of(&combinations)?,
+        messages: column_sum(alloc, Column::Messages, rows)?,
+        sent: column_sum(alloc, Column::Sent, rows)?,
+        combinations: column_sum(alloc, Column::Combinations, rows)?,
     })
+}
+
+/// The sum of a column.
+fn column_sum(alloc: Global, column: Column, rows: &[Row]) -> Result<u64, ViewFault>
+    ensures { IfOk result (λ total. total ≡ column_sum column rows.now) }
+{
+    let numbers: Vec<u64> = rows
+        .iter()
+        .map(|row| number_in(column, row))
+        .collect(alloc)?;
+    sum_of(&numbers)
+}
+
+/// A row's number in a column.
+fn number_in(column: Column, row: &Row) -> u64
+    ensures { result ≡ number_in column row.now }
+{
+    match column {
+        Column::Posts => row.posts,
+        Column::Inits => row.inits,
+        Column::Starts => row.starts,
+        Column::Completed => row.completed,
+        Column::Given => row.given,
+        Column::Got => row.got,
+        Column::Messages => row.messages,
+        Column::Sent => row.sent,
+        Column::Combinations => row.combinations,
+    }
 }
 
 /// The most bytes that are lent at one time along these rows.
@@ -67,11 +100,18 @@ fn most_lent(rows: &[Row]) -> Result<u64, ViewFault>
     let mut lent: u64 = 0;
     let mut most: u64 = 0;
     for row in rows {
-        let Some(more) = lent.checked_add(row.lends) else {
-            return Err(ViewFault::Torn);
-        };
-        lent = more.saturating_sub(row.returns);
+        lent = lent_after(lent, row)?;
         most = most.max(lent);
     }
     Ok(most)
+}
+
+/// What is lent after a row, where so much was lent before.
+fn lent_after(lent: u64, row: &Row) -> Result<u64, ViewFault>
+    ensures { IfOk result (λ next. next ≡ lent + row.now.lends - row.now.returns) }
+{
+    match lent.checked_add(row.lends) {
+        Some(more) => Ok(more.saturating_sub(row.returns)),
+        None => Err(ViewFault::Torn),
+    }
 }

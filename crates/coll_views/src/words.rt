@@ -68,10 +68,22 @@ fn counts_text(alloc: Global, counts: &[u32; MAX_RANKS], members: u8) -> Result<
 {
     let mut text = String::new(alloc);
     for member in 0..members {
-        let word = count_text(alloc, counts, member)?;
-        text.push_str(word.as_str())?;
+        push_count(alloc, counts, member, &mut text)?;
     }
     Ok(text)
+}
+
+/// Appends the count of a member.
+fn push_count(
+    alloc: Global,
+    counts: &[u32; MAX_RANKS],
+    member: u8,
+    text: &mut String,
+) -> Result<(), AllocError>
+    ensures { OnOk result (string_bytes text.new ≡ string_bytes text.old ++ count_text counts.now member) }
+{
+    let word = count_text(alloc, counts, member)?;
+    text.push_str(word.as_str())
 }
 
 /// The count of a member; 0 past the last one.

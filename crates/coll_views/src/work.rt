@@ -1,6 +1,6 @@
 //! What a schedule has its member do.
 
-ghost use Rattle.std.specs.Prelude.{◌≡◌, ◌++◌, ◌<◌, ◌^◌, List, count_by, flat_map, map, sum, IfOk, OnOk};
+ghost use Rattle.std.specs.Prelude.{◌≡◌, ◌++◌, ◌∷◌, [], ◌<◌, ◌^◌, List, count_by, flat_map, map, sum, IfOk, OnOk};
 ghost use Rattle.coll_sched.specs.declared.action.Action.{Action as AnAction};
 ghost use Rattle.coll_views.specs.Works.{actions_in, is_combine, is_send, sent_by, work_in};
 
@@ -51,8 +51,15 @@ fn push_all(more: &[Action], actions: &mut Vec<Action>) -> Result<(), AllocError
     ensures { OnOk result (actions.new.items ≡ actions.old.items ++ more.now) }
 {
     for action in more {
-        actions.push(*action)?;
+        push_one(action, actions)?;
     }
+    Ok(())
+}
+
+fn push_one(action: &Action, actions: &mut Vec<Action>) -> Result<(), AllocError>
+    ensures { OnOk result (actions.new.items ≡ actions.old.items ++ action.now ∷ []) }
+{
+    actions.push(*action)?;
     Ok(())
 }
 

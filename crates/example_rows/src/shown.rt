@@ -1,6 +1,6 @@
 use crate::answer::Answer;
 use std::alloc::Global;
-use std::fs::{self, Files, remove_file};
+use std::fs::{self, File, Files, remove_file};
 use std::io;
 use std::rt::Clock;
 use std::sync::Wait;
@@ -10,7 +10,16 @@ use std::thread::Threads;
 pub const SHOWN: [&str; 3] = ["communicators", "persistent", "sum_of_three"];
 
 /// The files that a run writes on what it did.
-const FILES: [&str; 5] = ["run.trace", "run.stats", "run.picture", "run.timeline", "run.json"];
+const FILES: [&str; 5] = [
+    "run.trace",
+    "run.stats",
+    "run.picture",
+    "run.timeline",
+    "run.json",
+];
+
+/// A file in a folder that isn't there.
+const NOWHERE: &str = "nowhere/run.trace";
 
 /// How many progress threads a run has.
 const WORKERS: [&str; 3] = ["0", "2", "8"];
@@ -51,6 +60,34 @@ pub fn is_shown<M: Threads + Wait + Sync + Files + Clock>(
         }
     }
     Ok(true)
+}
+
+/// Whether a run whose file can't be written says so behind its name, and writes nothing else; and whether a run that stalls
+/// writes none.
+pub fn is_kept_back<M: Threads + Wait + Sync + Files + Clock>(
+    machine: &M,
+    alloc: Global,
+) -> io::Result<bool> {
+    let nowhere = [
+        "run",
+        "--trace",
+        NOWHERE,
+        "--stats",
+        FILES[1],
+        "sum_of_three.job",
+    ];
+    let answer = Answer::to(machine, alloc, &nowhere, b"")?;
+    let is_told = answer.status == 1
+        && answer.lines.is_empty()
+        && answer.told.starts_with(b"nowhere/run.trace: ");
+    let stalls = ["run", "--trace", FILES[0], "crossed_barriers.job"];
+    let answer = Answer::to(machine, alloc, &stalls, b"")?;
+    Ok(
+        is_told
+            && answer.status == 3
+            && File::open(machine, FILES[0]).is_err()
+            && File::open(machine, FILES[1]).is_err(),
+    )
 }
 
 /// Whether tables are those that are stored, if some are.
@@ -100,5 +137,7 @@ fn by_rank(alloc: Global, trace: &[u8]) -> io::Result<Vec<u8>> {
 
 /// How often a part stands in a text.
 fn count(text: &[u8], part: &[u8]) -> usize {
-    text.windows(part.len()).filter(|found| *found == part).count()
+    text.windows(part.len())
+        .filter(|found| *found == part)
+        .count()
 }

@@ -1,8 +1,12 @@
-use Rattle.coll_history.proofs.Lists.{drop-more}
+use Rattle.std.proofs.Common.{get_or}
+use Rattle.coll_script.proofs.Loops.{drop-at}
 use Rattle.coll_views.proofs.Loops.{sum-more}
 use Rattle.coll_views.proofs.work.sum_of.Goals as goal
 
 pub loop-number-preserved : goal.loop-number-preserved
 loop-number-preserved c =
-    let front = drop-more c.args.numbers.now c.loop-number.number-index c.number-item.result c.loop-number-test.true c.number-item.is in
-    rw c.checked_add.ensures (sum-more c.args.numbers.now c.loop-number.number-index c.number-item.result c.loop-number.total _ front c.loop-number.invariant)
+    let xs = c.args.numbers.now in
+    let k = c.loop-number.number-index in
+    let front = drop-at xs k 0 c.loop-number-test.true in
+    let more = sum-more xs k (get_or xs k 0) c.loop-number.total _ front c.loop-number.invariant in
+    search (rules, more)

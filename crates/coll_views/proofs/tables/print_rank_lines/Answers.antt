@@ -1,6 +1,6 @@
 use Rattle.coll_script.proofs.Loops.{flat_map_range-more}
 use Rattle.coll_views.specs.Tables.{rank_line}
-use Rattle.coll_views.proofs.tables.print_ranks.Goals as goal
+use Rattle.coll_views.proofs.tables.print_rank_lines.Goals as goal
 
 pub loop-rank-preserved : goal.loop-rank-preserved
 loop-rank-preserved c =
