@@ -7,6 +7,7 @@ use crate::keeping::keep;
 use crate::signature::signature_of;
 use coll_draw::{Drawing, svg_picture, text_lines};
 use coll_job::{JobFault, write_lines};
+use coll_kinds::Refusal;
 use std::alloc::Global;
 use std::fs::Files;
 use std::io::Write;
@@ -78,13 +79,20 @@ fn drawn<E: Write>(
     ensures { IfErr result (λ fault. fault ≢ JobFault.Write) }
 {
     if draft.members == 0 || draft.members > MOST_MEMBERS {
-        let _ = writeln!(errors, "error: a communicator has 1 to {MOST_MEMBERS} members");
+        let _ = writeln!(
+            errors,
+            "error: a communicator has 1 to {MOST_MEMBERS} members"
+        );
         return Ok(None);
     }
     let Some(sig) = signature_of(alloc, draft.words, draft.members, errors)? else {
         return Ok(None);
     };
-    let drawing = Drawing::of(alloc, sig, draft.members)?;
+    let drawing = match Drawing::of(alloc, sig, draft.members) {
+        Ok(drawing) => drawing,
+        Err(Refusal::NoMemory) => return Err(JobFault::Memory),
+        Err(why) => return Err(JobFault::Refused(why)),
+    };
     let lines = match draft.form {
         DrawForm::Text => text_lines(alloc, &drawing).ok(),
         DrawForm::Svg => svg_picture(alloc, &drawing).ok(),

@@ -1,7 +1,6 @@
 //! The words of a signature on the command line, read as those of a job text.
 
-ghost use Rattle.std.specs.Prelude.{◌≢◌, IfErr};
-ghost use Rattle.std.specs.Io.KnownBytes.{Keeps};
+ghost use Rattle.std.specs.Prelude.{IsOkUnless};
 
 use coll_faults::{Detail, Faults, Marked};
 use coll_job::JobFault;
@@ -21,7 +20,9 @@ pub(crate) fn signature_of<E: Write>(
     words: &str,
     members: u8,
     errors: &mut E,
-) -> Result<Option<Signature>, JobFault> {
+) -> Result<Option<Signature>, JobFault>
+    ensures { IsOkUnless result JobFault.Memory }
+{
     let Ok(words) = joined(alloc, words) else {
         return Err(JobFault::Memory);
     };

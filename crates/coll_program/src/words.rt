@@ -194,7 +194,9 @@ fn draw_command<'a>(alloc: Global) -> Result<Command<'a>, AllocError> {
     let signature = Arg::new(alloc, SIGNATURE)
         .value_name("SIGNATURE")
         .required(true)
-        .help("A collective as a job text says it behind `post C`, as one word: \"allreduce sum i32 1\"");
+        .help(
+            "A collective as a job text says it behind `post C`, as one word: \"allreduce sum i32 1\"",
+        );
     let members = Arg::new(alloc, MEMBERS)
         .long("members")
         .value_name("N")

@@ -152,6 +152,10 @@ fn words(rt: HostRuntime) -> Result<(), Fail> {
         &["colljob", "run", "--workers", "9"],
         &["colljob", "run", "--workers", "two"],
         &["colljob", "run", "--workers"],
+        &["colljob", "draw", "barrier"],
+        &["colljob", "draw", "--members", "2"],
+        &["colljob", "draw", "barrier", "--members", "0"],
+        &["colljob", "draw", "barrier", "--members", "65"],
     ];
     for words in wrong {
         let (status, lines, told) = seen(&rt, rt.alloc(), words, SUM_OF_TWO, 4096)?;
@@ -176,5 +180,59 @@ fn words(rt: HostRuntime) -> Result<(), Fail> {
         (status, lines.as_str(), told.as_str()),
         (1, "", "write fault\n")
     );
+    Ok(())
+}
+
+const BARRIER_OF_TWO: &str = "\
+barrier, 2 members: 1 round, 1 exchange, 2 messages, 0 bytes, 0 combinations
+members  0      1
+round 0  o<---->o   2 messages of 0 bytes
+";
+
+/// Words behind `draw`, the room of standard output, and what is seen then.
+const DRAWINGS: [(&[&str], usize, (u8, &str, &str)); 4] = [
+    (
+        &["colljob", "draw", "barrier", "--members", "2"],
+        4096,
+        (0, BARRIER_OF_TWO, ""),
+    ),
+    (
+        &["colljob", "draw", "barrier", "--members", "2"],
+        10,
+        (1, "", "write fault\n"),
+    ),
+    (
+        &["colljob", "draw", "barrier 1", "--members", "2"],
+        4096,
+        (
+            2,
+            "",
+            "error: bad words\n  | barrier 1\n  |         ^ a word too many\n  = help: leave it out\n",
+        ),
+    ),
+    (
+        &[
+            "colljob",
+            "draw",
+            "barrier",
+            "--members=2",
+            "--out",
+            "no_such_folder/x",
+        ],
+        4096,
+        (
+            1,
+            "",
+            "no_such_folder/x: No such file or directory (os error 2)\n",
+        ),
+    ),
+];
+
+#[test]
+fn drawings(rt: HostRuntime) -> Result<(), Fail> {
+    for (words, room, want) in DRAWINGS {
+        let (status, lines, told) = seen(&rt, rt.alloc(), words, "", room)?;
+        assert_eq!(rt; (status, lines.as_str(), told.as_str()), want);
+    }
     Ok(())
 }
