@@ -5,3 +5,4 @@ pub mod Keeping
 pub mod Seats
 pub mod Refused
 pub mod Advancing
+pub mod Handing

@@ -12,8 +12,11 @@ use Rattle.coll_core.specs.Cores.{Parts, seen, setting}
 use Rattle.coll_complete.specs.Completing.{freeing}
 use Rattle.coll_complete.specs.Requests.{active_by, done_by, free_refusal, is_active, is_done, is_pending, left_of, pending_by, phase_at}
 use Rattle.coll_complete.specs.Starting.{StartsAt}
-use Rattle.coll_engine.specs.Calls.{Completes, DeniesStart, DeniesTest, naming_refusal}
+use Rattle.coll_engine.specs.Calls.{Completes, DeniesStart, DeniesTest, about_at, naming_refusal}
 use Rattle.coll_engine.specs.Lengths.{IsOutcomeLengthAt}
+use Rattle.coll_core.specs.declared.about.About as told
+use Rattle.worzsunab.specs.declared.forms.About.{About}
+use Rattle.worzsunab.specs.Forms.{IsAbout, about_of}
 use Rattle.worzsunab.specs.Answers.{IsPhase, IsSame, Tested, phase_number}
 
 pub was_open : (old : Option Parts) (engine p : Parts) → old ≡ Some engine → p ≡ engine → old ≡ Some p
@@ -45,6 +48,18 @@ pub phased : (v p : Parts) → v ≡ p → (held named : Option Ticket) (phase :
 phased v p same held named phase number is e n =
     let at : phase_at (seen p) named ≡ Some phase = (λ z. phase_at (seen (sym same z)) (sym is z)) ∙ e in
     subst (λ (o : Option Phase). IsPhase o number) (sym at) n
+
+about_same : (v p : Parts) → v ≡ p → (held named : Option Ticket) → held ≡ named → about_at (seen p) named ≡ about_at (seen v) held
+about_same v p same held named is = λ z. about_at (seen (sym same z)) (sym is z)
+
+pub told_of : (v p : Parts) → v ≡ p → (held named : Option Ticket) → held ≡ named → (o : Option told.About) (a : told.About) → o ≡ Some a → o ≡ about_at (seen v) held → (about : About) → about ≡ about_of a
+    → IsAbout (about_at (seen p) named) about
+told_of v p same held named is o a some found about e =
+    let at : about_at (seen p) named ≡ Some a = about_same v p same held named is ∙ (sym found ∙ some) in
+    subst (λ (k : Option told.About). IsAbout k about) (sym at) e
+
+pub untold : (v p : Parts) → v ≡ p → (held named : Option Ticket) → held ≡ named → (o : Option told.About) → o ≡ None → o ≡ about_at (seen v) held → about_at (seen p) named ≡ None
+untold v p same held named is o none found = about_same v p same held named is ∙ (sym found ∙ none)
 
 -- ---- tests
 

@@ -1,15 +1,16 @@
 //! Combinations that are computed outside.
 
 ghost use Rattle.std.specs.Prelude.{◌≡◌, ◌↔◌, [], IfErr, IfNone, IfOk, IfSome, IsOkUnless, IsTrue, OnErr, OnOk, if◌then◌else◌, is_ok};
+ghost use Rattle.coll_core.specs.declared.stepped.Stepped.{Stepped as How};
 ghost use Rattle.coll_core.specs.declared.stepped.Stepped.TheVariants.{Quiet};
 ghost use Rattle.coll_core.specs.Cores.{seen, setting};
-ghost use Rattle.coll_core.specs.Steps.{Finishings, Steps, ready};
+ghost use Rattle.coll_core.specs.Steps.{CommitSteps, Finishings, IsOut, Steps, ready};
 ghost use Rattle.coll_engine.specs.Combinations.{IsHandedOut, IsOutside, TakesBack, is_computed, piece_of};
 ghost use Rattle.coll_engine.specs.Progress.{Advances};
 
 use crate::combination::{Combination, Stage};
 use crate::engine::Engine;
-use coll_core::Stepped;
+use coll_core::{DoneWork, Stepped};
 use coll_kinds::Refusal;
 
 impl Engine {
@@ -63,10 +64,24 @@ impl Engine {
         match combination.into_stage() {
             None => Err(Refusal::Stale),
             Some(Stage::Due(work)) => self.core.abandon(work),
-            Some(Stage::Computed(done)) => match self.core.commit(done) {
-                Ok(_) => Ok(()),
-                Err(why) => Err(why),
-            },
+            Some(Stage::Computed(done)) => self.commit(done),
+        }
+    }
+
+    /// Takes back one that was computed.
+    fn commit(&mut self, done: DoneWork) -> Result<(), Refusal>
+        ensures out { IsTrue (is_ok result) ↔ IsOut self.old done.piece }
+        ensures commits { OnOk result ((stepped : How) × CommitSteps self.old self.new done stepped) }
+        ensures advances { OnOk result (Advances self.old self.new 1) }
+        ensures err { OnErr result (self.new ≡ self.old) }
+        ensures refused { IfErr result (λ why. why ≡ Refusal.Stale) }
+    {
+        match self.core.commit(done) {
+            Ok(stepped) => {
+                drop(stepped);
+                Ok(())
+            }
+            Err(why) => Err(why),
         }
     }
 }
