@@ -219,12 +219,16 @@ impl Bytes {
         if from.len as usize <= FEW {
             return Ok(Bytes::few(from.read(self.as_slice())));
         }
-        self.count(alloc)?;
+        self.count_owners(alloc)?;
         self.counted_part(from)
     }
 
-    // Has the block count its owners.
-    fn count(&mut self, alloc: Global) -> Result<(), AllocError>
+    /// Has the bytes' block count its owners, so that `share_in` copies nothing.
+    ///
+    /// # Errors
+    ///
+    /// No memory for the count. Nothing changes.
+    pub fn count_owners(&mut self, alloc: Global) -> Result<(), AllocError>
         ensures { self.new ≡ self.old }
     {
         let Bytes { memory } = std::mem::replace(self, Bytes::empty());
@@ -239,8 +243,22 @@ impl Bytes {
         done
     }
 
+    /// A second owner of the bytes where their block counts its owners or they are a few, else a copy in the room that is given. It
+    /// takes no memory.
+    pub fn share_in(&self, room: Vec<u8>) -> Bytes
+        requires empty { room.items ≡ [] }
+        requires none { vec_len room ≡ 0 }
+        requires room { length self.now ≤ vec_capacity room }
+        ensures { result ≡ self.now }
+    {
+        let all = Region::front(self.len());
+        match self.counted_part(all) {
+            Ok(other) => other,
+            Err(_) => Bytes::from_vec(copied(self.as_slice(), room)),
+        }
+    }
+
     // A region's bytes with an owner more, if the block counts its owners.
-    #[tactic(auto, using(crate::proofs::Parts::read_read))]
     fn counted_part(&self, from: Region) -> Result<Bytes, AllocError>
         requires { Inside (length self.now) from }
         ensures { IfOk result (λ part. part ≡ read_of self.now from) }
@@ -255,7 +273,6 @@ impl Bytes {
     }
 
     /// The bytes of a region of these, whose owner gives up the others. It takes no memory; a block stays whole.
-    #[tactic(auto, using(crate::proofs::Parts::read_read))]
     pub fn into_part(self, from: Region) -> Bytes
         requires { Inside (length self) from }
         ensures { result ≡ read_of self from }
@@ -265,9 +282,7 @@ impl Bytes {
         }
         let Bytes { memory } = self;
         match memory {
-            Memory::InPlace { len, row } => Bytes {
-                memory: Memory::InPlace { len, row },
-            },
+            Memory::InPlace { .. } => unreachable!(),
             Memory::Owned { block, place } => owned_part(block, place, from),
             Memory::Shared { block, place } => shared_part(block, place, from),
         }

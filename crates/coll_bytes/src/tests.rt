@@ -38,6 +38,19 @@ fn owners_have_one_memory(rt: HostRuntime) -> Result<(), Fail> {
 }
 
 #[test]
+fn owners_without_memory(rt: HostRuntime) -> Result<(), Fail> {
+    let alloc = rt.alloc();
+    let mut bytes = Bytes::copy(alloc, &[5; 40])?;
+    let copy = bytes.share_in(Vec::with_capacity(alloc, 40)?);
+    assert_eq!(rt; copy.as_slice(), bytes.as_slice());
+    assert!(rt; !is_one_memory(copy.as_slice(), bytes.as_slice()));
+    bytes.count_owners(alloc)?;
+    let other = bytes.share_in(Vec::with_capacity(alloc, 40)?);
+    assert!(rt; is_one_memory(other.as_slice(), bytes.as_slice()));
+    Ok(())
+}
+
+#[test]
 fn the_last_owner_gets_the_vector(rt: HostRuntime) -> Result<(), Fail> {
     let alloc = rt.alloc();
     let block = vec![in alloc; 3; 64]?;
