@@ -294,6 +294,7 @@ fn draw_task<'w>(matches: &ArgMatches<'w>) -> Task<'w>
         },
         file: None,
         explanation: None,
+        views: Views::NONE,
         words: matches.get_str(SIGNATURE).unwrap_or(""),
         picture: matches.get_str(OUT),
     }

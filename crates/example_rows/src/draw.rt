@@ -1,6 +1,7 @@
 use crate::answer::Answer;
 use std::fs::{self, Files};
 use std::io;
+use std::rt::Clock;
 use std::sync::Wait;
 use std::thread::Threads;
 
@@ -34,7 +35,7 @@ pub const DRAWS: [(&str, &[&str]); 6] = [
 ];
 
 /// Whether the words print the stored text.
-pub fn is_drawn<M: Threads + Wait + Sync + Files>(
+pub fn is_drawn<M: Threads + Wait + Sync + Files + Clock>(
     rt: &HostRuntime,
     machine: &M,
     name: &str,
