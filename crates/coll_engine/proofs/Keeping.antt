@@ -32,7 +32,7 @@ kept p r comms xs ys e set m = record {
 pub kept_same : (p r : Parts) (comms : List (List ℕ)) (xs : List ℕ) → IsEngine p comms xs → setting r ≡ setting p → seen r ≡ seen p → IsEngine r comms xs
 kept_same p r comms xs e set same = kept p r comms xs xs e set (subst (λ (m : Machine). AreMeasured (setting p) m.state xs) (sym same) e.measured)
 
-seen_same : (p r : Parts) → Unchanged p r → seen r ≡ seen p
+pub seen_same : (p r : Parts) → Unchanged p r → seen r ≡ seen p
 seen_same p r u = ap machine u.tables_is
 
 pub kept_unchanged : (p r : Parts) (comms : List (List ℕ)) (xs : List ℕ) → IsEngine p comms xs → Unchanged p r → IsEngine r comms xs
