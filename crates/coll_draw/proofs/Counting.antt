@@ -1,5 +1,5 @@
 -- Arrows and combinations are as many as their actions, and the arrows' bytes are those of the Sends
-use Rattle.std.proofs.Common.{◌≡◌, ℕ, suc, ◌+◌, List, [], ◌∷◌, length, ap, arith, refl, cond, Option}
+use Rattle.std.proofs.Common.{◌≡◌, ℕ, ◌+◌, List, [], ◌∷◌, length, arith, refl, cond}
 use Rattle.std.specs.Prelude.{filter_map, count_by, sum_by}
 use Rattle.std.specs.List.{cons_option}
 use Rattle.std.proofs.lemmas.List.Sums.{sum_by-cons}

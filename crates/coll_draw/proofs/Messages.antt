@@ -1,18 +1,15 @@
 -- Each arrow of a lawful family is a message
-use Rattle.std.proofs.Common.{◌≡◌, ℕ, zero, suc, ◌+◌, ◌<◌, ◌≤◌, List, [], ◌∷◌, ◌++◌, length, map, slice_get, unwrap_or, Option, Some, None, refl, sym, ap, subst, ◌∙◌, arith}
+use Rattle.std.proofs.Common.{◌≡◌, ℕ, zero, suc, ◌+◌, ◌<◌, ◌≤◌, List, [], ◌∷◌, ◌++◌, map, slice_get, Option, Some, None, refl, ap, subst, ◌∙◌, arith}
 use Rattle.std.specs.Prelude.{flat_map, filter_map}
 use Rattle.std.specs.List.{AllByRecursion, cons_option}
-use Rattle.std.proofs.lemmas.List.Concat.{flat_map-cons}
 use Rattle.std.proofs.lemmas.Option.{none-some, same_Some}
 use Rattle.coll_sched.specs.declared.action.Action.{Action}
 use Rattle.coll_sched.specs.declared.action.Action.TheVariants.{Send, Copy, Combine, Recv}
 use Rattle.coll_sched.specs.Actions.{EachFollows, IsAmong}
-use Rattle.coll_sched.specs.Families.{Family, IsLawful, actions_at, out_link, in_link, len_of, members}
+use Rattle.coll_sched.specs.Families.{Family, IsLawful, actions_at, out_link, len_of, members}
 use Rattle.coll_sched.proofs.Each.{all_at, all_from_at}
 use Rattle.coll_sched.proofs.Rounds.{out_link_at, round_at}
-use Rattle.coll_draw.specs.declared.arrow.Arrow.{Arrow}
-use Rattle.coll_draw.specs.declared.step.Step.{Step}
-use Rattle.coll_draw.specs.Drawings.{step_of, steps, round_steps, rounds_of, arrow_of, sent_by, arrows}
+use Rattle.coll_draw.specs.Drawings.{step_of, steps, round_steps, rounds_of, arrow_of, arrows}
 use Rattle.coll_draw.specs.Laws.{IsMessage, ArrowsAreMessages}
 
 -- ---- what holds of each element of a list that is made of others

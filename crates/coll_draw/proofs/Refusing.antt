@@ -1,5 +1,5 @@
 -- A drawing is refused as the signature's check refuses
-use Rattle.std.proofs.Common.{◌≡◌, Option, Some, None, MatchOption, Result, Ok, Err, IsOk, IsErrOf, IsOkUnless, sym, subst}
+use Rattle.std.proofs.Common.{◌≡◌, Option, Some, None, MatchOption, Result, Err, IsOk, IsErrOf, IsOkUnless, sym, subst}
 use Rattle.std.proofs.lemmas.Bool.{false≢true}
 use Rattle.coll_kinds.specs.declared.refusal.Refusal.{Refusal}
 use Rattle.coll_kinds.specs.declared.refusal.Refusal.TheVariants.{BadSignature, NoMemory}

@@ -3,7 +3,7 @@ use Rattle.std.specs.Prelude.{◌≡◌, ℕ, zero, suc, List, [], ◌∷◌, co
 use Rattle.coll_kinds.specs.declared.operation.Op.TheVariants.{Sum}
 use Rattle.coll_kinds.specs.declared.datatype.Datatype.TheVariants.{I8}
 use Rattle.coll_sched.specs.declared.action.Action.{Action}
-use Rattle.coll_sched.specs.declared.action.Action.TheVariants.{Send, Copy, Combine, Recv}
+use Rattle.coll_sched.specs.declared.action.Action.TheVariants.{Send, Combine, Recv}
 use Rattle.coll_sched.specs.Families.{Family, is_send, family_exchanges}
 use Rattle.coll_plans.specs.DirectFamilies.{gather_by}
 use Rattle.coll_draw.specs.Drawings.{arrows, combinations, copies, rounds_of, steps}

@@ -1,5 +1,5 @@
 -- What is drawn of n members' schedules: each message as an arrow, and what each member does in its own buffer
-use Rattle.std.specs.Prelude.{◌≡◌, ◌<◌, ◌≤◌, ℕ, List, [], ◌∷◌, Option, Some, None, length, map, filter_map, flat_map}
+use Rattle.std.specs.Prelude.{◌≡◌, ◌<◌, ◌≤◌, ℕ, List, Option, Some, None, length, map, filter_map, flat_map}
 use Rattle.coll_kinds.specs.declared.signature.Signature.{Signature}
 use Rattle.coll_kinds.specs.Checks.{broken}
 use Rattle.coll_sched.specs.declared.action.Action.{Action}

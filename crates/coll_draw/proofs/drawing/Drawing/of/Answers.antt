@@ -1,5 +1,5 @@
 -- what the check has shown, and what the plans' steps make
-use Rattle.std.proofs.Common.{◌≡◌, ap, subst, ◌∙◌, rules}
+use Rattle.std.proofs.Common.{◌≡◌, ap, ◌∙◌}
 use Rattle.std.specs.Prelude.{filter_map}
 use Rattle.std.proofs.lemmas.Result.{err_from_is_err_and}
 use Rattle.coll_kinds.specs.Checks.{broken}

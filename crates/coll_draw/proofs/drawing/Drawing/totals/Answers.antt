@@ -4,7 +4,6 @@ use Rattle.std.specs.Prelude.{sum_by}
 use Rattle.coll_plans.specs.Plans.{family}
 use Rattle.coll_draw.specs.declared.arrow.Arrow.{Arrow}
 use Rattle.coll_draw.specs.Drawings.{Drawn, IsDrawing, arrows, combinations, steps}
-use Rattle.coll_draw.specs.Counts.{Counts}
 use Rattle.coll_draw.proofs.Counting.{length-arrows, length-combinations, bytes-arrows}
 use Rattle.coll_draw.proofs.drawing.Drawing.totals.Goals as goal
 

@@ -1,5 +1,5 @@
 -- each member has a plan
-use Rattle.std.proofs.Common.{◌≡◌, ◌<◌, ap, length, arith}
+use Rattle.std.proofs.Common.{◌<◌, ap, length, arith}
 use Rattle.std.proofs.lemmas.Option.{slice_get_within}
 use Rattle.coll_draw.specs.Code.{Collective}
 use Rattle.coll_draw.proofs.plans.Plans.actions.Goals as goal

@@ -1,5 +1,5 @@
 -- one more member
-use Rattle.std.proofs.Common.{◌≡◌, ℕ, Bool, ◌||◌, sym, ap, ◌∙◌}
+use Rattle.std.proofs.Common.{ℕ, Bool, ◌||◌, sym, ap, ◌∙◌}
 use Rattle.std.specs.List.{list_any}
 use Rattle.coll_sched.specs.Schedules.{has_peer}
 use Rattle.coll_sched.specs.Families.{actions_at}

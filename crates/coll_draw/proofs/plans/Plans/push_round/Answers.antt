@@ -1,5 +1,5 @@
 -- one more member
-use Rattle.std.proofs.Common.{◌≡◌, ℕ, ◌++◌, List, map, ap, ◌∙◌}
+use Rattle.std.proofs.Common.{ℕ, ◌++◌, List, map, ap, ◌∙◌}
 use Rattle.coll_sched.specs.declared.action.Action.{Action}
 use Rattle.coll_sched.specs.Families.{actions_at}
 use Rattle.coll_plans.specs.Plans.{family}

@@ -1,5 +1,5 @@
 -- one more round
-use Rattle.std.proofs.Common.{◌≡◌, ◌++◌, List, sym, ap, ◌∙◌}
+use Rattle.std.proofs.Common.{◌++◌, List, sym, ap, ◌∙◌}
 use Rattle.coll_plans.specs.Plans.{family}
 use Rattle.coll_draw.specs.declared.step.Step.{Step}
 use Rattle.coll_draw.specs.Drawings.{round_steps}
