@@ -1,7 +1,7 @@
 -- segments laid one over the other
-use Rattle.std.proofs.Common.{◌≡◌, ℕ, ◌+◌, ◌-◌, ◌<◌, ◌≤◌, ◌⊎◌, inl, inr, refl, List, [], ◌∷◌, ◌++◌, All, fold, take, drop, length, get_or, replicate, remove, zero, suc, sym, ap, subst, ◌∙◌, arith}
+use Rattle.std.proofs.Common.{◌≡◌, ℕ, ◌+◌, ◌<◌, ◌≤◌, ◌⊎◌, inl, inr, refl, List, [], ◌∷◌, ◌++◌, fold, take, drop, length, get_or, replicate, remove, zero, suc, sym, ap, subst, ◌∙◌, arith}
 use Rattle.std.proofs.lemmas.List.{length-replicate, same_lists, take_more, get_or_default}
-use Rattle.std.proofs.lemmas.List.Elements.{All-append, All-drop, All-push, All-take}
+use Rattle.std.proofs.lemmas.List.Elements.{All-append, All-drop, All-take}
 use Rattle.std.proofs.lemmas.List.Sums.{fold-append}
 use Rattle.coll_sched.specs.declared.region.Region.{Region}
 use Rattle.coll_sched.specs.Regions.{Apart, Inside, read_of, written}
@@ -49,9 +49,6 @@ laid-push size xs ys g bytes e same =
     ap (λ zs. laid size zs) e
     ∙ (fold-append laid_over (replicate size 0) xs ((record { at = g.at; bytes = bytes }) ∷ [])
     ∙ ap (λ n. written (laid size xs) (record { at = g.at; len = n }) bytes) same)
-
-pub push_inside : (size : ℕ) (xs ys : List Segment) (g : Region) (bytes : List ℕ) → ys ≡ xs ++ (record { at = g.at; bytes = bytes }) ∷ [] → length bytes ≡ g.len → Inside size g → AllInside size xs → AllInside size ys
-push_inside size xs ys g bytes e same inside h = rw e (All-push (λ s. Inside size (place_of s)) xs (record { at = g.at; bytes = bytes }) h (omega (arith, same, inside)))
 
 -- the newest segment of some has the region
 pub read_shown : (size : ℕ) (xs : List Segment) (i : ℕ) (s : Segment) (from : Region) → AllInside size xs → i < length xs → s ≡ get_or xs i s → Within (place_of s) from → read_of (laid size (take (i + 1) xs)) from ≡ read_of s.bytes (seen_from (place_of s) from)

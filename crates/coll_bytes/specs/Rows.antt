@@ -1,5 +1,5 @@
 -- Worked rows, computed
-use Rattle.std.specs.Prelude.{◌≡◌, ℕ, List, [], ◌∷◌, refl}
+use Rattle.std.specs.Prelude.{◌≡◌, [], ◌∷◌, refl}
 use Rattle.coll_sched.specs.Regions.{read_of}
 use Rattle.coll_bytes.specs.declared.segments.Segment.{Segment}
 use Rattle.coll_bytes.specs.Laid.{laid}

@@ -1,17 +1,16 @@
 ghost use Rattle.std.specs.Prelude.{◌≡◌, ◌+◌, ◌<◌, ◌≤◌, ◌^◌, ◌==◌, [], length, IfErr, IfOk, IsOk, vec_capacity, vec_len};
 ghost use Rattle.std.specs.Arc.{arc_value};
 ghost use Rattle.coll_sched.specs.Regions.{Inside, read_of};
-ghost use Rattle.coll_bytes.specs.Memories.{bytes_in};
 
 use coll_sched::Region;
 use std::alloc::{AllocError, Global};
 use std::marker::Model;
 use std::sync::Arc;
 
-/// So many bytes lie in place, and need no memory of their own. A type's few elements are the common case.
+/// Up to so many bytes lie in place and need no memory of their own: the room that a part of a block takes anyway.
 pub const FEW: usize = 31;
 
-// Where bytes lie. A block keeps its length as long as some part of it is left.
+/// Where bytes lie. A block stays whole as long as somebody has a part of it.
 #[derive(Debug, Drop)]
 enum Memory {
     InPlace { len: u8, row: [u8; FEW] },

@@ -1,4 +1,4 @@
-ghost use Rattle.std.specs.Prelude.{◌≡◌, ℕ, ◌+◌, ◌<◌, ◌≤◌, ◌↔◌, List, [], length, remove, replicate, slice_index_or, IfNone, IfOk, IfSome, IsOk, IsTrue, OnErr, OnOk, vec_capacity, vec_len};
+ghost use Rattle.std.specs.Prelude.{◌≡◌, ℕ, ◌+◌, ◌<◌, ◌≤◌, ◌↔◌, List, [], length, remove, replicate, IfNone, IfOk, IfSome, IsOk, IsTrue, OnErr, OnOk, vec_capacity, vec_len};
 ghost use Rattle.smallvec.specs.SmallVec.{HasRoomFor, small_vec_len};
 ghost use Rattle.coll_sched.specs.Regions.{Apart, Inside, read_of, written};
 ghost use Rattle.coll_bytes.specs.Laid.{AllInside, Shows, place_of, laid};
