@@ -2,7 +2,7 @@
 _colljob() {
     local word=${COMP_WORDS[COMP_CWORD]} before=${COMP_WORDS[COMP_CWORD - 1]} options
     if [ "$COMP_CWORD" -eq 1 ]; then
-        COMPREPLY=($(compgen -W 'run plain explain check help -h --help -V --version' -- "$word"))
+        COMPREPLY=($(compgen -W 'run plain explain check draw help -h --help -V --version' -- "$word"))
         return
     fi
     case "${COMP_WORDS[1]}" in
@@ -35,8 +35,15 @@ _colljob() {
             esac
             options='--format --color -h --help'
             ;;
+        draw)
+            case "$before" in
+                --members) COMPREPLY=($(compgen -f -- "$word")); return ;;
+                --out) COMPREPLY=($(compgen -f -- "$word")); return ;;
+            esac
+            options='--members --svg --out -h --help'
+            ;;
         help)
-            COMPREPLY=($(compgen -W 'run plain explain check help' -- "$word"))
+            COMPREPLY=($(compgen -W 'run plain explain check draw help' -- "$word"))
             return
             ;;
         *) return ;;

@@ -1,5 +1,5 @@
 -- What loops over a list keep, element by element.
-use Rattle.std.proofs.Common.{◌≡◌, ℕ, zero, suc, ◌+◌, ◌-◌, ◌*◌, ◌/◌, ◌<◌, ◌≤◌, List, [], ◌∷◌, ◌++◌, map, drop, length, refl, ap, sym, ◌∙◌, append_assoc, arith}
+use Rattle.std.proofs.Common.{◌≡◌, ℕ, zero, suc, ◌+◌, ◌-◌, ◌*◌, ◌/◌, ◌<◌, ◌≤◌, List, [], ◌∷◌, ◌++◌, map, drop, get_or, length, refl, ap, sym, ◌∙◌, append_assoc, arith}
 use Rattle.std.specs.Prelude.{flat_map, filter_map, sum, Option, Some, None}
 use Rattle.std.specs.Prelude.{Vec}
 use Rattle.std.specs.Global.{Global}
@@ -8,7 +8,7 @@ use Rattle.std.proofs.lemmas.List.{map-append, length-drop}
 use Rattle.std.proofs.lemmas.List.Sums.{sum_by-cons}
 use Rattle.std.proofs.Math.Nat.{mul-le-mul_right}
 use Rattle.coll_history.proofs.Contributions.{width-positive}
-use Rattle.coll_script.proofs.Loops.{map_range-more}
+use Rattle.coll_script.proofs.Loops.{drop-at, map_range-more}
 use Rattle.std.proofs.lemmas.List.Concat.{flat_map-cons}
 use Rattle.coll_kinds.specs.declared.datatype.Datatype.{Datatype}
 use Rattle.coll_kinds.specs.Elements.{Element, element_at, width}
@@ -95,3 +95,17 @@ rest-more ty len i row le split = let dropped = length-drop (width ty) row in om
 
 pub minus-zero : (n : ℕ) → n - 0 ≡ n
 minus-zero n = omega arith
+
+-- ---- the same of plain data, which is read at a place
+
+pub append-at : {X : Type 0} (xs : List X) (k : ℕ) (d : X) (out total : List X)
+    → k < length xs
+    → out ++ drop k xs ≡ total
+    → (out ++ get_or xs k d ∷ []) ++ drop (k + 1) xs ≡ total
+append-at xs k d out total lt so_far = append-more xs k (get_or xs k d) out total (drop-at xs k d lt) so_far
+
+pub flat_map-at : {X A : Type 0} (f : X → List A) (xs : List X) (k : ℕ) (d : X) (out total : List A)
+    → k < length xs
+    → out ++ flat_map f (drop k xs) ≡ total
+    → (out ++ f (get_or xs k d)) ++ flat_map f (drop (k + 1) xs) ≡ total
+flat_map-at f xs k d out total lt so_far = flat_map-more f xs k (get_or xs k d) out total (drop-at xs k d lt) so_far

@@ -18,7 +18,7 @@ abbrev pub cell_text : Cell → List ℕ
 cell_text cell = aligned cell.width (decimal cell.number)
 
 -- the columns
-abbrev pub cells_of : Totals → List Cell
+unfoldable pub cells_of : Totals → List Cell
 cells_of t =
     record { width = 7; number = t.posts }
     ∷ record { width = 7; number = t.inits }
@@ -38,7 +38,7 @@ numbers_text rows = flat_map cell_text (cells_of (totals_of rows)) ++ codes "\n"
 
 -- ---- by rank
 
-abbrev pub head_of_ranks : List ℕ
+unfoldable pub head_of_ranks : List ℕ
 head_of_ranks = codes "rank  posts  inits  starts  completed  bytes given  bytes got  most lent  messages  their bytes  combinations\n"
 
 abbrev pub by_rank : ℕ → Row → Bool
@@ -56,7 +56,7 @@ ranks_text ranks rows = head_of_ranks ++ (rank_lines ranks rows ++ (codes " all"
 
 -- ---- by collective
 
-abbrev pub head_of_collectives : List ℕ
+unfoldable pub head_of_collectives : List ℕ
 head_of_collectives = codes "\ncommunicator  members  collective  posts  inits  starts  completed  bytes given  bytes got  most lent  messages  their bytes  combinations\n"
 
 -- a row of that collective on that communicator
@@ -78,7 +78,7 @@ abbrev pub collective_lines : List Row → ℕ → List ℕ → Kind → List �
 collective_lines rows comm group kind = labelled (label_of comm group kind) (rows_on rows comm kind)
 
 -- the collectives that were called on a communicator
-abbrev pub comm_lines : List Row → ℕ → List ℕ → List ℕ
+unfoldable pub comm_lines : List Row → ℕ → List ℕ → List ℕ
 comm_lines rows comm group = flat_map (collective_lines rows comm group) kinds
 
 abbrev pub all_comm_lines : List (List ℕ) → List Row → List ℕ

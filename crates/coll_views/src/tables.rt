@@ -3,7 +3,7 @@
 ghost use Rattle.std.specs.Prelude.{◌≡◌, ◌++◌, List, filter, flat_map, length, replicate, IfOk, OnOk};
 ghost use Rattle.std.specs.String.{string_bytes};
 ghost use Rattle.coll_report.specs.Views.{groups_seen};
-ghost use Rattle.coll_views.specs.Tables.{aligned, all_comm_lines, by_collective, by_rank, cell_text, cells_of, collective_lines, collectives_text, label_of, numbers_text, rank_line, rank_lines, ranks_text, rows_on, tables_text};
+ghost use Rattle.coll_views.specs.Tables.{aligned, all_comm_lines, by_collective, by_rank, cell_text, cells_of, collective_lines, collectives_text, head_of_collectives, head_of_ranks, label_of, numbers_text, rank_line, rank_lines, ranks_text, rows_on, tables_text};
 
 use crate::fault::ViewFault;
 use crate::row::Row;
@@ -48,10 +48,26 @@ pub fn tables_text(
 fn print_ranks(alloc: Global, ranks: u8, rows: &[Row], out: &mut Vec<u8>) -> Result<(), ViewFault>
     ensures { OnOk result (out.new.items ≡ out.old.items ++ ranks_text ranks rows.now) }
 {
-    out.extend_from_slice(HEAD_OF_RANKS.as_bytes())?;
+    push_head_of_ranks(out)?;
     print_rank_lines(alloc, ranks, rows, out)?;
     out.extend_from_slice(b" all")?;
     print_totals(alloc, rows, out)
+}
+
+#[tactic(auto, unfolding(crate::specs::Tables::head_of_ranks))]
+fn push_head_of_ranks(out: &mut Vec<u8>) -> Result<(), ViewFault>
+    ensures { OnOk result (out.new.items ≡ out.old.items ++ head_of_ranks) }
+{
+    out.extend_from_slice(HEAD_OF_RANKS.as_bytes())?;
+    Ok(())
+}
+
+#[tactic(auto, unfolding(crate::specs::Tables::head_of_collectives))]
+fn push_head_of_collectives(out: &mut Vec<u8>) -> Result<(), ViewFault>
+    ensures { OnOk result (out.new.items ≡ out.old.items ++ head_of_collectives) }
+{
+    out.extend_from_slice(HEAD_OF_COLLECTIVES.as_bytes())?;
+    Ok(())
 }
 
 /// Appends a line for each rank.
@@ -98,7 +114,7 @@ fn print_collectives(
 ) -> Result<(), ViewFault>
     ensures { OnOk result (out.new.items ≡ out.old.items ++ collectives_text (groups_seen groups.now) rows.now) }
 {
-    out.extend_from_slice(HEAD_OF_COLLECTIVES.as_bytes())?;
+    push_head_of_collectives(out)?;
     print_communicators(alloc, groups, rows, out)
 }
 
@@ -207,6 +223,7 @@ fn print_cells(alloc: Global, cells: &[Cell], out: &mut Vec<u8>) -> Result<(), V
 }
 
 /// The columns.
+#[tactic(auto, unfolding(crate::specs::Tables::cells_of))]
 fn cells_of(totals: Totals) -> [Cell; 10]
     ensures { result ≡ cells_of totals }
 {

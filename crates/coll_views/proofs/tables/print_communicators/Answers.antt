@@ -5,6 +5,7 @@ use Rattle.coll_views.specs.Tables.{comm_lines}
 use Rattle.coll_views.proofs.tables.print_communicators.Goals as goal
 
 pub loop-comm-preserved : goal.loop-comm-preserved
+unfolding comm_lines
 loop-comm-preserved c =
     let front = drop-view (λ (v : Vec ℕ Global). v.items) c.args.groups.now c.loop-comm.comm c.index-groups-comm.result c.loop-comm-test.true c.index-groups-comm.is in
     rw (c.in_ok-print_kinds.ensures, c.deref.ensures.value)

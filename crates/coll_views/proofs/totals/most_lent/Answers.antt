@@ -1,18 +1,15 @@
 use Rattle.std.proofs.Common.{◌≡◌, ◌≤◌, arith}
 use Rattle.std.specs.Prelude.{max}
-use Rattle.coll_history.proofs.Lists.{drop-more}
-use Rattle.coll_views.specs.Totals.{most_lent}
-use Rattle.coll_views.proofs.Lending.{most_lent-more}
+use Rattle.coll_views.proofs.Lending.{most_lent-at}
 use Rattle.coll_views.proofs.totals.most_lent.Goals as goal
 
 pub loop-row-preserved : goal.loop-row-preserved
 loop-row-preserved c =
-    let k = c.loop-row.row-index in
-    let row = c.row-item.result in
-    let front = drop-more c.args.rows.now k row c.loop-row-test.true c.row-item.is in
     let next = c.in_ok-lent_after.field-0 in
     let most : c.max.result ≡ max c.loop-row.most next = c.max.ensures in
     record {
       low = omega (arith, most);
-      so_far = rw most (most_lent-more c.loop-row.most c.loop-row.lent next c.args.rows.now k row _ front c.in_ok-lent_after.ensures c.loop-row.invariant.low c.loop-row.invariant.so_far);
+      so_far = rw most
+          (most_lent-at c.loop-row.most c.loop-row.lent next c.args.rows.now c.loop-row.row-index _ _
+          c.loop-row-test.true c.in_ok-lent_after.ensures c.loop-row.invariant.low c.loop-row.invariant.so_far);
     }
