@@ -1,5 +1,6 @@
 -- What an export's call did, in the words of its answer.
-use Rattle.std.proofs.Common.{◌≡◌, ◌∙◌, ℕ, List, Option, Some, None, true, false, refl, sym, ap, subst}
+use Rattle.std.proofs.Common.{◌≡◌, ◌∙◌, ℕ, ℤ, List, Option, Some, None, true, false, refl, sym, ap, subst}
+use Rattle.std.specs.Prelude.{IfSome}
 use Rattle.std.proofs.lemmas.Bool.{false≢true}
 use Rattle.coll_kinds.specs.declared.refusal.Refusal.{Refusal}
 use Rattle.coll_kinds.specs.declared.ticket.Ticket.{Ticket}
@@ -7,8 +8,10 @@ use Rattle.coll_machine.specs.Runs.{Runs}
 use Rattle.coll_machine.specs.States.{Machine}
 use Rattle.coll_core.specs.declared.phase.Phase.{Phase}
 use Rattle.coll_core.specs.declared.phase.Phase.TheVariants.{Done, Idle, Pending}
+use Rattle.coll_engine.specs.declared.combination.Stage.{Stage}
 use Rattle.coll_engine.specs.declared.test.Test.{Test}
 use Rattle.coll_core.specs.Cores.{Parts, seen, setting}
+use Rattle.coll_core.specs.Steps.{Finishings, none}
 use Rattle.coll_complete.specs.Completing.{freeing}
 use Rattle.coll_complete.specs.Requests.{active_by, done_by, free_refusal, is_active, is_done, is_pending, left_of, pending_by, phase_at}
 use Rattle.coll_complete.specs.Starting.{StartsAt}
@@ -17,7 +20,10 @@ use Rattle.coll_engine.specs.Lengths.{IsOutcomeLengthAt}
 use Rattle.coll_core.specs.declared.about.About as told
 use Rattle.worzsunab.specs.declared.forms.About.{About}
 use Rattle.worzsunab.specs.Forms.{IsAbout, about_of}
-use Rattle.worzsunab.specs.Answers.{IsPhase, IsSame, Tested, phase_number}
+use Rattle.worzsunab.specs.declared.reason.Reason.{Reason}
+use Rattle.coll_engine.specs.Combinations.{TakesBack}
+use Rattle.coll_kinds.specs.declared.refusal.Refusal.TheVariants.{Stale}
+use Rattle.worzsunab.specs.Answers.{Answers, IsPhase, IsSame, Tested, phase_number}
 
 pub was_open : (old : Option Parts) (engine p : Parts) → old ≡ Some engine → p ≡ engine → old ≡ Some p
 was_open old engine p found is = found ∙ ap Some (sym is)
@@ -59,7 +65,20 @@ told_of v p same held named is o a some found about e =
     subst (λ (k : Option told.About). IsAbout k about) (sym at) e
 
 pub untold : (v p : Parts) → v ≡ p → (held named : Option Ticket) → held ≡ named → (o : Option told.About) → o ≡ None → o ≡ about_at (seen v) held → about_at (seen p) named ≡ None
-untold v p same held named is o none found = about_same v p same held named is ∙ (sym found ∙ none)
+untold v p same held named is o nothing found = about_same v p same held named is ∙ (sym found ∙ nothing)
+
+-- what is answered where a combination comes back
+abbrev pub ReturnAnswers : (old new : Option Parts) (had noted : Reason) (code : ℤ) → Option Stage → Type 0
+ReturnAnswers old new had noted code combination = Answers old new had noted code (Unit {0}) (λ p why. why ≡ Stale) (λ p r. TakesBack p r combination)
+
+-- what holds of the combination that is there
+pub of_combination : (P : Option Stage → Type 0) (o : Option (Option Stage)) (v : Option Stage) → o ≡ Some v → P v → IfSome o P
+of_combination P o v is h = subst (λ (k : Option (Option Stage)). IfSome k P) (sym is) h
+
+-- an engine that stays as it was
+pub unchanged : (o : Option Parts) → IfSome o (λ p. IfSome o (λ r. (setting r ≡ setting p) × Finishings (setting p) (seen p) (seen r)))
+unchanged None = tt
+unchanged (Some p) = (refl, none)
 
 -- ---- tests
 

@@ -2,4 +2,5 @@ mod Words
 mod Boxes
 mod Coding
 mod Padding
+mod Recoding
 mod Answering

@@ -1,7 +1,5 @@
 -- What the functions over combinations do.
 use Rattle.std.specs.Prelude.{◌≡◌, ℤ, pos, false, Option, Some, None}
-use Rattle.coll_kinds.specs.declared.refusal.Refusal.{Refusal}
-use Rattle.coll_kinds.specs.declared.refusal.Refusal.TheVariants.{NoMemory}
 use Rattle.coll_engine.specs.declared.combination.Stage.{Stage}
 use Rattle.coll_engine.specs.Combinations.{is_due, piece_of}
 

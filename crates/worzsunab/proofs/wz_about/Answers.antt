@@ -6,12 +6,12 @@ use Rattle.worzsunab.proofs.Answering.{same_as, told_of, untold}
 use Rattle.worzsunab.proofs.Coding.{coded}
 use Rattle.worzsunab.proofs.wz_about.Goals as goal
 
-pub returns-in-Some-about : goal.returns-in-Some-about
-returns-in-Some-about c =
+pub returns-in-Some-answer : goal.returns-in-Some-answer
+returns-in-Some-answer c =
     let p = c.in-Some.engine.value in
     record {
       answers = done p p c.in-Some.ensures.found c.put.ensures.engine refl (c.put.ensures.reason ∙ c.take.ensures.reason)
-          (refl, told_of c.deref.result.now p c.deref.ensures c.held.result (named_by c.args.request.now) c.held.ensures c.about.result c.in-Some-about.told c.in-Some-about.is c.about.ensures c.of.result c.of.ensures) refl;
+          (refl, told_of c.deref.result.now p c.deref.ensures c.held.result (named_by c.args.request.now) c.held.ensures c.about-answer.result c.in-Some-answer.told c.in-Some-answer.is c.about-answer.ensures c.of.result c.of.ensures) refl;
     }
 
 pub returns-in-None : goal.returns-in-None
@@ -19,5 +19,5 @@ returns-in-None c =
     let p = c.in-Some.engine.value in
     record {
       answers = refused p p Stale c.in-Some.ensures.found (c.refuse.ensures.engine ∙ c.put.ensures.engine) (same_as p p refl) c.refuse.ensures.reason refl
-          (refl, untold c.deref.result.now p c.deref.ensures c.held.result (named_by c.args.request.now) c.held.ensures c.about.result c.in-None.is c.about.ensures) (coded Stale c.refuse.result c.refuse.ensures.code);
+          (refl, untold c.deref.result.now p c.deref.ensures c.held.result (named_by c.args.request.now) c.held.ensures c.about-answer.result c.in-None.is c.about-answer.ensures) (coded Stale c.refuse.result c.refuse.ensures.code);
     }
