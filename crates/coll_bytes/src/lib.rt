@@ -9,6 +9,8 @@
 
 mod bytes;
 mod segments;
+#[cfg(test)]
+mod tests;
 
 pub use bytes::{Bytes, FEW};
 pub use segments::{Segments, WRITES_IN_PLACE};
