@@ -1,6 +1,7 @@
 //! What the thread of a rank notes beside its calls, for those who look at a run.
 
-ghost use Rattle.std.specs.Prelude.{◌≡◌, length, vec_len, IfOk};
+ghost use Rattle.std.specs.Prelude.{◌≡◌, length, vec_len, IfErr, IfOk};
+ghost use Rattle.coll_run.specs.Faults.{IsEnd};
 
 use coll_job::JobFault;
 use coll_report::Entry;
@@ -81,7 +82,8 @@ pub(crate) fn marks_along(
     trace: &[Entry],
     ranks: &[Marks],
 ) -> Result<Vec<Mark>, JobFault>
-    ensures { IfOk result (λ marks. vec_len marks ≡ length trace.now) }
+    ensures marks { IfOk result (λ marks. vec_len marks ≡ length trace.now) }
+    ensures faults { IfErr result IsEnd }
 {
     let Ok(mut next) = places(alloc, ranks.len()) else {
         return Err(JobFault::Memory);

@@ -5,8 +5,8 @@ use Rattle.coll_views.proofs.totals.most_lent.Goals as goal
 
 pub loop-row-preserved : goal.loop-row-preserved
 loop-row-preserved c =
-    let next = c.in_ok-lent.field-0 in
-    let most : c.max.result ≡ max c.loop-row.most next = c.max.ensures in
+    let next = c.in_ok-lent.lent in
+    let most : c.max-most.result ≡ max c.loop-row.most next = c.max-most.ensures in
     record {
       low = omega (arith, most);
       so_far = rw most
