@@ -27,6 +27,9 @@ const UNOPENED: u8 = 1;
 /// The exit status where the explanation of a run can't be written: that of a write fault.
 const UNEXPLAINED: u8 = 1;
 
+/// The exit status where a file on what a run did can't be written: that of a write fault.
+const UNWRITTEN: u8 = 1;
+
 /// How the explanation of a run is written.
 const EXPLAINED: ExplainOptions = ExplainOptions {
     form: Form::Text,
@@ -132,8 +135,8 @@ fn write_answer<M: Threads + Wait + Sync + Files + Clock, R: Read, W: Write, E: 
                 }
             }
             let recording = recorded?;
-            if let Some(status) = keep_views(machine, alloc, &task.views, &recording, errors)? {
-                return Ok(status);
+            if !keep_views(machine, alloc, &task.views, &recording, errors)? {
+                return Ok(UNWRITTEN);
             }
             write_lines(output, &recording.lines)?
         }

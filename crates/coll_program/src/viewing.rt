@@ -12,9 +12,6 @@ use std::alloc::{AllocError, Global};
 use std::fs::Files;
 use std::io::Write;
 
-/// The exit status where a file can't be written: that of a write fault.
-const UNWRITTEN: u8 = 1;
-
 /// A file and what it gets.
 #[derive(Drop)]
 struct Page<'w> {
@@ -22,8 +19,8 @@ struct Page<'w> {
     bytes: Vec<u8>,
 }
 
-/// Writes the files of a run, each whole or not at all, and the first only when all that they get is made. Where one can't be
-/// written, `errors` is told so behind its name, and the status is answered; those that were written before stay.
+/// Writes the files of a run, each whole or not at all, and the first only when all that they get is made. Answers whether each could be
+/// written: where one can't, `errors` is told so behind its name, and those that were written before stay.
 ///
 /// # Errors
 ///
@@ -34,7 +31,7 @@ pub(crate) fn keep_views<F: Files, E: Write>(
     views: &Views<'_>,
     recording: &Recording,
     errors: &mut E,
-) -> Result<Option<u8>, JobFault> {
+) -> Result<bool, JobFault> {
     let pages = match pages_of(alloc, views, recording) {
         Ok(pages) => pages,
         Err(ViewFault::NoMemory) => return Err(JobFault::Memory),
@@ -44,10 +41,10 @@ pub(crate) fn keep_views<F: Files, E: Write>(
         if let Err(error) = keep(files, alloc, page.name, &page.bytes) {
             let name = page.name;
             let _ = writeln!(errors, "{name}: {error}");
-            return Ok(Some(UNWRITTEN));
+            return Ok(false);
         }
     }
-    Ok(None)
+    Ok(true)
 }
 
 /// What each file gets.
