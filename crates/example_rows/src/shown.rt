@@ -1,3 +1,5 @@
+ghost use Rattle.std.specs.Prelude.{◌<◌, length};
+
 use crate::answer::Answer;
 use std::alloc::Global;
 use std::fs::{self, File, Files, remove_file};
@@ -27,6 +29,33 @@ const WORKERS: [&str; 3] = ["0", "2", "8"];
 /// The most ranks of a job.
 const MAX_RANKS: usize = 64;
 
+/// What is stored of a text and its runs.
+#[derive(Drop)]
+struct Stored {
+    /// The name of the file that has the text.
+    text: String,
+    answer: Answer,
+    /// The entries, rank by rank.
+    trace: Vec<u8>,
+    /// The tables, if no number of them varies.
+    stats: Option<Vec<u8>>,
+    json: Vec<u8>,
+}
+
+impl Stored {
+    fn read(rt: &HostRuntime, name: &str) -> io::Result<Stored> {
+        let alloc = rt.alloc();
+        let lines = fs::read(rt, format!(in alloc; "{name}.out")?)?;
+        Ok(Stored {
+            text: format!(in alloc; "{name}.job")?,
+            answer: Answer::of_lines(alloc, lines),
+            trace: fs::read(rt, format!(in alloc; "runs/{name}.trace")?)?,
+            stats: fs::read(rt, format!(in alloc; "runs/{name}.stats")?).ok(),
+            json: fs::read(rt, format!(in alloc; "runs/{name}.json")?)?,
+        })
+    }
+}
+
 /// Whether runs of a text tell what they did as stored in `runs/`: each rank's entries in `NAME.trace`, rank by rank, the tables
 /// in `NAME.stats`, if no number of them varies, and the values in `NAME.json`. The picture and the timeline have a bar for each completion.
 pub fn is_shown<M: Threads + Wait + Sync + Files + Clock>(
@@ -34,32 +63,41 @@ pub fn is_shown<M: Threads + Wait + Sync + Files + Clock>(
     machine: &M,
     name: &str,
 ) -> io::Result<bool> {
-    let alloc = rt.alloc();
-    let text = format!(in alloc; "{name}.job")?;
-    let lines = fs::read(rt, format!(in alloc; "{name}.out")?)?;
-    let trace = fs::read(rt, format!(in alloc; "runs/{name}.trace")?)?;
-    let stats = fs::read(rt, format!(in alloc; "runs/{name}.stats")?).ok();
-    let json = fs::read(rt, format!(in alloc; "runs/{name}.json")?)?;
-    let wanted = Answer::of_lines(alloc, lines);
+    let stored = Stored::read(rt, name)?;
+    let mut is_stored = true;
     for workers in WORKERS {
-        let words = words_for(workers, text.as_str());
-        if Answer::to(machine, alloc, &words, b"")? != wanted {
-            return Ok(false);
-        }
-        let is_told = by_rank(alloc, &fs::read(rt, FILES[0])?)? == trace
-            && is_counted(&stats, &fs::read(rt, FILES[1])?)
-            && fs::read(rt, FILES[4])? == json;
-        let bars = count(&trace, b" completed ");
-        let is_drawn = count(&fs::read(rt, FILES[2])?, b"  completed ") == bars
-            && count(&fs::read(rt, FILES[3])?, b"\"ph\":\"X\"") == bars;
-        for file in FILES {
-            remove_file(machine, file)?;
-        }
-        if !is_told || !is_drawn {
-            return Ok(false);
-        }
+        let is_run = is_run_shown(rt, machine, &stored, workers)?;
+        is_stored = is_stored && is_run;
     }
-    Ok(true)
+    Ok(is_stored)
+}
+
+/// The same of one run.
+fn is_run_shown<M: Threads + Wait + Sync + Files + Clock>(
+    rt: &HostRuntime,
+    machine: &M,
+    stored: &Stored,
+    workers: &str,
+) -> io::Result<bool> {
+    let alloc = rt.alloc();
+    let words = words_for(workers, stored.text.as_str());
+    let answer = Answer::to(machine, alloc, &words, b"")?;
+    if answer != stored.answer {
+        return Ok(false);
+    }
+    let trace = by_rank(alloc, &fs::read(rt, FILES[0])?)?;
+    let stats = fs::read(rt, FILES[1])?;
+    let picture = fs::read(rt, FILES[2])?;
+    let timeline = fs::read(rt, FILES[3])?;
+    let json = fs::read(rt, FILES[4])?;
+    for file in FILES {
+        remove_file(machine, file)?;
+    }
+    let bars = count(&stored.trace, b" completed ");
+    let drawn = count(&picture, b"  completed ");
+    let timed = count(&timeline, b"\"ph\":\"X\"");
+    let is_counted = is_counted(&stored.stats, &stats);
+    Ok(trace == stored.trace && json == stored.json && is_counted && drawn == bars && timed == bars)
 }
 
 /// Whether a run whose file can't be written says so behind its name, and writes nothing else; and whether a run that stalls
@@ -136,7 +174,9 @@ fn by_rank(alloc: Global, trace: &[u8]) -> io::Result<Vec<u8>> {
 }
 
 /// How often a part stands in a text.
-fn count(text: &[u8], part: &[u8]) -> usize {
+fn count(text: &[u8], part: &[u8]) -> usize
+    requires { 0 < length part.now }
+{
     text.windows(part.len())
         .filter(|found| *found == part)
         .count()
