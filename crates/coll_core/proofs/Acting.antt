@@ -22,7 +22,7 @@ use Rattle.coll_machine.specs.Settings.{Setting}
 use Rattle.coll_machine.specs.States.{Machine}
 use Rattle.coll_machine.specs.Calls.{Finish, Nothing}
 use Rattle.coll_machine.specs.Machines.{MachineStep, finish}
-use Rattle.coll_tables.specs.Requests.{Live, went, key}
+use Rattle.coll_tables.specs.Requests.{Live, advanced, key}
 use Rattle.coll_tables.specs.Tables.{is_done, machine}
 use Rattle.coll_tables.specs.Shown.{Instances, tables}
 use Rattle.coll_tables.specs.Shown as tabled
@@ -30,17 +30,17 @@ use Rattle.coll_tables.specs.Sound.{Stands}
 use Rattle.coll_tables.specs.Machines.{MayFinish}
 use Rattle.coll_tables.specs.Remaining.{actions_left}
 use Rattle.coll_tables.specs.Cores as tabled_core
-use Rattle.coll_tables.specs.Engines.{GoesOn}
+use Rattle.coll_tables.specs.Engines.{Advances}
 use Rattle.coll_tables.specs.EngineLaws.{ActsOnce}
 use Rattle.coll_tables.proofs.Slots.{one_slot}
 use Rattle.coll_core.specs.declared.request.Request.{Request}
 use Rattle.coll_core.specs.Cores.{IsCore, Parts, setting}
 use Rattle.coll_core.specs.Requests.{IsListOf, next_of, schedule, shown}
-use Rattle.coll_core.specs.Goings.{CanGoOn, GoneOn, is_end}
+use Rattle.coll_core.specs.Advancing.{CanAdvance, HasAdvanced, is_end}
 use Rattle.coll_core.specs.Steps.{Goes, StepsBy}
-use Rattle.coll_core.proofs.Goings.{puts_written, record_written}
+use Rattle.coll_core.proofs.Advancing.{puts_written, record_written}
 
--- ---- from go_on's words
+-- ---- from advance's words
 
 -- the request x, with these bytes in its buffer, is one action on
 pub record Gone (a b : Slots Request) (n : Instances) (t : Ticket) (x : Request) (bytes : List ℕ) (finished : Bool) : Type 0 where
@@ -49,7 +49,7 @@ pub record Gone (a b : Slots Request) (n : Instances) (t : Ticket) (x : Request)
   pub list : ListName
   pub puts : PutsSlot a b t.slot t.generation (weight_of a t.slot) (Some to) (number_of list)
   pub stays : home a t.slot ≡ number_of list → b.lists ≡ a.lists
-  pub is : shown to ≡ went (shown x) point
+  pub is : shown to ≡ advanced (shown x) point
   pub buf : point.buf ≡ bytes
   pub over : Over (schedule (shown x)) x.round (suc x.index) point.round point.index
   pub stands : Stands x.plan.n (mail n (key (shown x))) (number_of list) (shown to)
@@ -57,7 +57,7 @@ pub record Gone (a b : Slots Request) (n : Instances) (t : Ticket) (x : Request)
   pub finished_is : finished ≡ is_end list
 
 pub gone_from : (a b : Slots Request) (n : Instances) (t : Ticket) (x : Request) (finished : Bool)
-    → record_in a t.slot ≡ Some x → GoneOn a b n t finished → Gone a b n t x x.buffer finished
+    → record_in a t.slot ≡ Some x → HasAdvanced a b n t finished → Gone a b n t x x.buffer finished
 gone_from a b n t x finished here g =
     subst (λ (r : Request). Gone a b n t r r.buffer finished) (same_Some g.from x (sym g.here ∙ here))
     (record {
@@ -76,21 +76,21 @@ gone_from a b n t x finished here g =
 
 -- y is x with another buffer
 pub record Rewrites (x y : Request) (bytes : List ℕ) : Type 0 where
-  pub is : shown y ≡ went (shown x) (record { round = x.round; index = x.index; buf = y.buffer })
+  pub is : shown y ≡ advanced (shown x) (record { round = x.round; index = x.index; buf = y.buffer })
   pub round_is : y.round ≡ x.round
   pub index_is : y.index ≡ x.index
   pub buf : y.buffer ≡ bytes
 
 pub gone_written : (a b : Slots Request) (n : Instances) (t : Ticket) (x y : Request) (bytes : List ℕ) (finished : Bool)
     → IsSound a → t.slot < count a → Rewrites x y bytes
-    → GoneOn (rewritten a t.slot y) b n t finished → Gone a b n t x bytes finished
+    → HasAdvanced (rewritten a t.slot y) b n t finished → Gone a b n t x bytes finished
 gone_written a b n t x y bytes finished sound low w g = record {
   to = on.to;
   point = on.point;
   list = on.list;
   puts = puts_written a b t.slot t.generation (weight_of a t.slot) (number_of on.list) y (Some on.to) sound low on.puts;
   stays = on.stays;
-  is = on.is ∙ ap (λ (q : Live). went q on.point) w.is;
+  is = on.is ∙ ap (λ (q : Live). advanced q on.point) w.is;
   buf = on.buf ∙ w.buf;
   over = subst (λ (q : Live). Over (schedule q) q.round (suc q.index) on.point.round on.point.index) w.is on.over;
   stands = subst (λ (q : Live). Stands q.members (mail n (key q)) (number_of on.list) (shown on.to)) w.is on.stands;
@@ -105,7 +105,7 @@ gone_written a b n t x y bytes finished sound low w g = record {
 pub goes_on : (a b : Slots Request) (n : Instances) (t : Ticket) (x : Request) (bytes : List ℕ) (finished : Bool) (act : Action)
     → names a t ≡ true → record_in a t.slot ≡ Some x → (home a t.slot ≡ 2) ⊎ (home a t.slot ≡ 3)
     → next_of (shown x) ≡ Some act
-    → (g : Gone a b n t x bytes finished) → GoesOn shown a b n t x g.to act g.point (number_of g.list)
+    → (g : Gone a b n t x bytes finished) → Advances shown a b n t x g.to act g.point (number_of g.list)
 goes_on a b n t x bytes finished act live here from next g = record {
   found = record { here = here; generation_is = (Named-names a t live).generation };
   active = refl;
@@ -121,7 +121,7 @@ goes_on a b n t x bytes finished act live here from next g = record {
 pub can_go_on : (a : Slots Request) (t : Ticket) (x y : Request) (bytes : List ℕ) (act : Action)
     → IsSound a → names a t ≡ true → Rewrites x y bytes
     → x.comm < a.comms → x.round ≤ length (schedule (shown x)).rounds → next_of (shown x) ≡ Some act
-    → CanGoOn (rewritten a t.slot y) t
+    → CanAdvance (rewritten a t.slot y) t
 can_go_on a t x y bytes act sound live w comm_in round_in next = record {
   request = y;
   live = live;

@@ -18,7 +18,7 @@ use Rattle.coll_arena.specs.Slots.{Slots, home, names, record_in}
 use Rattle.coll_arena.specs.Sound.{IsSound}
 use Rattle.coll_arena.proofs.Sounds.{Named-names}
 use Rattle.coll_queues.specs.Postings.{Postings}
-use Rattle.coll_tables.specs.Requests.{Live, went}
+use Rattle.coll_tables.specs.Requests.{Live, advanced}
 use Rattle.coll_tables.specs.EngineLaws.{ActsOnce}
 use Rattle.coll_tables.specs.Shown.{Instances}
 use Rattle.coll_tables.proofs.EngineActions.{compute_core}
@@ -26,7 +26,7 @@ use Rattle.coll_core.specs.declared.request.Request.{Request}
 use Rattle.coll_core.specs.declared.stepped.Stepped.{Stepped}
 use Rattle.coll_core.specs.Cores.{IsCore, Parts, setting}
 use Rattle.coll_core.specs.Requests.{schedule, shown}
-use Rattle.coll_core.specs.Goings.{CanGoOn, GoneOn}
+use Rattle.coll_core.specs.Advancing.{CanAdvance, HasAdvanced}
 use Rattle.coll_core.specs.Steps.{Commits, CommitSteps, IsOut, stepped_by}
 use Rattle.coll_core.specs.Works.{Combined, Made, Piece, StandsAt, result_of}
 use Rattle.coll_core.proofs.Acting.{Gone, Rewrites, can_go_on, core_after, done_here, goes, goes_on, going_not_done, gone_written, list_low, none_ends, parts}
@@ -99,18 +99,18 @@ module _ (ranks starts trace : ℕ) (a b : Slots Request) (q : Postings) (m : In
 
   pub rewrites : Rewrites x y (written x.buffer s.into d.bytes)
   rewrites = record {
-    is = wrote.is ∙ (λ z. went (shown x) (record { round = x.round; index = x.index; buf = sym (ap (λ (l : Live). l.buf) wrote.is) z }));
+    is = wrote.is ∙ (λ z. advanced (shown x) (record { round = x.round; index = x.index; buf = sym (ap (λ (l : Live). l.buf) wrote.is) z }));
     round_is = ap (λ (l : Live). l.round) wrote.is;
     index_is = ap (λ (l : Live). l.index) wrote.is;
     buf = buf_is;
   }
 
-  pub commit_can_go : CanGoOn (rewritten a t.slot y) t
+  pub commit_can_go : CanAdvance (rewritten a t.slot y) t
   commit_can_go = can_go_on a t x y (written x.buffer s.into d.bytes) (Combine d.piece.op d.piece.ty s.left s.right s.into) sound out.live rewrites
       (have_lists (parts ranks starts trace a q m) core t.slot x out.here)
       (running_acting (parts ranks starts trace a q m) core t.slot x out.here out.runs).round_in s.next_is
 
-  module _ (finished : Bool) (is : d.bytes ≡ result_of d.piece) (t_is : t ≡ d.piece.ticket) (gone : GoneOn (rewritten a t.slot y) b m t finished) where
+  module _ (finished : Bool) (is : d.bytes ≡ result_of d.piece) (t_is : t ≡ d.piece.ticket) (gone : HasAdvanced (rewritten a t.slot y) b m t finished) where
     abbrev bytes : List ℕ
     bytes = written x.buffer s.into d.bytes
 

@@ -21,14 +21,14 @@ use Rattle.coll_match.specs.Held.{put_mail}
 use Rattle.coll_machine.specs.Changes.{put_key}
 use Rattle.coll_match.specs.Instances.{mail}
 use Rattle.coll_tables.specs.Shown.{Instances}
-use Rattle.coll_tables.specs.Engines.{KeepsGifts}
+use Rattle.coll_tables.specs.Engines.{KeepsContributions}
 use Rattle.coll_tables.specs.EngineLaws.{ActsOnce}
 use Rattle.coll_tables.proofs.EngineActions.{compute_core, receive_core}
 use Rattle.coll_core.specs.declared.request.Request.{Request}
 use Rattle.coll_core.specs.Cores.{IsCore, Parts, setting}
 use Rattle.coll_tables.specs.Requests.{key}
 use Rattle.coll_core.specs.Requests.{shown}
-use Rattle.coll_core.specs.Goings.{GoneOn}
+use Rattle.coll_core.specs.Advancing.{HasAdvanced}
 use Rattle.coll_core.specs.Steps.{Acts, IsActingAt}
 use Rattle.coll_core.proofs.Reading.{acting}
 use Rattle.coll_core.proofs.Firsts.{first_stays, if_some}
@@ -69,7 +69,7 @@ module _ (ranks starts trace : ℕ) (a b : Slots Request) (q : Postings) (m n : 
 pub computed : (ranks starts trace : ℕ) (a b : Slots Request) (q : Postings) (m : Instances) (t : Ticket) (x y : Request) (act : Action) (bytes : List ℕ) (finished : Bool)
     → IsSound a → IsCore (parts ranks starts trace a q m) → IsActingAt (parts ranks starts trace a q m) t act x
     → IsLocal act → bytes ≡ wrote (λ from. []) x.buffer act x.buffer → Rewrites x y bytes
-    → GoneOn (rewritten a t.slot y) b m t finished
+    → HasAdvanced (rewritten a t.slot y) b m t finished
     → IsCore (parts ranks starts trace b q m) × Acts (parts ranks starts trace a q m) (parts ranks starts trace b q m) finished
 computed ranks starts trace a b q m t x y act bytes finished sound core at local wrote_is w g =
     let on : Gone a b m t x bytes finished = gone_written a b m t x y bytes finished sound (Named-names a t at.live).low w g in
@@ -86,11 +86,11 @@ same_written a i x ws here e =
 
 pub received : (ranks starts trace : ℕ) (a b : Slots Request) (q : Postings) (m n : Instances) (t : Ticket) (x y : Request) (of : ℕ) (into : Region) (message bytes : List ℕ) (finished : Bool)
     → IsSound a → IsCore (parts ranks starts trace a q m) → IsActingAt (parts ranks starts trace a q m) t (Recv of into) x
-    → KeepsGifts m n
+    → KeepsContributions m n
     → mail m (key (shown x)) of x.plan.member x.round ≡ Some message
     → mail n ≡ put_key (mail m) (key (shown x)) (put_mail (mail m (key (shown x))) of x.plan.member x.round None)
     → bytes ≡ written x.buffer into message → Rewrites x y bytes
-    → GoneOn (rewritten a t.slot y) b n t finished
+    → HasAdvanced (rewritten a t.slot y) b n t finished
     → IsCore (parts ranks starts trace b q n) × Acts (parts ranks starts trace a q m) (parts ranks starts trace b q n) finished
 received ranks starts trace a b q m n t x y of into message bytes finished sound core at keeps came mails wrote_is w g =
     let on : Gone a b n t x bytes finished = gone_written a b n t x y bytes finished sound (Named-names a t at.live).low w g in

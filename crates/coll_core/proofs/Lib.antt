@@ -1,8 +1,8 @@
 pub mod Below
 pub mod Options
 pub mod Works
-pub mod Goings
-pub mod Hearings
+pub mod Advancing
+pub mod Receiving
 pub mod Firsts
 pub mod Acting
 pub mod Reading

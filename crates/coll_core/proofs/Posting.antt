@@ -27,13 +27,13 @@ use Rattle.coll_tables.specs.Engines.{Initialises, IsFree, IsJoined, IsOffered, 
 use Rattle.coll_tables.specs.EngineLaws.{InitCore, PostCore}
 use Rattle.coll_tables.specs.Machines.{StepsTo}
 use Rattle.coll_tables.specs.OneSlots.{OneSlot}
-use Rattle.coll_tables.specs.Requests.{Live, went, key}
+use Rattle.coll_tables.specs.Requests.{Live, advanced, key}
 use Rattle.coll_tables.specs.Shown.{Instances}
 use Rattle.coll_tables.specs.Sound.{Stands}
 use Rattle.coll_tables.specs.Tables.{Mail, Tables, machine, state}
 use Rattle.coll_core.specs.declared.request.Request.{Request}
 use Rattle.coll_core.specs.Cores.{Parts, IsCore, seen, setting, Unchanged}
-use Rattle.coll_core.specs.Requests.{GoesOver, shown}
+use Rattle.coll_core.specs.Requests.{PassesEnds, shown}
 use Rattle.coll_core.specs.Posts.{next_instance, refused_in}
 use Rattle.coll_core.specs.Calls.{Refuses}
 use Rattle.coll_kinds.specs.declared.refusal.Refusal.{Refusal}
@@ -91,7 +91,7 @@ pub record Calls (p : Parts) (b : Slots Request) (r : Postings) (j n : Instances
   pub puts : PutsSlot p.arena b t.slot t.generation weight (Some y) list
   pub weight_is : weight ≡ lent plan.sig plan.n plan.member
   pub made_is : shown x ≡ made rank comm plan place 1 (record { round = 0; index = 0; buf = x.buffer })
-  pub over : GoesOver (shown x) (shown y) 0
+  pub over : PassesEnds (shown x) (shown y) 0
   pub buf : x.buffer ≡ laid_in (family plan.sig plan.n plan.member) bytes
   pub stands : Stands y.plan.n (mail j (key (shown y))) list (shown y)
 
@@ -114,7 +114,7 @@ module _ (p : Parts) (b : Slots Request) (r : Postings) (j n : Instances) (t : T
 
   is : shown y ≡ made rank comm plan (place_of p.queues comm rank) 1 o
   is =
-      c.over.is ∙ (ap (λ (q : Live). went q o) c.made_is
+      c.over.is ∙ (ap (λ (q : Live). advanced q o) c.made_is
       ∙ ap (λ l. made rank comm plan l 1 o) c.place_is)
 
   posts : Posts shown (setting p) (seen p).state p.arena b p.queues r p.matches n t rank comm plan bytes y o list

@@ -15,7 +15,7 @@ use Rattle.coll_tables.proofs.EngineReads.{acting_core, ready_core}
 use Rattle.std.specs.Prelude.{option_map}
 use Rattle.coll_core.specs.declared.request.Request.{Request}
 use Rattle.coll_core.specs.Cores.{IsCore, Parts, setting}
-use Rattle.coll_core.specs.Goings.{HaveLists}
+use Rattle.coll_core.specs.Advancing.{HaveLists}
 use Rattle.coll_tables.specs.Requests.{key}
 use Rattle.coll_core.specs.Requests.{next_of, schedule, shown}
 use Rattle.coll_core.specs.Steps.{IsActing, IsActingAt}

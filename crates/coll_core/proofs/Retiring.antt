@@ -23,7 +23,7 @@ use Rattle.coll_machine.specs.Refusals.{refusal}
 use Rattle.coll_tables.specs.Cores as tabled
 use Rattle.coll_tables.specs.Engines.{IsLeft, Rests}
 use Rattle.coll_tables.specs.EngineLaws.{ActingCore, IsActing, RetireCore}
-use Rattle.coll_tables.specs.Requests.{Live, before, went, key}
+use Rattle.coll_tables.specs.Requests.{Live, before, advanced, key}
 use Rattle.coll_tables.specs.Shown.{Instances}
 use Rattle.coll_tables.specs.Tables.{is_done}
 use Rattle.coll_tables.specs.OneSlots.{OneSlot}
@@ -40,7 +40,7 @@ if_some P o x e h = subst (λ o. IfSome o P) (sym e) h
 -- a write, another weight, another list
 pub rested : (a b c : Slots Request) (t : Ticket) (x y : Request) (comm : ℕ)
     → IsSound a → names a t ≡ true → record_in a t.slot ≡ Some x
-    → shown y ≡ went (shown x) (record { round = 0; index = 0; buf = [] })
+    → shown y ≡ advanced (shown x) (record { round = 0; index = 0; buf = [] })
     → comm ≡ x.comm
     → PutsSlot (rewritten a t.slot y) b t.slot t.generation 0 (record_in (rewritten a t.slot y) t.slot) (home (rewritten a t.slot y) t.slot)
     → PutsSlot b c t.slot t.generation (weight_of b t.slot) (record_in b t.slot) (number_of (Idle comm))

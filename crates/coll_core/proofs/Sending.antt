@@ -19,7 +19,7 @@ use Rattle.coll_machine.specs.Changes.{put_key}
 use Rattle.coll_match.specs.Instances.{given, mail}
 use Rattle.coll_match.proofs.Standing.{put_key_at}
 use Rattle.coll_tables.specs.Tables.{is_done}
-use Rattle.coll_tables.specs.Engines.{Delivers, KeepsGifts, Wakens}
+use Rattle.coll_tables.specs.Engines.{Delivers, KeepsContributions, Wakens}
 use Rattle.coll_tables.specs.EngineLaws.{ActsOnce}
 use Rattle.coll_tables.specs.Shown.{Instances}
 use Rattle.coll_tables.specs.Shown as tabled
@@ -28,7 +28,7 @@ use Rattle.coll_core.specs.declared.request.Request.{Request}
 use Rattle.coll_core.specs.Cores.{IsCore, Parts, setting}
 use Rattle.coll_tables.specs.Requests.{key}
 use Rattle.coll_core.specs.Requests.{shown}
-use Rattle.coll_core.specs.Goings.{CanGoOn, GoneOn}
+use Rattle.coll_core.specs.Advancing.{CanAdvance, HasAdvanced}
 use Rattle.coll_core.specs.Steps.{Acts, IsActingAt}
 use Rattle.coll_core.proofs.Acting.{Gone, core_after, done_by, done_here, done_in, goes, goes_on, going_not_done, gone_from, list_low, none_ends, parts}
 use Rattle.coll_core.proofs.Reading.{acting}
@@ -114,7 +114,7 @@ stood a b n k to t x live here ready (inr w) = record {
         ∙ put_other (generation_of a) (w.0).slot (w.0).generation t.slot away
 
 pub can_go_then : (p : Parts) (b : Slots Request) (t : Ticket) (x : Request) (to : ℕ) (from : Region)
-    → IsActingAt p t (Send to from) x → Stood p.arena b t x → CanGoOn b t
+    → IsActingAt p t (Send to from) x → Stood p.arena b t x → CanAdvance b t
 can_go_then p b t x to from at s = record {
   request = x;
   live = s.live;
@@ -141,12 +141,12 @@ stands_sent m n k from to round message mails none = none-some message (sym none
 pub sent : (ranks starts trace : ℕ) (a b d : Slots Request) (q : Postings) (m n : Instances) (t : Ticket) (x : Request) (to : ℕ) (from : Region) (k : Key) (member : ℕ) (message : List ℕ) (finished : Bool)
     → IsCore (parts ranks starts trace a q m) → IsActingAt (parts ranks starts trace a q m) t (Send to from) x
     → k ≡ key (shown x) → member ≡ x.plan.member → message ≡ read_of x.buffer from
-    → KeepsGifts m n
+    → KeepsContributions m n
     → mail n ≡ put_key (mail m) k (put_mail (mail m k) member to x.round (Some message))
     → Delivers shown a b n k to
     → sequence b.lists 3 ≡ sequence a.lists 3
     → IfSome (first_in (sequence a.lists 2)) (λ slot. first_in (sequence b.lists 2) ≡ Some slot)
-    → GoneOn b d n t finished
+    → HasAdvanced b d n t finished
     → IsCore (parts ranks starts trace d q n) × Acts (parts ranks starts trace a q m) (parts ranks starts trace d q n) finished
 sent ranks starts trace a b d q m n t x to from k member message finished core at k_is member_is message_is keeps mails delivered runs first gone = (
   core_after ranks starts trace a d q m n count_is wear_is once,

@@ -12,5 +12,5 @@ pub mod Works
 pub mod Buffers
 pub mod Operands
 pub mod Requests
-pub mod Goings
+pub mod Advancing
 pub mod Completions

@@ -8,7 +8,7 @@ use Rattle.coll_sched.specs.declared.region.Region.{Region}
 use Rattle.coll_sched.specs.Points.{Over, IsPoint}
 use Rattle.coll_sched.specs.Schedules.{Parts as Schedule}
 use Rattle.coll_plans.specs.Plans.{family}
-use Rattle.coll_tables.specs.Requests.{Live, went}
+use Rattle.coll_tables.specs.Requests.{Live, advanced}
 use Rattle.coll_tables.specs.Sound.{next}
 use Rattle.coll_tables.specs.Tables.{Mail}
 use Rattle.coll_core.specs.declared.request.Request.{Request}
@@ -37,13 +37,13 @@ abbrev pub next_of : Live → Option Action
 next_of q = next q.members q
 
 -- b is a past the actions before that index of its round, and past ends of rounds
-pub record GoesOver (a b : Live) (index : ℕ) : Type 0 where
-  pub is : b ≡ went a (record { round = b.round; index = b.index; buf = a.buf })
+pub record PassesEnds (a b : Live) (index : ℕ) : Type 0 where
+  pub is : b ≡ advanced a (record { round = b.round; index = b.index; buf = a.buf })
   pub over : Over (schedule a) a.round index b.round b.index
   pub point : IsPoint (schedule a) b.round b.index
 
 -- it waits for a message that has come
-pub record Hears (mail : Mail) (q : Live) : Type 0 where
+pub record CanReceive (mail : Mail) (q : Live) : Type 0 where
   pub of : ℕ
   pub into : Region
   pub next_is : next_of q ≡ Some (Recv of into)

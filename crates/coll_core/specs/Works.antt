@@ -9,7 +9,7 @@ use Rattle.coll_ops.specs.Combinations.{combined}
 use Rattle.coll_sched.specs.declared.action.Action.TheVariants.{Combine}
 use Rattle.coll_sched.specs.declared.region.Region.{Region}
 use Rattle.coll_sched.specs.Regions.{read_of, written}
-use Rattle.coll_tables.specs.Requests.{Live, went}
+use Rattle.coll_tables.specs.Requests.{Live, advanced}
 use Rattle.coll_core.specs.Requests.{next_of}
 
 -- the request's ticket, the action's round and index, its operation and type, and both operands
@@ -65,4 +65,4 @@ pub record Combined (q r : Live) (bytes : List ℕ) : Type 0 where
   pub right : Region
   pub into : Region
   pub next_is : next_of q ≡ Some (Combine op ty left right into)
-  pub is : r ≡ went q (record { round = q.round; index = q.index; buf = written q.buf into bytes })
+  pub is : r ≡ advanced q (record { round = q.round; index = q.index; buf = written q.buf into bytes })

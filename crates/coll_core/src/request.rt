@@ -4,10 +4,10 @@ ghost use Rattle.coll_match.specs.Instances.{mail};
 ghost use Rattle.coll_sched.specs.Actions.{Fits, IsCombine};
 ghost use Rattle.coll_sched.specs.Points.{IsPoint, actions_of};
 ghost use Rattle.coll_sched.specs.Regions.{Inside, read_of};
-ghost use Rattle.coll_tables.specs.Requests.{went, key};
+ghost use Rattle.coll_tables.specs.Requests.{advanced, key};
 ghost use Rattle.coll_tables.specs.Sound.{Stands};
-ghost use Rattle.coll_core.specs.Requests.{GoesOver, Hears, IsListOf, next_of, schedule, shown};
-ghost use Rattle.coll_core.specs.Goings.{IsSent};
+ghost use Rattle.coll_core.specs.Requests.{PassesEnds, CanReceive, IsListOf, next_of, schedule, shown};
+ghost use Rattle.coll_core.specs.Advancing.{IsSent};
 ghost use Rattle.coll_core.specs.Works.{Combined, StandsAt};
 
 use crate::buffer::Buffer;
@@ -101,9 +101,9 @@ impl Request {
     }
 
     /// Whether it waits for a message that is there. Where that is the one that was sent, no look-up is needed to tell so.
-    pub(crate) fn hears(&self, matches: &Matches, sent: Sent) -> bool
+    pub(crate) fn can_receive(&self, matches: &Matches, sent: Sent) -> bool
         requires { IsSent matches.now sent }
-        ensures { IsTrue result ↔ Hears (mail matches.now (key (shown self.now))) (shown self.now) }
+        ensures { IsTrue result ↔ CanReceive (mail matches.now (key (shown self.now))) (shown self.now) }
     {
         let Some(Action::Recv { of, .. }) = self.next() else {
             return false;
@@ -118,10 +118,10 @@ impl Request {
     }
 
     /// Goes past ends of rounds to the next action, or to the end.
-    pub(crate) fn go_over(&mut self)
+    pub(crate) fn pass_ends(&mut self)
         requires round_in { self.old.round ≤ length (schedule (shown self.old)).rounds }
         requires index_in { self.old.index ≤ length (actions_of (schedule (shown self.old)) self.old.round) }
-        ensures { GoesOver (shown self.old) (shown self.new) self.old.index }
+        ensures { PassesEnds (shown self.old) (shown self.new) self.old.index }
     {
         let point = self.plan.schedule().following(self.round, self.index);
         self.round = point.round;
@@ -129,14 +129,14 @@ impl Request {
     }
 
     /// Goes one action on.
-    pub(crate) fn go_on(&mut self)
+    pub(crate) fn advance(&mut self)
         requires round_in { self.old.round ≤ length (schedule (shown self.old)).rounds }
         requires some { next_of (shown self.old) ≢ None }
-        ensures { GoesOver (shown self.old) (shown self.new) (suc self.old.index) }
+        ensures { PassesEnds (shown self.old) (shown self.new) (suc self.old.index) }
     {
         let Some(_) = self.next() else { unreachable!() };
         self.index += 1;
-        self.go_over();
+        self.pass_ends();
     }
 
     /// The combination that comes next, with its operands. Only NoMemory is refused.
@@ -215,7 +215,7 @@ impl Request {
     pub(crate) fn take_outcome(&mut self, alloc: Global) -> Vec<u8>
         requires { Inside (length self.old.buffer) (schedule (shown self.old)).output }
         ensures bytes { result.items ≡ read_of self.old.buffer (schedule (shown self.old)).output }
-        ensures left { shown self.new ≡ went (shown self.old) (record { round = 0; index = 0; buf = [] }) }
+        ensures left { shown self.new ≡ advanced (shown self.old) (record { round = 0; index = 0; buf = [] }) }
     {
         let output = self.plan.schedule().output();
         let buffer = self.buffer.take(alloc);

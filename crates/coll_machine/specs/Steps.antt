@@ -73,9 +73,13 @@ pub record Works (s : State) (k : Key) (m : ℕ) : Type 0 where
   pub last : suc start ≡ request.starts  -- whose start under way
   pub key_is : key_of request start ≡ k  -- is this collective
 
+-- each of so many members has given and left
+abbrev pub AllHaveLeft : ℕ → (ℕ → Option (List ℕ)) → (ℕ → Type 0) → Type 0
+AllHaveLeft n given HasLeft = (m : ℕ) → m < n → (given m ≢ None) × HasLeft m
+
 -- every member has given to the collective and left it
 abbrev pub IsOver : Setting → State → Key → Type 0
-IsOver g s k = (m : ℕ) → m < size g k.comm → (s.given k m ≢ None) × (Works s k m → ⊥)
+IsOver g s k = AllHaveLeft (size g k.comm) (s.given k) (λ m. Works s k m → ⊥)
 
 -- contributions are kept until every member has left, and no longer
 abbrev pub Clears : Setting → State → Key → State → Type 0

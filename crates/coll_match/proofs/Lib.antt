@@ -1,6 +1,6 @@
 pub mod Puts
 pub mod Shares
-pub mod Letters
+pub mod Messages
 pub mod Standing
 pub mod Sizes
 pub mod Hints

@@ -8,7 +8,7 @@ use Rattle.std.proofs.lemmas.List.{length-map}
 use Rattle.std.proofs.lemmas.Option.{slice_get-map, slice_get_read, none-some}
 use Rattle.coll_kinds.specs.Puts.{put}
 use Rattle.coll_match.specs.declared.instance.Share.{Share}
-use Rattle.coll_match.specs.Held.{Held, Part, gift_of, mail_in, put_mail, put_sent, sent_in, sent_of, slot_of}
+use Rattle.coll_match.specs.Held.{Held, Part, contribution_of, mail_in, put_mail, put_sent, sent_in, sent_of, slot_of}
 use Rattle.coll_match.specs.Views.{held_of, part_of}
 use Rattle.coll_match.proofs.Puts.{cond_map, put_own, slice_get-set}
 
@@ -44,17 +44,17 @@ share_left None slot h = absurd (h.0 refl)
 share_left (Some bytes) None h = refl
 share_left (Some bytes) (Some slot) h = absurd (none-some slot (sym h.1))
 
-pub all_over : (shares : List Share) → list_all has_left shares ≡ true → (m : ℕ) → m < length shares → (gift_of (slice_get (map part_of shares) m) ≢ None) × (slot_of (slice_get (map part_of shares) m) ≡ None)
+pub all_over : (shares : List Share) → list_all has_left shares ≡ true → (m : ℕ) → m < length shares → (contribution_of (slice_get (map part_of shares) m) ≢ None) × (slot_of (slice_get (map part_of shares) m) ≡ None)
 all_over [] e m lt = absurd (omega (arith, lt))
 all_over (share ∷ shares) e zero lt = left_share share.given share.slot (and_parts (has_left share) (list_all has_left shares) e).0
 all_over (share ∷ shares) e (suc m) lt = all_over shares (and_parts (has_left share) (list_all has_left shares) e).1 m (omega (arith, lt))
 
-pub over_all : (shares : List Share) → ((m : ℕ) → m < length shares → (gift_of (slice_get (map part_of shares) m) ≢ None) × (slot_of (slice_get (map part_of shares) m) ≡ None)) → list_all has_left shares ≡ true
+pub over_all : (shares : List Share) → ((m : ℕ) → m < length shares → (contribution_of (slice_get (map part_of shares) m) ≢ None) × (slot_of (slice_get (map part_of shares) m) ≡ None)) → list_all has_left shares ≡ true
 over_all [] h = refl
 over_all (share ∷ shares) h = and_from (has_left share) (list_all has_left shares) (share_left share.given share.slot (h 0 (omega arith))) (over_all shares (λ m lt. h (suc m) (omega (arith, lt))))
 
 -- shares without anything
-pub empty_part : {X : Type 0} (f : Option Part → X) (y : X) → f None ≡ y → f (Some (record { gift = None; slot = None; sent = [] })) ≡ y → (n m : ℕ) → f (slice_get (map part_of (replicate n (record { given = None; slot = None; outbox = [] }))) m) ≡ y
+pub empty_part : {X : Type 0} (f : Option Part → X) (y : X) → f None ≡ y → f (Some (record { contribution = None; slot = None; sent = [] })) ≡ y → (n m : ℕ) → f (slice_get (map part_of (replicate n (record { given = None; slot = None; mailbox = [] }))) m) ≡ y
 empty_part f y none some zero m = none
 empty_part f y none some (suc n) zero = some
 empty_part f y none some (suc n) (suc m) = empty_part f y none some n m
@@ -76,7 +76,7 @@ put_sender f from to round x = λ z a b c. at a b c z
     at a b c = by (a == from) a b c (λ e. ap (λ m. f m b c) (sym (eqb-true a from e)))
 
 pub mail_sent : (shares : List Share) (i : ℕ) (share old : Share) → i < length shares → old ≡ get_or shares i old → (to round : ℕ) (x : Option (List ℕ))
-    → sent_in share.outbox ≡ put_sent (sent_in old.outbox) to round x
+    → sent_in share.mailbox ≡ put_sent (sent_in old.mailbox) to round x
     → mail_in (held_of (set shares i share)) ≡ put_mail (mail_in (held_of shares)) i to round x
 mail_sent shares i share old low is to round x sent =
     parts_set sent_of shares i share low

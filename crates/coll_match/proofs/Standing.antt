@@ -9,7 +9,7 @@ use Rattle.std.proofs.lemmas.Option.{same_Some, slice_get_past}
 use Rattle.coll_kinds.specs.Puts.{put}
 use Rattle.coll_kinds.proofs.Puts.{put_cases}
 use Rattle.coll_machine.specs.declared.key.Key.{Key}
-use Rattle.coll_match.specs.Held.{Held, IsOver, gift_of, slot_of, given_in, mail_in, seat_in, put_mail}
+use Rattle.coll_match.specs.Held.{Held, IsOver, contribution_of, slot_of, given_in, mail_in, seat_in, put_mail}
 use Rattle.coll_machine.specs.Changes.{put_in, put_key, same_key}
 use Rattle.coll_match.specs.Instances.{IsLast, LookUps, dissolved, left, look_ups, mailed, seated, given, given_of, mail, mail_of, members, members_of, seats, seats_of, size, standing}
 use Rattle.coll_match.proofs.Puts.{cond_map, eqb_sym, updated}
@@ -127,7 +127,7 @@ module _ (t v : List (Key × Held)) (e : t ≡ v) (k : Key) (h : Held) (was : So
   pub gave : given v k member ≢ None → member < length h.shares
   gave some = elim (cases_lt member (length h.shares)) [
     | inl low ↦ low
-    | inr past ↦ absurd (some (ap (λ o. given_of o member) stands ∙ ap gift_of (slice_get_past h.shares member past)))
+    | inr past ↦ absurd (some (ap (λ o. given_of o member) stands ∙ ap contribution_of (slice_get_past h.shares member past)))
   ]
 
   pub sat : seats v k member ≢ None → member < length h.shares

@@ -1,32 +1,33 @@
 -- What stands of one instance.
-use Rattle.std.specs.Prelude.{◌≡◌, ◌≢◌, ◌<◌, ◌==◌, ◌&&◌, ℕ, Bool, cond, List, length, slice_get, Option, Some, None}
+use Rattle.std.specs.Prelude.{◌≡◌, ◌==◌, ◌&&◌, ℕ, Bool, cond, List, length, slice_get, Option, Some, None}
 use Rattle.std.specs.Map.{lookup}
-use Rattle.coll_match.specs.declared.key.Way.{Way}
+use Rattle.coll_machine.specs.Steps.{AllHaveLeft}
+use Rattle.coll_match.specs.declared.envelope.Envelope.{Envelope}
 
 -- of one member: what it gave, the slot of its active request, and the messages that it sent and that weren't taken yet
 pub record Part : Type 0 where
-  pub gift : Option (List ℕ)
+  pub contribution : Option (List ℕ)
   pub slot : Option ℕ
-  pub sent : List (Way × List ℕ)
+  pub sent : List (Envelope × List ℕ)
 
 -- of all members
 pub record Held : Type 0 where
   pub shares : List Part
 
-abbrev pub same_way : Way → Way → Bool
-same_way a b = (a.to == b.to) && (a.round == b.round)
+abbrev pub same_envelope : Envelope → Envelope → Bool
+same_envelope a b = (a.to == b.to) && (a.round == b.round)
 
 -- the message to a receiver for a round, of those that one member sent
-abbrev pub sent_in : List (Way × List ℕ) → ℕ → ℕ → Option (List ℕ)
-sent_in letters to round = lookup (same_way (record { to = to; round = round })) letters
+abbrev pub sent_in : List (Envelope × List ℕ) → ℕ → ℕ → Option (List ℕ)
+sent_in messages to round = lookup (same_envelope (record { to = to; round = round })) messages
 
 -- a sender's messages with another one, or none, at one receiver and round
 abbrev pub put_sent : (ℕ → ℕ → Option (List ℕ)) → ℕ → ℕ → Option (List ℕ) → ℕ → ℕ → Option (List ℕ)
 put_sent f to round message b c = cond ((b == to) && (c == round)) message (f b c)
 
-abbrev pub gift_of : Option Part → Option (List ℕ)
-gift_of None = None
-gift_of (Some part) = part.gift
+abbrev pub contribution_of : Option Part → Option (List ℕ)
+contribution_of None = None
+contribution_of (Some part) = part.contribution
 
 abbrev pub slot_of : Option Part → Option ℕ
 slot_of None = None
@@ -38,7 +39,7 @@ sent_of (Some part) to round = sent_in part.sent to round
 
 -- what a member gave
 abbrev pub given_in : Held → ℕ → Option (List ℕ)
-given_in h member = gift_of (slice_get h.shares member)
+given_in h member = contribution_of (slice_get h.shares member)
 
 -- the slot of a member's active request
 abbrev pub seat_in : Held → ℕ → Option ℕ
@@ -48,10 +49,10 @@ seat_in h member = slot_of (slice_get h.shares member)
 abbrev pub mail_in : Held → ℕ → ℕ → ℕ → Option (List ℕ)
 mail_in h from = sent_of (slice_get h.shares from)
 
--- messages with another one, or none, at one way
+-- messages with another one, or none, at one envelope
 abbrev pub put_mail : (ℕ → ℕ → ℕ → Option (List ℕ)) → ℕ → ℕ → ℕ → Option (List ℕ) → ℕ → ℕ → ℕ → Option (List ℕ)
 put_mail f from to round message a b c = cond ((a == from) && ((b == to) && (c == round))) message (f a b c)
 
 -- every member has given and has no active request
 abbrev pub IsOver : Held → Type 0
-IsOver h = (member : ℕ) → member < length h.shares → (given_in h member ≢ None) × (seat_in h member ≡ None)
+IsOver h = AllHaveLeft (length h.shares) (given_in h) (λ member. seat_in h member ≡ None)

@@ -1,9 +1,10 @@
 -- All instances that stand, as look-ups by key.
-use Rattle.std.specs.Prelude.{◌≡◌, ◌≢◌, ◌<◌, ℕ, Bool, false, List, length, unwrap_or, Option, Some, None, if◌then◌else◌}
+use Rattle.std.specs.Prelude.{◌≡◌, ℕ, Bool, false, List, length, unwrap_or, Option, Some, None, if◌then◌else◌}
 use Rattle.std.specs.Map.{lookup}
 use Rattle.coll_kinds.specs.Puts.{put}
 use Rattle.coll_machine.specs.declared.key.Key.{Key}
 use Rattle.coll_machine.specs.Changes.{put_in, put_key, same_key}
+use Rattle.coll_machine.specs.Steps.{AllHaveLeft}
 use Rattle.coll_match.specs.Held.{Held, given_in, mail_in, put_mail, seat_in}
 
 -- an entry is that instance's
@@ -105,6 +106,4 @@ left s k member last = record {
 
 -- once this member has left, every member has given to the instance and has no active request
 abbrev pub IsLast : List (Key × Held) → Key → ℕ → Type 0
-IsLast t k leaver = (member : ℕ)
-    → member < size t k
-    → (given t k member ≢ None) × (put (seats t k) leaver None member ≡ None)
+IsLast t k leaver = AllHaveLeft (size t k) (given t k) (λ member. put (seats t k) leaver None member ≡ None)

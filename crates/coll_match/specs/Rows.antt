@@ -14,9 +14,9 @@ one = (
   key 0,
   record {
     shares =
-        record { gift = Some (7 ∷ []); slot = Some 5; sent = (record { to = 2; round = 1 }, 9 ∷ []) ∷ [] }
-        ∷ record { gift = Some (8 ∷ []); slot = None; sent = [] }
-        ∷ record { gift = None; slot = None; sent = [] }
+        record { contribution = Some (7 ∷ []); slot = Some 5; sent = (record { to = 2; round = 1 }, 9 ∷ []) ∷ [] }
+        ∷ record { contribution = Some (8 ∷ []); slot = None; sent = [] }
+        ∷ record { contribution = None; slot = None; sent = [] }
         ∷ [];
   },
 ) ∷ []

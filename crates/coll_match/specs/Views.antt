@@ -6,7 +6,7 @@ use Rattle.coll_match.specs.declared.instance.Share.{Share}
 
 abbrev pub part_of : Share → Part
 part_of share =
-    record { gift = option_map (λ (bytes : Vec ℕ Global). bytes.items) share.given; slot = share.slot; sent = share.outbox }
+    record { contribution = option_map (λ (bytes : Vec ℕ Global). bytes.items) share.given; slot = share.slot; sent = share.mailbox }
 
 abbrev pub held_of : List Share → Held
 held_of shares = record { shares = map part_of shares }

@@ -6,8 +6,8 @@ ghost use Rattle.coll_kinds.specs.declared.refusal.Refused.{Refused};
 ghost use Rattle.coll_kinds.specs.Puts.{put};
 ghost use Rattle.coll_match.specs.Held.{IsOver, given_in, mail_in, put_mail, seat_in};
 
-use crate::key::Way;
-use crate::outbox::{Message, Outbox};
+use crate::envelope::Envelope;
+use crate::mailbox::{Message, Mailbox};
 use coll_kinds::Refused;
 use std::alloc::{AllocError, Global};
 use std::marker::Model;
@@ -18,7 +18,7 @@ use std::marker::Model;
 struct Share {
     given: Option<Vec<u8>>,
     slot: Option<u32>,
-    outbox: Outbox,
+    mailbox: Mailbox,
 }
 
 /// What stands of one collective: a share for each member.
@@ -48,14 +48,14 @@ fn all_have_left(shares: &[Share]) -> bool
 
 /// That many shares without anything.
 fn empty_shares(alloc: Global, members: u8) -> Result<Vec<Share>, AllocError>
-    ensures { IfOk result (λ made. made.items ≡ replicate members (record { given = None; slot = None; outbox = [] })) }
+    ensures { IfOk result (λ made. made.items ≡ replicate members (record { given = None; slot = None; mailbox = [] })) }
 {
     let mut made = Vec::with_capacity(alloc, usize::from(members))?;
     for _member in 0..members {
         made.push(Share {
             given: None,
             slot: None,
-            outbox: Outbox::new(alloc),
+            mailbox: Mailbox::new(alloc),
         })?;
     }
     Ok(made)
@@ -128,45 +128,45 @@ impl Instance {
     pub(crate) fn put(
         &mut self,
         from: u8,
-        way: Way,
+        envelope: Envelope,
         message: Message,
     ) -> Result<Option<u32>, Refused<Message>>
         requires member { from < length self.old.shares }
-        requires new { mail_in self.old from way.to way.round ≡ None }
-        ensures receiver { IfOk result (λ slot. slot ≡ seat_in self.old way.to) }
+        requires new { mail_in self.old from envelope.to envelope.round ≡ None }
+        ensures receiver { IfOk result (λ slot. slot ≡ seat_in self.old envelope.to) }
         ensures refused { IfErr result (λ refused. refused ≡ record { why = NoMemory; back = message }) }
         ensures err { OnErr result (self.new ≡ self.old) }
         ensures members { OnOk result (length self.new.shares ≡ length self.old.shares) }
         ensures given { OnOk result (given_in self.new ≡ given_in self.old) }
         ensures seats { OnOk result (seat_in self.new ≡ seat_in self.old) }
-        ensures mail { OnOk result (mail_in self.new ≡ put_mail (mail_in self.old) from way.to way.round (Some message.items)) }
+        ensures mail { OnOk result (mail_in self.new ≡ put_mail (mail_in self.old) from envelope.to envelope.round (Some message.items)) }
     {
-        self.shares[usize::from(from)].outbox.put(way, message)?;
-        Ok(self.seated(way.to))
+        self.shares[usize::from(from)].mailbox.put(envelope, message)?;
+        Ok(self.seated(envelope.to))
     }
 
     /// A message of a member stands.
-    pub(crate) fn is_ready(&self, from: u8, way: Way) -> bool
-        ensures { result ≡ is_some (mail_in self.now from way.to way.round) }
+    pub(crate) fn is_ready(&self, from: u8, envelope: Envelope) -> bool
+        ensures { result ≡ is_some (mail_in self.now from envelope.to envelope.round) }
     {
         match self.shares.get(usize::from(from)) {
-            Some(share) => share.outbox.is_ready(way),
+            Some(share) => share.mailbox.is_ready(envelope),
             None => false,
         }
     }
 
     /// Takes a message of a member out.
-    pub(crate) fn take(&mut self, from: u8, way: Way) -> Option<Message>
-        ensures taken { option_map (λ message. message.items) result ≡ mail_in self.old from way.to way.round }
+    pub(crate) fn take(&mut self, from: u8, envelope: Envelope) -> Option<Message>
+        ensures taken { option_map (λ message. message.items) result ≡ mail_in self.old from envelope.to envelope.round }
         ensures members { length self.new.shares ≡ length self.old.shares }
         ensures given { given_in self.new ≡ given_in self.old }
         ensures seats { seat_in self.new ≡ seat_in self.old }
-        ensures mail { mail_in self.new ≡ put_mail (mail_in self.old) from way.to way.round None }
+        ensures mail { mail_in self.new ≡ put_mail (mail_in self.old) from envelope.to envelope.round None }
     {
         let sender = usize::from(from);
         if sender >= self.shares.len() {
             return None;
         }
-        self.shares[sender].outbox.take(way)
+        self.shares[sender].mailbox.take(envelope)
     }
 }

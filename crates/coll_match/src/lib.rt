@@ -1,4 +1,4 @@
-//! What members give to their collectives, and the messages on the way between them.
+//! What members give to their collectives, and the messages in transit between them.
 //!
 //! A collective of a communicator is named by its place in the posting lists and the number of its start; here it is
 //! called an instance. What a member gave to an instance outlives that member's request, since the others may read it
@@ -6,17 +6,17 @@
 //!
 //! | Module | Has |
 //! |---|---|
-//! | `key` | `Key`, by which an instance goes, and the way of a message in it |
-//! | `outbox` | `Outbox`, the messages of one member |
+//! | `envelope` | `Envelope`, the receiver and the round of a message |
+//! | `mailbox` | `Mailbox`, the messages of one member |
 //! | `instance` | `Instance`, what stands of one |
 //! | `matches` | `Matches`, all that stand |
 #![tactic(auto)]
 
 mod instance;
-mod key;
+mod envelope;
 mod matches;
-mod outbox;
+mod mailbox;
 
 pub use coll_machine::Key;
 pub use matches::Matches;
-pub use outbox::Message;
+pub use mailbox::Message;

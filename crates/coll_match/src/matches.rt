@@ -4,8 +4,8 @@ ghost use Rattle.coll_kinds.specs.declared.refusal.Refused.{Refused};
 ghost use Rattle.coll_match.specs.Instances.{IsLast, dissolved, given, is_of, joined, left, look_ups, mail, mailed, nothing, roomed, seated, seats, size, standing};
 
 use crate::instance::Instance;
-use crate::key::Way;
-use crate::outbox::Message;
+use crate::envelope::Envelope;
+use crate::mailbox::Message;
 use coll_kinds::{Refusal, Refused};
 use coll_machine::Key;
 use indexmap::IndexMap;
@@ -153,7 +153,7 @@ impl Matches {
         ensures err { OnErr result (self.new ≡ self.old) }
     {
         match self.at_mut(key, hint) {
-            Some(instance) => instance.put(from, Way { to, round }, message),
+            Some(instance) => instance.put(from, Envelope { to, round }, message),
             None => unreachable!(),
         }
     }
@@ -163,7 +163,7 @@ impl Matches {
         ensures { result ≡ is_some (mail self.now key from to round) }
     {
         match self.at(key, hint) {
-            Some(instance) => instance.is_ready(from, Way { to, round }),
+            Some(instance) => instance.is_ready(from, Envelope { to, round }),
             None => false,
         }
     }
@@ -173,7 +173,7 @@ impl Matches {
         ensures taken { option_map (λ message. message.items) result ≡ mail self.old key from to round }
         ensures gone { look_ups self.new ≡ mailed (look_ups self.old) key from to round None }
     {
-        self.at_mut(key, hint)?.take(from, Way { to, round })
+        self.at_mut(key, hint)?.take(from, Envelope { to, round })
     }
 
     /// The instance lies where the hint says.

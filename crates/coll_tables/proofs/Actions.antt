@@ -8,7 +8,7 @@ use Rattle.coll_kinds.proofs.Puts.{put_same}
 use Rattle.coll_machine.specs.Settings.{size}
 use Rattle.coll_machine.specs.declared.key.Key.{Key}
 use Rattle.coll_machine.specs.States.{Machine}
-use Rattle.coll_tables.specs.Requests.{Live, key, went}
+use Rattle.coll_tables.specs.Requests.{Live, key, advanced}
 use Rattle.coll_tables.specs.Tables.{Mail, Tables, Paths, is_done, state, machine}
 use Rattle.coll_tables.specs.Sound.{Stands, ready, running, idle, queued, done, Lies, Sound, IsSound, Called}
 use Rattle.coll_machine.specs.Changes.{put_in}
@@ -84,27 +84,27 @@ send_keeps v i q to from o home s h b mine = (λ none. let x = still none in (re
     still : ((j : ℕ) → Wakes w (key q) to j → ⊥) → Sound w after
     still none = none_called w after (key q) to gone (λ j r seat is called. none j (record { req = r; seat = seat; is = is; called = called }))
 
-    here : put v.request i (Some (went q o)) i ≡ Some (went q o)
-    here = put_same v.request i (Some (went q o))
+    here : put v.request i (Some (advanced q o)) i ≡ Some (advanced q o)
+    here = put_same v.request i (Some (advanced q o))
 
     woken : (j : ℕ) (later : ℕ → ℕ) → Wakes w (key q) to j → later j ≡ 2 → Away w j later → IsSound (rehoming w later) × MayFinish v.setting (machine v) (machine (rehoming w later))
-    woken j later x two away = (record { paths = after; sound = sound }, may_finish (rehoming w later) after sound i (went q o) here (machine v) (sym (acted_state v i q h.here o (delivered v q to from) home)) pending now)
+    woken j later x two away = (record { paths = after; sound = sound }, may_finish (rehoming w later) after sound i (advanced q o) here (machine v) (sym (acted_state v i q h.here o (delivered v q to from) home)) pending now)
       where
         sound : Sound (rehoming w later) after
         sound = wakened w after (key q) to gone j x.req later x.seat x.is x.called two away
 
         apart : i ≢ j
         apart e =
-            let same : went q o ≡ x.req = same_Some (went q o) x.req (sym here ∙ (ap (put v.request i (Some (went q o))) e ∙ x.is)) in
-            not_both (size v.setting q.comm) (home i) (delivered v q to from (key q)) (went q o) mine
+            let same : advanced q o ≡ x.req = same_Some (advanced q o) x.req (sym here ∙ (ap (put v.request i (Some (advanced q o))) e ∙ x.is)) in
+            not_both (size v.setting q.comm) (home i) (delivered v q to from (key q)) (advanced q o) mine
             (subst (λ (r : Live). Called (size v.setting r.comm) (delivered v q to from (key r)) (home i) r) (sym same) (subst (λ l. Called (size v.setting x.req.comm) (delivered v q to from (key x.req)) (home l) x.req) (sym e) x.called))
 
         pending : (machine v).done i ≡ false
         pending = ap (is_done (v.home i)) h.here ∙ ne_eqb (v.home i) (6 + 3 * q.comm) (not_done (v.home i) q.comm h.list)
 
-        now : (machine (rehoming w later)).done ≡ put (machine v).done i (is_done (later i) (Some (went q o)))
+        now : (machine (rehoming w later)).done ≡ put (machine v).done i (is_done (later i) (Some (advanced q o)))
         now = ap (λ (m : Machine). m.done) (woken_same w j x.req x.is x.called.on_queue later two away)
-            ∙ (done_changes v i (Some (went q o)) home h.away ∙ ap (λ l. put (machine v).done i (is_done l (Some (went q o)))) (sym (away i apart)))
+            ∙ (done_changes v i (Some (advanced q o)) home h.away ∙ ap (λ l. put (machine v).done i (is_done l (Some (advanced q o)))) (sym (away i apart)))
 
 pub rehome_keeps : RehomeKeeps
 rehome_keeps v i q home s here was is away mine = (record { paths = s.paths; sound = sound }, λ z. record { state = state v; done = λ j. same j (cases_eq j i) z })

@@ -17,7 +17,7 @@ use Rattle.coll_machine.specs.Settings.{size}
 use Rattle.coll_machine.specs.declared.key.Key.{Key}
 use Rattle.coll_machine.specs.Changes.{put_key, put_in}
 use Rattle.coll_plans.specs.Plans.{family}
-use Rattle.coll_tables.specs.Requests.{Live, at, key, progress, went, begun, at_rest, rests, rests_by}
+use Rattle.coll_tables.specs.Requests.{Live, at, key, progress, advanced, begun, at_rest, rests, rests_by}
 use Rattle.coll_tables.specs.Tables.{Mail, Tables, Paths, no_signature, family_at, world}
 use Rattle.coll_tables.specs.Sound.{Owned, Base}
 use Rattle.coll_tables.specs.Changes.{joining, acting, leaving, dissolving, freeing, rehoming}
@@ -31,7 +31,7 @@ unbegun n f g w t none = tracks_agrees n g empty w (record { given = none; progr
   where
     nothing : (q r j : ℕ) (o : Option (List ℕ)) → w.mail q r j ≡ o → w.mail q r j ≡ None
     nothing q r j None e = e
-    nothing q r j (Some bytes) e = absurd ((t.letters q r j bytes e).heard q (heard_self f j q) (none q))
+    nothing q r j (Some bytes) e = absurd ((t.messages q r j bytes e).heard q (heard_self f j q) (none q))
 
 module _ (v : Tables) (paths : Paths) (b : Base v paths) (i : ℕ) (q : Live) (here : v.request i ≡ Some q) where
   -- the family of a live request is that of its own signature
@@ -58,18 +58,18 @@ module _ (v : Tables) (paths : Paths) (b : Base v paths) (i : ℕ) (q : Live) (h
   module _ (t : q.active ≡ true) where
     pub base_acts : (p : Progress) (mail : Key → Mail) (home : ℕ → ℕ) → Tracks (size v.setting q.comm) (family_at v (key q)) (record { given = v.given (key q); progress = put (paths (key q)) q.member (Some p); mail = mail (key q) })
         → ((l : Key) → l ≢ key q → mail l ≡ v.mail l) → Base (acting v i q p mail home) (put_in paths (key q) q.member (Some p))
-    base_acts p mail home tr others = base_changes v paths b i q (key q) (Some (went q p)) v.given v.seats mail (put_in paths (key q) q.member (Some p)) (record {
+    base_acts p mail home tr others = base_changes v paths b i q (key q) (Some (advanced q p)) v.given v.seats mail (put_in paths (key q) q.member (Some p)) (record {
       here = here;
       comm_is = refl;
       place_is = refl;
       was = λ _. refl;
-      kin = λ r e. subst (λ (x : Live). Kin x q) (same_Some (went q p) r e) (record { comm = refl; members = refl; member = refl; place = refl; sig = refl });
+      kin = λ r e. subst (λ (x : Live). Kin x q) (same_Some (advanced q p) r e) (record { comm = refl; members = refl; member = refl; place = refl; sig = refl });
       elsewhere = λ l m d. (refl, in_off paths (key q) q.member (Some p) l m d);
-      active = λ r e _. subst (λ (x : Live). (key x ≡ key q) × (put_in paths (key q) q.member (Some p) (key q) q.member ≡ Some (progress x)) × (v.seats (key q) q.member ≡ Some i)) (same_Some (went q p) r e) (refl, in_at paths (key q) q.member (Some p), seat);
-      owner = λ j e. subst (λ j. Owned (put v.request i (Some (went q p))) (key q) q.member j) (same_Some i j (sym seat ∙ e)) (record { req = went q p; is = put_same v.request i (Some (went q p)); active = t; key_is = refl; member_is = refl });
+      active = λ r e _. subst (λ (x : Live). (key x ≡ key q) × (put_in paths (key q) q.member (Some p) (key q) q.member ≡ Some (progress x)) × (v.seats (key q) q.member ≡ Some i)) (same_Some (advanced q p) r e) (refl, in_at paths (key q) q.member (Some p), seat);
+      owner = λ j e. subst (λ j. Owned (put v.request i (Some (advanced q p))) (key q) q.member j) (same_Some i j (sym seat ∙ e)) (record { req = advanced q p; is = put_same v.request i (Some (advanced q p)); active = t; key_is = refl; member_is = refl });
       on_way = λ _ _ n. none-some i (sym n ∙ seat);
-      gifts = λ l m h. inl h;
-      gave = λ r e s h. subst (λ (x : Live). s < x.starts) (same_Some (went q p) r e) (b.gave i q here s h);
+      contributions = λ l m h. inl h;
+      gave = λ r e s h. subst (λ (x : Live). s < x.starts) (same_Some (advanced q p) r e) (b.gave i q here s h);
       tracks = retracked v paths b.tracks (key q) v.given mail (put_in paths (key q) q.member (Some p))
           (λ l d. record { given = λ r. refl; progress = λ r. ap (λ (f : ℕ → Option Progress). f r) (off_key paths (key q) (put (paths (key q)) q.member (Some p)) l d); mail = λ x r j. ap (λ (f : Mail). f x r j) (others l d) })
           (record { given = v.given (key q); progress = put (paths (key q)) q.member (Some p); mail = mail (key q) }) tr
@@ -95,7 +95,7 @@ module _ (v : Tables) (paths : Paths) (b : Base v paths) (i : ℕ) (q : Live) (h
       active = λ r e a. absurd (false≢true (ap (λ (x : Live). x.active) (resting q.sig.mode r e) ∙ a));
       owner = λ j e. absurd (none-some j (sym (in_at v.seats (key q) q.member None) ∙ e));
       on_way = λ p e. absurd (none-some p (sym (in_at paths (key q) q.member None) ∙ e));
-      gifts = λ l m h. inl h;
+      contributions = λ l m h. inl h;
       gave = λ r e s h. subst (λ (x : Live). s < x.starts) (resting q.sig.mode r e) (b.gave i q here s h);
       tracks = retracked v paths b.tracks (key q) v.given v.mail (put_in paths (key q) q.member None)
           (λ l d. record { given = λ r. refl; progress = λ r. ap (λ (f : ℕ → Option Progress). f r) (off_key paths (key q) (put (paths (key q)) q.member None) l d); mail = λ x r j. refl })
@@ -116,7 +116,7 @@ module _ (v : Tables) (paths : Paths) (b : Base v paths) (i : ℕ) (q : Live) (h
     active = λ r e. absurd (none-some r e);
     owner = λ j e. absurd (vacant j e);
     on_way = λ p e. b.on_way (key q) q.member p e;
-    gifts = λ l m h. inl h;
+    contributions = λ l m h. inl h;
     gave = λ r e. absurd (none-some r e);
     tracks = b.tracks;
   }) home
@@ -145,7 +145,7 @@ module _ (v : Tables) (paths : Paths) (b : Base v paths) (i : ℕ) (q : Live) (b
     active = λ r e _. subst (λ (x : Live). (key x ≡ k) × (put_in paths k q.member (Some p) k q.member ≡ Some (progress x)) × (put_in v.seats k q.member (Some i) k q.member ≡ Some i)) (same_Some (begun q p) r e) (refl, in_at paths k q.member (Some p), in_at v.seats k q.member (Some i));
     owner = λ j e. subst (λ j. Owned (put v.request i (Some (begun q p))) k q.member j) (same_Some i j (sym (in_at v.seats k q.member (Some i)) ∙ e)) (record { req = begun q p; is = put_same v.request i (Some (begun q p)); active = refl; key_is = refl; member_is = refl });
     on_way = λ _ _ n. none-some i (sym n ∙ in_at v.seats k q.member (Some i));
-    gifts = λ l m x. gifts l m x (in_cases v.given k q.member (Some bytes) l m);
+    contributions = λ l m x. contributions l m x (in_cases v.given k q.member (Some bytes) l m);
     gave = λ r e s x. subst (λ (y : Live). s < y.starts) (same_Some (begun q p) r e) (gives s x (in_cases v.given k q.member (Some bytes) (at q s) q.member));
     tracks = retracked v paths b.tracks k (put_in v.given k q.member (Some bytes)) v.mail (put_in paths k q.member (Some p))
         (λ l d. record { given = λ r. ap (λ (f : ℕ → Option (List ℕ)). f r) (off_key v.given k (put (v.given k) q.member (Some bytes)) l d); progress = λ r. ap (λ (f : ℕ → Option Progress). f r) (off_key paths k (put (paths k) q.member (Some p)) l d); mail = λ x r j. refl })
@@ -168,9 +168,9 @@ module _ (v : Tables) (paths : Paths) (b : Base v paths) (i : ℕ) (q : Live) (b
       low : q.member < size v.setting q.comm
       low = b.member_in i q h.here
 
-      gifts : (l : Key) (m : ℕ) → put_in v.given k q.member (Some bytes) l m ≢ None → ((l ≡ k) × (m ≡ q.member) × (put_in v.given k q.member (Some bytes) l m ≡ Some bytes)) ⊎ (((l ≡ k) → (m ≡ q.member) → ⊥) × (put_in v.given k q.member (Some bytes) l m ≡ v.given l m)) → (v.given l m ≢ None) ⊎ ((l ≡ k) × (m ≡ q.member))
-      gifts l m x (inl y) = inr (y.0, y.1)
-      gifts l m x (inr y) = inl (λ z. x (y.1 ∙ z))
+      contributions : (l : Key) (m : ℕ) → put_in v.given k q.member (Some bytes) l m ≢ None → ((l ≡ k) × (m ≡ q.member) × (put_in v.given k q.member (Some bytes) l m ≡ Some bytes)) ⊎ (((l ≡ k) → (m ≡ q.member) → ⊥) × (put_in v.given k q.member (Some bytes) l m ≡ v.given l m)) → (v.given l m ≢ None) ⊎ ((l ≡ k) × (m ≡ q.member))
+      contributions l m x (inl y) = inr (y.0, y.1)
+      contributions l m x (inr y) = inl (λ z. x (y.1 ∙ z))
 
       gives : (s : ℕ) → put_in v.given k q.member (Some bytes) (at q s) q.member ≢ None → ((at q s ≡ k) × (q.member ≡ q.member) × (put_in v.given k q.member (Some bytes) (at q s) q.member ≡ Some bytes)) ⊎ (((at q s ≡ k) → (q.member ≡ q.member) → ⊥) × (put_in v.given k q.member (Some bytes) (at q s) q.member ≡ v.given (at q s) q.member)) → s < suc q.starts
       gives s x (inl y) = let e : s ≡ q.starts = ap (λ (l : Key). l.start) y.0 in omega arith
@@ -186,7 +186,7 @@ nobody v paths b k last m = go (paths k m) refl
 
 pub base_dissolves : (v : Tables) (paths : Paths) → Base v paths → (k : Key) → IsLast v k → Base (dissolving v k) paths
 base_dissolves v paths b k last = record {
-  tracks = retracked v paths b.tracks k gifts letters paths
+  tracks = retracked v paths b.tracks k contributions messages paths
       (λ l d. record { given = λ r. ap (λ (f : ℕ → Option (List ℕ)). f r) (off_key v.given k (λ m. None) l d); progress = λ r. refl; mail = λ x r j. ap (λ (f : Mail). f x r j) (off_key v.mail k (λ x y z. None) l d) })
       empty (tracks_empty (size v.setting k.comm) (family_at v k))
       (record { given = λ r. ap (λ (f : ℕ → Option (List ℕ)). f r) (at_key v.given k (λ m. None) k refl); progress = nobody v paths b k last; mail = λ x r j. ap (λ (f : Mail). f x r j) (at_key v.mail k (λ x y z. None) k refl) });
@@ -204,11 +204,11 @@ base_dissolves v paths b k last = record {
   gave = λ i q e s x. b.gave i q e s (less (at q s) q.member x (split_key (at q s) k));
 }
   where
-    gifts : Gifts
-    gifts = put_key v.given k (λ m. None)
+    contributions : Gifts
+    contributions = put_key v.given k (λ m. None)
 
-    letters : Key → Mail
-    letters = put_key v.mail k (λ x y z. None)
+    messages : Key → Mail
+    messages = put_key v.mail k (λ x y z. None)
 
     less : (l : Key) (m : ℕ) → put_key v.given k (λ m. None) l m ≢ None → (l ≡ k) ⊎ (l ≢ k) → v.given l m ≢ None
     less l m x (inl e) = absurd (x (ap (λ (f : ℕ → Option (List ℕ)). f m) (at_key v.given k (λ m. None) l e)))

@@ -48,7 +48,7 @@ pub record Changes (v : Tables) (paths : Paths) (i : ℕ) (q : Live) (k : Key) (
   pub active : (r : Live) → o ≡ Some r → r.active ≡ true → (key r ≡ k) × (after k q.member ≡ Some (progress r)) × (seats k q.member ≡ Some i)
   pub owner : (j : ℕ) → seats k q.member ≡ Some j → Owned (put v.request i o) k q.member j
   pub on_way : (p : Progress) → after k q.member ≡ Some p → seats k q.member ≢ None
-  pub gifts : (l : Key) (m : ℕ) → given l m ≢ None → (v.given l m ≢ None) ⊎ ((l ≡ k) × (m ≡ q.member))
+  pub contributions : (l : Key) (m : ℕ) → given l m ≢ None → (v.given l m ≢ None) ⊎ ((l ≡ k) × (m ≡ q.member))
   pub gave : (r : Live) → o ≡ Some r → (s : ℕ) → given (at q s) q.member ≢ None → s < r.starts
   pub tracks : (l : Key) → Tracks (size v.setting l.comm) (family_at v l) (record { given = given l; progress = after l; mail = mail l })
 
@@ -87,7 +87,7 @@ module _ (v : Tables) (paths : Paths) (b : Base v paths) (i : ℕ) (q : Live) (k
     agreed = b.agreed;
     signs = b.signs;
     planned = b.planned;
-    posted = λ l m e. has_posted l m (c.gifts l m e);
+    posted = λ l m e. has_posted l m (c.contributions l m e);
     gave = λ j r e s x. gives j r s x (put_cases v.request i o j (Some r) e);
   }
     where
@@ -130,7 +130,7 @@ module _ (v : Tables) (paths : Paths) (b : Base v paths) (i : ℕ) (q : Live) (k
       gives j r s x (inl h) =
           let a = c.kin r h.1 in
           c.gave r h.1 s (λ n. x ((λ z. given (record { comm = a.comm z; place = a.place z; start = s }) (a.member z)) ∙ n))
-      gives j r s x (inr h) = go (c.gifts (at r s) r.member x)
+      gives j r s x (inr h) = go (c.contributions (at r s) r.member x)
         where
           go : (v.given (at r s) r.member ≢ None) ⊎ ((at r s ≡ k) × (r.member ≡ q.member)) → s < r.starts
           go (inl y) = b.gave j r h.1 s y

@@ -18,7 +18,7 @@ use Rattle.coll_match.specs.Held.{put_mail}
 use Rattle.coll_machine.specs.Changes.{put_key}
 use Rattle.coll_match.specs.Instances.{mail}
 use Rattle.coll_machine.specs.Settings.{Setting, size}
-use Rattle.coll_tables.specs.Requests.{Live, key, went}
+use Rattle.coll_tables.specs.Requests.{Live, key, advanced}
 use Rattle.coll_tables.specs.Tables.{Mail, Tables, machine}
 use Rattle.coll_tables.specs.Sound.{next, Doable, Stands, ready, running, idle, queued, done, Called, IsSound}
 use Rattle.coll_tables.specs.Changes.{acting, rehoming}
@@ -27,7 +27,7 @@ use Rattle.coll_tables.specs.Machines.{MayFinish}
 use Rattle.coll_tables.specs.Remaining.{actions_left}
 use Rattle.coll_tables.specs.Shown.{Instances, seen, listed, tables, weight, weight_by}
 use Rattle.coll_tables.specs.Cores.{IsCore}
-use Rattle.coll_tables.specs.Engines.{GoesOn, IsCalled, KeepsGifts, Wakens}
+use Rattle.coll_tables.specs.Engines.{Advances, IsCalled, KeepsContributions, Wakens}
 use Rattle.coll_tables.specs.EngineLaws.{ActsOnce}
 use Rattle.coll_tables.proofs.EngineStatements.{ComputeCore, ReceiveCore, MoveCore}
 use Rattle.coll_tables.proofs.Holding.{put_self}
@@ -51,7 +51,7 @@ pub weighs : {R : Type 0} (shown : R → Live) (g : Setting) (a : Slots R) (q : 
 weighs shown g a q m c i x e = ap (λ (f : ℕ → ℕ). f i) c.weights ∙ ap weight_by e
 
 module _ {R : Type 0} (shown : R → Live) (g : Setting) (a b : Slots R) (q : Postings) (m n : Instances) (t : Ticket) (x y : R) (act : Action) (o : Progress) (list : ℕ)
-    (c : IsCore shown g a q m) (h : GoesOn shown a b n t x y act o list) (k : KeepsGifts m n) where
+    (c : IsCore shown g a q m) (h : Advances shown a b n t x y act o list) (k : KeepsContributions m n) where
   abbrev v : Tables
   v = tables shown g a q m
 
@@ -71,7 +71,7 @@ module _ {R : Type 0} (shown : R → Live) (g : Setting) (a b : Slots R) (q : Po
   there = ap (λ (z : Live). z.active) h.is ∙ h.active
 
   -- the new request as the tables show it
-  lies_as : listed list (shown y) ≡ went p o
+  lies_as : listed list (shown y) ≡ advanced p o
   lies_as = listed_stands p.members list (mail n (key p)) (shown y) h.stands there ∙ h.is
 
   generations : generation_of b ≡ generation_of a
@@ -91,10 +91,10 @@ module _ {R : Type 0} (shown : R → Live) (g : Setting) (a b : Slots R) (q : Po
       mail = e z;
     }
 
-    pub mine : Stands (size g p.comm) (mails (key p)) (home b t.slot) (went p o)
-    mine = subst (λ s. Stands s (mails (key p)) (home b t.slot) (went p o)) sized
-        (subst (λ (f : Key → Mail). Stands p.members (f (key p)) (home b t.slot) (went p o)) e
-        (subst (λ l. Stands p.members (mail n (key p)) l (went p o)) (sym (home_here a b t.slot t.generation (weight_of a t.slot) list (Some y) h.puts))
+    pub mine : Stands (size g p.comm) (mails (key p)) (home b t.slot) (advanced p o)
+    mine = subst (λ s. Stands s (mails (key p)) (home b t.slot) (advanced p o)) sized
+        (subst (λ (f : Key → Mail). Stands p.members (f (key p)) (home b t.slot) (advanced p o)) e
+        (subst (λ l. Stands p.members (mail n (key p)) l (advanced p o)) (sym (home_here a b t.slot t.generation (weight_of a t.slot) list (Some y) h.puts))
         (subst (λ (r : Live). Stands p.members (mail n (key p)) list r) h.is h.stands)))
 
   pub acts : Acts v t.slot p act o (home b)
@@ -121,7 +121,7 @@ module _ {R : Type 0} (shown : R → Live) (g : Setting) (a b : Slots R) (q : Po
     lowers = ap (λ (u : Tables). suc (actions_left u)) (acted mails e) ∙ acts_lower v t.slot p act o mails (home b) c.sound acts;
   }
 
-same_gifts : (m : Instances) → KeepsGifts m m
+same_gifts : (m : Instances) → KeepsContributions m m
 same_gifts m = record { members = refl; given = refl; seats = refl }
 
 pub compute_core : {R : Type 0} → ComputeCore R
@@ -156,36 +156,36 @@ seen_some shown l None q e = absurd (none-some q e)
 seen_some shown l (Some r) q e = (r, refl, same_Some (listed l (shown r)) q e)
 
 module _ {R : Type 0} (shown : R → Live) (g : Setting) (a b : Slots R) (q : Postings) (m n : Instances) (t : Ticket) (x y : R) (to : ℕ) (from : Region) (o : Progress) (list : ℕ)
-    (c : IsCore shown g a q m) (h : GoesOn shown a b n t x y (Send to from) o list) (k : KeepsGifts m n)
+    (c : IsCore shown g a q m) (h : Advances shown a b n t x y (Send to from) o list) (k : KeepsContributions m n)
     (mails : mail n ≡ put_key (mail m) (key (shown x)) (put_mail (mail m (key (shown x))) (shown x).member to (shown x).round (Some (read_of (shown x).buf from))))
     (buf : o.buf ≡ (shown x).buf) where
   abbrev before : Tables
   before = tables shown g a q m
 
-  abbrev letters : Key → Mail
-  letters = delivered before (shown x) to from
+  abbrev messages : Key → Mail
+  messages = delivered before (shown x) to from
 
   abbrev after : Tables
-  after = acting before t.slot (shown x) o letters (home b)
+  after = acting before t.slot (shown x) o messages (home b)
 
-  mails_are : (λ (l : Key). mail n l) ≡ letters
+  mails_are : (λ (l : Key). mail n l) ≡ messages
   mails_are = λ z l. mails z l
 
   is_after : tables shown g b q n ≡ after
-  is_after = acted shown g a b q m n t x y (Send to from) o list c h k letters mails_are
+  is_after = acted shown g a b q m n t x y (Send to from) o list c h k messages mails_are
 
   actions : Acts before t.slot (shown x) (Send to from) o (home b)
   actions = acts shown g a b q m n t x y (Send to from) o list c h k
 
   both : (((j : ℕ) → Wakes after (key (shown x)) to j → ⊥) → IsSound after × MayFinish g (machine before) (machine after))
       × ((j : ℕ) (later : ℕ → ℕ) → Wakes after (key (shown x)) to j → later j ≡ 2 → Away after j later → IsSound (rehoming after later) × MayFinish g (machine before) (machine (rehoming after later)))
-  both = send_keeps before t.slot (shown x) to from o (home b) c.sound actions buf (mine shown g a b q m n t x y (Send to from) o list c h k letters mails_are)
+  both = send_keeps before t.slot (shown x) to from o (home b) c.sound actions buf (mine shown g a b q m n t x y (Send to from) o list c h k messages mails_are)
 
-  still_sized : (j : ℕ) (r : Live) → put before.request t.slot (Some (went (shown x) o)) j ≡ Some r → r.members ≡ size g r.comm
-  still_sized j r e = go (put_cases before.request t.slot (Some (went (shown x) o)) j (Some r) e)
+  still_sized : (j : ℕ) (r : Live) → put before.request t.slot (Some (advanced (shown x) o)) j ≡ Some r → r.members ≡ size g r.comm
+  still_sized j r e = go (put_cases before.request t.slot (Some (advanced (shown x) o)) j (Some r) e)
     where
-      go : ((j ≡ t.slot) × (Some (went (shown x) o) ≡ Some r)) ⊎ ((j ≢ t.slot) × (before.request j ≡ Some r)) → r.members ≡ size g r.comm
-      go (inl z) = subst (λ (p : Live). p.members ≡ size g p.comm) (same_Some (went (shown x) o) r z.1) (sized shown g a b q m n t x y (Send to from) o list c h k)
+      go : ((j ≡ t.slot) × (Some (advanced (shown x) o) ≡ Some r)) ⊎ ((j ≢ t.slot) × (before.request j ≡ Some r)) → r.members ≡ size g r.comm
+      go (inl z) = subst (λ (p : Live). p.members ≡ size g p.comm) (same_Some (advanced (shown x) o) r z.1) (sized shown g a b q m n t x y (Send to from) o list c h k)
       go (inr z) = c.sound.sound.base.sized j r z.1
 
   -- whom the tables call the arena calls
@@ -206,7 +206,7 @@ module _ {R : Type 0} (shown : R → Live) (g : Setting) (a b : Slots R) (q : Po
   pub unwoken : ((j : ℕ) (r : R) → IsCalled shown b n (key (shown x)) to j r → ⊥) → ActsOnce shown g a b q m n
   unwoken none =
       let s = both.0 (λ j w. let r = calls j w in none j r.0 r.1) in
-      once shown g a b q m n t x y (Send to from) o list c h k letters mails_are s.0 s.1
+      once shown g a b q m n t x y (Send to from) o list c h k messages mails_are s.0 s.1
 
   module _ (d : Slots R) (u : Ticket) (r : R) (w : Wakens shown b d n (key (shown x)) to u r) where
     awake : (shown r).active ≡ true
@@ -285,7 +285,7 @@ module _ {R : Type 0} (shown : R → Live) (g : Setting) (a b : Slots R) (q : Po
             weights = weights_of shown g b d u.slot u.generation (weight_of b u.slot) 2 (Some r) w.puts heavy_before heavy_now;
           };
           steps = subst (λ (z : Tables). MayFinish g (machine before) (machine z)) (sym is_later) s.1;
-          lowers = ap (λ (z : Tables). suc (actions_left z)) is_later ∙ acts_lower before t.slot (shown x) (Send to from) o letters (home b) c.sound actions;
+          lowers = ap (λ (z : Tables). suc (actions_left z)) is_later ∙ acts_lower before t.slot (shown x) (Send to from) o messages (home b) c.sound actions;
         }
       where
         heavy_before : weight_of b ≡ (λ j. weight_by (seen (home b j) (option_map shown (record_in b j))))

@@ -45,7 +45,7 @@ put_own {X} f k = λ z l. here l (split_key l k) z
     here l (inl e) = at_key f k (f k) l e ∙ ap f (sym e)
     here l (inr d) = off_key f k (f k) l d
 
--- an instance that has a gift stands
+-- an instance that has a contribution stands
 stands_given : (o : Option Held) (member : ℕ) → given_of o member ≢ None → (n : ℕ) × (members_of o ≡ Some n)
 stands_given None member h = absurd (h refl)
 stands_given (Some x) member h = (length x.shares, refl)
@@ -129,14 +129,14 @@ module _ {R : Type 0} (shown : R → Live) (g : Setting) (a b : Slots R) (q : Po
   abbrev by_last : {X : Type 0} → X → X → X
   by_last y z = cond last y z
 
-  gifts : ◌≡◌ {A = Key → ℕ → Option (List ℕ)} (λ l. given n l) (put_key v.given (key p) (cond last (λ _. None) (v.given (key p))))
-  gifts = λ z l. h.left.given z l
+  contributions : ◌≡◌ {A = Key → ℕ → Option (List ℕ)} (λ l. given n l) (put_key v.given (key p) (cond last (λ _. None) (v.given (key p))))
+  contributions = λ z l. h.left.given z l
 
   notes : ◌≡◌ {A = Key → ℕ → Option ℕ} (λ l. seats n l) (put_in v.seats (key p) p.member None)
   notes = λ z l. h.left.seats z l
 
-  letters : ◌≡◌ {A = Key → Mail} (λ l. mail n l) (put_key v.mail (key p) (cond last (λ _ _ _. None) (v.mail (key p))))
-  letters = λ z l. h.left.mail z l
+  messages : ◌≡◌ {A = Key → Mail} (λ l. mail n l) (put_key v.mail (key p) (cond last (λ _ _ _. None) (v.mail (key p))))
+  messages = λ z l. h.left.mail z l
 
   leaves_with : (given_is : Key → ℕ → Option (List ℕ)) (mail_is : Key → Mail) → ◌≡◌ {A = Key → ℕ → Option (List ℕ)} (λ l. given n l) given_is → ◌≡◌ {A = Key → Mail} (λ l. mail n l) mail_is
       → tables shown g b q n ≡ record { setting = g; generation = v.generation; request = put v.request t.slot (rests p); home = home b; posts = v.posts; signed = v.signed; given = given_is; seats = put_in v.seats (key p) p.member None; mail = mail_is }
@@ -188,14 +188,14 @@ module _ {R : Type 0} (shown : R → Live) (g : Setting) (a b : Slots R) (q : Po
       by : (d : Bool) → last ≡ d → IsSound (tables shown g b q n) × Step (tables shown g b q n)
       by false e =
           let is : tables shown g b q n ≡ leaving v t.slot p (home b) = leaves_with v.given v.mail
-          (gifts ∙ (ap (λ d. put_key v.given (key p) (cond d (λ _. None) (v.given (key p)))) e ∙ put_own v.given (key p)))
-          (letters ∙ (ap (λ d. put_key v.mail (key p) (cond d (λ _ _ _. None) (v.mail (key p)))) e ∙ put_own v.mail (key p))) in
+          (contributions ∙ (ap (λ d. put_key v.given (key p) (cond d (λ _. None) (v.given (key p)))) e ∙ put_own v.given (key p)))
+          (messages ∙ (ap (λ d. put_key v.mail (key p) (cond d (λ _ _ _. None) (v.mail (key p)))) e ∙ put_own v.mail (key p))) in
           let both = retire_keeps v t.slot p rank bytes (home b) c.sound retiring (λ l. false≢true (sym e ∙ h.left.last_is.1 (there_last l))) in
           subst (λ (u : Tables). IsSound u × Step u) (sym is) both
       by true e =
           let is : tables shown g b q n ≡ dissolving (leaving v t.slot p (home b)) (key p) = leaves_with (put_key v.given (key p) (λ _. None)) (put_key v.mail (key p) (λ _ _ _. None))
-          (gifts ∙ ap (λ d. put_key v.given (key p) (cond d (λ _. None) (v.given (key p)))) e)
-          (letters ∙ ap (λ d. put_key v.mail (key p) (cond d (λ _ _ _. None) (v.mail (key p)))) e) in
+          (contributions ∙ ap (λ d. put_key v.given (key p) (cond d (λ _. None) (v.given (key p)))) e)
+          (messages ∙ ap (λ d. put_key v.mail (key p) (cond d (λ _ _ _. None) (v.mail (key p)))) e) in
           let both = last_retire_keeps v t.slot p rank bytes (home b) c.sound retiring (last_there (h.left.last_is.0 e)) in
           subst (λ (u : Tables). IsSound u × Step u) (sym is) both
 

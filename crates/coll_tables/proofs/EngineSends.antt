@@ -20,7 +20,7 @@ use Rattle.coll_match.specs.Held.{put_mail}
 use Rattle.coll_machine.specs.Changes.{put_key}
 use Rattle.coll_match.specs.Instances.{mail}
 use Rattle.coll_machine.specs.Settings.{Setting, size}
-use Rattle.coll_tables.specs.Requests.{Live, key, went}
+use Rattle.coll_tables.specs.Requests.{Live, key, advanced}
 use Rattle.coll_tables.specs.Tables.{Mail, Tables, machine}
 use Rattle.coll_tables.specs.Sound.{next, Stands, Called, IsSound}
 use Rattle.coll_tables.specs.Changes.{acting, rehoming}
@@ -29,7 +29,7 @@ use Rattle.coll_tables.specs.Machines.{MayFinish}
 use Rattle.coll_tables.specs.Remaining.{actions_left}
 use Rattle.coll_tables.specs.Shown.{Instances, seen, listed, tables, weight, weight_by}
 use Rattle.coll_tables.specs.Cores.{IsCore}
-use Rattle.coll_tables.specs.Engines.{GoesOn, IsCalled, KeepsGifts, Wakens}
+use Rattle.coll_tables.specs.Engines.{Advances, IsCalled, KeepsContributions, Wakens}
 use Rattle.coll_tables.specs.EngineLaws.{ActsOnce}
 use Rattle.coll_tables.proofs.EngineStatements.{SendCore}
 use Rattle.coll_tables.proofs.Holding.{put_self}
@@ -41,7 +41,7 @@ use Rattle.coll_tables.proofs.EngineActions.{going_on, queue_called, shown_here,
 -- ---- nobody is called
 
 module _ {R : Type 0} (shown : R → Live) (g : Setting) (a c : Slots R) (q : Postings) (m n : Instances) (t : Ticket) (x y : R) (to : ℕ) (from : Region) (o : Progress) (list : ℕ) (k : Key)
-    (h : GoesOn shown a c n t x y (Send to from) o list) (none : (j : ℕ) (r : R) → IsCalled shown a n k to j r → ⊥) where
+    (h : Advances shown a c n t x y (Send to from) o list) (none : (j : ℕ) (r : R) → IsCalled shown a n k to j r → ⊥) where
   -- nor is anybody when the sender has gone on
   still_none : (j : ℕ) (r : R) → IsCalled shown c n k to j r → ⊥
   still_none j r w = go (cases_eq j t.slot)
@@ -75,7 +75,7 @@ module _ {R : Type 0} (shown : R → Live) (g : Setting) (a c : Slots R) (q : Po
 -- ---- one request is woken
 
 module _ {R : Type 0} (shown : R → Live) (g : Setting) (a b c : Slots R) (q : Postings) (m n : Instances) (t u : Ticket) (x y r : R) (to : ℕ) (from : Region) (o : Progress) (list : ℕ)
-    (s : IsCore shown g a q m) (w : Wakens shown a b n (key (shown x)) to u r) (h : GoesOn shown b c n t x y (Send to from) o list) (k : KeepsGifts m n)
+    (s : IsCore shown g a q m) (w : Wakens shown a b n (key (shown x)) to u r) (h : Advances shown b c n t x y (Send to from) o list) (k : KeepsContributions m n)
     (mails : mail n ≡ put_key (mail m) (key (shown x)) (put_mail (mail m (key (shown x))) (shown x).member to (shown x).round (Some (read_of (shown x).buf from))))
     (buf : o.buf ≡ (shown x).buf) where
   abbrev v : Tables
@@ -84,10 +84,10 @@ module _ {R : Type 0} (shown : R → Live) (g : Setting) (a b c : Slots R) (q : 
   abbrev p : Live
   p = shown x
 
-  abbrev letters : Key → Mail
-  letters = delivered v p to from
+  abbrev messages : Key → Mail
+  messages = delivered v p to from
 
-  mails_are : (λ (l : Key). mail n l) ≡ letters
+  mails_are : (λ (l : Key). mail n l) ≡ messages
   mails_are = λ z l. mails z l
 
   -- the woken request as it lay
@@ -129,7 +129,7 @@ module _ {R : Type 0} (shown : R → Live) (g : Setting) (a b c : Slots R) (q : 
   sized : p.members ≡ size g p.comm
   sized = s.sound.sound.base.sized t.slot p here
 
-  -- the homes as if the sender went on first
+  -- the homes as if the sender advanced on first
   abbrev homes : ℕ → ℕ
   homes = put (home a) t.slot list
 
@@ -142,14 +142,14 @@ module _ {R : Type 0} (shown : R → Live) (g : Setting) (a b c : Slots R) (q : 
     away = λ j d. put_other (home a) t.slot list j d;
   }
 
-  mine : Stands (size g p.comm) (letters (key p)) (homes t.slot) (went p o)
-  mine = subst (λ z. Stands z (letters (key p)) (homes t.slot) (went p o)) sized
-      (subst (λ (f : Key → Mail). Stands p.members (f (key p)) (homes t.slot) (went p o)) mails_are
-      (subst (λ l. Stands p.members (mail n (key p)) l (went p o)) (sym (put_same (home a) t.slot list))
+  mine : Stands (size g p.comm) (messages (key p)) (homes t.slot) (advanced p o)
+  mine = subst (λ z. Stands z (messages (key p)) (homes t.slot) (advanced p o)) sized
+      (subst (λ (f : Key → Mail). Stands p.members (f (key p)) (homes t.slot) (advanced p o)) mails_are
+      (subst (λ l. Stands p.members (mail n (key p)) l (advanced p o)) (sym (put_same (home a) t.slot list))
       (subst (λ (z : Live). Stands p.members (mail n (key p)) list z) h.is h.stands)))
 
   abbrev after : Tables
-  after = acting v t.slot p o letters homes
+  after = acting v t.slot p o messages homes
 
   other : u.slot ≢ t.slot
   other e = apart (sym e)
@@ -158,7 +158,7 @@ module _ {R : Type 0} (shown : R → Live) (g : Setting) (a b c : Slots R) (q : 
   wakes = record {
     req = shown r;
     seat = sym (ap (λ (f : Key → ℕ → Option ℕ). f (key p) to) k.seats) ∙ w.seat;
-    is = put_other v.request t.slot (Some (went p o)) u.slot other ∙ waited;
+    is = put_other v.request t.slot (Some (advanced p o)) u.slot other ∙ waited;
     called = subst (λ (f : Key → Mail). Called (size g (shown r).comm) (f (key (shown r))) (homes u.slot) (shown r)) mails_are
         (subst (λ z. Called z (mail n (key (shown r))) (homes u.slot) (shown r)) fits
         (subst (λ l. Called (shown r).members (mail n (key (shown r))) l (shown r)) (sym (put_other (home a) t.slot list u.slot other)) called));
@@ -167,7 +167,7 @@ module _ {R : Type 0} (shown : R → Live) (g : Setting) (a b c : Slots R) (q : 
   lies_ready : listed 2 (shown r) ≡ shown r
   lies_ready = listed_stands (shown r).members 2 (mail n (key (shown r))) (shown r) w.ready awake
 
-  lies_on : listed list (shown y) ≡ went p o
+  lies_on : listed list (shown y) ≡ advanced p o
   lies_on = listed_stands p.members list (mail n (key p)) (shown y) h.stands (ap (λ (z : Live). z.active) h.is ∙ h.active) ∙ h.is
 
   same_requests : ◌≡◌ {A = ℕ → Option Live} (λ j. seen (home b j) (option_map shown (record_in b j))) (λ j. seen (home a j) (option_map shown (record_in a j)))
@@ -216,11 +216,11 @@ module _ {R : Type 0} (shown : R → Live) (g : Setting) (a b c : Slots R) (q : 
           weights = weights_of shown g b c t.slot t.generation (weight_of b t.slot) list (Some y) h.puts heavy_between heavy_on;
         };
         steps = subst (λ (z : Tables). MayFinish g (machine v) (machine z)) (sym is_later) both.1;
-        lowers = ap (λ (z : Tables). suc (actions_left z)) is_later ∙ acts_lower v t.slot p (Send to from) o letters homes s.sound acts;
+        lowers = ap (λ (z : Tables). suc (actions_left z)) is_later ∙ acts_lower v t.slot p (Send to from) o messages homes s.sound acts;
       }
 
 pub send_core : {R : Type 0} → SendCore R
 send_core {R} shown g a b c q m n t x y to from o list s (inl none) h k mails buf =
-    let goes : GoesOn shown a c n t x y (Send to from) o list = subst (λ (z : Slots R). GoesOn shown z c n t x y (Send to from) o list) none.1 h in
+    let goes : Advances shown a c n t x y (Send to from) o list = subst (λ (z : Slots R). Advances shown z c n t x y (Send to from) o list) none.1 h in
     unwoken shown g a c q m n t x y to from o list s goes k mails buf (still_none shown g a c q m n t x y to from o list (key (shown x)) goes none.0)
 send_core {R} shown g a b c q m n t x y to from o list s (inr w) h k mails buf = woken_first shown g a b c q m n t w.0 x y w.1 to from o list s w.2 h k mails buf

@@ -21,7 +21,7 @@ use Rattle.coll_tables.specs.Sound.{Doable, next}
 use Rattle.coll_tables.specs.Remaining.{actions_left}
 use Rattle.coll_tables.specs.Shown.{Instances, tables}
 use Rattle.coll_tables.specs.Cores.{IsCore}
-use Rattle.coll_tables.specs.Engines.{Delivers, GoesOn, KeepsGifts, Moves}
+use Rattle.coll_tables.specs.Engines.{Delivers, Advances, KeepsContributions, Moves}
 use Rattle.coll_tables.specs.EngineLaws.{ActsOnce}
 
 abbrev pub ComputeCore : Type 0 → Type 0
@@ -29,7 +29,7 @@ ComputeCore R =
     (shown : R → Live) (g : Setting) (a b : Slots R) (q : Postings) (m : Instances)
     (t : Ticket) (x y : R) (act : Action) (o : Progress) (list : ℕ)
     → IsCore shown g a q m
-    → GoesOn shown a b m t x y act o list
+    → Advances shown a b m t x y act o list
     → IsLocal act
     → o.buf ≡ wrote (λ from. []) (shown x).buf act (shown x).buf
     → ActsOnce shown g a b q m m
@@ -39,8 +39,8 @@ ReceiveCore R =
     (shown : R → Live) (g : Setting) (a b : Slots R) (q : Postings) (m n : Instances)
     (t : Ticket) (x y : R) (of : ℕ) (into : Region) (bytes : List ℕ) (o : Progress) (list : ℕ)
     → IsCore shown g a q m
-    → GoesOn shown a b n t x y (Recv of into) o list
-    → KeepsGifts m n
+    → Advances shown a b n t x y (Recv of into) o list
+    → KeepsContributions m n
     → mail m (key (shown x)) of (shown x).member (shown x).round ≡ Some bytes
     → mail n ≡ put_key (mail m) (key (shown x))
     (put_mail (mail m (key (shown x))) of (shown x).member (shown x).round None)
@@ -54,8 +54,8 @@ SendCore R =
     (t : Ticket) (x y : R) (to : ℕ) (from : Region) (o : Progress) (list : ℕ)
     → IsCore shown g a q m
     → Delivers shown a b n (key (shown x)) to
-    → GoesOn shown b c n t x y (Send to from) o list
-    → KeepsGifts m n
+    → Advances shown b c n t x y (Send to from) o list
+    → KeepsContributions m n
     → mail n ≡ put_key (mail m) (key (shown x))
     (put_mail (mail m (key (shown x))) (shown x).member to (shown x).round (Some (read_of (shown x).buf from)))
     → o.buf ≡ (shown x).buf

@@ -12,7 +12,7 @@ use Rattle.coll_arena.specs.Totals.{sum_to}
 use Rattle.coll_arena.proofs.Totals.{sum_to-put}
 use Rattle.coll_machine.specs.Settings.{size}
 use Rattle.coll_plans.specs.Plans.{IsPlanned, family, most_actions}
-use Rattle.coll_tables.specs.Requests.{Live, key, went}
+use Rattle.coll_tables.specs.Requests.{Live, key, advanced}
 use Rattle.coll_tables.specs.Tables.{Tables}
 use Rattle.coll_tables.specs.Sound.{Stands, ready, running, idle, queued, done, IsSound}
 use Rattle.coll_tables.specs.Remaining.{left_of, left_by, actions_left}
@@ -71,8 +71,8 @@ acts_lower v i q a o mail home s h =
     let low : remaining (f q.member) q.round q.index ≡ suc (remaining (f q.member) q.round (suc q.index)) = lowers_remaining (f q.member) q.round q.index within in
     let keep : remaining (f q.member) o.round o.index ≡ remaining (f q.member) q.round (suc q.index) = subst (λ m. remaining (family q.sig m q.member) o.round o.index ≡ remaining (family q.sig m q.member) q.round (suc q.index)) (sym sized) (keeps_remaining (family q.sig n q.member) q.round (suc q.index) o.round o.index h.over) in
     let was : left_by (v.request i) ≡ remaining (f q.member) q.round q.index = ap left_by h.here ∙ left_active v s i q h.here t in
-    let is : left_of (went q o) ≡ remaining (f q.member) o.round o.index = cond-true q.active (remaining (f q.member) o.round o.index) 0 t in
-    let sum : actions_left (record { setting = v.setting; generation = v.generation; request = put v.request i (Some (went q o)); home = home; posts = v.posts; signed = v.signed; given = v.given; seats = v.seats; mail = mail }) + left_by (v.request i) ≡ actions_left v + left_of (went q o) = sum_to-put left_by v.request i (Some (went q o)) v.setting.slots (s.sound.numbered i q h.here).0 in
+    let is : left_of (advanced q o) ≡ remaining (f q.member) o.round o.index = cond-true q.active (remaining (f q.member) o.round o.index) 0 t in
+    let sum : actions_left (record { setting = v.setting; generation = v.generation; request = put v.request i (Some (advanced q o)); home = home; posts = v.posts; signed = v.signed; given = v.given; seats = v.seats; mail = mail }) + left_by (v.request i) ≡ actions_left v + left_of (advanced q o) = sum_to-put left_by v.request i (Some (advanced q o)) v.setting.slots (s.sound.numbered i q h.here).0 in
     omega arith
 
 pub little_left : LittleLeft

@@ -14,7 +14,7 @@ use Rattle.coll_arena.specs.declared.list_name.ListName.{ListName}
 use Rattle.coll_arena.specs.declared.list_name.ListName.TheVariants.{Free, Worn, Ready, Done}
 use Rattle.coll_arena.specs.ListNames.{number_of}
 use Rattle.coll_machine.specs.Rows.{two_ranks, plan, key}
-use Rattle.coll_tables.specs.Requests.{went}
+use Rattle.coll_tables.specs.Requests.{advanced}
 use Rattle.coll_tables.specs.Tables.{Tables}
 use Rattle.coll_tables.specs.Changes.{posting, leaving}
 use Rattle.coll_tables.specs.Calls.{Acts, Away, Comes, IsLast, New, Retiring, Wakes}
@@ -129,7 +129,7 @@ root_copies =
     compute_keeps sent 0 copier (Copy (byte 1) (byte 0)) (at 1 0 kept) (moved sent 0 (Done 0)) root_sends.0
     root_copies_one tt refl (done refl refl root_ends)
 
-root_retires : Retiring copied 0 (went copier (at 1 0 kept)) 0 (7 ∷ []) (moved copied 0 Free)
+root_retires : Retiring copied 0 (advanced copier (at 1 0 kept)) 0 (7 ∷ []) (moved copied 0 Free)
 root_retires = record {
   here = refl;
   list = refl;
@@ -145,7 +145,7 @@ not_last h = (h 1 (omega arith)).0 refl
 
 root_leaves : RootLeaves
 root_leaves =
-    retire_keeps copied 0 (went copier (at 1 0 kept)) 0 (7 ∷ []) (moved copied 0 Free) root_copies.0
+    retire_keeps copied 0 (advanced copier (at 1 0 kept)) 0 (7 ∷ []) (moved copied 0 Free) root_copies.0
     root_retires not_last
 
 -- ---- rank 1
@@ -183,7 +183,7 @@ other_receives =
     receive_keeps posted_late 0 receiver 0 (byte 0) (8 ∷ []) (at 1 0 (8 ∷ [])) (moved posted_late 0 (Done 0))
     other_posts.0 other_receives_one refl refl (done refl refl other_ends)
 
-other_retires : Retiring received_late 0 (went receiver (at 1 0 (8 ∷ []))) 1 (8 ∷ []) (moved received_late 0 Worn)
+other_retires : Retiring received_late 0 (advanced receiver (at 1 0 (8 ∷ []))) 1 (8 ∷ []) (moved received_late 0 Worn)
 other_retires = record {
   here = refl;
   list = refl;
@@ -194,14 +194,14 @@ other_retires = record {
 }
 
 -- both have given, and no slot is noted
-last : IsLast (leaving received_late 0 (went receiver (at 1 0 (8 ∷ []))) (moved received_late 0 Worn)) (key 0)
+last : IsLast (leaving received_late 0 (advanced receiver (at 1 0 (8 ∷ []))) (moved received_late 0 Worn)) (key 0)
 last zero low = ((λ none. none-some both (sym none)), refl)
 last (suc zero) low = ((λ none. none-some [] (sym none)), refl)
 last (suc (suc m)) low = absurd (omega arith)
 
 other_leaves : OtherLeaves
 other_leaves =
-    last_retire_keeps received_late 0 (went receiver (at 1 0 (8 ∷ []))) 1 (8 ∷ []) (moved received_late 0 Worn)
+    last_retire_keeps received_late 0 (advanced receiver (at 1 0 (8 ∷ []))) 1 (8 ∷ []) (moved received_late 0 Worn)
     other_receives.0 other_retires last
 
 pub rows_are_sound : RowsAreSound

@@ -20,7 +20,7 @@ use Rattle.coll_machine.specs.Settings.{size}
 use Rattle.coll_machine.specs.declared.key.Key.{Key}
 use Rattle.coll_machine.specs.Changes.{put_key, put_in}
 use Rattle.coll_plans.specs.Plans.{family}
-use Rattle.coll_tables.specs.Requests.{Live, at, key, progress, went, begun, rests}
+use Rattle.coll_tables.specs.Requests.{Live, at, key, progress, advanced, begun, rests}
 use Rattle.coll_tables.specs.Tables.{Mail, Tables, Paths, family_at, world}
 use Rattle.coll_tables.specs.Sound.{Base, next, Stands, Called, Lies, Sound}
 use Rattle.coll_tables.specs.Changes.{mailed, posting, joining, acting, leaving, dissolving, freeing, rehoming}
@@ -207,18 +207,18 @@ module _ (v : Tables) (paths : Paths) (s : Sound v paths) (i : ℕ) (q : Live) (
     abbrev track : (Key → Mail) → Type 0
     track mail = Tracks (size v.setting q.comm) (family_at v (key q)) (record { given = v.given (key q); progress = put (paths (key q)) q.member (Some o); mail = mail (key q) })
 
-    new_here : put v.request i (Some (went q o)) i ≡ Some (went q o)
-    new_here = put_same v.request i (Some (went q o))
+    new_here : put v.request i (Some (advanced q o)) i ≡ Some (advanced q o)
+    new_here = put_same v.request i (Some (advanced q o))
 
     -- a Copy or a Combine
     pub sound_compute : (a : Action) → next (size v.setting q.comm) q ≡ Some a → IsLocal a → o.buf ≡ wrote (λ x. []) q.buf a q.buf → Over (family q.sig (size v.setting q.comm) q.member) q.round (suc q.index) o.round o.index
-        → Stands (size v.setting q.comm) (v.mail (key q)) (home i) (went q o) → Sound (acting v i q o v.mail home) (put_in paths (key q) q.member (Some o))
+        → Stands (size v.setting q.comm) (v.mail (key q)) (home i) (advanced q o) → Sound (acting v i q o v.mail home) (put_in paths (key q) q.member (Some o))
     sound_compute a e loc b over mine = all_stand (acting v i q o v.mail home) (put_in paths (key q) q.member (Some o)) i (record {
       base = base_acts v paths s.base i q here t o v.mail home tracked (λ k d. refl);
-      stands = others v paths i (besides v paths i s) (Some (went q o)) home away v.mail (λ j r d e st. st);
-      lies = still v paths i (besides v paths i s) (Some (went q o)) home away;
-      numbered = kept v paths i (besides v paths i s) (Some (went q o)) home away (s.numbered i q here);
-    }) (went q o) new_here mine
+      stands = others v paths i (besides v paths i s) (Some (advanced q o)) home away v.mail (λ j r d e st. st);
+      lies = still v paths i (besides v paths i s) (Some (advanced q o)) home away;
+      numbered = kept v paths i (besides v paths i s) (Some (advanced q o)) home away (s.numbered i q here);
+    }) (advanced q o) new_here mine
       where
         tracked : track v.mail
         tracked = subst (λ (f : Family). Tracks (size v.setting q.comm) f (record { given = v.given (key q); progress = put (paths (key q)) q.member (Some o); mail = v.mail (key q) })) (sym (family_own v paths s.base i q here))
@@ -227,13 +227,13 @@ module _ (v : Tables) (paths : Paths) (s : Sound v paths) (i : ℕ) (q : Live) (
 
     -- a Recv whose message is there
     pub sound_receive : (of : ℕ) (into : Region) (bytes : List ℕ) → next (size v.setting q.comm) q ≡ Some (Recv of into) → v.mail (key q) of q.member q.round ≡ Some bytes → o.buf ≡ written q.buf into bytes → Over (family q.sig (size v.setting q.comm) q.member) q.round (suc q.index) o.round o.index
-        → Stands (size v.setting q.comm) (mailed v.mail (key q) of q.member q.round None (key q)) (home i) (went q o) → Sound (acting v i q o (mailed v.mail (key q) of q.member q.round None) home) (put_in paths (key q) q.member (Some o))
+        → Stands (size v.setting q.comm) (mailed v.mail (key q) of q.member q.round None (key q)) (home i) (advanced q o) → Sound (acting v i q o (mailed v.mail (key q) of q.member q.round None) home) (put_in paths (key q) q.member (Some o))
     sound_receive of into bytes e there b over mine = all_stand (acting v i q o (mailed v.mail (key q) of q.member q.round None) home) (put_in paths (key q) q.member (Some o)) i (record {
       base = base_acts v paths s.base i q here t o (mailed v.mail (key q) of q.member q.round None) home tracked (λ k d. off_key v.mail (key q) (put_mail (v.mail (key q)) of q.member q.round None) k d);
-      stands = others v paths i (besides v paths i s) (Some (went q o)) home away (mailed v.mail (key q) of q.member q.round None) (λ j r d h st. stands_took (size v.setting r.comm) (v.home j) v.mail (key q) of q.member q.round r (λ _ k. other_member j r d h k) st);
-      lies = still v paths i (besides v paths i s) (Some (went q o)) home away;
-      numbered = kept v paths i (besides v paths i s) (Some (went q o)) home away (s.numbered i q here);
-    }) (went q o) new_here mine
+      stands = others v paths i (besides v paths i s) (Some (advanced q o)) home away (mailed v.mail (key q) of q.member q.round None) (λ j r d h st. stands_took (size v.setting r.comm) (v.home j) v.mail (key q) of q.member q.round r (λ _ k. other_member j r d h k) st);
+      lies = still v paths i (besides v paths i s) (Some (advanced q o)) home away;
+      numbered = kept v paths i (besides v paths i s) (Some (advanced q o)) home away (s.numbered i q here);
+    }) (advanced q o) new_here mine
       where
         tracked : track (mailed v.mail (key q) of q.member q.round None)
         tracked = subst (λ (m : Mail). Tracks (size v.setting q.comm) (family_at v (key q)) (record { given = v.given (key q); progress = put (paths (key q)) q.member (Some o); mail = m })) (sym (at_key v.mail (key q) (put_mail (v.mail (key q)) of q.member q.round None) (key q) refl))
@@ -243,35 +243,35 @@ module _ (v : Tables) (paths : Paths) (s : Sound v paths) (i : ℕ) (q : Live) (
 
     -- a Send
     pub sent : (to : ℕ) (from : Region) → next (size v.setting q.comm) q ≡ Some (Send to from) → o.buf ≡ q.buf → Over (family q.sig (size v.setting q.comm) q.member) q.round (suc q.index) o.round o.index
-        → Stands (size v.setting q.comm) (mailed v.mail (key q) q.member to q.round (Some (read_of q.buf from)) (key q)) (home i) (went q o) → Sent (acting v i q o (mailed v.mail (key q) q.member to q.round (Some (read_of q.buf from))) home) (put_in paths (key q) q.member (Some o)) (key q) to
+        → Stands (size v.setting q.comm) (mailed v.mail (key q) q.member to q.round (Some (read_of q.buf from)) (key q)) (home i) (advanced q o) → Sent (acting v i q o (mailed v.mail (key q) q.member to q.round (Some (read_of q.buf from))) home) (put_in paths (key q) q.member (Some o)) (key q) to
     sent to from e b over mine = record {
-      base = base_acts v paths s.base i q here t o letters home tracked (λ k d. off_key v.mail (key q) (put_mail (v.mail (key q)) q.member to q.round (Some (read_of q.buf from))) k d);
-      stands = λ j r h. go j r (put_cases v.request i (Some (went q o)) j (Some r) h);
+      base = base_acts v paths s.base i q here t o messages home tracked (λ k d. off_key v.mail (key q) (put_mail (v.mail (key q)) q.member to q.round (Some (read_of q.buf from))) k d);
+      stands = λ j r h. go j r (put_cases v.request i (Some (advanced q o)) j (Some r) h);
       lies = λ j low h. lie j low h (cases_eq j i);
-      numbered = kept v paths i (besides v paths i s) (Some (went q o)) home away (s.numbered i q here);
+      numbered = kept v paths i (besides v paths i s) (Some (advanced q o)) home away (s.numbered i q here);
     }
       where
-        letters : Key → Mail
-        letters = mailed v.mail (key q) q.member to q.round (Some (read_of q.buf from))
+        messages : Key → Mail
+        messages = mailed v.mail (key q) q.member to q.round (Some (read_of q.buf from))
 
-        lie : (j : ℕ) → j < v.setting.slots → put v.request i (Some (went q o)) j ≡ None → (j ≡ i) ⊎ (j ≡ i → ⊥) → Lies v.setting.wear (v.generation j) (home j)
-        lie j low h (inl x) = absurd (none-some (went q o) (sym h ∙ (ap (put v.request i (Some (went q o))) x ∙ new_here)))
-        lie j low h (inr d) = still v paths i (besides v paths i s) (Some (went q o)) home away j d low h
+        lie : (j : ℕ) → j < v.setting.slots → put v.request i (Some (advanced q o)) j ≡ None → (j ≡ i) ⊎ (j ≡ i → ⊥) → Lies v.setting.wear (v.generation j) (home j)
+        lie j low h (inl x) = absurd (none-some (advanced q o) (sym h ∙ (ap (put v.request i (Some (advanced q o))) x ∙ new_here)))
+        lie j low h (inr d) = still v paths i (besides v paths i s) (Some (advanced q o)) home away j d low h
 
-        tracked : track letters
+        tracked : track messages
         tracked = subst (λ (m : Mail). Tracks (size v.setting q.comm) (family_at v (key q)) (record { given = v.given (key q); progress = put (paths (key q)) q.member (Some o); mail = m })) (sym (at_key v.mail (key q) (put_mail (v.mail (key q)) q.member to q.round (Some (read_of q.buf from))) (key q) refl))
             (subst (λ (f : Family). Tracks (size v.setting q.comm) f (record { given = v.given (key q); progress = put (paths (key q)) q.member (Some o); mail = put_mail (v.mail (key q)) q.member to q.round (Some (read_of q.buf from)) })) (sym (family_own v paths s.base i q here))
             (went_over (size v.setting q.comm) (family q.sig (size v.setting q.comm)) (record { given = v.given (key q); progress = paths (key q); mail = put_mail (v.mail (key q)) q.member to q.round (Some (read_of q.buf from)) }) q.member (record { round = q.round; index = suc q.index; buf = q.buf }) o b over
             (tracks_send (size v.setting q.comm) (family q.sig (size v.setting q.comm)) (serves_own v paths s.base i q here).lawful (world v paths (key q)) (tracks_at v paths s.base i q here (key q).start) q.member (progress q) to from (is_next (Send to from) e))))
 
         either : (j : ℕ) (r : Live) → j ≢ i → v.request j ≡ Some r
-            → Stands (size v.setting r.comm) (letters (key r)) (v.home j) r ⊎ (Called (size v.setting r.comm) (letters (key r)) (v.home j) r × (key r ≡ key q) × (r.member ≡ to))
-            → Stands (size v.setting r.comm) (letters (key r)) (home j) r ⊎ (Called (size v.setting r.comm) (letters (key r)) (home j) r × (v.seats (key q) to ≡ Some j))
-        either j r d h (inl st) = inl (subst (λ l. Stands (size v.setting r.comm) (letters (key r)) l r) (sym (away j d)) st)
-        either j r d h (inr c) = inr (subst (λ l. Called (size v.setting r.comm) (letters (key r)) l r) (sym (away j d)) c.0, (λ z. v.seats (sym c.1 z) (sym c.2 z)) ∙ (s.base.active j r h c.0.active).1)
+            → Stands (size v.setting r.comm) (messages (key r)) (v.home j) r ⊎ (Called (size v.setting r.comm) (messages (key r)) (v.home j) r × (key r ≡ key q) × (r.member ≡ to))
+            → Stands (size v.setting r.comm) (messages (key r)) (home j) r ⊎ (Called (size v.setting r.comm) (messages (key r)) (home j) r × (v.seats (key q) to ≡ Some j))
+        either j r d h (inl st) = inl (subst (λ l. Stands (size v.setting r.comm) (messages (key r)) l r) (sym (away j d)) st)
+        either j r d h (inr c) = inr (subst (λ l. Called (size v.setting r.comm) (messages (key r)) l r) (sym (away j d)) c.0, (λ z. v.seats (sym c.1 z) (sym c.2 z)) ∙ (s.base.active j r h c.0.active).1)
 
-        go : (j : ℕ) (r : Live) → ((j ≡ i) × (Some (went q o) ≡ Some r)) ⊎ ((j ≢ i) × (v.request j ≡ Some r)) → Stands (size v.setting r.comm) (letters (key r)) (home j) r ⊎ (Called (size v.setting r.comm) (letters (key r)) (home j) r × (v.seats (key q) to ≡ Some j))
-        go j r (inl h) = inl (subst (λ (x : Live). Stands (size v.setting x.comm) (letters (key x)) (home j) x) (same_Some (went q o) r h.1) (subst (λ l. Stands (size v.setting q.comm) (letters (key q)) l (went q o)) (ap home (sym h.0)) mine))
+        go : (j : ℕ) (r : Live) → ((j ≡ i) × (Some (advanced q o) ≡ Some r)) ⊎ ((j ≢ i) × (v.request j ≡ Some r)) → Stands (size v.setting r.comm) (messages (key r)) (home j) r ⊎ (Called (size v.setting r.comm) (messages (key r)) (home j) r × (v.seats (key q) to ≡ Some j))
+        go j r (inl h) = inl (subst (λ (x : Live). Stands (size v.setting x.comm) (messages (key x)) (home j) x) (same_Some (advanced q o) r h.1) (subst (λ l. Stands (size v.setting q.comm) (messages (key q)) l (advanced q o)) (ap home (sym h.0)) mine))
         go j r (inr h) = either j r h.0 h.1 (stands_sent (size v.setting r.comm) (v.home j) v.mail (key q) q.member to q.round (read_of q.buf from) r (s.stands j r h.1))
 
 -- direct delivery: only the seated request is looked at

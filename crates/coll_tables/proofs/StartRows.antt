@@ -12,7 +12,7 @@ use Rattle.coll_sched.specs.Regions.{read_of}
 use Rattle.coll_plans.specs.Plans.{family}
 use Rattle.coll_arena.specs.declared.list_name.ListName.TheVariants.{Free as FreeList, Ready, Running, Idle, Queue, Done}
 use Rattle.coll_machine.specs.Rows.{plan, key}
-use Rattle.coll_tables.specs.Requests.{went}
+use Rattle.coll_tables.specs.Requests.{advanced}
 use Rattle.coll_tables.specs.Calls.{Acts, Comes, IsLast, Joining, New, Retiring, Wakes}
 use Rattle.coll_tables.specs.Sound.{ready, running, queued, done, next}
 use Rattle.coll_tables.specs.Rows.{at, byte, moved, unused}
@@ -52,7 +52,7 @@ other_sends : next 2 other ≡ Some (Send 0 (byte 0))
 unfolding family
 other_sends = refl
 
-other_copies : next 2 (went other (at 0 1 other_laid)) ≡ Some (Copy (byte 1) (byte 3))
+other_copies : next 2 (advanced other (at 0 1 other_laid)) ≡ Some (Copy (byte 1) (byte 3))
 unfolding family
 other_copies = refl
 
@@ -228,7 +228,7 @@ combines =
     compute_keeps out 0 combiner (Combine Sum U8 (byte 2) (byte 3) (byte 2)) (at 2 0 combined_to) (moved out 0 (Done 0))
     goes_out.0 combines_one tt refl (done refl refl two_rounds)
 
-retires : Retiring combined 0 (went combiner (at 2 0 combined_to)) 0 (11 ∷ []) (moved combined 0 (Idle 0))
+retires : Retiring combined 0 (advanced combiner (at 2 0 combined_to)) 0 (11 ∷ []) (moved combined 0 (Idle 0))
 retires = record {
   here = refl;
   list = refl;
@@ -244,7 +244,7 @@ not_last h = none-some 1 (sym ((h 1 (omega arith)).1))
 
 rests : Rests
 rests =
-    retire_keeps combined 0 (went combiner (at 2 0 combined_to)) 0 (11 ∷ []) (moved combined 0 (Idle 0)) combines.0
+    retire_keeps combined 0 (advanced combiner (at 2 0 combined_to)) 0 (11 ∷ []) (moved combined 0 (Idle 0)) combines.0
     retires not_last
 
 pub start_rows_are_sound : StartRowsAreSound

@@ -18,7 +18,7 @@ use Rattle.coll_machine.specs.declared.key.Key.{Key}
 use Rattle.coll_machine.specs.Calls.{Planned, Post, Init, Start, Retire, Free, Ticketed, Outcome, Nothing}
 use Rattle.coll_machine.specs.Refusals.{refusal}
 use Rattle.coll_machine.specs.Machines.{MachineStep}
-use Rattle.coll_tables.specs.Requests.{Live, before, key, went}
+use Rattle.coll_tables.specs.Requests.{Live, before, key, advanced}
 use Rattle.coll_tables.specs.Tables.{Mail, Tables, machine, state}
 use Rattle.coll_tables.specs.Sound.{IsSound, Lies, Stands}
 use Rattle.coll_tables.specs.Changes.{posting, joining, acting, leaving, dissolving, freeing, rehoming}
@@ -144,7 +144,7 @@ ComputeKeeps =
     → Acts v i q a o home
     → IsLocal a
     → o.buf ≡ wrote (λ x. []) q.buf a q.buf
-    → Stands (size v.setting q.comm) (v.mail (key q)) (home i) (went q o)
+    → Stands (size v.setting q.comm) (v.mail (key q)) (home i) (advanced q o)
     → IsSound (acting v i q o v.mail home) × MayFinish v.setting (machine v) (machine (acting v i q o v.mail home))
 
 -- a Recv, whose message is there
@@ -155,7 +155,7 @@ ReceiveKeeps =
     → Acts v i q (Recv of into) o home
     → v.mail (key q) of q.member q.round ≡ Some bytes
     → o.buf ≡ written q.buf into bytes
-    → Stands (size v.setting q.comm) (received v q of (key q)) (home i) (went q o)
+    → Stands (size v.setting q.comm) (received v q of (key q)) (home i) (advanced q o)
     → (let w = acting v i q o (received v q of) home in IsSound w × MayFinish v.setting (machine v) (machine w))
 
 -- a Send: its delivery looks at one slot, and moves that one to Ready, or none
@@ -165,7 +165,7 @@ SendKeeps =
     → IsSound v
     → Acts v i q (Send to from) o home
     → o.buf ≡ q.buf
-    → Stands (size v.setting q.comm) (delivered v q to from (key q)) (home i) (went q o)
+    → Stands (size v.setting q.comm) (delivered v q to from (key q)) (home i) (advanced q o)
     → (let w = acting v i q o (delivered v q to from) home in
     (((j : ℕ) → Wakes w (key q) to j → ⊥) → IsSound w × MayFinish v.setting (machine v) (machine w))
     × ((j : ℕ) (later : ℕ → ℕ)

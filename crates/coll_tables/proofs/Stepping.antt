@@ -17,7 +17,7 @@ use Rattle.coll_machine.specs.Refusals.{refusal}
 use Rattle.coll_machine.specs.Steps.{IsNew, Posts, Inits, Starts, Retires, Frees, Finishes, IsOver, IsReady, Clears}
 use Rattle.coll_machine.specs.Machines.{MachineStep, finish}
 use Rattle.coll_plans.specs.Plans.{family}
-use Rattle.coll_tables.specs.Requests.{Live, before, at, key, went, begun, rests, rests_by, as_request}
+use Rattle.coll_tables.specs.Requests.{Live, before, at, key, advanced, begun, rests, rests_by, as_request}
 use Rattle.coll_tables.specs.Tables.{Mail, Tables, Paths, asked, is_done, state, machine}
 use Rattle.coll_tables.specs.Sound.{Base, Sound}
 use Rattle.coll_tables.specs.Changes.{posting, joining, acting, leaving, dissolving, freeing, rehoming}
@@ -155,13 +155,13 @@ module _ (v : Tables) (i : ℕ) (q : Live) (here : v.request i ≡ Some q) (rank
 -- ---- an action, and a delivery
 
 pub acted_state : (v : Tables) (i : ℕ) (q : Live) → v.request i ≡ Some q → (p : Progress) (mail : Key → Mail) (home : ℕ → ℕ) → state (acting v i q p mail home) ≡ state v
-acted_state v i q here p mail home = λ z. record { generation = v.generation; request = (map_put asked v.request i (Some (went q p)) ∙ put_self (λ j. asked (v.request j)) i (Some (as_request q)) (ap asked here)) z; posts = v.posts; given = v.given }
+acted_state v i q here p mail home = λ z. record { generation = v.generation; request = (map_put asked v.request i (Some (advanced q p)) ∙ put_self (λ j. asked (v.request j)) i (Some (as_request q)) (ap asked here)) z; posts = v.posts; given = v.given }
 
 -- an action is no step, or a finish
 pub acted_steps : (v : Tables) (i : ℕ) (q : Live) (here : v.request i ≡ Some q) (p : Progress) (mail : Key → Mail) (home : ℕ → ℕ) → ((j : ℕ) → j ≢ i → home j ≡ v.home j) → (v.home i ≢ 6 + 3 * q.comm) → (after : Paths) → Sound (acting v i q p mail home) after → MayFinish v.setting (machine v) (machine (acting v i q p mail home))
-acted_steps v i q here p mail home away going after s = may_finish (acting v i q p mail home) after s i (went q p) (put_same v.request i (Some (went q p))) (machine v) (sym (acted_state v i q here p mail home))
+acted_steps v i q here p mail home away going after s = may_finish (acting v i q p mail home) after s i (advanced q p) (put_same v.request i (Some (advanced q p))) (machine v) (sym (acted_state v i q here p mail home))
     (ap (is_done (v.home i)) here ∙ ne_eqb (v.home i) (6 + 3 * q.comm) going)
-    (done_changes v i (Some (went q p)) home away)
+    (done_changes v i (Some (advanced q p)) home away)
 
 -- who is called to Ready was not done and is not
 pub woken_same : (v : Tables) (i : ℕ) (q : Live) → v.request i ≡ Some q → v.home i ≡ 5 + 3 * q.comm → (home : ℕ → ℕ) → home i ≡ 2 → ((j : ℕ) → j ≢ i → home j ≡ v.home j) → machine (rehoming v home) ≡ machine v

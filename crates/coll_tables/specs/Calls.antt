@@ -21,6 +21,7 @@ use Rattle.coll_machine.specs.declared.key.Key.{Key}
 use Rattle.coll_machine.specs.Changes.{new_request}
 use Rattle.coll_machine.specs.Calls.{Planned, Retire}
 use Rattle.coll_machine.specs.Refusals.{refusal}
+use Rattle.coll_machine.specs.Steps.{AllHaveLeft}
 use Rattle.coll_tables.specs.Requests.{Live, at, key, begun, as_request}
 use Rattle.coll_tables.specs.Tables.{Mail, Tables, state}
 use Rattle.coll_tables.specs.Sound.{next, Stands, Called, Lies}
@@ -96,7 +97,7 @@ pub record Comes (v : Tables) (i : ℕ) (q : Live) (bytes : List ℕ) (o : Progr
 
 -- every member has given to the collective and none works on it
 abbrev pub IsLast : Tables → Key → Type 0
-IsLast v k = (m : ℕ) → m < size v.setting k.comm → (v.given k m ≢ None) × (v.seats k m ≡ None)
+IsLast v k = AllHaveLeft (size v.setting k.comm) (v.given k) (λ m. v.seats k m ≡ None)
 
 -- where a completion leaves the slot
 abbrev pub LeftAt : Mode → Tables → ℕ → Live → ℕ → Type 0

@@ -4,7 +4,7 @@ use Rattle.coll_kinds.specs.Puts.{put}
 use Rattle.coll_sched.specs.Worlds.{Progress, put_mail}
 use Rattle.coll_machine.specs.declared.key.Key.{Key}
 use Rattle.coll_machine.specs.Changes.{put2, put_in, put_key}
-use Rattle.coll_tables.specs.Requests.{Live, at, key, went, begun, rests}
+use Rattle.coll_tables.specs.Requests.{Live, at, key, advanced, begun, rests}
 use Rattle.coll_tables.specs.Tables.{Mail, Tables}
 
 -- one message more, or one less
@@ -44,7 +44,7 @@ abbrev pub acting : Tables → ℕ → Live → Progress → (Key → Mail) → 
 acting v i q p mail home = record {
   setting = v.setting;
   generation = v.generation;
-  request = put v.request i (Some (went q p));
+  request = put v.request i (Some (advanced q p));
   home = home;
   posts = v.posts;
   signed = v.signed;

@@ -36,9 +36,9 @@ use Rattle.coll_tables.specs.Cores.{IsCore}
 use Rattle.coll_tables.specs.Engines.{Completes, HasMade, Initialises, Posts, Releases, Restarts}
 
 -- a request has in two regions what its member has there in lock-step
-pub record AreOperands (f : Family) (gifts : ℕ → Option (List ℕ)) (x : Live) (left right : Region) : Type 0 where
-  pub left_is : read_of x.buf left ≡ read_of (lock_step f (filled f gifts) x.round x.member) left
-  pub right_is : read_of x.buf right ≡ read_of (lock_step f (filled f gifts) x.round x.member) right
+pub record AreOperands (f : Family) (contributions : ℕ → Option (List ℕ)) (x : Live) (left right : Region) : Type 0 where
+  pub left_is : read_of x.buf left ≡ read_of (lock_step f (filled f contributions) x.round x.member) left
+  pub right_is : read_of x.buf right ≡ read_of (lock_step f (filled f contributions) x.round x.member) right
 
 module _ {R : Type 0} (shown : R → Live) (g : Setting) where
   -- an action: the condition, perhaps a request that becomes Done, and one action less that is left

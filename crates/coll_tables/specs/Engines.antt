@@ -28,7 +28,7 @@ use Rattle.coll_machine.specs.Settings.{Setting}
 use Rattle.coll_machine.specs.States.{State}
 use Rattle.coll_machine.specs.Calls.{Planned, Post, Init, Start, Retire, Free}
 use Rattle.coll_machine.specs.Refusals.{refusal}
-use Rattle.coll_tables.specs.Requests.{Live, at, key, went, begun}
+use Rattle.coll_tables.specs.Requests.{Live, at, key, advanced, begun}
 use Rattle.coll_tables.specs.Sound.{next, Stands, Called}
 use Rattle.coll_tables.specs.Shown.{Instances, listed}
 use Rattle.coll_tables.specs.OneSlots.{OneSlot}
@@ -67,7 +67,7 @@ pub record IsLeft (m n : Instances) (k : Key) (member : ℕ) (last : Bool) : Typ
   pub mail : mail n ≡ put_key (mail m) k (if last then (λ _ _ _. None) else mail m k)
 
 -- the instances differ in messages alone
-pub record KeepsGifts (m n : Instances) : Type 0 where
+pub record KeepsContributions (m n : Instances) : Type 0 where
   pub members : members n ≡ members m
   pub given : given n ≡ given m
   pub seats : seats n ≡ seats m
@@ -108,7 +108,7 @@ Rests shown Once a b t x = OneSlot a b t.slot t.generation 0 None (given_up a.we
 Rests {R} shown Persistent a b t x =
     (y : R)
     × OneSlot a b t.slot t.generation 0 (Some y) (number_of (Idle (shown x).comm))
-    × (shown y ≡ went (shown x) (record { round = 0; index = 0; buf = [] }))
+    × (shown y ≡ advanced (shown x) (record { round = 0; index = 0; buf = [] }))
 
 -- `shown` calls each request active; whether it is, its list tells
 module _ {R : Type 0} (shown : R → Live) (g : Setting) where
@@ -166,14 +166,14 @@ module _ {R : Type 0} (shown : R → Live) (g : Setting) where
 
 module _ {R : Type 0} (shown : R → Live) where
   -- the ticket's request x, of Ready or Running, does one action, becomes y at point o, and lies where its next says
-  pub record GoesOn (a b : Slots R) (n : Instances) (t : Ticket) (x y : R) (act : Action) (o : Progress)
+  pub record Advances (a b : Slots R) (n : Instances) (t : Ticket) (x y : R) (act : Action) (o : Progress)
       (list : ℕ) : Type 0 where
     pub found : IsFound a t x
     pub active : (shown x).active ≡ true
     pub from : (home a t.slot ≡ number_of Ready) ⊎ (home a t.slot ≡ number_of Running)
     pub next_is : next (shown x).members (shown x) ≡ Some act
     pub puts : OneSlot a b t.slot t.generation (weight_of a t.slot) (Some y) list
-    pub is : shown y ≡ went (shown x) o
+    pub is : shown y ≡ advanced (shown x) o
     pub over : Over (family (shown x).sig (shown x).members (shown x).member)
         (shown x).round (suc (shown x).index) o.round o.index
     pub stands : Stands (shown x).members (mail n (key (shown x))) list (shown y)

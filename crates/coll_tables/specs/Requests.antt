@@ -35,8 +35,8 @@ abbrev pub progress : Live → Progress
 progress q = record { round = q.round; index = q.index; buf = q.buf }
 
 -- the request at another point
-abbrev pub went : Live → Progress → Live
-went q p = record {
+abbrev pub advanced : Live → Progress → Live
+advanced q p = record {
   rank = q.rank;
   comm = q.comm;
   members = q.members;

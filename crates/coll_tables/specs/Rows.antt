@@ -16,7 +16,7 @@ use Rattle.coll_arena.specs.ListNames.{number_of}
 use Rattle.coll_machine.specs.Calls.{Post, Retire, Ticketed, Outcome}
 use Rattle.coll_machine.specs.Machines.{MachineStep}
 use Rattle.coll_machine.specs.Rows.{two_ranks, plan, ticket, key}
-use Rattle.coll_tables.specs.Requests.{Live, begun, went}
+use Rattle.coll_tables.specs.Requests.{Live, begun, advanced}
 use Rattle.coll_tables.specs.Tables.{Tables, machine}
 use Rattle.coll_tables.specs.Changes.{posting, joining, acting, leaving, dissolving}
 use Rattle.coll_tables.specs.Calls.{newcomer, delivered, received}
@@ -67,13 +67,13 @@ abbrev pub sent : Tables
 sent = acting posted 0 sender (at 0 1 laid) (delivered posted sender 1 (byte 2)) (moved posted 0 Ready)
 
 abbrev pub copier : Live
-copier = went sender (at 0 1 laid)
+copier = advanced sender (at 0 1 laid)
 
 abbrev pub copied : Tables
 copied = acting sent 0 copier (at 1 0 kept) sent.mail (moved sent 0 (Done 0))
 
 abbrev pub left : Tables
-left = leaving copied 0 (went copier (at 1 0 kept)) (moved copied 0 Free)
+left = leaving copied 0 (advanced copier (at 1 0 kept)) (moved copied 0 Free)
 
 -- ---- rank 1, in the slot's second and last generation
 
@@ -91,7 +91,7 @@ received_late =
     acting posted_late 0 receiver (at 1 0 (8 ∷ [])) (received posted_late receiver 0) (moved posted_late 0 (Done 0))
 
 abbrev pub over : Tables
-over = dissolving (leaving received_late 0 (went receiver (at 1 0 (8 ∷ []))) (moved received_late 0 Worn)) (key 0)
+over = dissolving (leaving received_late 0 (advanced receiver (at 1 0 (8 ∷ []))) (moved received_late 0 Worn)) (key 0)
 
 -- ---- what they have, computed
 

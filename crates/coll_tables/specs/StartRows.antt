@@ -12,7 +12,7 @@ use Rattle.coll_arena.specs.declared.list_name.ListName.TheVariants.{Free as Fre
 use Rattle.coll_machine.specs.Calls.{Init, Start, Retire, Free, Ticketed, Outcome, Nothing}
 use Rattle.coll_machine.specs.Machines.{MachineStep}
 use Rattle.coll_machine.specs.Rows.{two_ranks, plan, ticket, key}
-use Rattle.coll_tables.specs.Requests.{Live, begun, went}
+use Rattle.coll_tables.specs.Requests.{Live, begun, advanced}
 use Rattle.coll_tables.specs.Tables.{Tables, machine}
 use Rattle.coll_tables.specs.Changes.{posting, joining, acting, leaving, freeing, rehoming}
 use Rattle.coll_tables.specs.Calls.{newcomer, delivered, received}
@@ -63,7 +63,7 @@ abbrev pub sent : Tables
 sent = acting started 0 sender (at 0 1 laid) (delivered started sender 1 (byte 1)) (moved started 0 Ready)
 
 abbrev pub copier : Live
-copier = went sender (at 0 1 laid)
+copier = advanced sender (at 0 1 laid)
 
 abbrev pub waiting : Tables
 waiting = acting sent 0 copier (at 0 2 kept) sent.mail (moved sent 0 (Queue 0))
@@ -94,7 +94,7 @@ abbrev pub woken : Tables
 woken = rehoming answered (moved answered 0 Ready)
 
 abbrev pub waiter : Live
-waiter = went copier (at 0 2 kept)
+waiter = advanced copier (at 0 2 kept)
 
 abbrev pub told : Tables
 told = acting woken 0 waiter (at 1 0 filled) (received woken waiter 1) (moved woken 0 Ready)
@@ -108,13 +108,13 @@ abbrev pub out : Tables
 out = rehoming told (moved told 0 Running)
 
 abbrev pub combiner : Live
-combiner = went waiter (at 1 0 filled)
+combiner = advanced waiter (at 1 0 filled)
 
 abbrev pub combined : Tables
 combined = acting out 0 combiner (at 2 0 combined_to) out.mail (moved out 0 (Done 0))
 
 abbrev pub left : Tables
-left = leaving combined 0 (went combiner (at 2 0 combined_to)) (moved combined 0 (Idle 0))
+left = leaving combined 0 (advanced combiner (at 2 0 combined_to)) (moved combined 0 (Idle 0))
 
 -- ---- what they have, computed
 

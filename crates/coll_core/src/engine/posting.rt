@@ -303,7 +303,7 @@ impl Core {
         let key = request.key();
         let hint = self.matches.join(key, member, bytes);
         request.hint = hint;
-        request.go_over();
+        request.pass_ends();
         let list = request.list(&self.matches);
         match self.arena.take(request, weight, list) {
             Ok(ticket) => {

@@ -187,5 +187,5 @@ fn once_more(request: &mut Request, buffer: Vec<u8>)
     request.buffer = Buffer::new(buffer);
     request.round = 0;
     request.index = 0;
-    request.go_over();
+    request.pass_ends();
 }

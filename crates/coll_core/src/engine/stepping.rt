@@ -12,7 +12,7 @@ ghost use Rattle.coll_arena.specs.Slots.{home, names, record_in, weight_of};
 ghost use Rattle.coll_tables.specs.Engines.{Delivers};
 ghost use Rattle.coll_core.specs.declared.stepped.Stepped.TheVariants.{Quiet};
 ghost use Rattle.coll_core.specs.Cores.{seen, setting};
-ghost use Rattle.coll_core.specs.Goings.{CanGoOn, CanHear, GoneOn, HaveLists, IsSent, NoneHears, is_end};
+ghost use Rattle.coll_core.specs.Advancing.{CanAdvance, IsReceiver, HasAdvanced, HaveLists, IsSent, NoReceiver, is_end};
 ghost use Rattle.coll_core.specs.Requests.{shown};
 ghost use Rattle.coll_core.specs.Steps.{Acts, AwaitsWork, CombinesFirst, CombinesNext, Finishings, HandsOut, IsActing, IsWork, Steps, left, ready, running};
 
@@ -150,7 +150,7 @@ impl Core {
             round,
         };
         deliver(&mut self.arena, &self.matches, sent, seat);
-        Ok(go_on(&mut self.arena, &self.matches, ticket))
+        Ok(advance(&mut self.arena, &self.matches, ticket))
     }
 
     /// Takes a message that is there.
@@ -169,7 +169,7 @@ impl Core {
         };
         request.buffer.write(self.alloc, into, &message);
         self.spares.keep(message);
-        go_on(&mut self.arena, &self.matches, ticket)
+        advance(&mut self.arena, &self.matches, ticket)
     }
 
     /// Copies or combines within the buffer.
@@ -185,7 +185,7 @@ impl Core {
             unreachable!()
         };
         request.buffer.act(self.alloc, action)?;
-        Ok(go_on(&mut self.arena, &self.matches, ticket))
+        Ok(advance(&mut self.arena, &self.matches, ticket))
     }
 
     /// Hands out the combination of a ready request.
@@ -208,15 +208,15 @@ impl Core {
 }
 
 /// Takes a request one action on, to the list where it then belongs. Answers whether it is Done.
-pub(super) fn go_on(arena: &mut Arena<Request>, matches: &Matches, ticket: Ticket) -> bool
-    requires { CanGoOn arena.old ticket }
-    ensures { GoneOn arena.old arena.new matches.now ticket result }
+pub(super) fn advance(arena: &mut Arena<Request>, matches: &Matches, ticket: Ticket) -> bool
+    requires { CanAdvance arena.old ticket }
+    ensures { HasAdvanced arena.old arena.new matches.now ticket result }
 {
     is_sound(arena);
     let Ok(request) = arena.get_mut(ticket) else {
         unreachable!()
     };
-    request.go_on();
+    request.advance();
     let list = request.list(matches);
     place(arena, ticket, list);
     is_end(list)
@@ -257,7 +257,7 @@ fn deliver(arena: &mut Arena<Request>, matches: &Matches, sent: Sent, seat: Opti
     ensures first { IfSome (first_in (sequence arena.old.lists (number_of Ready))) (λ slot. first_in (sequence arena.new.lists (number_of Ready)) ≡ Some slot) }
 {
     is_sound(arena);
-    let Some(ticket) = hearer(arena, matches, sent, seat) else {
+    let Some(ticket) = receiver(arena, matches, sent, seat) else {
         return;
     };
     let Ok(()) = arena.shift(ticket, ListName::Ready) else {
@@ -266,7 +266,7 @@ fn deliver(arena: &mut Arena<Request>, matches: &Matches, sent: Sent, seat: Opti
 }
 
 /// The receiver's request, where it waits for a message that is there: mostly for the one that was just sent.
-fn hearer(
+fn receiver(
     arena: &Arena<Request>,
     matches: &Matches,
     sent: Sent,
@@ -275,8 +275,8 @@ fn hearer(
     requires lists { HaveLists arena.now }
     requires sent { IsSent matches.now sent }
     requires seat { seat ≡ seats matches.now sent.key sent.to }
-    ensures hears { IfSome result (CanHear arena.now matches.now sent.key sent.to) }
-    ensures none { result ≡ None → NoneHears arena.now matches.now sent.key sent.to }
+    ensures can_receive { IfSome result (IsReceiver arena.now matches.now sent.key sent.to) }
+    ensures none { result ≡ None → NoReceiver arena.now matches.now sent.key sent.to }
 {
     is_sound(arena);
     let slot = seat?;
@@ -284,7 +284,7 @@ fn hearer(
     let Ok(request) = arena.get(ticket) else {
         unreachable!()
     };
-    if arena.is_on(ticket, ListName::Queue(request.comm)) && request.hears(matches, sent) {
+    if arena.is_on(ticket, ListName::Queue(request.comm)) && request.can_receive(matches, sent) {
         Some(ticket)
     } else {
         None

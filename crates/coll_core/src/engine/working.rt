@@ -7,7 +7,7 @@ ghost use Rattle.coll_arena.specs.ListNames.{number_of};
 ghost use Rattle.coll_core.specs.Steps.{CommitSteps, IsOut, Returns};
 
 use crate::engine::Core;
-use crate::engine::stepping::go_on;
+use crate::engine::stepping::advance;
 use crate::stepped::Stepped;
 use crate::work::{DoneWork, Work};
 use coll_arena::ListName;
@@ -37,7 +37,7 @@ impl Core {
         };
         let row = request.write(self.alloc, done);
         self.spares.keep(row);
-        Ok(Stepped::by(go_on(&mut self.arena, &self.matches, ticket)))
+        Ok(Stepped::by(advance(&mut self.arena, &self.matches, ticket)))
     }
 
     /// Takes back a combination that was handed out. Its request is the first that is ready.

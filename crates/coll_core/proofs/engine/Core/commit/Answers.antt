@@ -14,8 +14,8 @@ write-row-requires-clause-sized c =
     let out = out_at _ c.args.self.now c.self.view_is c.args.done.piece c.work.result.now c.work.ensures c.ticket-ticket.result t_is x (c.is_out.ensures.0 c.if-not-is_out.false) c.in-Ok.ensures.found in
     (running_acting _ c.self.invariant c.ticket-ticket.result.slot x c.in-Ok.ensures.found out.runs).filled
 
-pub go_on-requires : goal.go_on-requires
-go_on-requires c =
+pub advance-requires : goal.advance-requires
+advance-requires c =
     let x = c.in-Ok.request.now in
     let t_is = c.ticket-ticket.ensures ∙ ap (λ (w : Piece). w.ticket) c.work-2.ensures in
     let out = out_at _ c.args.self.now c.self.view_is c.args.done.piece c.work.result.now c.work.ensures c.ticket-ticket.result t_is x (c.is_out.ensures.0 c.if-not-is_out.false) c.in-Ok.ensures.found in
@@ -27,9 +27,9 @@ invariant_of-self c =
     let x = c.in-Ok.request.now in
     let t_is = c.ticket-ticket.ensures ∙ ap (λ (w : Piece). w.ticket) c.work-2.ensures in
     let out = out_at _ c.args.self.now c.self.view_is c.args.done.piece c.work.result.now c.work.ensures c.ticket-ticket.result t_is x (c.is_out.ensures.0 c.if-not-is_out.false) c.in-Ok.ensures.found in
-    (committed c.self.inside.ranks c.self.inside.starts c.self.inside.trace c.self.inside.arena c.go_on.new.arena c.self.inside.queues c.self.inside.matches
-    c.ticket-ticket.result x c.write-row.new.self c.args.done c.is_sound.ensures c.self.invariant out c.write-row.ensures c.go_on.result
-    (subst (λ (d : Made). d.bytes ≡ result_of d.piece) c.done.view_is c.done.invariant) t_is c.go_on.ensures).0
+    (committed c.self.inside.ranks c.self.inside.starts c.self.inside.trace c.self.inside.arena c.advance.new.arena c.self.inside.queues c.self.inside.matches
+    c.ticket-ticket.result x c.write-row.new.self c.args.done c.is_sound.ensures c.self.invariant out c.write-row.ensures c.advance.result
+    (subst (λ (d : Made). d.bytes ≡ result_of d.piece) c.done.view_is c.done.invariant) t_is c.advance.ensures).0
 
 pub returns-clause-out : goal.returns-clause-out
 returns-clause-out c = (λ yes. subst (λ (w : Piece). IsOut c.args.self.now w) c.work.ensures (c.is_out.ensures.0 c.if-not-is_out.false), λ out. refl)
@@ -39,8 +39,8 @@ returns-clause-steps c =
     let x = c.in-Ok.request.now in
     let t_is = c.ticket-ticket.ensures ∙ ap (λ (w : Piece). w.ticket) c.work-2.ensures in
     let out = out_at _ c.args.self.now c.self.view_is c.args.done.piece c.work.result.now c.work.ensures c.ticket-ticket.result t_is x (c.is_out.ensures.0 c.if-not-is_out.false) c.in-Ok.ensures.found in
-    commit_steps c.args.self.now (parts c.self.inside.ranks c.self.inside.starts c.self.inside.trace c.go_on.new.arena c.self.inside.queues c.self.inside.matches) c.args.done c.go_on.result c.by.result c.by.ensures
-    (subst (λ (p : Parts). Commits p (parts c.self.inside.ranks c.self.inside.starts c.self.inside.trace c.go_on.new.arena c.self.inside.queues c.self.inside.matches) c.args.done c.go_on.result) c.self.view_is
-    (committed c.self.inside.ranks c.self.inside.starts c.self.inside.trace c.self.inside.arena c.go_on.new.arena c.self.inside.queues c.self.inside.matches
-    c.ticket-ticket.result x c.write-row.new.self c.args.done c.is_sound.ensures c.self.invariant out c.write-row.ensures c.go_on.result
-    (subst (λ (d : Made). d.bytes ≡ result_of d.piece) c.done.view_is c.done.invariant) t_is c.go_on.ensures).1)
+    commit_steps c.args.self.now (parts c.self.inside.ranks c.self.inside.starts c.self.inside.trace c.advance.new.arena c.self.inside.queues c.self.inside.matches) c.args.done c.advance.result c.by.result c.by.ensures
+    (subst (λ (p : Parts). Commits p (parts c.self.inside.ranks c.self.inside.starts c.self.inside.trace c.advance.new.arena c.self.inside.queues c.self.inside.matches) c.args.done c.advance.result) c.self.view_is
+    (committed c.self.inside.ranks c.self.inside.starts c.self.inside.trace c.self.inside.arena c.advance.new.arena c.self.inside.queues c.self.inside.matches
+    c.ticket-ticket.result x c.write-row.new.self c.args.done c.is_sound.ensures c.self.invariant out c.write-row.ensures c.advance.result
+    (subst (λ (d : Made). d.bytes ≡ result_of d.piece) c.done.view_is c.done.invariant) t_is c.advance.ensures).1)

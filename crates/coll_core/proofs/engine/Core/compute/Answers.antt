@@ -24,8 +24,8 @@ returns-in_err-act-clause-err c =
     let same = same_written c.self.inside.arena c.args.ticket.slot c.in-Ok.request.now c.act.new.self c.in-Ok.ensures.found c.in_err-act.ensures.err in
     on_err c.from_residual.result _ (ap (λ (a : Slots Request). parts c.self.inside.ranks c.self.inside.starts c.self.inside.trace a c.self.inside.queues c.self.inside.matches) same ∙ c.self.view_is)
 
-pub go_on-requires : goal.go_on-requires
-go_on-requires c =
+pub advance-requires : goal.advance-requires
+advance-requires c =
     let at = acts_at _ c.args.self.now c.args.ticket c.in-Ok.request.now c.args.action c.self.view_is c.requires.acting c.in-Ok.ensures.found in
     can_go_on c.self.inside.arena c.args.ticket c.in-Ok.request.now _ _ c.args.action c.is_sound.ensures at.live
     (record { is = refl; round_is = refl; index_is = refl; buf = refl }) at.comm_in at.round_in at.next_is
@@ -34,17 +34,17 @@ pub invariant_of-self-2 : goal.invariant_of-self-2
 invariant_of-self-2 c =
     let at = acts_at _ c.args.self.now c.args.ticket c.in-Ok.request.now c.args.action c.self.view_is c.requires.acting c.in-Ok.ensures.found in
     let x = c.in-Ok.request.now in
-    (computed c.self.inside.ranks c.self.inside.starts c.self.inside.trace c.self.inside.arena c.go_on.new.arena c.self.inside.queues c.self.inside.matches
-    c.args.ticket x _ c.args.action c.act.new.self c.go_on.result c.is_sound.ensures c.self.invariant at c.requires.local
+    (computed c.self.inside.ranks c.self.inside.starts c.self.inside.trace c.self.inside.arena c.advance.new.arena c.self.inside.queues c.self.inside.matches
+    c.args.ticket x _ c.args.action c.act.new.self c.advance.result c.is_sound.ensures c.self.invariant at c.requires.local
     c.in_ok-act.ensures.ok
-    (record { is = refl; round_is = refl; index_is = refl; buf = refl }) c.go_on.ensures).0
+    (record { is = refl; round_is = refl; index_is = refl; buf = refl }) c.advance.ensures).0
 
 pub returns-clause-acts : goal.returns-clause-acts
 returns-clause-acts c =
     let at = acts_at _ c.args.self.now c.args.ticket c.in-Ok.request.now c.args.action c.self.view_is c.requires.acting c.in-Ok.ensures.found in
     let x = c.in-Ok.request.now in
-    subst (λ (p : Parts). Acts p (parts c.self.inside.ranks c.self.inside.starts c.self.inside.trace c.go_on.new.arena c.self.inside.queues c.self.inside.matches) c.go_on.result) c.self.view_is
-    (computed c.self.inside.ranks c.self.inside.starts c.self.inside.trace c.self.inside.arena c.go_on.new.arena c.self.inside.queues c.self.inside.matches
-    c.args.ticket x _ c.args.action c.act.new.self c.go_on.result c.is_sound.ensures c.self.invariant at c.requires.local
+    subst (λ (p : Parts). Acts p (parts c.self.inside.ranks c.self.inside.starts c.self.inside.trace c.advance.new.arena c.self.inside.queues c.self.inside.matches) c.advance.result) c.self.view_is
+    (computed c.self.inside.ranks c.self.inside.starts c.self.inside.trace c.self.inside.arena c.advance.new.arena c.self.inside.queues c.self.inside.matches
+    c.args.ticket x _ c.args.action c.act.new.self c.advance.result c.is_sound.ensures c.self.invariant at c.requires.local
     c.in_ok-act.ensures.ok
-    (record { is = refl; round_is = refl; index_is = refl; buf = refl }) c.go_on.ensures).1
+    (record { is = refl; round_is = refl; index_is = refl; buf = refl }) c.advance.ensures).1

@@ -48,7 +48,7 @@ invariant_of-self c =
     let accepted : refused_in p (Post c.args.rank c.args.comm plan bytes) ≡ None = accepted_from p c.args.self.now (Post c.args.rank c.args.comm plan bytes) c.self.view_is c.requires.accepted in
     let key_is : c.key-key.result ≡ record { comm = c.args.comm; place = c.offer-place.result; start = 0 } = c.key-key.ensures in
     let x : Request = record { rank = c.args.rank; comm = c.args.comm; place = c.offer-place.result; hint = c.join-hint.result; plan = c.args.offer.plan; starts = 1; round = 0; index = 0; buffer = c.new.result } in
-    let calls : Calls p c.take.new.self c.offer-place.new.self c.join-hint.new.self c.seat.new.self c.in-Ok.ticket c.args.rank c.args.comm plan bytes (arc_value c.args.sig) c.key-key.result c.offer-place.result c.member-member.result c.lent-weight.result (number_of c.list-list.result) x c.go_over.new.self = record {
+    let calls : Calls p c.take.new.self c.offer-place.new.self c.join-hint.new.self c.seat.new.self c.in-Ok.ticket c.args.rank c.args.comm plan bytes (arc_value c.args.sig) c.key-key.result c.offer-place.result c.member-member.result c.lent-weight.result (number_of c.list-list.result) x c.pass_ends.new.self = record {
       accepted = accepted;
       are = subst AreBytes c.deref.ensures.value c.are_bytes.ensures;
       free = record { first = c.in-Ok.ensures.slot; next = c.in-Ok.ensures.generation };
@@ -61,11 +61,11 @@ invariant_of-self c =
       puts = c.in-Ok.ensures.puts;
       weight_is = c.lent-weight.ensures ∙ lent_moved c.sig.result.now plan.sig c.n.result plan.n c.member-member.result plan.member c.sig.ensures.sig c.n.ensures.n c.member-member.ensures.member;
       made_is = refl;
-      over = c.go_over.ensures;
+      over = c.pass_ends.ensures;
       buf = c.new.ensures ∙ c.requires.buffer;
       stands = c.list-list.ensures.stands;
     } in
-    post_kept p c.take.new.self c.offer-place.new.self c.join-hint.new.self c.seat.new.self c.in-Ok.ticket c.args.rank c.args.comm plan bytes (arc_value c.args.sig) c.key-key.result c.offer-place.result c.member-member.result c.lent-weight.result (number_of c.list-list.result) x c.go_over.new.self c.post_core.ensures c.self.invariant c.is_sound.ensures calls
+    post_kept p c.take.new.self c.offer-place.new.self c.join-hint.new.self c.seat.new.self c.in-Ok.ticket c.args.rank c.args.comm plan bytes (arc_value c.args.sig) c.key-key.result c.offer-place.result c.member-member.result c.lent-weight.result (number_of c.list-list.result) x c.pass_ends.new.self c.post_core.ensures c.self.invariant c.is_sound.ensures calls
 
 pub unreachable-requires : goal.unreachable-requires
 unreachable-requires c =
@@ -84,7 +84,7 @@ returns-clause-posted c =
     let accepted : refused_in p (Post c.args.rank c.args.comm plan bytes) ≡ None = accepted_from p c.args.self.now (Post c.args.rank c.args.comm plan bytes) c.self.view_is c.requires.accepted in
     let key_is : c.key-key.result ≡ record { comm = c.args.comm; place = c.offer-place.result; start = 0 } = c.key-key.ensures in
     let x : Request = record { rank = c.args.rank; comm = c.args.comm; place = c.offer-place.result; hint = c.join-hint.result; plan = c.args.offer.plan; starts = 1; round = 0; index = 0; buffer = c.new.result } in
-    let calls : Calls p c.take.new.self c.offer-place.new.self c.join-hint.new.self c.seat.new.self c.in-Ok.ticket c.args.rank c.args.comm plan bytes (arc_value c.args.sig) c.key-key.result c.offer-place.result c.member-member.result c.lent-weight.result (number_of c.list-list.result) x c.go_over.new.self = record {
+    let calls : Calls p c.take.new.self c.offer-place.new.self c.join-hint.new.self c.seat.new.self c.in-Ok.ticket c.args.rank c.args.comm plan bytes (arc_value c.args.sig) c.key-key.result c.offer-place.result c.member-member.result c.lent-weight.result (number_of c.list-list.result) x c.pass_ends.new.self = record {
       accepted = accepted;
       are = subst AreBytes c.deref.ensures.value c.are_bytes.ensures;
       free = record { first = c.in-Ok.ensures.slot; next = c.in-Ok.ensures.generation };
@@ -97,9 +97,9 @@ returns-clause-posted c =
       puts = c.in-Ok.ensures.puts;
       weight_is = c.lent-weight.ensures ∙ lent_moved c.sig.result.now plan.sig c.n.result plan.n c.member-member.result plan.member c.sig.ensures.sig c.n.ensures.n c.member-member.ensures.member;
       made_is = refl;
-      over = c.go_over.ensures;
+      over = c.pass_ends.ensures;
       buf = c.new.ensures ∙ c.requires.buffer;
       stands = c.list-list.ensures.stands;
     } in
     subst (λ (v : Parts). StepsTo (setting v) (seen v) (Post c.args.rank c.args.comm plan bytes) (Ticketed c.in-Ok.ticket) (seen (parts_of p c.take.new.self c.offer-place.new.self c.seat.new.self))) c.self.view_is
-    (post_steps p c.take.new.self c.offer-place.new.self c.join-hint.new.self c.seat.new.self c.in-Ok.ticket c.args.rank c.args.comm plan bytes (arc_value c.args.sig) c.key-key.result c.offer-place.result c.member-member.result c.lent-weight.result (number_of c.list-list.result) x c.go_over.new.self c.post_core.ensures c.self.invariant c.is_sound.ensures calls)
+    (post_steps p c.take.new.self c.offer-place.new.self c.join-hint.new.self c.seat.new.self c.in-Ok.ticket c.args.rank c.args.comm plan bytes (arc_value c.args.sig) c.key-key.result c.offer-place.result c.member-member.result c.lent-weight.result (number_of c.list-list.result) x c.pass_ends.new.self c.post_core.ensures c.self.invariant c.is_sound.ensures calls)

@@ -17,8 +17,8 @@ write-requires-clause-same c =
     ∙ message_long _ c.args.ticket x c.args.of c.args.into c.in-Some.message.items c.self.invariant at
     (message_came c.self.inside.matches x c.args.of c.key-key.result c.member-member.result c.key-key.ensures c.member-member.ensures.member c.in-Some.message.items c.in-Some.ensures.taken)
 
-pub go_on-requires : goal.go_on-requires
-go_on-requires c =
+pub advance-requires : goal.advance-requires
+advance-requires c =
     let x = c.in-Ok.request.now in
     let at = acts_at _ c.args.self.now c.args.ticket x (Recv c.args.of c.args.into) c.self.view_is c.requires c.in-Ok.ensures.found in
     can_go_on c.self.inside.arena c.args.ticket x _ _ (Recv c.args.of c.args.into) c.is_sound.ensures at.live
@@ -28,23 +28,23 @@ pub invariant_of-self : goal.invariant_of-self
 invariant_of-self c =
     let x = c.in-Ok.request.now in
     let at = acts_at _ c.args.self.now c.args.ticket x (Recv c.args.of c.args.into) c.self.view_is c.requires c.in-Ok.ensures.found in
-    (received c.self.inside.ranks c.self.inside.starts c.self.inside.trace c.self.inside.arena c.go_on.new.arena c.self.inside.queues c.self.inside.matches c.take.new.self
-    c.args.ticket x _ c.args.of c.args.into c.in-Some.message.items c.write.new.self c.go_on.result c.is_sound.ensures c.self.invariant at
+    (received c.self.inside.ranks c.self.inside.starts c.self.inside.trace c.self.inside.arena c.advance.new.arena c.self.inside.queues c.self.inside.matches c.take.new.self
+    c.args.ticket x _ c.args.of c.args.into c.in-Some.message.items c.write.new.self c.advance.result c.is_sound.ensures c.self.invariant at
     (record { members = (ap (λ (s : LookUps). s.members) c.take.ensures.gone); given = (ap (λ (s : LookUps). s.given) c.take.ensures.gone); seats = (ap (λ (s : LookUps). s.seats) c.take.ensures.gone) })
     (message_came c.self.inside.matches x c.args.of c.key-key.result c.member-member.result c.key-key.ensures c.member-member.ensures.member c.in-Some.message.items c.in-Some.ensures.taken)
     (message_taken c.self.inside.matches x c.args.of c.key-key.result c.member-member.result c.key-key.ensures c.member-member.ensures.member c.take.new.self (ap (λ (s : LookUps). s.mail) c.take.ensures.gone))
     (c.write.ensures ∙ (λ z. written x.buffer c.args.into (c.deref.ensures z)))
-    (record { is = refl; round_is = refl; index_is = refl; buf = refl }) c.go_on.ensures).0
+    (record { is = refl; round_is = refl; index_is = refl; buf = refl }) c.advance.ensures).0
 
 pub returns : goal.returns
 returns c =
     let x = c.in-Ok.request.now in
     let at = acts_at _ c.args.self.now c.args.ticket x (Recv c.args.of c.args.into) c.self.view_is c.requires c.in-Ok.ensures.found in
-    subst (λ (p : Parts). Acts p (parts c.self.inside.ranks c.self.inside.starts c.self.inside.trace c.go_on.new.arena c.self.inside.queues c.take.new.self) c.go_on.result) c.self.view_is
-    (received c.self.inside.ranks c.self.inside.starts c.self.inside.trace c.self.inside.arena c.go_on.new.arena c.self.inside.queues c.self.inside.matches c.take.new.self
-    c.args.ticket x _ c.args.of c.args.into c.in-Some.message.items c.write.new.self c.go_on.result c.is_sound.ensures c.self.invariant at
+    subst (λ (p : Parts). Acts p (parts c.self.inside.ranks c.self.inside.starts c.self.inside.trace c.advance.new.arena c.self.inside.queues c.take.new.self) c.advance.result) c.self.view_is
+    (received c.self.inside.ranks c.self.inside.starts c.self.inside.trace c.self.inside.arena c.advance.new.arena c.self.inside.queues c.self.inside.matches c.take.new.self
+    c.args.ticket x _ c.args.of c.args.into c.in-Some.message.items c.write.new.self c.advance.result c.is_sound.ensures c.self.invariant at
     (record { members = (ap (λ (s : LookUps). s.members) c.take.ensures.gone); given = (ap (λ (s : LookUps). s.given) c.take.ensures.gone); seats = (ap (λ (s : LookUps). s.seats) c.take.ensures.gone) })
     (message_came c.self.inside.matches x c.args.of c.key-key.result c.member-member.result c.key-key.ensures c.member-member.ensures.member c.in-Some.message.items c.in-Some.ensures.taken)
     (message_taken c.self.inside.matches x c.args.of c.key-key.result c.member-member.result c.key-key.ensures c.member-member.ensures.member c.take.new.self (ap (λ (s : LookUps). s.mail) c.take.ensures.gone))
     (c.write.ensures ∙ (λ z. written x.buffer c.args.into (c.deref.ensures z)))
-    (record { is = refl; round_is = refl; index_is = refl; buf = refl }) c.go_on.ensures).1
+    (record { is = refl; round_is = refl; index_is = refl; buf = refl }) c.advance.ensures).1

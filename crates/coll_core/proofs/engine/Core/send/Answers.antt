@@ -28,8 +28,8 @@ deliver-requires c = record {
   seat = c.in-Ok-put.ensures.receiver ∙ ap (λ f. f c.key-key.result c.args.to) (sym (ap (λ (s : LookUps). s.seats) c.in-Ok-put.ensures.kept));
 }
 
-pub go_on-requires : goal.go_on-requires
-go_on-requires c =
+pub advance-requires : goal.advance-requires
+advance-requires c =
     let x = c.in-Ok.request.now in
     let at = acts_at _ c.args.self.now c.args.ticket x (Send c.args.to c.args.from) c.self.view_is c.requires c.in-Ok.ensures.found in
     can_go_then _ c.deliver.new.arena c.args.ticket x c.args.to c.args.from at
@@ -39,19 +39,19 @@ pub invariant_of-self-2 : goal.invariant_of-self-2
 invariant_of-self-2 c =
     let x = c.in-Ok.request.now in
     let at = acts_at _ c.args.self.now c.args.ticket x (Send c.args.to c.args.from) c.self.view_is c.requires c.in-Ok.ensures.found in
-    (sent c.self.inside.ranks c.self.inside.starts c.self.inside.trace c.self.inside.arena c.deliver.new.arena c.go_on.new.arena c.self.inside.queues c.self.inside.matches c.put.new.self
-    c.args.ticket x c.args.to c.args.from c.key-key.result c.member-member.result c.in_ok-message.message.items c.go_on.result c.self.invariant at c.key-key.ensures c.member-member.ensures.member
+    (sent c.self.inside.ranks c.self.inside.starts c.self.inside.trace c.self.inside.arena c.deliver.new.arena c.advance.new.arena c.self.inside.queues c.self.inside.matches c.put.new.self
+    c.args.ticket x c.args.to c.args.from c.key-key.result c.member-member.result c.in_ok-message.message.items c.advance.result c.self.invariant at c.key-key.ensures c.member-member.ensures.member
     (c.in_ok-message.ensures.ok ∙ c.read.ensures ∙ ap (λ b. read_of b c.args.from) c.bytes.ensures)
     (record { members = (ap (λ (s : LookUps). s.members) c.in-Ok-put.ensures.kept); given = (ap (λ (s : LookUps). s.given) c.in-Ok-put.ensures.kept); seats = (ap (λ (s : LookUps). s.seats) c.in-Ok-put.ensures.kept) })
-    (ap (λ (s : LookUps). s.mail) c.in-Ok-put.ensures.kept) c.deliver.ensures.delivers c.deliver.ensures.running c.deliver.ensures.first c.go_on.ensures).0
+    (ap (λ (s : LookUps). s.mail) c.in-Ok-put.ensures.kept) c.deliver.ensures.delivers c.deliver.ensures.running c.deliver.ensures.first c.advance.ensures).0
 
 pub returns-clause-acts : goal.returns-clause-acts
 returns-clause-acts c =
     let x = c.in-Ok.request.now in
     let at = acts_at _ c.args.self.now c.args.ticket x (Send c.args.to c.args.from) c.self.view_is c.requires c.in-Ok.ensures.found in
-    subst (λ (p : Parts). Acts p (parts c.self.inside.ranks c.self.inside.starts c.self.inside.trace c.go_on.new.arena c.self.inside.queues c.put.new.self) c.go_on.result) c.self.view_is
-    (sent c.self.inside.ranks c.self.inside.starts c.self.inside.trace c.self.inside.arena c.deliver.new.arena c.go_on.new.arena c.self.inside.queues c.self.inside.matches c.put.new.self
-    c.args.ticket x c.args.to c.args.from c.key-key.result c.member-member.result c.in_ok-message.message.items c.go_on.result c.self.invariant at c.key-key.ensures c.member-member.ensures.member
+    subst (λ (p : Parts). Acts p (parts c.self.inside.ranks c.self.inside.starts c.self.inside.trace c.advance.new.arena c.self.inside.queues c.put.new.self) c.advance.result) c.self.view_is
+    (sent c.self.inside.ranks c.self.inside.starts c.self.inside.trace c.self.inside.arena c.deliver.new.arena c.advance.new.arena c.self.inside.queues c.self.inside.matches c.put.new.self
+    c.args.ticket x c.args.to c.args.from c.key-key.result c.member-member.result c.in_ok-message.message.items c.advance.result c.self.invariant at c.key-key.ensures c.member-member.ensures.member
     (c.in_ok-message.ensures.ok ∙ c.read.ensures ∙ ap (λ b. read_of b c.args.from) c.bytes.ensures)
     (record { members = (ap (λ (s : LookUps). s.members) c.in-Ok-put.ensures.kept); given = (ap (λ (s : LookUps). s.given) c.in-Ok-put.ensures.kept); seats = (ap (λ (s : LookUps). s.seats) c.in-Ok-put.ensures.kept) })
-    (ap (λ (s : LookUps). s.mail) c.in-Ok-put.ensures.kept) c.deliver.ensures.delivers c.deliver.ensures.running c.deliver.ensures.first c.go_on.ensures).1
+    (ap (λ (s : LookUps). s.mail) c.in-Ok-put.ensures.kept) c.deliver.ensures.delivers c.deliver.ensures.running c.deliver.ensures.first c.advance.ensures).1

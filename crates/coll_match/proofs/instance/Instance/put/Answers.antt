@@ -1,18 +1,18 @@
 use Rattle.std.proofs.Common.{◌∙◌, ◌<◌, length, ap, refl, Some}
 use Rattle.coll_match.specs.declared.instance.Share.{Share}
-use Rattle.coll_match.specs.Held.{gift_of, given_in, mail_in, put_mail, seat_in, slot_of}
+use Rattle.coll_match.specs.Held.{contribution_of, given_in, mail_in, put_mail, seat_in, slot_of}
 use Rattle.coll_match.proofs.Shares.{low_share, mail_sent, parts_kept}
 use Rattle.coll_match.proofs.instance.Instance.put.Goals as goal
 
 abbrev after : (c : goal.After-seated) → Share
-after c = record { given = c.index_mut.result.now.given; slot = c.index_mut.result.now.slot; outbox = c.put.new.self }
+after c = record { given = c.index_mut.result.now.given; slot = c.index_mut.result.now.slot; mailbox = c.put.new.self }
 
 low : (c : goal.After-seated) → c.from.result < length c.self.inside.shares.items
 low c = low_share _ _ _ _ c.self.view_is c.requires.member c.from.ensures
 
 pub returns-clause-given : goal.returns-clause-given
 returns-clause-given c =
-    parts_kept gift_of c.self.inside.shares.items c.from.result (after c) (low c) c.index_mut.result.now c.index_mut.ensures.value refl
+    parts_kept contribution_of c.self.inside.shares.items c.from.result (after c) (low c) c.index_mut.result.now c.index_mut.ensures.value refl
     ∙ ap given_in c.self.view_is
 
 pub returns-clause-seats : goal.returns-clause-seats
@@ -21,10 +21,10 @@ returns-clause-seats c =
     ∙ ap seat_in c.self.view_is
 
 pub returns-clause-receiver : goal.returns-clause-receiver
-returns-clause-receiver c = c.seated.ensures ∙ ap (λ f. f c.args.way.to) (returns-clause-seats c)
+returns-clause-receiver c = c.seated.ensures ∙ ap (λ f. f c.args.envelope.to) (returns-clause-seats c)
 
 pub returns-clause-mail : goal.returns-clause-mail
 returns-clause-mail c =
     mail_sent c.self.inside.shares.items c.from.result (after c) c.index_mut.result.now (low c) c.index_mut.ensures.value
-    c.args.way.to c.args.way.round (Some c.args.message.items) c.in_ok-put.ensures.sent
-    ∙ (λ z. put_mail (mail_in (c.self.view_is z)) (c.from.ensures z) c.args.way.to c.args.way.round (Some c.args.message.items))
+    c.args.envelope.to c.args.envelope.round (Some c.args.message.items) c.in_ok-put.ensures.sent
+    ∙ (λ z. put_mail (mail_in (c.self.view_is z)) (c.from.ensures z) c.args.envelope.to c.args.envelope.round (Some c.args.message.items))

@@ -1,18 +1,18 @@
 use Rattle.std.proofs.Common.{◌∙◌, ◌<◌, length, ap, refl, arith, None}
 use Rattle.coll_match.specs.declared.instance.Share.{Share}
-use Rattle.coll_match.specs.Held.{gift_of, given_in, mail_in, put_mail, seat_in, slot_of}
+use Rattle.coll_match.specs.Held.{contribution_of, given_in, mail_in, put_mail, seat_in, slot_of}
 use Rattle.coll_match.proofs.Shares.{mail_sent, parts_kept}
 use Rattle.coll_match.proofs.instance.Instance.take.Goals as goal
 
 abbrev after : (c : goal.After-self-1) → Share
-after c = record { given = c.index_mut.result.now.given; slot = c.index_mut.result.now.slot; outbox = c.take.new.self }
+after c = record { given = c.index_mut.result.now.given; slot = c.index_mut.result.now.slot; mailbox = c.take.new.self }
 
 low : (c : goal.After-self-1) → c.from-sender.result < length c.self.inside.shares.items
 low c = omega (arith, c.if-sender-len.false)
 
 pub returns-clause-given : goal.returns-clause-given
 returns-clause-given c =
-    parts_kept gift_of c.self.inside.shares.items c.from-sender.result (after c) (low c) c.index_mut.result.now c.index_mut.ensures.value refl
+    parts_kept contribution_of c.self.inside.shares.items c.from-sender.result (after c) (low c) c.index_mut.result.now c.index_mut.ensures.value refl
     ∙ ap given_in c.self.view_is
 
 pub returns-clause-seats : goal.returns-clause-seats
@@ -23,5 +23,5 @@ returns-clause-seats c =
 pub returns-clause-mail : goal.returns-clause-mail
 returns-clause-mail c =
     mail_sent c.self.inside.shares.items c.from-sender.result (after c) c.index_mut.result.now (low c) c.index_mut.ensures.value
-    c.args.way.to c.args.way.round None c.take.ensures.sent
-    ∙ (λ z. put_mail (mail_in (c.self.view_is z)) (c.from-sender.ensures z) c.args.way.to c.args.way.round None)
+    c.args.envelope.to c.args.envelope.round None c.take.ensures.sent
+    ∙ (λ z. put_mail (mail_in (c.self.view_is z)) (c.from-sender.ensures z) c.args.envelope.to c.args.envelope.round None)

@@ -11,15 +11,15 @@ use Rattle.coll_arena.specs.Slots.{Slots, home, names, record_in, weight_of}
 use Rattle.coll_machine.specs.declared.key.Key.{Key}
 use Rattle.coll_match.specs.Instances.{mail, seats}
 use Rattle.coll_tables.specs.Engines.{IsCalled}
-use Rattle.coll_tables.specs.Requests.{went, key}
+use Rattle.coll_tables.specs.Requests.{advanced, key}
 use Rattle.coll_tables.specs.Shown.{Instances}
 use Rattle.coll_tables.specs.Sound.{Stands}
 use Rattle.coll_core.specs.declared.request.Request.{Request}
 use Rattle.coll_core.specs.declared.sent.Sent.{Sent}
-use Rattle.coll_core.specs.Requests.{Hears, IsListOf, next_of, schedule, shown}
+use Rattle.coll_core.specs.Requests.{CanReceive, IsListOf, next_of, schedule, shown}
 
 -- the ticket names a request that has a next action
-pub record CanGoOn (a : Slots Request) (t : Ticket) : Type 0 where
+pub record CanAdvance (a : Slots Request) (t : Ticket) : Type 0 where
   pub request : Request
   pub live : names a t ≡ true
   pub here : record_in a t.slot ≡ Some request
@@ -38,7 +38,7 @@ is_end (Queue comm) = false
 is_end (Done comm) = true
 
 -- it is one action on, on the list where its next one puts it
-pub record GoneOn (a b : Slots Request) (n : Instances) (t : Ticket) (finished : Bool) : Type 0 where
+pub record HasAdvanced (a b : Slots Request) (n : Instances) (t : Ticket) (finished : Bool) : Type 0 where
   pub from : Request
   pub to : Request
   pub point : Progress
@@ -47,7 +47,7 @@ pub record GoneOn (a b : Slots Request) (n : Instances) (t : Ticket) (finished :
   pub puts : PutsSlot a b t.slot t.generation (weight_of a t.slot) (Some to) (number_of list)
   -- a request that is on its list already keeps its place there
   pub stays : home a t.slot ≡ number_of list → b.lists ≡ a.lists
-  pub is : shown to ≡ went (shown from) point
+  pub is : shown to ≡ advanced (shown from) point
   pub buf : point.buf ≡ from.buffer
   pub over : Over (schedule (shown from)) from.round (suc from.index) point.round point.index
   pub stands : Stands from.plan.n (mail n (key (shown from))) (number_of list) (shown to)
@@ -63,13 +63,13 @@ abbrev pub IsSent : Instances → Sent → Type 0
 IsSent n sent = mail n sent.key sent.from sent.to sent.round ≢ None
 
 -- the ticket is that of a member's request, which waits for a message that is there
-pub record CanHear (a : Slots Request) (n : Instances) (k : Key) (to : ℕ) (t : Ticket) : Type 0 where
+pub record IsReceiver (a : Slots Request) (n : Instances) (k : Key) (to : ℕ) (t : Ticket) : Type 0 where
   pub request : Request
   pub seat : seats n k to ≡ Some t.slot
   pub live : names a t ≡ true
   pub here : record_in a t.slot ≡ Some request
   pub waits : home a t.slot ≡ number_of (Queue request.comm)
-  pub hears : Hears (mail n (key (shown request))) (shown request)
+  pub can_receive : CanReceive (mail n (key (shown request))) (shown request)
 
-abbrev pub NoneHears : Slots Request → Instances → Key → ℕ → Type 0
-NoneHears a n k to = (slot : ℕ) (r : Request) → IsCalled shown a n k to slot r → ⊥
+abbrev pub NoReceiver : Slots Request → Instances → Key → ℕ → Type 0
+NoReceiver a n k to = (slot : ℕ) (r : Request) → IsCalled shown a n k to slot r → ⊥

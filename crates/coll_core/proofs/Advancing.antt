@@ -1,4 +1,4 @@
--- A slot whose request was written, and which then went to another list.
+-- A slot whose request was written, and which then advanced to another list.
 use Rattle.std.proofs.Common.{◌≡◌, ◌∙◌, ◌<◌, ◌&&◌, ◌==◌, ℕ, suc, Bool, true, Option, Some, ap, refl, sym, subst, eqb-true}
 use Rattle.std.proofs.lemmas.Bool.{and_parts}
 use Rattle.coll_kinds.specs.declared.ticket.Ticket.{Ticket}
@@ -17,8 +17,8 @@ use Rattle.coll_tables.specs.Requests.{Live, key}
 use Rattle.coll_tables.specs.Shown.{Instances}
 use Rattle.coll_tables.specs.Sound.{Stands}
 use Rattle.coll_core.specs.declared.request.Request.{Request}
-use Rattle.coll_core.specs.Requests.{GoesOver, IsListOf, shown}
-use Rattle.coll_core.specs.Goings.{GoneOn, is_end}
+use Rattle.coll_core.specs.Requests.{PassesEnds, IsListOf, shown}
+use Rattle.coll_core.specs.Advancing.{HasAdvanced, is_end}
 
 -- a change of a slot after a write to it is that change alone
 pub puts_written : (a b : Slots Request) (i gen w list : ℕ) (y : Request) (o : Option Request) → IsSound a → i < count a
@@ -65,13 +65,13 @@ placed a t list sound on =
 
 pub gone_on : (a b : Slots Request) (n : Instances) (t : Ticket) (x y : Request) (list : ListName) (finished : Bool)
     → IsSound a → names a t ≡ true → record_in a t.slot ≡ Some x
-    → GoesOver (shown x) (shown y) (suc x.index)
+    → PassesEnds (shown x) (shown y) (suc x.index)
     → Stands y.plan.n (mail n (key (shown y))) (number_of list) (shown y)
     → IsListOf y.comm list
     → PutsSlot (rewritten a t.slot y) b t.slot t.generation (weight_of a t.slot) (record_in (rewritten a t.slot y) t.slot) (number_of list)
     → (home a t.slot ≡ number_of list → b ≡ rewritten a t.slot y)
     → finished ≡ is_end list
-    → GoneOn a b n t finished
+    → HasAdvanced a b n t finished
 gone_on a b n t x y list finished sound live here goes stands onto puts stays end = record {
   from = x;
   to = y;

@@ -1,8 +1,8 @@
 use Rattle.std.proofs.Common.{◌∙◌, Some, ap, sym}
 use Rattle.coll_match.specs.Instances.{mail}
-use Rattle.coll_core.proofs.Hearings.{came}
+use Rattle.coll_core.proofs.Receiving.{came}
 use Rattle.coll_core.proofs.Options.{some_at}
-use Rattle.coll_core.proofs.request.Request.hears.Goals as goal
+use Rattle.coll_core.proofs.request.Request.can_receive.Goals as goal
 
 pub returns-then-eq : goal.returns-then-eq
 returns-then-eq c =
@@ -16,5 +16,5 @@ returns-then-eq c =
         came = some_at (λ k m. mail c.args.matches.now k r.of m q.round) c.key.result _ c.member.result _ c.key.ensures c.member.ensures.member
             (came c.args.matches.now c.key.result s.key r.of s.from c.member.result s.to q.round s.round (sym c.eq.ensures ∙ c.if-eq.true) c.requires);
       }),
-      (λ hears. c.if-eq.true),
+      (λ can_receive. c.if-eq.true),
     )

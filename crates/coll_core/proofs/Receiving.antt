@@ -15,21 +15,21 @@ use Rattle.coll_tables.specs.Sound.{ready}
 use Rattle.coll_tables.proofs.Slots.{one_shifted}
 use Rattle.coll_core.specs.declared.request.Request.{Request}
 use Rattle.coll_tables.specs.Requests.{key}
-use Rattle.coll_core.specs.Requests.{Hears, shown}
-use Rattle.coll_core.specs.Goings.{CanHear}
+use Rattle.coll_core.specs.Requests.{CanReceive, shown}
+use Rattle.coll_core.specs.Advancing.{IsReceiver}
 
 slot_by : (a : Slots Request) (slot : ℕ) (t : Ticket) (live : Bool) → Some t ≡ cond live (Some (ticket_of a slot)) None → t.slot ≡ slot
 slot_by a slot t true e = ap (λ (u : Ticket). u.slot) (same_Some t (ticket_of a slot) e)
 slot_by a slot t false e = absurd (none-some t (sym e))
 
-pub can_hear : (a : Slots Request) (n : Instances) (k : Key) (to slot : ℕ) (t : Ticket) (r : Request)
+pub is_receiver : (a : Slots Request) (n : Instances) (k : Key) (to slot : ℕ) (t : Ticket) (r : Request)
     → seats n k to ≡ Some slot
     → Some t ≡ cond (is_live a slot) (Some (ticket_of a slot)) None
     → record_in a t.slot ≡ Some r
     → true ≡ (names a t && (home a t.slot == 5 + 3 * r.comm))
-    → Hears (mail n (key (shown r))) (shown r)
-    → CanHear a n k to t
-can_hear a n k to slot t r seat found here on hears =
+    → CanReceive (mail n (key (shown r))) (shown r)
+    → IsReceiver a n k to t
+is_receiver a n k to slot t r seat found here on can_receive =
     let both = and_parts (names a t) (home a t.slot == 5 + 3 * r.comm) (sym on) in
     record {
       request = r;
@@ -37,11 +37,11 @@ can_hear a n k to slot t r seat found here on hears =
       live = both.0;
       here = here;
       waits = eqb-true (home a t.slot) (5 + 3 * r.comm) both.1;
-      hears = hears;
+      can_receive = can_receive;
     }
 
 pub delivers : (a b : Slots Request) (n : Instances) (k : Key) (to : ℕ) (t : Ticket)
-    → CanHear a n k to t
+    → IsReceiver a n k to t
     → PutsSlot a b t.slot t.generation (weight_of a t.slot) (record_in a t.slot) 2
     → Delivers shown a b n k to
 delivers a b n k to t h puts = inr (
@@ -51,7 +51,7 @@ delivers a b n k to t h puts = inr (
     seat = h.seat;
     found = record { here = h.here; generation_is = (Named-names a t h.live).generation };
     waits = h.waits;
-    ready = ready (Recv h.hears.of h.hears.into) refl refl h.hears.next_is h.hears.came;
+    ready = ready (Recv h.can_receive.of h.can_receive.into) refl refl h.can_receive.next_is h.can_receive.came;
     puts = one_shifted a b t.slot t.generation 2 h.request h.here puts;
   },
 )

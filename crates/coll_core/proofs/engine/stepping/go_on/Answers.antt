@@ -1,7 +1,0 @@
-use Rattle.coll_core.proofs.Goings.{gone_on}
-use Rattle.coll_core.proofs.engine.stepping.go_on.Goals as goal
-
-pub returns : goal.returns
-returns c =
-    gone_on c.args.arena.now _ c.args.matches.now c.args.ticket c.in-Ok.request.now c.go_on.new.self c.list-list.result c.is_end.result
-    c.is_sound.ensures c.requires.live c.in-Ok.ensures.found c.go_on.ensures c.list-list.ensures.stands c.list-list.ensures.list c.place.ensures.puts c.place.ensures.stays c.is_end.ensures
