@@ -15,7 +15,15 @@
 //! | `group` | the member number of a rank |
 //! | `ticket` | `Ticket`, by which a caller names a request |
 //! | `refusal` | `Refusal`, `Refused` and what they carry |
+//! | `sentence` | a refusal in one sentence, with its data |
 //! | `number`, `element` | the decimal text of a number and of an element |
+//!
+//! ```
+//! let sig = Signature::allreduce(Op::Sum, Datatype::I32, 2).persistent();
+//! sig.check(4)?;
+//! let bytes = sig.given_len(4, 0);
+//! println!(rt; "{sig}: member 0 of 4 gives {bytes} bytes")?;
+//! ```
 #![tactic(auto)]
 
 mod calls;
@@ -29,6 +37,7 @@ mod number;
 mod operation;
 mod refusal;
 mod same_signature;
+mod sentence;
 mod signature;
 mod ticket;
 
@@ -42,5 +51,6 @@ pub use limits::{
 pub use number::read_number;
 pub use operation::Op;
 pub use refusal::{ConfigField, Refusal, Refused, SignatureFault};
+pub use sentence::Sentence;
 pub use signature::Signature;
 pub use ticket::Ticket;

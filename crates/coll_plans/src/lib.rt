@@ -30,6 +30,11 @@
 //! | `direct_pattern` | `Pattern`, which members have bytes for which others |
 //! | `direct_blocks` | `Blocks`, where a member's blocks lie |
 //! | `layout` | the bytes of blocks and buffers, and a list of one round |
+//!
+//! ```
+//! let plan = plan(alloc, Signature::barrier(), 8, 3)?;
+//! assert_eq!(rt; plan.schedule().exchanges(), 3);
+//! ```
 #![tactic(auto)]
 
 mod bruck_allgather;
