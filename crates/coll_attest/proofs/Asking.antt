@@ -17,8 +17,8 @@ use Rattle.coll_history.specs.declared.command.Command.TheVariants as line
 use Rattle.coll_history.specs.declared.command.Told.{Told}
 use Rattle.coll_script.specs.Postings.{requests_of}
 use Rattle.coll_script.proofs.Sections.{each_of, requests_of-past, requests_of-rank, requests_of-view}
-use Rattle.coll_trace.specs.Scripts as script
-use Rattle.coll_trace.specs.Scripts.{Command, Asked, asked, asked_at, asked_from, changed_at, one_more}
+use Rattle.coll_report.specs.Scripts as script
+use Rattle.coll_report.specs.Scripts.{Command, Asked, asked, asked_at, asked_from, changed_at, one_more}
 use Rattle.coll_attest.specs.Commands.{all_traced, as_asked, commands_by, traced}
 use Rattle.coll_attest.specs.Index.{IsFew}
 use Rattle.coll_attest.specs.Laws.{CommandsAsk}

@@ -19,10 +19,10 @@ use Rattle.coll_script.specs.Meaning.{outcome_line, given_at, lists_of, start_li
 use Rattle.coll_machine.specs.Settings.{Setting, group}
 use Rattle.coll_machine.specs.declared.key.Key.{Key}
 use Rattle.coll_machine.specs.Entries.{Entry, Posted, Inited, Started, Retired, Freed}
-use Rattle.coll_trace.specs.Scripts.{Asked, asked, on, at_place, given_by, contributions, value_for, outcome}
-use Rattle.coll_trace.specs.Told.{HasValue, retires}
-use Rattle.coll_trace.proofs.Lists.{get_map, placed}
-use Rattle.coll_trace.proofs.Running.{count_next}
+use Rattle.coll_report.specs.Scripts.{Asked, asked, on, at_place, given_by, contributions, value_for, outcome}
+use Rattle.coll_report.specs.Told.{HasValue, retires}
+use Rattle.coll_report.proofs.Lists.{get_map, placed}
+use Rattle.coll_report.proofs.Running.{count_next}
 use Rattle.coll_report.specs.Reports.{Closed}
 use Rattle.coll_report.specs.Scripted.{Tells}
 use Rattle.coll_attest.specs.Commands.{as_asked, commands_by}

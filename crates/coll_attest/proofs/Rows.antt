@@ -3,7 +3,7 @@ use Rattle.std.proofs.Common.{◌<◌, ℕ, zero, suc, [], refl, arith}
 use Rattle.coll_history.specs.Histories.{commands_of}
 use Rattle.coll_machine.specs.Reports.{posts_of}
 use Rattle.coll_machine.specs.Rows.{late_bcast}
-use Rattle.coll_trace.specs.Scripts.{Says}
+use Rattle.coll_report.specs.Scripts.{Says}
 use Rattle.coll_attest.specs.Commands.{all_traced}
 use Rattle.coll_attest.specs.Rows.{bcast_text, RowIsRun}
 

@@ -3,7 +3,7 @@ use Rattle.std.proofs.Common.{◌≤◌, ◌<◌, List, [], sym, subst}
 use Rattle.std.specs.Prelude.{unwrap_or}
 use Rattle.coll_history.specs.Histories.{History}
 use Rattle.coll_machine.specs.Reports.{posts_of}
-use Rattle.coll_trace.specs.Scripts.{Command, Says}
+use Rattle.coll_report.specs.Scripts.{Command, Says}
 use Rattle.coll_report.specs.Reports.{Closed}
 use Rattle.coll_report.specs.Scripted.{Follows}
 use Rattle.coll_report.proofs.Telling.{attested_tells}

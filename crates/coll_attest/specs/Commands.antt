@@ -4,7 +4,7 @@ use Rattle.coll_history.specs.Histories.{History, commands_of}
 use Rattle.coll_history.specs.Requests.{Request}
 use Rattle.coll_history.specs.declared.command.Command as text
 use Rattle.coll_history.specs.declared.command.Command.TheVariants as line
-use Rattle.coll_trace.specs.Scripts.{Command, Post, Init, Start, Other, Asked}
+use Rattle.coll_report.specs.Scripts.{Command, Post, Init, Start, Other, Asked}
 
 -- a command, as a trace shows it; of a wait, a test or a free it shows nothing that is posted or given
 abbrev pub traced : text.Command → Command

@@ -6,7 +6,7 @@ use Rattle.coll_history.specs.Sound.{IsSound}
 use Rattle.coll_script.specs.Postings.{requests_of}
 use Rattle.coll_script.specs.Jobs.{job_of}
 use Rattle.coll_script.specs.Meaning.{job_lines}
-use Rattle.coll_trace.specs.Scripts.{asked}
+use Rattle.coll_report.specs.Scripts.{asked}
 use Rattle.coll_report.specs.Reports.{Closed, IsClosed}
 use Rattle.coll_report.specs.Scripted.{Tells}
 use Rattle.coll_attest.specs.Commands.{as_asked, commands_by}

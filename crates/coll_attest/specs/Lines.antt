@@ -6,7 +6,7 @@ use Rattle.coll_script.specs.Postings.{posted_on, requests_of}
 use Rattle.coll_script.specs.Jobs.{Job}
 use Rattle.coll_script.specs.Meaning.{outcome_line}
 use Rattle.coll_machine.specs.Entries.{Entry, Posted, Inited, Started, Retired, Freed}
-use Rattle.coll_trace.specs.Told.{retires}
+use Rattle.coll_report.specs.Told.{retires}
 
 -- what a completion handed out
 abbrev pub bytes_of : Entry → List ℕ

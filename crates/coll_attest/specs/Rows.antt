@@ -7,7 +7,7 @@ use Rattle.coll_history.specs.Histories.{History}
 use Rattle.coll_script.specs.Jobs.{job_of}
 use Rattle.coll_script.specs.Meaning.{job_lines}
 use Rattle.coll_machine.specs.Rows.{bcast, i32, late_bcast}
-use Rattle.coll_trace.specs.Scripts.{Post, Other, asked, asked_at}
+use Rattle.coll_report.specs.Scripts.{Post, Other, asked, asked_at}
 use Rattle.coll_report.specs.Rows.{two}
 use Rattle.coll_attest.specs.Commands.{commands_by}
 use Rattle.coll_attest.specs.Lines.{told, told_lines}

@@ -2,7 +2,7 @@
 use Rattle.std.specs.Prelude.{◌≡◌, ◌<◌, ℕ, [], unwrap_or}
 use Rattle.coll_history.specs.Histories.{History, commands_of}
 use Rattle.coll_machine.specs.Reports.{posts_of}
-use Rattle.coll_trace.specs.Scripts.{Says}
+use Rattle.coll_report.specs.Scripts.{Says}
 use Rattle.coll_report.specs.Reports.{Closed}
 use Rattle.coll_attest.specs.Commands.{all_traced}
 

@@ -2,7 +2,7 @@ ghost use Rattle.std.specs.Prelude.{◌≡◌, IfErr, IfOk, OnOk};
 ghost use Rattle.coll_history.specs.Sound.{IsSound};
 ghost use Rattle.coll_script.specs.Jobs.{job_of};
 ghost use Rattle.coll_script.specs.Meaning.{job_lines};
-ghost use Rattle.coll_trace.specs.Scripts.{asked};
+ghost use Rattle.coll_report.specs.Scripts.{asked};
 ghost use Rattle.coll_report.specs.Scripted.{Tells};
 ghost use Rattle.coll_attest.specs.Commands.{commands_by};
 ghost use Rattle.coll_attest.specs.Lines.{told, told_lines};

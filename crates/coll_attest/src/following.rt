@@ -1,7 +1,7 @@
 //! The comparison of a report with a script.
 
 ghost use Rattle.std.specs.Prelude.{◌≡◌, ◌↔◌, [], IsTrue, IfOk, unwrap_or};
-ghost use Rattle.coll_trace.specs.Scripts.{Says};
+ghost use Rattle.coll_report.specs.Scripts.{Says};
 ghost use Rattle.coll_report.specs.Comparisons.{said};
 ghost use Rattle.coll_report.specs.Posts.{posts_left};
 ghost use Rattle.coll_attest.specs.Commands.{all_traced, traced};

@@ -5,7 +5,7 @@ ghost use Rattle.std.specs.Prelude.{◌↔◌};
 ghost use Rattle.coll_core.specs.declared.config.Config.{Config as TheConfig};
 ghost use Rattle.coll_script.specs.Jobs.{job_of, script_of};
 ghost use Rattle.coll_script.specs.Meaning.{job_lines, meaning};
-ghost use Rattle.coll_trace.specs.Scripts.{asked};
+ghost use Rattle.coll_report.specs.Scripts.{asked};
 ghost use Rattle.coll_report.specs.Attested.{HandedOut};
 ghost use Rattle.coll_report.specs.Scripted.{Tells};
 ghost use Rattle.coll_attest.specs.Commands.{commands_by};

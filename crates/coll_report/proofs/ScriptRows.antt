@@ -8,9 +8,9 @@ use Rattle.coll_machine.specs.Reports.{posts_of}
 use Rattle.coll_machine.specs.Traces.{Leads}
 use Rattle.coll_machine.specs.Rows.{two_ranks, late_bcast, left_late, two_starts, freed}
 use Rattle.coll_machine.proofs.Rows.{rows_are_legal}
-use Rattle.coll_trace.specs.Scripts.{Says}
-use Rattle.coll_trace.specs.Rows.{bcasts, gathers, RowsAreTold}
-use Rattle.coll_trace.proofs.Strangers.{strangers_are_silent}
+use Rattle.coll_report.specs.Scripts.{Says}
+use Rattle.coll_report.specs.ScriptRows.{bcasts, gathers, RowsAreTold}
+use Rattle.coll_report.proofs.Strangers.{strangers_are_silent}
 
 groups : AreGroups two_ranks
 groups zero = IsGroup-range 2 (omega arith)

@@ -2,16 +2,16 @@
 use Rattle.std.proofs.Common.{◌≡◌, ℕ, ◌+◌, ◌≤◌, List, [], refl, sym, subst, ◌∙◌, arith}
 use Rattle.std.specs.List.{count_by}
 use Rattle.std.proofs.lemmas.Option.{none-some}
-use Rattle.coll_trace.specs.Scripts.{Command, Asked, asked, IsAsked}
+use Rattle.coll_report.specs.Scripts.{Command, Asked, asked, IsAsked}
 use Rattle.std.proofs.lemmas.Bool.{false≢true}
 use Rattle.coll_machine.specs.Entries.{Entry}
 use Rattle.coll_machine.specs.Settings.{Setting}
 use Rattle.coll_machine.specs.States.{State, nothing}
-use Rattle.coll_trace.proofs.Counted.{Fair, unasked, going, over}
-use Rattle.coll_trace.proofs.Running.{Ends, run}
+use Rattle.coll_report.proofs.Counted.{Fair, unasked, going, over}
+use Rattle.coll_report.proofs.Running.{Ends, run}
 use Rattle.coll_machine.proofs.Posted.{are_nothing}
-use Rattle.coll_trace.proofs.Standing.{stands_nothing}
-use Rattle.coll_trace.specs.Told.{retires, IsTraceOf, IsIdle, TracesTell, TracesCount}
+use Rattle.coll_report.proofs.Standing.{stands_nothing}
+use Rattle.coll_report.specs.Told.{retires, IsTraceOf, IsIdle, TracesTell, TracesCount}
 
 ends : (g : Setting) (script : ℕ → List Command) (es : List Entry) (u : State) → IsTraceOf g script es u → Ends g u (λ rank. asked (script rank)) es (λ r c p n. 0)
 ends g script es u is = run g is.groups (λ rank. asked (script rank)) es nothing u (λ r. []) (λ r. []) (λ r c p n. 0) is.leads

@@ -2,8 +2,8 @@
 use Rattle.std.specs.Prelude.{◌≡◌, ℕ, zero, suc, List, [], ◌∷◌, Some, refl}
 use Rattle.coll_machine.specs.Reports.{posts_of}
 use Rattle.coll_machine.specs.Rows.{two_ranks, key, i32, bcast, late_bcast, left_late, gather, two_starts, freed}
-use Rattle.coll_trace.specs.Scripts.{Command, Post, Init, Start, Other, Asked, asked_at, asked, at_place, contributions, outcome, Says}
-use Rattle.coll_trace.specs.Told.{IsTraceOf}
+use Rattle.coll_report.specs.Scripts.{Command, Post, Init, Start, Other, Asked, asked_at, asked, at_place, contributions, outcome, Says}
+use Rattle.coll_report.specs.Told.{IsTraceOf}
 
 -- ---- a bcast from rank 0
 

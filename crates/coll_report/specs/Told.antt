@@ -6,7 +6,7 @@ use Rattle.coll_machine.specs.States.{Request, State, nothing}
 use Rattle.coll_machine.specs.Entries.{Entry, Posted, Inited, Started, Retired, Freed}
 use Rattle.coll_machine.specs.Reports.{posts_of}
 use Rattle.coll_machine.specs.Traces.{Leads}
-use Rattle.coll_trace.specs.Scripts.{Command, Asked, asked, outcome, Says, IsAsked}
+use Rattle.coll_report.specs.Scripts.{Command, Asked, asked, outcome, Says, IsAsked}
 
 -- a trace from the opening on, in which each rank posts, initialises and starts what its commands say, in their order
 pub record IsTraceOf (g : Setting) (script : ℕ → List Command) (es : List Entry) (u : State) : Type 0 where

@@ -9,7 +9,7 @@ use Rattle.coll_kinds.specs.declared.signature.Signature.{Signature}
 use Rattle.coll_kinds.specs.declared.kind.Mode.{Mode}
 use Rattle.coll_kinds.specs.declared.kind.Mode.TheVariants.{Once, Persistent}
 use Rattle.coll_ops.specs.Values.{value}
-use Rattle.coll_trace.specs.Scripts.{Command, Post, Init, Start, Other, Asked, asked_at, one_more, changed_at, asked_from, outcome, Says}
+use Rattle.coll_report.specs.Scripts.{Command, Post, Init, Start, Other, Asked, asked_at, one_more, changed_at, asked_from, outcome, Says}
 use Rattle.coll_kinds.proofs.Puts.{put_same, put_other, put_at, put_cases}
 use Rattle.coll_kinds.specs.Groups.{member_of}
 use Rattle.coll_kinds.specs.Puts.{put}
@@ -24,13 +24,13 @@ use Rattle.coll_machine.specs.Settings.{Setting, size, group, AreGroups}
 use Rattle.coll_machine.specs.States.{Request, State, key_of}
 use Rattle.coll_machine.specs.Steps.{filled, Posts, Inits, Starts, Frees, Retires, Clears, IsNew}
 use Rattle.coll_machine.specs.Traces.{Leads}
-use Rattle.coll_trace.proofs.Counted.{Fair, IsSame, fair_created, fair_started, fair_freed, fair_retired}
-use Rattle.coll_trace.proofs.Lists.{changed_last, Grows, grows_asked}
+use Rattle.coll_report.proofs.Counted.{Fair, IsSame, fair_created, fair_started, fair_freed, fair_retired}
+use Rattle.coll_report.proofs.Lists.{changed_last, Grows, grows_asked}
 use Rattle.coll_machine.specs.Postings.{ArePosted}
 use Rattle.coll_machine.proofs.Posted.{are_entered}
-use Rattle.coll_trace.proofs.Standing.{Requests, Tickets, Known, Stands, stands_created, grows_new, stands_started, grows_started, at_started, stands_holding, stands_forgotten, known_rested}
-use Rattle.coll_trace.proofs.Valued.{value_is}
-use Rattle.coll_trace.specs.Told.{retires, HasValue}
+use Rattle.coll_report.proofs.Standing.{Requests, Tickets, Known, Stands, stands_created, grows_new, stands_started, grows_started, at_started, stands_holding, stands_forgotten, known_rested}
+use Rattle.coll_report.proofs.Valued.{value_is}
+use Rattle.coll_report.specs.Told.{retires, HasValue}
 
 -- how often each start of each place was completed
 abbrev pub Tally : Type 0

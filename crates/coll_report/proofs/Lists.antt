@@ -5,7 +5,7 @@ use Rattle.std.proofs.lemmas.Option.{none-some, same_Some}
 use Rattle.std.proofs.lemmas.Bool.{cases_eq}
 use Rattle.coll_kinds.specs.declared.signature.Signature.{Signature}
 use Rattle.coll_machine.proofs.Pushed.{get_front}
-use Rattle.coll_trace.specs.Scripts.{Command, Post, Init, Start, Other, Asked, asked_at, one_more, changed_at, asked_from, on, at_place}
+use Rattle.coll_report.specs.Scripts.{Command, Post, Init, Start, Other, Asked, asked_at, one_more, changed_at, asked_from, on, at_place}
 
 -- ---- one more element
 

@@ -10,7 +10,7 @@ use Rattle.coll_machine.specs.Postings.{ArePosted}
 use Rattle.coll_machine.proofs.Members.{member_at}
 use Rattle.coll_machine.proofs.Accepted.{found_is, started_mine}
 use Rattle.coll_machine.proofs.Posted.{are_nothing, are_entered}
-use Rattle.coll_trace.specs.Told.{StrangersAreSilent}
+use Rattle.coll_report.specs.Told.{StrangersAreSilent}
 
 member_below : (g : Setting) (comm rank member : ℕ) → AreGroups g → member_of rank (group g comm) ≡ Some member → rank < g.ranks
 member_below g comm rank member groups is = let m = member_at g comm rank member is in subst (λ r. r < g.ranks) m.1 ((groups comm).below member m.0)
