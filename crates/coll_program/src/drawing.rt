@@ -3,10 +3,10 @@
 ghost use Rattle.std.specs.Prelude.{◌≢◌, ◌<◌, ◌≤◌, IfOk, IfErr};
 ghost use Rattle.std.specs.Io.KnownBytes.{Keeps};
 
-use crate::keeping::keep;
+use crate::keeping::put;
 use crate::signature::signature_of;
 use coll_draw::{Drawing, svg_picture, text_lines};
-use coll_job::{JobFault, write_lines};
+use coll_job::JobFault;
 use coll_kinds::Refusal;
 use std::alloc::Global;
 use std::fs::Files;
@@ -21,9 +21,9 @@ pub enum DrawForm {
     Svg,
 }
 
-/// What is drawn, and where it goes.
-#[derive(Clone, Copy, Debug)]
-pub(crate) struct Draft<'w> {
+/// A collective that is drawn, and where the drawing goes.
+#[derive(Clone, Copy, Debug, PartialEq, Eq)]
+pub struct Draft<'w> {
     /// The words of the signature.
     pub words: &'w str,
     pub members: u8,
@@ -34,9 +34,6 @@ pub(crate) struct Draft<'w> {
 
 /// The exit status where the words are wrong.
 const BAD_WORDS: u8 = 2;
-
-/// The exit status where the file can't be written: that of a write fault.
-const UNWRITTEN: u8 = 1;
 
 /// The most members that a communicator has.
 const MOST_MEMBERS: u8 = 64;
@@ -58,16 +55,7 @@ pub(crate) fn draw<F: Files, W: Write, E: Write>(
         return Ok(BAD_WORDS);
     };
     let bytes = lines.as_str().as_bytes();
-    match draft.file {
-        None => write_lines(output, bytes)?,
-        Some(file) => {
-            if let Err(error) = keep(files, alloc, file, bytes) {
-                let _ = writeln!(errors, "{file}: {error}");
-                return Ok(UNWRITTEN);
-            }
-        }
-    }
-    Ok(0)
+    put(files, alloc, draft.file, bytes, output, errors)
 }
 
 /// The drawing as it is written. Where the words are wrong that is told, and there is none.

@@ -1,4 +1,5 @@
-use crate::running::{run_colored, told};
+use crate::running::{run_on, told};
+use crate::screen::Screen;
 use coll_job::JobFault;
 use std::fs::Files;
 use std::io::IsTerminal;
@@ -25,10 +26,10 @@ pub fn main_of<M: Threads + Wait + Sync + Files + Clock>(
         return ExitCode::from(told(None, JobFault::Memory, &mut errors));
     };
     let mut input = rt.reader();
-    let status = run_colored(
+    let status = run_on(
         machine,
         alloc,
-        takes_colors(rt),
+        &StandardError { rt },
         &words,
         &mut input,
         &mut io::writer(rt),
@@ -37,11 +38,27 @@ pub fn main_of<M: Threads + Wait + Sync + Files + Clock>(
     ExitCode::from(status)
 }
 
-/// Whether standard error is a terminal, and nobody asked for no colours (no-color.org).
-fn takes_colors(rt: &HostRuntime) -> bool {
-    let asks_for_none = match env::var(rt, "NO_COLOR") {
-        Ok(value) => !value.is_empty(),
-        Err(_) => false,
-    };
-    !asks_for_none && rt.stderr().is_terminal()
+/// Standard error of the machine.
+#[derive(Drop)]
+struct StandardError<'r> {
+    rt: &'r HostRuntime,
+}
+
+impl Screen for StandardError<'_> {
+    fn is_watched(&self) -> bool {
+        self.rt.stderr().is_terminal()
+    }
+
+    /// A terminal, where nobody asked for no colours (no-color.org).
+    fn takes_colors(&self) -> bool {
+        let asks_for_none = match env::var(self.rt, "NO_COLOR") {
+            Ok(value) => !value.is_empty(),
+            Err(_) => false,
+        };
+        !asks_for_none && self.is_watched()
+    }
+
+    fn show(&self, text: &str) {
+        let _ = self.rt.eprint(text);
+    }
 }

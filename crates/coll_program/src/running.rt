@@ -3,20 +3,20 @@ ghost use Rattle.std.specs.Io.KnownBytes.{Keeps};
 ghost use Rattle.coll_job.specs.Faults.{status_of};
 ghost use Rattle.coll_program.specs.Tasks.{workers_of, may_write, IsStatusOf};
 
-use crate::drawing::{Draft, draw};
-use crate::keeping::keep;
+use crate::carrying_out::{draw_run, run_text};
+use crate::drawing::draw;
 use crate::opening::open_text;
-use crate::viewing::keep_views;
-use crate::words::{Task, Way, task_of};
+use crate::screen::{NoScreen, Screen};
+use crate::task::{Task, Way};
+use crate::words::task_of;
 use clap::Error;
 use clap::error::ErrorKind;
-use coll_diagnosis::{ExplainOptions, Form, explain_job, explain_text};
+use coll_diagnosis::explain_job;
 use coll_faults::check_job;
-use coll_job::{Counted, JobFault, plain_job, read_text, write_lines};
-use coll_run::{recorded_job, threaded_job};
+use coll_job::{Counted, JobFault, plain_job};
 use std::alloc::Global;
 use std::fs::Files;
-use std::io::{Cursor, Read, Write};
+use std::io::{Read, Write};
 use std::rt::Clock;
 use std::sync::Wait;
 use std::thread::Threads;
@@ -24,26 +24,15 @@ use std::thread::Threads;
 /// The exit status where a file can't be opened: that of a read fault.
 const UNOPENED: u8 = 1;
 
-/// The exit status where the explanation of a run can't be written: that of a write fault.
-const UNEXPLAINED: u8 = 1;
-
-/// The exit status where a file on what a run did can't be written: that of a write fault.
-const UNWRITTEN: u8 = 1;
-
-/// How the explanation of a run is written.
-const EXPLAINED: ExplainOptions = ExplainOptions {
-    form: Form::Text,
-    is_strict: false,
-};
-
 /// How standard input is named where a text is shown.
 const STANDARD_INPUT: &str = "<stdin>";
 
 /// Does what the words of a command line ask for, the program's own name first: `colljob plain` writes the lines of a
 /// job text, `colljob run` has the text carried out by threads of `machine` and writes what they got, `colljob explain`
 /// writes whether its runs stall, and `colljob check` tells its faults. The text stands in the file of `machine` that the words
-/// name, or comes from `input`. `colljob draw` draws the schedules of a collective, and takes no text. Answers the exit status. At a fault nothing is written to `output`, but at a write fault, and
-/// the fault's line goes to `errors`; where that fails too, nobody is left to be told.
+/// name, or comes from `input`. `colljob draw` draws the schedules of a collective, and takes no text. Answers the exit status. At a
+/// fault nothing is written to `output`, but at a write fault, and the fault's line goes to `errors`; where that fails too, nobody is
+/// left to be told.
 pub fn run<M: Threads + Wait + Sync + Files + Clock, R: Read, W: Write, E: Write>(
     machine: &M,
     alloc: Global,
@@ -56,14 +45,20 @@ pub fn run<M: Threads + Wait + Sync + Files + Clock, R: Read, W: Write, E: Write
     // Only an answer, a fault of the streams, an explanation and faults as JSON leave anything on standard output.
     ensures unwritten { 3 < result → result ≢ 6 → Keeps (W.contents output.old) (W.contents output.new) }
 {
-    run_colored(machine, alloc, false, words, input, output, errors)
+    run_on(machine, alloc, &NoScreen, words, input, output, errors)
 }
 
-/// As `run`, where `errors` may take colours.
-pub fn run_colored<M: Threads + Wait + Sync + Files + Clock, R: Read, W: Write, E: Write>(
+/// As `run`, where `errors` are shown on a screen: faults may have colours, and a long run shows how far it is.
+pub fn run_on<
+    M: Threads + Wait + Sync + Files + Clock,
+    S: Screen + Sync,
+    R: Read,
+    W: Write,
+    E: Write,
+>(
     machine: &M,
     alloc: Global,
-    takes_colors: bool,
+    screen: &S,
     words: &[String],
     input: &mut R,
     output: &mut W,
@@ -72,16 +67,23 @@ pub fn run_colored<M: Threads + Wait + Sync + Files + Clock, R: Read, W: Write, 
     ensures statuses { result ≤ 6 }
     ensures unwritten { 3 < result → result ≢ 6 → Keeps (W.contents output.old) (W.contents output.new) }
 {
-    match task_of(alloc, takes_colors, words) {
-        Ok(task) => do_task(machine, alloc, task, input, output, errors),
+    match task_of(alloc, screen.takes_colors(), words) {
+        Ok(task) => do_task(machine, alloc, screen, task, input, output, errors),
         Err(error) => help(&error, output, errors),
     }
 }
 
 /// Does a task, as `run` does what its words ask for.
-pub fn do_task<M: Threads + Wait + Sync + Files + Clock, R: Read, W: Write, E: Write>(
+pub fn do_task<
+    M: Threads + Wait + Sync + Files + Clock,
+    S: Screen + Sync,
+    R: Read,
+    W: Write,
+    E: Write,
+>(
     machine: &M,
     alloc: Global,
+    screen: &S,
     task: Task<'_>,
     input: &mut R,
     output: &mut W,
@@ -93,9 +95,9 @@ pub fn do_task<M: Threads + Wait + Sync + Files + Clock, R: Read, W: Write, E: W
     ensures unwritten { may_write task.entry.way result ≡ false → Keeps (W.contents output.old) (W.contents output.new) }
 {
     let answer = match task.file {
-        None => write_answer(machine, alloc, task, STANDARD_INPUT, input, output, errors),
+        None => write_answer(machine, alloc, screen, task, input, output, errors),
         Some(name) => match open_text(machine, name) {
-            Ok(mut file) => write_answer(machine, alloc, task, name, &mut file, output, errors),
+            Ok(mut file) => write_answer(machine, alloc, screen, task, &mut file, output, errors),
             Err(error) => {
                 let _ = writeln!(errors, "{name}: {error}");
                 return UNOPENED;
@@ -108,12 +110,18 @@ pub fn do_task<M: Threads + Wait + Sync + Files + Clock, R: Read, W: Write, E: W
     }
 }
 
-/// Reads a job text, which has this name, and writes what was asked for. Answers the exit status.
-fn write_answer<M: Threads + Wait + Sync + Files + Clock, R: Read, W: Write, E: Write>(
+/// Reads the job text of a task, and writes what was asked for. Answers the exit status.
+fn write_answer<
+    M: Threads + Wait + Sync + Files + Clock,
+    S: Screen + Sync,
+    R: Read,
+    W: Write,
+    E: Write,
+>(
     machine: &M,
     alloc: Global,
+    screen: &S,
     task: Task<'_>,
-    name: &str,
     text: &mut R,
     output: &mut W,
     errors: &mut E,
@@ -124,88 +132,34 @@ fn write_answer<M: Threads + Wait + Sync + Files + Clock, R: Read, W: Write, E: 
     ensures unwritten_fault { IfErr result (λ fault. may_write task.entry.way (status_of fault) ≡ false → Keeps (W.contents output.old) (W.contents output.new)) }
 {
     let mut reader = Counted::new(text);
-    match (task.way, task.explanation) {
-        (Way::Plain, _) => plain_job(alloc, &mut reader, output)?,
-        (Way::Run { workers }, explanation) if task.views.are_wanted() => {
-            let text = read_text(alloc, &mut reader)?;
-            let recorded = recorded_job(machine, alloc, &text, workers);
-            if let (Some(file), Err(JobFault::Stalled)) = (explanation, &recorded) {
-                if !is_explained(machine, alloc, name, &text, task.file, file, errors)? {
-                    return Ok(UNEXPLAINED);
-                }
-            }
-            let recording = recorded?;
-            if !keep_views(machine, alloc, &task.views, &recording, errors)? {
-                return Ok(UNWRITTEN);
-            }
-            write_lines(output, &recording.lines)?
+    let name = name_of(task.file);
+    match task.way {
+        Way::Plain => {
+            plain_job(alloc, &mut reader, output)?;
+            Ok(0)
         }
-        (Way::Run { workers }, None) => threaded_job(machine, alloc, workers, &mut reader, output)?,
-        (Way::Run { workers }, Some(file)) => {
-            let text = read_text(alloc, &mut reader)?;
-            let run = run_text(machine, alloc, workers, &text, output);
-            if run == Err(JobFault::Stalled)
-                && !is_explained(machine, alloc, name, &text, task.file, file, errors)?
-            {
-                return Ok(UNEXPLAINED);
-            }
-            run?
-        }
-        (Way::Explain(options), _) => return explain_job(alloc, name, options, &mut reader, output),
-        (Way::Check(form), _) => return check_job(alloc, name, form, &mut reader, output, errors),
-        (Way::Draw { members, form }, _) => {
-            let draft = Draft {
-                words: task.words,
-                members,
-                form,
-                file: task.picture,
-            };
-            return draw(machine, alloc, draft, output, errors);
-        }
-    }
-    Ok(0)
-}
-
-/// Whether the file got why the runs of a text stall. If not, the stall and the fault of the file are told.
-fn is_explained<F: Files, E: Write>(
-    files: &F,
-    alloc: Global,
-    name: &str,
-    text: &[u8],
-    named: Option<&str>,
-    file: &str,
-    errors: &mut E,
-) -> Result<bool, JobFault> {
-    let lines = explain_text(alloc, name, EXPLAINED, text)?.lines;
-    match keep(files, alloc, file, lines.as_str().as_bytes()) {
-        Ok(()) => Ok(true),
-        Err(error) => {
-            let _ = told(named, JobFault::Stalled, errors);
-            let _ = writeln!(errors, "{file}: {error}");
-            Ok(false)
+        Way::Run(options) => run_text(
+            machine,
+            alloc,
+            screen,
+            options,
+            task.file,
+            &mut reader,
+            output,
+            errors,
+        ),
+        Way::Explain(options) => explain_job(alloc, name, options, &mut reader, output),
+        Way::Check(form) => check_job(alloc, name, form, &mut reader, output, errors),
+        Way::Draw(draft) => draw(machine, alloc, draft, output, errors),
+        Way::DrawRun { workers, file } => {
+            draw_run(machine, alloc, workers, file, &mut reader, output, errors)
         }
     }
 }
 
-/// Has a text that was read carried out.
-fn run_text<M: Threads + Wait + Sync, W: Write>(
-    machine: &M,
-    alloc: Global,
-    workers: u8,
-    text: &[u8],
-    output: &mut W,
-) -> Result<(), JobFault>
-    requires workers { workers ≤ 8 }
-    ensures unwritten { IfErr result (λ fault. fault ≢ JobFault.Write → Keeps (W.contents output.old) (W.contents output.new)) }
-{
-    let mut input = Cursor::new(text);
-    threaded_job(
-        machine,
-        alloc,
-        workers,
-        &mut Counted::new(&mut input),
-        output,
-    )
+/// How a text is named where it is shown.
+pub(crate) fn name_of(file: Option<&str>) -> &str {
+    file.unwrap_or(STANDARD_INPUT)
 }
 
 /// Tells what clap has to say of the words: help on `output` with status 0, a wrong word on `errors` with status 2.

@@ -1,9 +1,11 @@
 //! Writes what a run did to the files that are named.
 
-use crate::keeping::keep;
+ghost use Rattle.std.specs.Prelude.{◌≢◌, IfErr};
+
+use crate::keeping::is_kept;
 use crate::views::{OutcomeForm, Views};
 use coll_job::JobFault;
-use coll_run::{Mark, Recording};
+use coll_run::{CallSpan, Recording};
 use coll_views::{
     Requests, Span, ViewFault, outcomes_json, picture_text, rows_of, tables_text, timeline_json,
     trace_text,
@@ -31,20 +33,62 @@ pub(crate) fn keep_views<F: Files, E: Write>(
     views: &Views<'_>,
     recording: &Recording,
     errors: &mut E,
-) -> Result<bool, JobFault> {
-    let pages = match pages_of(alloc, views, recording) {
-        Ok(pages) => pages,
-        Err(ViewFault::NoMemory) => return Err(JobFault::Memory),
-        Err(ViewFault::Torn) => return Err(JobFault::Torn),
-    };
-    for page in &pages {
-        if let Err(error) = keep(files, alloc, page.name, &page.bytes) {
-            let name = page.name;
-            let _ = writeln!(errors, "{name}: {error}");
-            return Ok(false);
+) -> Result<bool, JobFault>
+    ensures { IfErr result (λ fault. fault ≢ JobFault.Write) }
+{
+    if !views.are_wanted() {
+        return Ok(true);
+    }
+    match pages_of(alloc, views, recording) {
+        Ok(pages) => Ok(are_kept(files, alloc, &pages, errors)),
+        Err(fault) => Err(told_of(fault)),
+    }
+}
+
+/// What a run did, drawn as a column for each rank.
+///
+/// # Errors
+///
+/// As of [`keep_views`].
+pub(crate) fn picture_of(alloc: Global, recording: &Recording) -> Result<Vec<u8>, JobFault>
+    ensures { IfErr result (λ fault. fault ≢ JobFault.Write) }
+{
+    match picture(alloc, recording) {
+        Ok(picture) => Ok(picture),
+        Err(fault) => Err(told_of(fault)),
+    }
+}
+
+/// Whether each page could be written; up to the first that can't.
+fn are_kept<F: Files, E: Write>(
+    files: &F,
+    alloc: Global,
+    pages: &[Page<'_>],
+    errors: &mut E,
+) -> bool {
+    for page in pages {
+        if !is_kept(files, alloc, page.name, &page.bytes, errors) {
+            return false;
         }
     }
-    Ok(true)
+    true
+}
+
+fn told_of(fault: ViewFault) -> JobFault
+    ensures { result ≢ JobFault.Write }
+{
+    match fault {
+        ViewFault::NoMemory => JobFault::Memory,
+        ViewFault::Torn => JobFault::Torn,
+    }
+}
+
+fn picture(alloc: Global, recording: &Recording) -> Result<Vec<u8>, ViewFault> {
+    let report = &recording.report;
+    let (ranks, groups, trace) = (report.ranks(), report.groups(), report.entries());
+    let requests = Requests::of(alloc, ranks, groups, trace)?;
+    let lines = lines_of(alloc, &recording.spans)?;
+    picture_text(alloc, ranks, &requests, trace, &lines)
 }
 
 /// What each file gets.
@@ -56,7 +100,7 @@ fn pages_of<'w>(
     let report = &recording.report;
     let (ranks, groups, trace) = (report.ranks(), report.groups(), report.entries());
     let requests = Requests::of(alloc, ranks, groups, trace)?;
-    let lines = lines_of(alloc, &recording.marks)?;
+    let lines = lines_of(alloc, &recording.spans)?;
     let mut pages = Vec::new(alloc);
     if let Some(name) = views.trace {
         let bytes = trace_text(alloc, &requests, trace, &lines)?;
@@ -64,11 +108,11 @@ fn pages_of<'w>(
     }
     if let Some(name) = views.stats {
         let rows = rows_of(alloc, &requests, trace)?;
-        let bytes = tables_text(alloc, ranks, groups, &rows)?;
+        let bytes = tables_text(alloc, ranks, groups, &requests, &rows)?;
         pages.push(Page { name, bytes })?;
     }
     if let Some(name) = views.timeline {
-        let spans = spans_of(alloc, &recording.marks)?;
+        let spans = spans_of(alloc, &recording.spans)?;
         let text = timeline_json(alloc, ranks, &requests, trace, &spans)?;
         let bytes = Vec::from_slice(alloc, text.as_bytes())?;
         pages.push(Page { name, bytes })?;
@@ -80,7 +124,7 @@ fn pages_of<'w>(
     if let Some(name) = views.outcomes {
         let bytes = match views.form {
             OutcomeForm::Text => Vec::from_slice(alloc, &recording.lines)?,
-            OutcomeForm::Json => outcomes_json(alloc, ranks, &requests, trace)?,
+            OutcomeForm::Json => outcomes_json(alloc, ranks, &requests, trace, &lines)?,
         };
         pages.push(Page { name, bytes })?;
     }
@@ -88,18 +132,18 @@ fn pages_of<'w>(
 }
 
 /// The line of each entry's call.
-fn lines_of(alloc: Global, marks: &[Mark]) -> Result<Vec<u32>, AllocError> {
-    marks.iter().map(|mark| mark.line).collect(alloc)
+fn lines_of(alloc: Global, spans: &[CallSpan]) -> Result<Vec<u32>, AllocError> {
+    spans.iter().map(|span| span.line).collect(alloc)
 }
 
 /// When the call of each entry began and had ended.
-fn spans_of(alloc: Global, marks: &[Mark]) -> Result<Vec<Span>, AllocError> {
+fn spans_of(alloc: Global, calls: &[CallSpan]) -> Result<Vec<Span>, AllocError> {
     let mut spans = Vec::new(alloc);
-    for mark in marks {
+    for call in calls {
         spans.push(Span {
-            line: mark.line,
-            from: mark.from,
-            until: mark.until,
+            line: call.line,
+            from: call.from,
+            until: call.until,
         })?;
     }
     Ok(spans)

@@ -45,16 +45,6 @@ const OUT_FORM: &str = "format";
 static OUT_FORMS: [&str; 2] = ["text", "json"];
 
 impl<'w> Views<'w> {
-    /// No file.
-    pub const NONE: Views<'static> = Views {
-        trace: None,
-        stats: None,
-        timeline: None,
-        picture: None,
-        outcomes: None,
-        form: OutcomeForm::Text,
-    };
-
     /// Whether some file is named.
     pub fn are_wanted(&self) -> bool {
         self.trace.is_some()

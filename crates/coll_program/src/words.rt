@@ -3,48 +3,23 @@
 ghost use Rattle.std.specs.Prelude.{◌≡◌, ◌≤◌, IfOk};
 ghost use Rattle.coll_program.specs.Tasks.{workers_of};
 
-use crate::drawing::DrawForm;
-use crate::views::{Views, views_of, with_views};
+use crate::drawing::{Draft, DrawForm};
+use crate::task::{RunOptions, Task, Way};
+use crate::views::{views_of, with_views};
 use clap::builder::ValueParser;
 use clap::{Arg, ArgAction, ArgMatches, Command, Error};
 use coll_diagnosis::{ExplainOptions, Form};
 use coll_faults::CheckForm;
 use std::alloc::{AllocError, Global};
 
-/// What the words of a command line ask for: something of a job text, or a drawing.
-#[derive(Clone, Copy, Debug, PartialEq, Eq)]
-pub struct Task<'w> {
-    pub way: Way,
-    /// The file that has the text. Without one the text is read from standard input.
-    pub file: Option<&'w str>,
-    /// The file that gets the explanation of a run that stalls, if one is wanted.
-    pub explanation: Option<&'w str>,
-    /// The files that get what a run did.
-    pub views: Views<'w>,
-    /// The words of the signature that is drawn; else none.
-    pub words: &'w str,
-    /// The file that gets the drawing. Without one it is written to standard output.
-    pub picture: Option<&'w str>,
-}
-
-/// What is done with a job text, or with a signature.
-#[derive(Clone, Copy, Debug, PartialEq, Eq)]
-pub enum Way {
-    /// Each value is computed directly.
-    Plain,
-    /// Threads carry the text out: one for each rank, and `workers` progress threads beside them.
-    Run { workers: u8 },
-    /// It is told whether its runs stall, and who then waits for whom.
-    Explain(ExplainOptions),
-    /// All its faults are told, and where it has none what an explanation tells.
-    Check(CheckForm),
-    /// The schedules of a collective among so many members are drawn.
-    Draw { members: u8, form: DrawForm },
-}
-
 const MAX_WORKERS: u8 = 8;
 
-const WORKERS: u8 = 2;
+const WORKERS: &str = "workers";
+
+/// How many progress threads a run has where it isn't said.
+const DEFAULT_WORKERS: u8 = 2;
+
+const QUIET: &str = "quiet";
 
 const FILE: &str = "file";
 
@@ -73,6 +48,8 @@ const MAX_MEMBERS: u8 = 64;
 
 const SVG: &str = "svg";
 
+const DOT: &str = "dot";
+
 const OUT: &str = "out";
 
 const NAME: &str = "colljob";
@@ -91,8 +68,9 @@ A job text begins so; docs/JOB_TEXT.md has the whole format:
 Its lines are `rank R req Q start S : VALUES`, here with the value 6 three times:
   colljob run --workers 2 examples/sum_of_three.job
 
-The schedules of a collective are drawn without a text:
+The schedules of a collective are drawn without a text; what a run did is drawn too:
   colljob draw \"allreduce sum i32 1\" --members 6
+  colljob draw run examples/sum_of_three.job
 
 Exit status: 0 done; 1 a file can't be opened, read fault, write fault; 2 a fault of the text or of the words;
 3 stalled; 4 another refusal of the engine; 5 no memory, no thread, or a report that doesn't agree with the text;
@@ -119,12 +97,13 @@ fn command<'a>(alloc: Global) -> Result<Command<'a>, AllocError> {
 }
 
 fn run_command<'a>(alloc: Global) -> Result<Command<'a>, AllocError> {
-    let workers = Arg::new(alloc, "workers")
-        .long("workers")
-        .value_name("W")
-        .value_parser(ValueParser::unsigned(0, u64::from(MAX_WORKERS)))
-        .default_value("2")
-        .help("Progress threads beside a thread for each rank, 0 to 8");
+    let quiet = Arg::new(alloc, QUIET)
+        .short('q')
+        .long(QUIET)
+        .action(ArgAction::SetTrue)
+        .help(
+            "Shows no progress; without it a run of more than a second shows some where standard error is a terminal",
+        );
     let explanation = Arg::new(alloc, EXPLANATION)
         .long("explain")
         .value_name("OUT")
@@ -133,9 +112,19 @@ fn run_command<'a>(alloc: Global) -> Result<Command<'a>, AllocError> {
         .about(
             "Has a job text carried out by threads on one engine, and writes the values that they got",
         )
-        .arg(workers)?
+        .arg(workers_argument(alloc))?
+        .arg(quiet)?
         .arg(explanation)?;
     with_views(alloc, run)?.arg(text_file(alloc))
+}
+
+fn workers_argument<'a>(alloc: Global) -> Arg<'a> {
+    Arg::new(alloc, WORKERS)
+        .long(WORKERS)
+        .value_name("W")
+        .value_parser(ValueParser::unsigned(0, u64::from(MAX_WORKERS)))
+        .default_value("2")
+        .help("Progress threads beside a thread for each rank, 0 to 8")
 }
 
 fn plain_command<'a>(alloc: Global) -> Result<Command<'a>, AllocError> {
@@ -207,18 +196,47 @@ fn draw_command<'a>(alloc: Global) -> Result<Command<'a>, AllocError> {
         .long("svg")
         .action(ArgAction::SetTrue)
         .help("Draws a vector picture in place of lines");
-    let out = Arg::new(alloc, OUT)
-        .long("out")
-        .value_name("OUT")
-        .help("Writes to the file OUT, all of it or nothing");
     Command::new(alloc, "draw")
         .about(
-            "Draws the schedules of a collective: who sends what to whom in which round, and where it is combined",
+            "Draws the schedules of a collective: who sends what to whom in which round, and where it is combined; or a run, or waits",
         )
+        .subcommand_negates_reqs(true)
+        .args_conflicts_with_subcommands(true)
         .arg(signature)?
         .arg(members)?
         .arg(svg)?
-        .arg(out)
+        .arg(out_file(alloc))?
+        .subcommand(draw_run_command(alloc)?)?
+        .subcommand(draw_waits_command(alloc)?)
+}
+
+fn draw_run_command<'a>(alloc: Global) -> Result<Command<'a>, AllocError> {
+    Command::new(alloc, "run")
+        .about(
+            "Draws what a run of a job text did: a column for each rank, with a bar from each post or start to its completion",
+        )
+        .arg(workers_argument(alloc))?
+        .arg(out_file(alloc))?
+        .arg(text_file(alloc))
+}
+
+fn draw_waits_command<'a>(alloc: Global) -> Result<Command<'a>, AllocError> {
+    let dot = Arg::new(alloc, DOT)
+        .long(DOT)
+        .action(ArgAction::SetTrue)
+        .help("Draws a graph in the DOT language, which Graphviz reads, in place of lines");
+    Command::new(alloc, "waits")
+        .about("Draws who waits for whom where the runs of a job text stall, as `explain` does")
+        .arg(dot)?
+        .arg(text_file(alloc))
+}
+
+/// The word that names the file of a drawing.
+fn out_file<'a>(alloc: Global) -> Arg<'a> {
+    Arg::new(alloc, OUT)
+        .long(OUT)
+        .value_name("OUT")
+        .help("Writes to the file OUT, all of it or nothing")
 }
 
 /// The word for a file.
@@ -239,18 +257,7 @@ pub fn task_of<'w>(
 {
     let matches = command(alloc)?.try_get_matches_from(words)?;
     if let Some(run) = matches.subcommand_matches("run") {
-        let workers = run
-            .get_one::<u8>("workers")
-            .unwrap_or(WORKERS)
-            .min(MAX_WORKERS);
-        return Ok(Task {
-            way: Way::Run { workers },
-            file: file_of(run),
-            explanation: run.get_str(EXPLANATION),
-            views: views_of(run),
-            words: "",
-            picture: None,
-        });
+        return Ok(run_task(run));
     }
     if let Some(explain) = matches.subcommand_matches("explain") {
         let options = ExplainOptions {
@@ -270,47 +277,88 @@ pub fn task_of<'w>(
         None => Ok(Task {
             way: Way::Plain,
             file: None,
-            explanation: None,
-            views: Views::NONE,
-            words: "",
-            picture: None,
         }),
     }
 }
 
-/// The drawing that the words behind `draw` ask for.
+/// The run that the words behind `run` ask for.
+fn run_task<'w>(matches: &ArgMatches<'w>) -> Task<'w>
+    ensures { workers_of result.way ≤ 8 }
+{
+    let options = RunOptions {
+        workers: workers_in(matches),
+        is_quiet: matches.get_flag(QUIET),
+        explanation: matches.get_str(EXPLANATION),
+        views: views_of(matches),
+    };
+    task_on(Way::Run(options), matches)
+}
+
+/// How many progress threads the words behind a subcommand name.
+fn workers_in(matches: &ArgMatches<'_>) -> u8
+    ensures { result ≤ 8 }
+{
+    matches
+        .get_one::<u8>(WORKERS)
+        .unwrap_or(DEFAULT_WORKERS)
+        .min(MAX_WORKERS)
+}
+
+/// The drawing that the words behind `draw` ask for: of a run, of waits, or else of a collective.
 fn draw_task<'w>(matches: &ArgMatches<'w>) -> Task<'w>
     ensures { workers_of result.way ≤ 8 }
 {
+    if let Some(run) = matches.subcommand_matches("run") {
+        let way = Way::DrawRun {
+            workers: workers_in(run),
+            file: run.get_str(OUT),
+        };
+        return task_on(way, run);
+    }
+    if let Some(waits) = matches.subcommand_matches("waits") {
+        return task_on(Way::Explain(waits_options(waits)), waits);
+    }
+    Task {
+        way: Way::Draw(draft_of(matches)),
+        file: None,
+    }
+}
+
+/// How the waits are drawn that the words behind `draw waits` ask for.
+fn waits_options(matches: &ArgMatches<'_>) -> ExplainOptions {
+    let form = if matches.get_flag(DOT) {
+        Form::Dot
+    } else {
+        Form::Text
+    };
+    ExplainOptions {
+        form,
+        is_strict: false,
+    }
+}
+
+/// The drawing of a collective that the words behind `draw` ask for.
+fn draft_of<'w>(matches: &ArgMatches<'w>) -> Draft<'w> {
     let form = if matches.get_flag(SVG) {
         DrawForm::Svg
     } else {
         DrawForm::Text
     };
-    Task {
-        way: Way::Draw {
-            members: matches.get_one::<u8>(MEMBERS).unwrap_or(1),
-            form,
-        },
-        file: None,
-        explanation: None,
-        views: Views::NONE,
+    Draft {
         words: matches.get_str(SIGNATURE).unwrap_or(""),
-        picture: matches.get_str(OUT),
+        members: matches.get_one::<u8>(MEMBERS).unwrap_or(1),
+        form,
+        file: matches.get_str(OUT),
     }
 }
 
 /// A task on the file that the words behind a subcommand name.
-fn task_on<'w>(way: Way, matches: &ArgMatches<'w>) -> Task<'w>
+fn task_on<'w>(way: Way<'w>, matches: &ArgMatches<'w>) -> Task<'w>
     ensures { result.way ≡ way }
 {
     Task {
         way,
         file: file_of(matches),
-        explanation: None,
-        views: Views::NONE,
-        words: "",
-        picture: None,
     }
 }
 

@@ -1,6 +1,6 @@
 ghost use Rattle.std.specs.Prelude.{◌≡◌, ◌≤◌, IfOk, length, vec_len};
 
-use crate::marks::{Mark, Marks};
+use crate::spans::{CallSpan, RankSpans};
 use coll_complete::{Request, are_distinct};
 use coll_core::{Offer, Outcome};
 use coll_kinds::{Refusal, Signature};
@@ -10,14 +10,14 @@ use std::alloc::Global;
 use std::mem;
 use std::sync::Wait;
 
-/// A rank's port with its requests, by their numbers, the outcomes that it got, and which calls made its entries.
+/// A rank's port with its requests, by their numbers, the outcomes that it got, and the spans of the calls that made its entries.
 #[derive(Drop)]
 pub(crate) struct Caller<L: Entries> {
     alloc: Global,
     port: Port<L>,
     requests: Vec<Request>,
     outcomes: Vec<Outcome>,
-    marks: Vec<Mark>,
+    spans: Vec<CallSpan>,
 }
 
 /// What is left of a caller.
@@ -25,7 +25,7 @@ pub(crate) struct Caller<L: Entries> {
 pub(crate) struct Left<L: Entries> {
     pub(crate) spent: Spent<L>,
     pub(crate) outcomes: Vec<Outcome>,
-    pub(crate) marks: Marks,
+    pub(crate) spans: RankSpans,
 }
 
 impl<L: Entries> Caller<L> {
@@ -36,7 +36,7 @@ impl<L: Entries> Caller<L> {
             port,
             requests: Vec::new(alloc),
             outcomes: Vec::new(alloc),
-            marks: Vec::new(alloc),
+            spans: Vec::new(alloc),
         }
     }
 
@@ -45,10 +45,10 @@ impl<L: Entries> Caller<L> {
         self.outcomes.len()
     }
 
-    /// Notes which call made the rank's next entries.
-    pub(crate) fn note(&mut self, mark: Mark, entries: usize) -> Result<(), Refusal> {
+    /// Notes the span of the call that made the rank's next entries.
+    pub(crate) fn note(&mut self, span: CallSpan, entries: usize) -> Result<(), Refusal> {
         for _ in 0..entries {
-            self.marks.push(mark)?;
+            self.spans.push(span)?;
         }
         Ok(())
     }
@@ -84,14 +84,14 @@ impl<L: Entries> Caller<L> {
         let Caller {
             port,
             outcomes,
-            marks,
+            spans,
             ..
         } = self;
         let rank = port.rank();
         Left {
             spent: port.finish(rt),
             outcomes,
-            marks: Marks { rank, marks },
+            spans: RankSpans { rank, spans },
         }
     }
 

@@ -6,17 +6,20 @@
 //! | `threaded` | `threaded_job`, from a reader to a writer by a run |
 //! | `rank` | what the thread of a rank does, and how it ends |
 //! | `caller` | `Caller`, a rank's port and its requests, and what each command does with them |
-//! | `marks` | `Mark`, which call made an entry of the trace, and when |
+//! | `spans` | `CallSpan`, which call made an entry of the trace, and when |
+//! | `observing` | `Watch`, who is told how far a run is; whom the ranks' threads ask for the time |
 //! | `ends` | which fault of the threads is told |
 #![tactic(auto)]
 
 mod caller;
 mod ends;
-mod marks;
+mod observing;
 mod rank;
 mod running;
+mod spans;
 mod threaded;
 
-pub use marks::Mark;
+pub use observing::{NoWatch, Watch};
 pub use running::{Recording, recorded_job, run_job};
+pub use spans::CallSpan;
 pub use threaded::threaded_job;

@@ -1,7 +1,8 @@
 //! The threads of the ranks.
 
 use crate::caller::{Caller, Left};
-use crate::marks::{Mark, Marks, Timer};
+use crate::observing::Observer;
+use crate::spans::{CallSpan, RankSpans};
 use coll_core::Outcome;
 use coll_kinds::Refusal;
 use coll_script::{Command, Script};
@@ -23,30 +24,30 @@ pub(crate) struct RankEnd<L: Entries> {
     /// What is left of its port.
     pub(crate) spent: Spent<L>,
     pub(crate) got: Got,
-    pub(crate) marks: Marks,
+    pub(crate) spans: RankSpans,
     /// Why it couldn't carry out all its commands.
     pub(crate) refusal: Option<Refusal>,
 }
 
 /// Carries out the commands of a port's rank, and ends the port, also where a command is refused. `gate` may hold a
-/// thread up at a combination; `timer` tells when calls begin and end.
+/// thread up at a combination; `observer` is told of the commands.
 #[derive(Drop)]
-struct Commands<'x, L: Entries, R, G, T> {
+struct Commands<'x, L: Entries, R, G, O> {
     rt: &'x R,
     alloc: Global,
     gate: &'x G,
-    timer: &'x T,
+    observer: &'x O,
     script: &'x Script,
     port: Port<L>,
 }
 
-impl<L: Entries, R: Wait, G: Gate, T: Timer> RankTask<RankEnd<L>> for Commands<'_, L, R, G, T> {
+impl<L: Entries, R: Wait, G: Gate, O: Observer> RankTask<RankEnd<L>> for Commands<'_, L, R, G, O> {
     fn run(self, all_started: bool) -> RankEnd<L> {
         let Commands {
             rt,
             alloc,
             gate,
-            timer,
+            observer,
             script,
             port,
         } = self;
@@ -54,28 +55,29 @@ impl<L: Entries, R: Wait, G: Gate, T: Timer> RankTask<RankEnd<L>> for Commands<'
         let mut caller = Caller::new(alloc, port);
         let mut refusal = None;
         if all_started {
-            refusal = carry_out_all(rt, alloc, gate, timer, script, rank, &mut caller).err();
+            refusal = carry_out_all(rt, alloc, gate, observer, script, rank, &mut caller).err();
         }
+        observer.ended();
         let Left {
             spent,
             outcomes,
-            marks,
+            spans,
         } = caller.finish(rt);
         RankEnd {
             spent,
             got: Got { rank, outcomes },
-            marks,
+            spans,
             refusal,
         }
     }
 }
 
 /// Carries out the commands of a rank, up to the first that is refused.
-fn carry_out_all<L: Entries, R: Wait, G: Gate, T: Timer>(
+fn carry_out_all<L: Entries, R: Wait, G: Gate, O: Observer>(
     rt: &R,
     alloc: Global,
     gate: &G,
-    timer: &T,
+    observer: &O,
     script: &Script,
     rank: u8,
     caller: &mut Caller<L>,
@@ -83,29 +85,30 @@ fn carry_out_all<L: Entries, R: Wait, G: Gate, T: Timer>(
     let lines = lines_of(alloc, script, rank)?;
     for (index, command) in script.commands(alloc, rank)?.into_iter().enumerate() {
         let line = lines.get(index).copied().unwrap_or(0);
-        carry_out(rt, gate, timer, line, command, caller)?;
+        carry_out(rt, gate, observer, line, command, caller)?;
     }
     Ok(())
 }
 
-/// Carries out a command, and notes for its entries when it was.
-fn carry_out<L: Entries, R: Wait, G: Gate, T: Timer>(
+/// Carries out a command, notes for its entries when it was, and tells how many outcomes it brought.
+fn carry_out<L: Entries, R: Wait, G: Gate, O: Observer>(
     rt: &R,
     gate: &G,
-    timer: &T,
+    observer: &O,
     line: u32,
     command: Command,
     caller: &mut Caller<L>,
 ) -> Result<(), Refusal> {
-    let Some(from) = timer.now() else {
+    let Some(from) = observer.now() else {
         return caller.carry_out(rt, gate, command);
     };
     let got = caller.got();
     let own = own_entries(&command);
     caller.carry_out(rt, gate, command)?;
-    let until = timer.now().unwrap_or(from);
+    let until = observer.now().unwrap_or(from);
     let completed = caller.got().saturating_sub(got);
-    caller.note(Mark { line, from, until }, completed.max(own))
+    observer.completed(completed);
+    caller.note(CallSpan { line, from, until }, completed.max(own))
 }
 
 /// How many entries the command makes beside those of completions.
@@ -141,12 +144,12 @@ pub(crate) fn run_ranks<
     L: Entries + Send + Sync,
     R: Threads + Wait + Sync,
     G: Gate + Sync,
-    T: Timer + Sync,
+    O: Observer + Sync,
 >(
     rt: &R,
     alloc: Global,
     gate: &G,
-    timer: &T,
+    observer: &O,
     script: &Script,
     engine: &Engine<L>,
     ports: Vec<Port<L>>,
@@ -158,7 +161,7 @@ pub(crate) fn run_ranks<
             rt,
             alloc,
             gate,
-            timer,
+            observer,
             script,
             port,
         })?;

@@ -14,14 +14,15 @@ ghost use Rattle.coll_attest.specs.Runs.{IsRun};
 ghost use Rattle.coll_run.specs.Faults.{IsEnd, IsRunFault, fault_of};
 
 use crate::ends::first_fault;
-use crate::marks::{Mark, Marks, NoTimer, RunTimer, Timer, marks_along};
+use crate::observing::{NoObserver, Observer, Recorder, Watch};
 use crate::rank::{Got, RankEnd, run_ranks};
+use crate::spans::{CallSpan, RankSpans, spans_along};
 use coll_attest::{AttestFault, attested_lines};
 use coll_core::Config;
 use coll_job::JobFault;
 use coll_kinds::Refusal;
 use coll_report::Report;
-use coll_script::Script;
+use coll_script::{Command, Script};
 use coll_shared::{
     Ends, Engine, Entries, Gate, NoGate, Spent, close, copied_groups, ledger_for, open,
 };
@@ -38,21 +39,22 @@ pub struct Recording {
     /// The output lines.
     pub lines: Vec<u8>,
     pub report: Report,
-    /// Which call made each of the report's entries, in their order.
-    pub marks: Vec<Mark>,
+    /// Which call made each of the report's entries, and when, in their order.
+    pub spans: Vec<CallSpan>,
 }
 
 /// Runs a job text as [`run_job`] does, and answers also which call of a rank made each entry, and when. Each rank's thread notes
-/// that by the clock of `rt`.
+/// that by the clock of `rt`, and tells `watch` how far it is.
 ///
 /// # Errors
 ///
 /// As of [`run_job`].
-pub fn recorded_job<R: Threads + Wait + Clock + Sync>(
+pub fn recorded_job<R: Threads + Wait + Clock + Sync, W: Watch + Sync>(
     rt: &R,
     alloc: Global,
     text: &[u8],
     workers: u8,
+    watch: &W,
 ) -> Result<Recording, JobFault>
     requires { workers ≤ 8 }
     ensures meaning { IfOk result (λ done. meaning text.now ≡ Ok done.lines.items) }
@@ -61,19 +63,30 @@ pub fn recorded_job<R: Threads + Wait + Clock + Sync>(
         Tells done.report (λ rank. asked (commands_by script rank)))) }
     ensures told { IfOk result (λ done. IfOk (script_of text.now) (λ script.
         done.lines.items ≡ told_lines (told done.report.entries) (job_of script))) }
-    // Each entry has its mark.
-    ensures marks { IfOk result (λ done. vec_len done.marks ≡ length done.report.entries) }
+    // Each entry has its span.
+    ensures spans { IfOk result (λ done. vec_len done.spans ≡ length done.report.entries) }
     ensures faults { IfErr result (IsRunFault text.now) }
 {
     let script = Script::read(alloc, text)?;
-    let timer = RunTimer::begin(rt);
-    let (lines, report, ranks) = run_script(rt, alloc, &script, workers, &NoGate, &timer)?;
-    let marks = marks_along(alloc, report.entries(), &ranks)?;
+    watch.begin(script.history().ranks(), starts_in(&script));
+    let recorder = Recorder::begin(rt, watch);
+    let (lines, report, ranks) = run_script(rt, alloc, &script, workers, &NoGate, &recorder)?;
+    let spans = spans_along(alloc, report.entries(), &ranks)?;
     Ok(Recording {
         lines,
         report,
-        marks,
+        spans,
     })
+}
+
+/// The posts and starts of all ranks.
+fn starts_in(script: &Script) -> usize {
+    script
+        .history()
+        .told()
+        .iter()
+        .filter(|told| matches!(told.command, Command::Post { .. } | Command::Start { .. }))
+        .count()
 }
 
 /// Runs a job text with a thread for each rank and so many progress threads, and answers its output lines and the report
@@ -105,19 +118,19 @@ pub fn run_job<R: Threads + Wait + Sync, G: Gate + Sync>(
     ensures faults { IfErr result (IsRunFault text.now) }
 {
     let script = Script::read(alloc, text)?;
-    let (lines, report, _ranks) = run_script(rt, alloc, &script, workers, gate, &NoTimer)?;
+    let (lines, report, _ranks) = run_script(rt, alloc, &script, workers, gate, &NoObserver)?;
     Ok((lines, report))
 }
 
 /// Opens an engine as large as the script needs, and runs the script on it.
-fn run_script<R: Threads + Wait + Sync, G: Gate + Sync, T: Timer + Sync>(
+fn run_script<R: Threads + Wait + Sync, G: Gate + Sync, O: Observer + Sync>(
     rt: &R,
     alloc: Global,
     script: &Script,
     workers: u8,
     gate: &G,
-    timer: &T,
-) -> Result<(Vec<u8>, Report, Vec<Marks>), JobFault>
+    observer: &O,
+) -> Result<(Vec<u8>, Report, Vec<RankSpans>), JobFault>
     ensures run { IfOk result (λ done. IsRun script.now done.1) }
     ensures tells { IfOk result (λ done. Tells done.1 (λ rank. asked (commands_by script.now rank))) }
     ensures told { IfOk result (λ done. done.0.items ≡ told_lines (told done.1.entries) (job_of script.now)) }
@@ -126,7 +139,7 @@ fn run_script<R: Threads + Wait + Sync, G: Gate + Sync, T: Timer + Sync>(
 {
     let config = config_of(alloc, script)?;
     let entries = ledger_for(config.ranks);
-    run_in::<Brand, R, G, T>(rt, alloc, script, config, workers, gate, timer, entries)
+    run_in::<Brand, R, G, O>(rt, alloc, script, config, workers, gate, observer, entries)
 }
 
 /// What an engine is opened with for a script.
@@ -145,16 +158,16 @@ fn config_of(alloc: Global, script: &Script) -> Result<Config, Refusal> {
 }
 
 /// Runs a script on an engine of its own. `entries` names the ledger of the engine's entries.
-fn run_in<L: Entries + Send + Sync, R: Threads + Wait + Sync, G: Gate + Sync, T: Timer + Sync>(
+fn run_in<L: Entries + Send + Sync, R: Threads + Wait + Sync, G: Gate + Sync, O: Observer + Sync>(
     rt: &R,
     alloc: Global,
     script: &Script,
     config: Config,
     workers: u8,
     gate: &G,
-    timer: &T,
+    observer: &O,
     entries: Blank,
-) -> Result<(Vec<u8>, Report, Vec<Marks>), JobFault>
+) -> Result<(Vec<u8>, Report, Vec<RankSpans>), JobFault>
     requires name { entries.name ≡ L.name }
     requires parts { (entries.parts ≡ L.parts) × (L.parts ≡ 2 * L.ranks) × (L.ranks ≡ config.ranks) }
     ensures run { IfOk result (λ done. IsRun script.now done.1) }
@@ -164,7 +177,7 @@ fn run_in<L: Entries + Send + Sync, R: Threads + Wait + Sync, G: Gate + Sync, T:
     ensures faults { IfErr result IsEnd }
 {
     let (engine, ports) = open::<L>(alloc, config, entries)?;
-    let Ok(ends) = run_ranks(rt, alloc, gate, timer, script, &engine, ports, workers) else {
+    let Ok(ends) = run_ranks(rt, alloc, gate, observer, script, &engine, ports, workers) else {
         return Err(JobFault::Memory);
     };
     concluded(rt, alloc, script, engine, ends)
@@ -177,7 +190,7 @@ fn concluded<L: Entries, R: Wait>(
     script: &Script,
     engine: Engine<L>,
     ends: Ends<RankEnd<L>>,
-) -> Result<(Vec<u8>, Report, Vec<Marks>), JobFault>
+) -> Result<(Vec<u8>, Report, Vec<RankSpans>), JobFault>
     requires { L.parts ≡ 2 * L.ranks }
     // The fault of the threads is told, unless memory is refused before it is found,
     ensures ends { IfSome (fault_of ends.all_started (map (λ end. end.refusal) ends.ranks.items) ends.workers.items)
@@ -196,43 +209,51 @@ fn concluded<L: Entries, R: Wait>(
         ranks,
         workers,
     } = ends;
-    let Ok((refusals, spents, got, marks)) = apart(alloc, ranks) else {
+    let Ok((refusals, spents, got, spans)) = apart(alloc, ranks) else {
         return Err(JobFault::Memory);
     };
     if let Some(fault) = first_fault(all_started, &refusals, &workers) {
         return Err(fault);
     }
     match close(rt, engine, spents) {
-        Ok(report) => judge(alloc, script, &got, report, marks),
+        Ok(report) => judge(alloc, script, &got, report, spans),
         Err(refused) => Err(JobFault::from(refused.why)),
     }
 }
 
-/// The refusals, the ports' ends, the outcomes and the marks of the ranks apart.
+/// The refusals, the ports' ends, the outcomes and the spans of the ranks apart.
 fn apart<L: Entries>(
     alloc: Global,
     ranks: Vec<RankEnd<L>>,
-) -> Result<(Vec<Option<Refusal>>, Vec<Spent<L>>, Vec<Got>, Vec<Marks>), AllocError>
+) -> Result<
+    (
+        Vec<Option<Refusal>>,
+        Vec<Spent<L>>,
+        Vec<Got>,
+        Vec<RankSpans>,
+    ),
+    AllocError,
+>
     ensures refusals { IfOk result (λ parts. parts.0.items ≡ map (λ end. end.refusal) ranks.items) }
     ensures got { IfOk result (λ parts. parts.2.items ≡ map (λ end. end.got) ranks.items) }
 {
     let mut refusals = Vec::new(alloc);
     let mut spents = Vec::new(alloc);
     let mut all_got = Vec::new(alloc);
-    let mut all_marks = Vec::new(alloc);
+    let mut all_spans = Vec::new(alloc);
     for end in ranks {
         let RankEnd {
             spent,
             got,
-            marks,
+            spans,
             refusal,
         } = end;
         refusals.push(refusal)?;
         spents.push(spent)?;
         all_got.push(got)?;
-        all_marks.push(marks)?;
+        all_spans.push(spans)?;
     }
-    Ok((refusals, spents, all_got, all_marks))
+    Ok((refusals, spents, all_got, all_spans))
 }
 
 /// The lines of the job, where the report agrees with what the ranks got and with the script.
@@ -241,8 +262,8 @@ fn judge(
     script: &Script,
     got: &[Got],
     report: Report,
-    marks: Vec<Marks>,
-) -> Result<(Vec<u8>, Report, Vec<Marks>), JobFault>
+    spans: Vec<RankSpans>,
+) -> Result<(Vec<u8>, Report, Vec<RankSpans>), JobFault>
     ensures got { IfOk result (λ done. All (λ got. HandedOut done.1.entries got.rank got.outcomes.items) got.now) }
     ensures run { IfOk result (λ done. IsRun script.now done.1) }
     ensures tells { IfOk result (λ done. Tells done.1 (λ rank. asked (commands_by script.now rank))) }
@@ -254,7 +275,7 @@ fn judge(
         return Err(JobFault::Torn);
     }
     match attested_lines(alloc, script, &report) {
-        Ok(lines) => Ok((lines, report, marks)),
+        Ok(lines) => Ok((lines, report, spans)),
         Err(AttestFault::Torn) => Err(JobFault::Torn),
         Err(AttestFault::NoMemory) => Err(JobFault::Memory),
     }

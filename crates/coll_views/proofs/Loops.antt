@@ -3,7 +3,7 @@ use Rattle.std.proofs.Common.{◌≡◌, ℕ, zero, suc, ◌+◌, ◌-◌, ◌*�
 use Rattle.std.specs.Prelude.{flat_map, filter_map, sum, Option, Some, None}
 use Rattle.std.specs.Prelude.{Vec}
 use Rattle.std.specs.Global.{Global}
-use Rattle.std.specs.List.{cons_option, range_with_len}
+use Rattle.std.specs.List.{cons_option, enumerate_from, fold, range_with_len}
 use Rattle.std.proofs.lemmas.List.{map-append, length-drop}
 use Rattle.std.proofs.lemmas.List.Sums.{sum_by-cons}
 use Rattle.std.proofs.Math.Nat.{mul-le-mul_right}
@@ -109,3 +109,20 @@ pub flat_map-at : {X A : Type 0} (f : X → List A) (xs : List X) (k : ℕ) (d :
     → out ++ flat_map f (drop k xs) ≡ total
     → (out ++ f (get_or xs k d)) ++ flat_map f (drop (k + 1) xs) ≡ total
 flat_map-at f xs k d out total lt so_far = flat_map-more f xs k (get_or xs k d) out total (drop-at xs k d lt) so_far
+
+-- a fold that takes the next element
+pub fold-at : {A B : Type 0} (f : B → A → B) (xs : List A) (k : ℕ) (d : A) (now total : B)
+    → k < length xs
+    → fold f now (drop k xs) ≡ total
+    → fold f (f now (get_or xs k d)) (drop (k + 1) xs) ≡ total
+fold-at f xs k d now total lt so_far = sym (ap (fold f now) (drop-at xs k d lt)) ∙ so_far
+
+-- a list that grows by what f makes of the next element and its place
+pub enumerated-more : {X A : Type 0} (f : ℕ × X → List A) (xs : List X) (k : ℕ) (x : X) (out total : List A)
+    → drop k xs ≡ x ∷ drop (k + 1) xs
+    → out ++ flat_map f (enumerate_from k (drop k xs)) ≡ total
+    → (out ++ f (k, x)) ++ flat_map f (enumerate_from (k + 1) (drop (k + 1) xs)) ≡ total
+enumerated-more {X} {A} f xs k x out total front so_far =
+    append_assoc out (f (k, x)) (flat_map f (enumerate_from (k + 1) (drop (k + 1) xs)))
+    ∙ ap (λ (rest : List A). out ++ rest) (sym (flat_map-cons f (k, x) (enumerate_from (k + 1) (drop (k + 1) xs))))
+    ∙ ap (λ (rest : List X). out ++ flat_map f (enumerate_from k rest)) (sym front) ∙ so_far

@@ -2,6 +2,8 @@
 pub mod Works
 -- the requests of a trace
 pub mod Requests
+-- the posts and starts of a rank, with their lines
+pub mod Begun
 -- elements, signatures, entries and outcomes as text
 pub mod Texts
 pub mod Lines

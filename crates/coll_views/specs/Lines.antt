@@ -4,9 +4,11 @@ use Rattle.std.specs.List.{enumerate_from, range_with_len}
 use Rattle.std.specs.Fmt.{decimal}
 use Rattle.coll_kinds.specs.Words.{datatype_word, kind_word}
 use Rattle.coll_machine.specs.Entries.{Entry, Posted, Inited, Started, Retired, Freed}
+use Rattle.coll_views.specs.declared.begun.Begun.{Begun}
 use Rattle.coll_views.specs.declared.elements.Style.TheVariants.{Words, Json}
 use Rattle.coll_views.specs.declared.request.Named.{Named}
 use Rattle.coll_views.specs.declared.request.Request.{Request}
+use Rattle.coll_views.specs.Begun.{begun_by, line_of}
 use Rattle.coll_views.specs.Requests.{named}
 use Rattle.coll_views.specs.Texts.{elements_text, signature_text}
 
@@ -74,32 +76,36 @@ kind_text p =
     ++ (kind_word p.sig.kind ++ (codes "\",\"type\":\"" ++ (datatype_word p.sig.ty ++ codes "\",\"values\":[")))
 
 -- the object of an outcome before its values
-abbrev pub object_text : ℕ → ℕ → Named → List ℕ
-object_text rank start found =
+abbrev pub object_text : ℕ → ℕ → ℕ → Named → List ℕ
+object_text rank start line found =
     codes "{\"reason\":\"outcome\",\"rank\":"
     ++ (decimal rank
     ++ (codes ",\"req\":"
     ++ (decimal found.number
-    ++ (codes ",\"start\":" ++ (decimal start ++ (stand_text found.request ++ kind_text found.request))))))
+    ++ (codes ",\"start\":"
+    ++ (decimal start
+    ++ (codes ",\"line\":" ++ (decimal line ++ (stand_text found.request ++ kind_text found.request))))))))
 
 -- that of an outcome of this request; the first value has no comma before it
-abbrev pub found_object : Option Named → ℕ → ℕ → List ℕ → List ℕ
-found_object None rank start bytes = []
-found_object (Some found) rank start bytes =
-    object_text rank start found ++ (drop 1 (elements_text Json found.request.sig.ty bytes) ++ codes "]}\n")
+abbrev pub found_object : Option Named → ℕ → ℕ → ℕ → List ℕ → List ℕ
+found_object None rank start line bytes = []
+found_object (Some found) rank start line bytes =
+    object_text rank start line found ++ (drop 1 (elements_text Json found.request.sig.ty bytes) ++ codes "]}\n")
 
--- what an entry adds to the outcomes of a rank
-abbrev pub outcome_of : List (List Request) → ℕ → Entry → List ℕ
-outcome_of all r (Posted rank t comm place sig bytes) = []
-outcome_of all r (Inited rank t comm place sig) = []
-outcome_of all r (Started rank t start bytes) = []
-outcome_of all r (Retired rank t comm place start bytes) =
-    if rank == r then found_object (named all (Retired rank t comm place start bytes)) rank start bytes else []
-outcome_of all r (Freed rank t) = []
+-- what an entry adds to the outcomes of a rank that made these posts and starts
+abbrev pub outcome_of : List (List Request) → List Begun → ℕ → Entry → List ℕ
+outcome_of all begun r (Posted rank t comm place sig bytes) = []
+outcome_of all begun r (Inited rank t comm place sig) = []
+outcome_of all begun r (Started rank t start bytes) = []
+outcome_of all begun r (Retired rank t comm place start bytes) =
+    if rank == r
+    then found_object (named all (Retired rank t comm place start bytes)) rank start (line_of begun t start) bytes
+    else []
+outcome_of all begun r (Freed rank t) = []
 
--- the outcomes of a rank, in the order in which they were handed out
-abbrev pub outcomes_of : List (List Request) → List Entry → ℕ → List ℕ
-outcomes_of all es r = flat_map (outcome_of all r) es
+-- the outcomes of a rank, in the order in which they were handed out; lines has the line of each entry's call
+abbrev pub outcomes_of : List (List Request) → List ℕ → List Entry → ℕ → List ℕ
+outcomes_of all lines es r = flat_map (outcome_of all (begun_by lines es r) r) es
 
 abbrev pub is_completion : Entry → Bool
 is_completion (Posted rank t comm place sig bytes) = false
@@ -113,6 +119,6 @@ abbrev pub done_text : ℕ → List ℕ
 done_text count = codes "{\"reason\":\"done\",\"outcomes\":" ++ (decimal count ++ codes ",\"status\":0}\n")
 
 -- those of all ranks, in rising rank, and how many they are
-abbrev pub outcomes_json : ℕ → List (List Request) → List Entry → List ℕ
-outcomes_json ranks all es =
-    flat_map (outcomes_of all es) (range_with_len 0 ranks) ++ done_text (count_by is_completion es)
+abbrev pub outcomes_json : ℕ → List (List Request) → List ℕ → List Entry → List ℕ
+outcomes_json ranks all lines es =
+    flat_map (outcomes_of all lines es) (range_with_len 0 ranks) ++ done_text (count_by is_completion es)

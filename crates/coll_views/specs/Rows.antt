@@ -1,6 +1,9 @@
 -- What each entry of a trace adds to the tables.
-use Rattle.std.specs.Prelude.{ℕ, List, length, map, Option, Some, None}
+use Rattle.std.specs.Prelude.{ℕ, ◌==◌, List, length, map, Option, Some, None, if◌then◌else◌}
+use Rattle.coll_kinds.specs.declared.datatype.Datatype.TheVariants.{Byte}
 use Rattle.coll_kinds.specs.declared.kind.Kind.TheVariants.{Barrier}
+use Rattle.coll_kinds.specs.declared.kind.Mode.TheVariants.{Once}
+use Rattle.coll_kinds.specs.declared.signature.Signature.{Signature}
 use Rattle.coll_kinds.specs.Lengths.{lent}
 use Rattle.coll_machine.specs.Entries.{Entry, Posted, Inited, Started, Retired, Freed}
 use Rattle.coll_report.specs.Traces.{caller}
@@ -14,7 +17,8 @@ abbrev pub row_by : ℕ → Request → Row
 row_by rank p = record {
   rank = rank;
   comm = p.comm;
-  kind = p.sig.kind;
+  sig = p.sig;
+  times = 0;
   posts = 0;
   inits = 0;
   starts = 0;
@@ -28,9 +32,14 @@ row_by rank p = record {
   combinations = 0;
 }
 
+-- a collective is carried out once for each post or start of its communicator's first member
+abbrev pub times_of : Request → ℕ
+times_of p = if p.member == 0 then 1 else 0
+
 -- a row of a collective that begins: what is given and lent, and what the member's schedule has it do
 abbrev pub begun : ℕ → Request → List ℕ → Row
 begun rank p bytes = record (row_by rank p) {
+  times = times_of p;
   given = length bytes;
   lends = lent p.sig p.members p.member;
   messages = p.work.messages;
@@ -47,12 +56,16 @@ added p (Retired rank t comm place start bytes) =
     record (row_by rank p) { completed = 1; got = length bytes; returns = lent p.sig p.members p.member }
 added p (Freed rank t) = row_by rank p
 
+abbrev no_signature : Signature
+no_signature = record { kind = Barrier; mode = Once; root = 0; op = None; ty = Byte; count = 0; each = None }
+
 -- an entry that is about no request adds nothing
 abbrev pub nothing : Row
 nothing = record {
   rank = 0;
   comm = 0;
-  kind = Barrier;
+  sig = no_signature;
+  times = 0;
   posts = 0;
   inits = 0;
   starts = 0;

@@ -1,13 +1,16 @@
 -- The tables as text.
-use Rattle.std.specs.Prelude.{ℕ, ◌-◌, ◌==◌, Bool, ◌&&◌, List, [], ◌∷◌, ◌++◌, length, filter, flat_map, replicate, codes, if◌then◌else◌}
-use Rattle.std.specs.List.{enumerate_from, range_with_len}
+use Rattle.std.specs.Prelude.{ℕ, ◌-◌, ◌==◌, Bool, ◌&&◌, List, [], ◌∷◌, ◌++◌, length, filter, flat_map, map, replicate, slice_index, slice_index_or, codes, if◌then◌else◌}
+use Rattle.std.specs.List.{enumerate_from, fold, list_any, range_with_len}
 use Rattle.std.specs.Fmt.{decimal}
-use Rattle.coll_kinds.specs.declared.kind.Kind.{Kind}
-use Rattle.coll_kinds.specs.Sameness.{kind_number}
-use Rattle.coll_kinds.specs.Words.{kind_word, kinds}
+use Rattle.coll_kinds.specs.declared.signature.Signature.{Signature}
+use Rattle.coll_kinds.specs.Sameness.{same_signature}
+use Rattle.coll_sched.specs.Families.{family_exchanges}
+use Rattle.coll_plans.specs.Plans.{family}
+use Rattle.coll_views.specs.declared.request.Request.{Request}
 use Rattle.coll_views.specs.declared.row.Row.{Row}
 use Rattle.coll_views.specs.declared.tables.Cell.{Cell}
 use Rattle.coll_views.specs.declared.totals.Totals.{Totals}
+use Rattle.coll_views.specs.Texts.{signature_text}
 use Rattle.coll_views.specs.Totals.{totals_of}
 
 -- a text at the right end of a column that is so wide
@@ -34,7 +37,7 @@ cells_of t =
 
 -- the totals of rows
 abbrev pub numbers_text : List Row → List ℕ
-numbers_text rows = flat_map cell_text (cells_of (totals_of rows)) ++ codes "\n"
+numbers_text rows = flat_map cell_text (cells_of (totals_of rows))
 
 -- ---- by rank
 
@@ -45,48 +48,67 @@ abbrev pub by_rank : ℕ → Row → Bool
 by_rank rank row = row.rank == rank
 
 abbrev pub rank_line : List Row → ℕ → List ℕ
-rank_line rows rank = aligned 4 (decimal rank) ++ numbers_text (filter (by_rank rank) rows)
+rank_line rows rank = aligned 4 (decimal rank) ++ (numbers_text (filter (by_rank rank) rows) ++ codes "\n")
 
 abbrev pub rank_lines : ℕ → List Row → List ℕ
 rank_lines ranks rows = flat_map (rank_line rows) (range_with_len 0 ranks)
 
 -- the lines of the ranks, and one for all
 abbrev pub ranks_text : ℕ → List Row → List ℕ
-ranks_text ranks rows = head_of_ranks ++ (rank_lines ranks rows ++ (codes " all" ++ numbers_text rows))
+ranks_text ranks rows = head_of_ranks ++ (rank_lines ranks rows ++ (codes " all" ++ (numbers_text rows ++ codes "\n")))
 
 -- ---- by collective
 
 unfoldable pub head_of_collectives : List ℕ
-head_of_collectives = codes "\ncommunicator  members  collective  posts  inits  starts  completed  bytes given  bytes got  most lent  messages  their bytes  combinations\n"
+head_of_collectives = codes "\ncommunicator  members  times  exchanges each  posts  inits  starts  completed  bytes given  bytes got  most lent  messages  their bytes  combinations  collective\n"
 
--- a row of that collective on that communicator
-abbrev pub by_collective : ℕ → Kind → Row → Bool
-by_collective comm kind row = row.comm == comm && kind_number row.kind == kind_number kind
+-- the signatures, each once, in the order in which they come first
+abbrev pub added_once : List Signature → Signature → List Signature
+added_once sigs sig = if list_any (same_signature sig) sigs then sigs else sigs ++ sig ∷ []
 
-abbrev pub rows_on : List Row → ℕ → Kind → List Row
-rows_on rows comm kind = filter (by_collective comm kind) rows
+abbrev pub each_once : List Signature → List Signature
+each_once sigs = fold added_once [] sigs
 
-abbrev pub label_of : ℕ → List ℕ → Kind → List ℕ
-label_of comm group kind =
-    aligned 12 (decimal comm) ++ (aligned 9 (decimal (length group)) ++ aligned 12 (kind_word kind))
+-- what the first member of a group asked for on a communicator
+abbrev pub is_on : ℕ → Request → Bool
+is_on comm p = p.comm == comm
 
--- a collective that wasn't called has no line
-abbrev pub labelled : List ℕ → List Row → List ℕ
-labelled label rows = if length rows == 0 then [] else label ++ numbers_text rows
+abbrev pub asked_on : List (List Request) → ℕ → List ℕ → List Signature
+asked_on all comm group = map (λ p. p.sig) (filter (is_on comm) (slice_index_or all (slice_index group 0) []))
 
-abbrev pub collective_lines : List Row → ℕ → List ℕ → Kind → List ℕ
-collective_lines rows comm group kind = labelled (label_of comm group kind) (rows_on rows comm kind)
+-- a row of that signature on that communicator
+abbrev pub by_collective : ℕ → Signature → Row → Bool
+by_collective comm sig row = row.comm == comm && same_signature sig row.sig
 
--- the collectives that were called on a communicator
-unfoldable pub comm_lines : List Row → ℕ → List ℕ → List ℕ
-comm_lines rows comm group = flat_map (collective_lines rows comm group) kinds
+abbrev pub rows_on : List Row → ℕ → Signature → List Row
+rows_on rows comm sig = filter (by_collective comm sig) rows
 
-abbrev pub all_comm_lines : List (List ℕ) → List Row → List ℕ
-all_comm_lines groups rows = flat_map (λ (at : ℕ × List ℕ). comm_lines rows at.0 at.1) (enumerate_from 0 groups)
+-- communicator, members, how often the collective was carried out, and how many rounds of its schedules have messages
+abbrev pub label_of : ℕ → ℕ → Signature → ℕ → List ℕ
+label_of comm members sig times =
+    aligned 12 (decimal comm)
+    ++ (aligned 9 (decimal members)
+    ++ (aligned 7 (decimal times) ++ aligned 16 (decimal (family_exchanges members (family sig members)))))
 
-abbrev pub collectives_text : List (List ℕ) → List Row → List ℕ
-collectives_text groups rows = head_of_collectives ++ all_comm_lines groups rows
+abbrev pub line_of : ℕ → ℕ → Signature → List Row → List ℕ
+line_of comm members sig rows =
+    label_of comm members sig (totals_of rows).times
+    ++ (numbers_text rows ++ (codes "  " ++ (signature_text sig members ++ codes "\n")))
+
+abbrev pub collective_line : List Row → ℕ → ℕ → Signature → List ℕ
+collective_line rows comm members sig = line_of comm members sig (rows_on rows comm sig)
+
+-- the collectives of a communicator
+abbrev pub comm_lines : List (List Request) → List Row → ℕ → List ℕ → List ℕ
+comm_lines all rows comm group = flat_map (collective_line rows comm (length group)) (each_once (asked_on all comm group))
+
+abbrev pub all_comm_lines : List (List Request) → List (List ℕ) → List Row → List ℕ
+all_comm_lines all groups rows =
+    flat_map (λ (at : ℕ × List ℕ). comm_lines all rows at.0 at.1) (enumerate_from 0 groups)
+
+abbrev pub collectives_text : List (List Request) → List (List ℕ) → List Row → List ℕ
+collectives_text all groups rows = head_of_collectives ++ all_comm_lines all groups rows
 
 -- both tables
-abbrev pub tables_text : ℕ → List (List ℕ) → List Row → List ℕ
-tables_text ranks groups rows = ranks_text ranks rows ++ collectives_text groups rows
+abbrev pub tables_text : ℕ → List (List ℕ) → List (List Request) → List Row → List ℕ
+tables_text ranks groups all rows = ranks_text ranks rows ++ collectives_text all groups rows

@@ -2,7 +2,7 @@
 use Rattle.std.specs.Prelude.{ℕ, ◌+◌, ◌-◌, List, [], ◌∷◌, map, max, sum}
 use Rattle.coll_views.specs.declared.row.Row.{Row}
 use Rattle.coll_views.specs.declared.totals.Column.{Column}
-use Rattle.coll_views.specs.declared.totals.Column.TheVariants.{Posts, Inits, Starts, Completed, Given, Got, Messages, Sent, Combinations}
+use Rattle.coll_views.specs.declared.totals.Column.TheVariants.{Times, Posts, Inits, Starts, Completed, Given, Got, Messages, Sent, Combinations}
 use Rattle.coll_views.specs.declared.totals.Totals.{Totals}
 
 -- the most bytes that are lent at one time along rows, where so many are lent before
@@ -12,6 +12,7 @@ most_lent now (row ∷ rows) = max now (most_lent (now + row.lends - row.returns
 
 -- a row's number in a column
 abbrev pub number_in : Column → Row → ℕ
+number_in Times row = row.times
 number_in Posts row = row.posts
 number_in Inits row = row.inits
 number_in Starts row = row.starts
@@ -28,6 +29,7 @@ column_sum column rows = sum (map (number_in column) rows)
 
 abbrev pub totals_of : List Row → Totals
 totals_of rows = record {
+  times = column_sum Times rows;
   posts = column_sum Posts rows;
   inits = column_sum Inits rows;
   starts = column_sum Starts rows;

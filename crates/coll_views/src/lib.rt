@@ -1,11 +1,12 @@
 //! What a run did, for those who look at it: the entries of its report as lines, tables, outcomes as JSON, a timeline and a picture.
 //!
-//! Each text is made of the entries alone, and of the marks that tell which line's call made each of them, and when.
+//! Each text is made of the entries alone, and of what tells which line's call made each of them, and when.
 //!
 //! | Module | Has |
 //! |---|---|
 //! | `work` | `Work`, what a member's schedule has it do |
 //! | `request` | `Request`, what a trace tells of a request, and `Requests`, those of each rank |
+//! | `begun` | the posts and starts of a rank, with their lines |
 //! | `elements`, `words` | elements and signatures as text |
 //! | `trace` | `trace_text`, a line for each entry |
 //! | `outcomes` | `outcomes_json`, a line for each completion |
@@ -18,6 +19,7 @@
 //! | `fault` | `ViewFault` |
 #![tactic(auto)]
 
+mod begun;
 mod elements;
 mod fault;
 mod lanes;

@@ -1,12 +1,14 @@
 //! Outcomes as JSON, an object in each line.
 
-ghost use Rattle.std.specs.Prelude.{◌≡◌, ◌++◌, ◌∷◌, [], drop, count_by, map, IfOk, OnOk};
+ghost use Rattle.std.specs.Prelude.{◌≡◌, ◌++◌, ◌∷◌, [], drop, count_by, flat_map, map, IfOk, OnOk};
 ghost use Rattle.std.specs.String.{string_bytes};
 ghost use Rattle.coll_report.specs.Views.{seen, trace_seen};
+ghost use Rattle.coll_views.specs.Begun.{begun_by, line_of};
 ghost use Rattle.coll_views.specs.Lines.{done_text, found_object, is_completion, kind_text, object_text, outcome_of, outcomes_json, outcomes_of, stand_text};
 ghost use Rattle.coll_views.specs.Requests.{named};
 ghost use Rattle.coll_views.specs.Texts.{elements_text};
 
+use crate::begun::{Begun, begun_by, line_of};
 use crate::elements::{Style, print_elements};
 use crate::fault::ViewFault;
 use crate::request::{Named, Request, Requests};
@@ -15,8 +17,9 @@ use coll_report::Entry;
 use std::alloc::{AllocError, Global};
 
 /// What the completions of a trace handed out, an object in each line: in rising rank, those of a rank in the order in which it
-/// completed them; the last line says how many there are. The cost is linear in the text, for each rank in the trace, and for each
-/// completion in its rank's requests.
+/// completed them, with the lines of the posts and starts that they end, of which `lines` has that of each entry; the last line says
+/// how many there are. The cost is linear in the text, for each rank in the trace, and for each completion in its rank's requests
+/// and starts.
 ///
 /// # Errors
 ///
@@ -26,12 +29,13 @@ pub fn outcomes_json(
     ranks: u8,
     requests: &Requests,
     trace: &[Entry],
+    lines: &[u32],
 ) -> Result<Vec<u8>, ViewFault>
-    ensures { IfOk result (λ text. text.items ≡ outcomes_json ranks requests.now (trace_seen trace.now)) }
+    ensures { IfOk result (λ text. text.items ≡ outcomes_json ranks requests.now lines.now (trace_seen trace.now)) }
 {
     let mut out = Vec::new(alloc);
     for rank in 0..ranks {
-        print_rank(alloc, rank, requests, trace, &mut out)?;
+        print_rank(alloc, rank, requests, trace, lines, &mut out)?;
     }
     let count = trace.iter().filter(|entry| is_completion(entry)).count();
     let done = done_text(alloc, count)?;
@@ -63,12 +67,28 @@ fn print_rank(
     rank: u8,
     requests: &Requests,
     trace: &[Entry],
+    lines: &[u32],
     out: &mut Vec<u8>,
 ) -> Result<(), ViewFault>
-    ensures { OnOk result (out.new.items ≡ out.old.items ++ outcomes_of requests.now (trace_seen trace.now) rank) }
+    ensures { OnOk result (out.new.items ≡ out.old.items ++ outcomes_of requests.now lines.now (trace_seen trace.now) rank) }
+{
+    let begun = begun_by(alloc, rank, trace, lines)?;
+    print_entries(alloc, rank, requests, &begun, trace, out)
+}
+
+/// Appends the outcomes of a rank that made these posts and starts.
+fn print_entries(
+    alloc: Global,
+    rank: u8,
+    requests: &Requests,
+    begun: &[Begun],
+    trace: &[Entry],
+    out: &mut Vec<u8>,
+) -> Result<(), ViewFault>
+    ensures { OnOk result (out.new.items ≡ out.old.items ++ flat_map (outcome_of requests.now begun.now rank) (trace_seen trace.now)) }
 {
     for entry in trace {
-        print_entry(alloc, rank, requests, entry, out)?;
+        print_entry(alloc, rank, requests, begun, entry, out)?;
     }
     Ok(())
 }
@@ -78,10 +98,11 @@ fn print_entry(
     alloc: Global,
     of: u8,
     requests: &Requests,
+    begun: &[Begun],
     entry: &Entry,
     out: &mut Vec<u8>,
 ) -> Result<(), ViewFault>
-    ensures { OnOk result (out.new.items ≡ out.old.items ++ outcome_of requests.now of (seen entry.now)) }
+    ensures { OnOk result (out.new.items ≡ out.old.items ++ outcome_of requests.now begun.now of (seen entry.now)) }
 {
     match entry {
         Entry::Posted { .. } => Ok(()),
@@ -89,6 +110,7 @@ fn print_entry(
         Entry::Started { .. } => Ok(()),
         Entry::Retired {
             rank,
+            ticket,
             start,
             bytes,
             ..
@@ -97,7 +119,8 @@ fn print_entry(
                 return Ok(());
             }
             let found = requests.named_by(entry)?;
-            print_object(alloc, *rank, *start, &found, bytes.as_slice(), out)
+            let line = line_of(begun, *ticket, *start);
+            print_object(alloc, *rank, *start, line, &found, bytes.as_slice(), out)
         }
         Entry::Freed { .. } => Ok(()),
     }
@@ -108,13 +131,14 @@ fn print_object(
     alloc: Global,
     rank: u8,
     start: u32,
+    line: u32,
     found: &Named,
     bytes: &[u8],
     out: &mut Vec<u8>,
 ) -> Result<(), ViewFault>
-    ensures { OnOk result (out.new.items ≡ out.old.items ++ found_object (Some found.now) rank start bytes.now) }
+    ensures { OnOk result (out.new.items ≡ out.old.items ++ found_object (Some found.now) rank start line bytes.now) }
 {
-    let head = object_text(alloc, rank, start, found)?;
+    let head = object_text(alloc, rank, start, line, found)?;
     out.extend_from_slice(head.as_bytes())?;
     print_values(alloc, found.request.sig.ty, bytes, out)?;
     out.extend_from_slice(b"]}\n")?;
@@ -134,14 +158,20 @@ fn print_values(alloc: Global, ty: Datatype, row: &[u8], out: &mut Vec<u8>) -> R
 }
 
 /// What stands before the values.
-fn object_text(alloc: Global, rank: u8, start: u32, found: &Named) -> Result<String, AllocError>
-    ensures { IfOk result (λ text. string_bytes text ≡ object_text rank start found.now) }
+fn object_text(
+    alloc: Global,
+    rank: u8,
+    start: u32,
+    line: u32,
+    found: &Named,
+) -> Result<String, AllocError>
+    ensures { IfOk result (λ text. string_bytes text ≡ object_text rank start line found.now) }
 {
     let number = found.number;
     let stand = stand_text(alloc, &found.request)?;
     let kind = kind_text(alloc, &found.request)?;
     format!(in alloc;
-        "{{\"reason\":\"outcome\",\"rank\":{rank},\"req\":{number},\"start\":{start}{stand}{kind}"
+        "{{\"reason\":\"outcome\",\"rank\":{rank},\"req\":{number},\"start\":{start},\"line\":{line}{stand}{kind}"
     )
 }
 

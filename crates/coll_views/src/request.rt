@@ -1,6 +1,6 @@
 //! The requests of a trace.
 
-ghost use Rattle.std.specs.Prelude.{◌≡◌, ◌==◌, ◌++◌, [], OnOk, ◌<◌, ◌≤◌, ◌-◌, List, map, filter_map, length, Some, None, IfOk, IfSome};
+ghost use Rattle.std.specs.Prelude.{◌≡◌, ◌==◌, ◌++◌, [], OnOk, ◌<◌, ◌≤◌, ◌-◌, List, map, filter_map, length, slice_index_or, Some, None, IfOk, IfSome};
 ghost use Rattle.std.specs.List.{cons_option, position, range_with_len};
 ghost use Rattle.std.specs.Arc.{arc_value};
 ghost use Rattle.coll_report.specs.Views.{groups_seen, seen, trace_seen};
@@ -76,7 +76,9 @@ impl Requests {
     }
 
     /// The requests of a rank; none of a stranger.
-    pub fn by(&self, rank: u8) -> &[Request] {
+    pub fn by(&self, rank: u8) -> &[Request]
+        ensures { result.now ≡ slice_index_or self.now rank [] }
+    {
         match self.ranks.get(usize::from(rank)) {
             Some(own) => own.as_slice(),
             None => &[],

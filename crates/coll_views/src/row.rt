@@ -3,12 +3,12 @@
 ghost use Rattle.std.specs.Prelude.{◌≡◌, ◌^◌, ◌≤◌, ◌<◌, map, length, Some, IfOk};
 ghost use Rattle.coll_report.specs.Views.{seen, trace_seen};
 ghost use Rattle.coll_views.specs.Requests.{named};
-ghost use Rattle.coll_views.specs.Rows.{row_by, row_of, rows_of};
+ghost use Rattle.coll_views.specs.Rows.{row_by, row_of, rows_of, times_of};
 
 use crate::fault::ViewFault;
 use crate::request::{Named, Request, Requests};
 use crate::trace::bytes_of;
-use coll_kinds::Kind;
+use coll_kinds::Signature;
 use coll_report::Entry;
 use std::alloc::Global;
 
@@ -17,7 +17,9 @@ use std::alloc::Global;
 pub struct Row {
     pub rank: u8,
     pub comm: u32,
-    pub kind: Kind,
+    pub sig: Signature,
+    /// 1 for a post or a start of the communicator's first member: once for each time that the collective is carried out.
+    pub times: u64,
     /// 1 for a post.
     pub posts: u64,
     /// 1 for an initialisation.
@@ -50,7 +52,8 @@ impl Row {
         Row {
             rank,
             comm: request.comm,
-            kind: request.sig.kind,
+            sig: request.sig,
+            times: 0,
             posts: 0,
             inits: 0,
             starts: 0,
@@ -113,6 +116,7 @@ fn row_of(found: &Named, entry: &Entry) -> Row
 /// The row with what a collective that begins adds.
 fn begun(row: Row, request: &Request, len: u64, lent: u64) -> Row
     ensures { result ≡ record row {
+      times = times_of request.now;
       given = len;
       lends = lent;
       messages = request.now.work.messages;
@@ -121,6 +125,7 @@ fn begun(row: Row, request: &Request, len: u64, lent: u64) -> Row
     } }
 {
     Row {
+        times: times_of(request),
         given: len,
         lends: lent,
         messages: request.work.messages,
@@ -128,4 +133,11 @@ fn begun(row: Row, request: &Request, len: u64, lent: u64) -> Row
         combinations: request.work.combinations,
         ..row
     }
+}
+
+/// How often a post or a start of this request carries its collective out: it counts at the first member alone.
+fn times_of(request: &Request) -> u64
+    ensures { result ≡ times_of request.now }
+{
+    if request.member == 0 { 1 } else { 0 }
 }

@@ -11,6 +11,8 @@ use std::alloc::Global;
 /// What the entries of a rank, of a collective or of a whole trace add up to.
 #[derive(Clone, Copy, Debug, PartialEq, Eq)]
 pub struct Totals {
+    /// How often collectives were carried out.
+    pub times: u64,
     pub posts: u64,
     pub inits: u64,
     pub starts: u64,
@@ -32,6 +34,7 @@ pub struct Totals {
 /// A number of a row that is summed.
 #[derive(Clone, Copy, Debug, PartialEq, Eq)]
 pub(crate) enum Column {
+    Times,
     Posts,
     Inits,
     Starts,
@@ -52,6 +55,7 @@ pub fn totals_of(alloc: Global, rows: &[Row]) -> Result<Totals, ViewFault>
     ensures { IfOk result (λ totals. totals ≡ totals_of rows.now) }
 {
     Ok(Totals {
+        times: column_sum(alloc, Column::Times, rows)?,
         posts: column_sum(alloc, Column::Posts, rows)?,
         inits: column_sum(alloc, Column::Inits, rows)?,
         starts: column_sum(alloc, Column::Starts, rows)?,
@@ -81,6 +85,7 @@ fn number_in(column: Column, row: &Row) -> u64
     ensures { result ≡ number_in column row.now }
 {
     match column {
+        Column::Times => row.times,
         Column::Posts => row.posts,
         Column::Inits => row.inits,
         Column::Starts => row.starts,

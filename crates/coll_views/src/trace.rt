@@ -30,14 +30,14 @@ pub fn trace_text(
 {
     let mut out = Vec::new(alloc);
     for (index, entry) in trace.iter().enumerate() {
-        let line = line_at(lines, index);
+        let line = line_of_entry(lines, index);
         print_entry(alloc, requests, entry, line, &mut out)?;
     }
     Ok(out)
 }
 
 /// The line of the entry of that index; 0 where it isn't told.
-fn line_at(lines: &[u32], index: usize) -> u32
+pub(crate) fn line_of_entry(lines: &[u32], index: usize) -> u32
     ensures { result ≡ slice_index lines.now index }
 {
     match lines.get(index) {

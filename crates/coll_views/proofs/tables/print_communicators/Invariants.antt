@@ -7,5 +7,5 @@ use Rattle.coll_views.proofs.tables.print_communicators.Given as goal
 
 abbrev pub invariant-loop-comm : goal.invariant-loop-comm
 invariant-loop-comm l =
-    l.out.items ++ flat_map (λ (at : ℕ × List ℕ). comm_lines l.rows at.0 at.1) (enumerate_from l.comm (drop l.comm (groups_seen l.groups)))
-    ≡ l.initial.out.items ++ all_comm_lines (groups_seen l.groups) l.rows
+    l.out.items ++ flat_map (λ (at : ℕ × List ℕ). comm_lines l.requests l.rows at.0 at.1) (enumerate_from l.comm (drop l.comm (groups_seen l.groups)))
+    ≡ l.initial.out.items ++ all_comm_lines l.requests (groups_seen l.groups) l.rows
