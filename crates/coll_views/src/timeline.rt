@@ -7,12 +7,14 @@ use crate::words::signature_text;
 use coll_report::Entry;
 use std::alloc::{AllocError, Global};
 
-/// When the call that made an entry began and had ended, in nanoseconds from the beginning of the run, and in which line it
-/// stands; 0 for an unwritten one.
+/// Which call made an entry of the trace, and when.
 #[derive(Clone, Copy, Debug, PartialEq, Eq)]
 pub struct Span {
+    /// The line of the command; 0 for the `waitall` that stands unwritten behind each section.
     pub line: u32,
+    /// When the call began, in nanoseconds from the beginning of the run.
     pub from: u64,
+    /// When it had ended.
     pub until: u64,
 }
 

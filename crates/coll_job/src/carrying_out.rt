@@ -1,0 +1,135 @@
+//! A job text carried out by threads, and what is told of it.
+
+ghost use Rattle.std.specs.Prelude.{◌≡◌, ◌≢◌, ◌≤◌, IfOk, IfErr};
+ghost use Rattle.std.specs.Io.KnownBytes.{Keeps};
+
+use crate::keeping::{UNWRITTEN, is_kept, put};
+use crate::observing::NoWatch;
+use crate::progress::Progress;
+use crate::running::{Recording, recorded_job};
+use crate::screen::Screen;
+use crate::task::RunOptions;
+use crate::tasks::{name_of, told};
+use crate::threaded::threaded_job;
+use crate::viewing::{keep_views, picture_of};
+use coll_diagnosis::{ExplainOptions, Form, explain_text};
+use coll_script::{Counted, JobFault, read_text, write_lines};
+use std::alloc::Global;
+use std::fs::Files;
+use std::io::{Read, Write};
+use std::rt::Clock;
+use std::sync::Wait;
+use std::thread::Threads;
+
+/// How the explanation of a run is written.
+const EXPLAINED: ExplainOptions = ExplainOptions {
+    form: Form::Text,
+    is_strict: false,
+};
+
+/// Has a text carried out, writes the files on what the run did, and then the values. Answers the exit status. `file` is that of
+/// the text.
+pub(crate) fn run_text<
+    M: Threads + Wait + Sync + Files + Clock,
+    S: Screen + Sync,
+    R: Read,
+    W: Write,
+    E: Write,
+>(
+    machine: &M,
+    alloc: Global,
+    screen: &S,
+    options: RunOptions<'_>,
+    file: Option<&str>,
+    reader: &mut Counted<'_, R>,
+    output: &mut W,
+    errors: &mut E,
+) -> Result<u8, JobFault>
+    requires unread { reader.old.reads ≡ 0 }
+    requires workers { options.workers ≤ 8 }
+    ensures status { IfOk result (λ status. status ≤ 1) }
+    ensures unwritten { IfErr result (λ fault. fault ≢ JobFault.Write → Keeps (W.contents output.old) (W.contents output.new)) }
+{
+    let is_shown = !options.is_quiet && screen.is_watched();
+    if !is_shown && !options.views.are_wanted() && options.explanation.is_none() {
+        threaded_job(machine, alloc, options.workers, reader, output)?;
+        return Ok(0);
+    }
+    let text = read_text(alloc, reader)?;
+    let recorded = if is_shown {
+        shown_job(machine, alloc, screen, &text, options.workers)
+    } else {
+        recorded_job(machine, alloc, &text, options.workers, &NoWatch)
+    };
+    if let (Some(explanation), Err(JobFault::Stalled)) = (options.explanation, &recorded) {
+        if !is_explained(machine, alloc, file, &text, explanation, errors)? {
+            return Ok(UNWRITTEN);
+        }
+    }
+    let recording = recorded?;
+    if !keep_views(machine, alloc, &options.views, &recording, errors)? {
+        return Ok(UNWRITTEN);
+    }
+    write_lines(output, &recording.lines)?;
+    Ok(0)
+}
+
+/// Has a text carried out, and shows how far it is.
+fn shown_job<M: Threads + Wait + Sync + Clock, S: Screen + Sync>(
+    machine: &M,
+    alloc: Global,
+    screen: &S,
+    text: &[u8],
+    workers: u8,
+) -> Result<Recording, JobFault>
+    requires { workers ≤ 8 }
+    ensures { IfErr result (λ fault. fault ≢ JobFault.Write) }
+{
+    let progress = Progress::new(machine, alloc, screen);
+    let recorded = recorded_job(machine, alloc, text, workers, &progress);
+    progress.clear();
+    recorded
+}
+
+/// Has a text carried out, and draws what the run did. Answers the exit status.
+pub(crate) fn draw_run<M: Threads + Wait + Sync + Files + Clock, R: Read, W: Write, E: Write>(
+    machine: &M,
+    alloc: Global,
+    workers: u8,
+    file: Option<&str>,
+    reader: &mut Counted<'_, R>,
+    output: &mut W,
+    errors: &mut E,
+) -> Result<u8, JobFault>
+    requires unread { reader.old.reads ≡ 0 }
+    requires workers { workers ≤ 8 }
+    ensures status { IfOk result (λ status. status ≤ 1) }
+    ensures unwritten { IfErr result (λ fault. fault ≢ JobFault.Write → Keeps (W.contents output.old) (W.contents output.new)) }
+{
+    let text = read_text(alloc, reader)?;
+    let recording = recorded_job(machine, alloc, &text, workers, &NoWatch)?;
+    let picture = picture_of(alloc, &recording)?;
+    put(machine, alloc, file, &picture, output, errors)
+}
+
+/// Whether the file got why the runs of a text stall. If not, the stall and the fault of the file are told.
+fn is_explained<F: Files, E: Write>(
+    files: &F,
+    alloc: Global,
+    file: Option<&str>,
+    text: &[u8],
+    explanation: &str,
+    errors: &mut E,
+) -> Result<bool, JobFault>
+    ensures { IfErr result (λ fault. fault ≢ JobFault.Write) }
+{
+    let lines = explain_text(alloc, name_of(file), EXPLAINED, text)?.lines;
+    let bytes = lines.as_str().as_bytes();
+    let mut fault = Vec::new(alloc);
+    if is_kept(files, alloc, explanation, bytes, &mut fault) {
+        return Ok(true);
+    }
+    let _ = told(file, JobFault::Stalled, errors);
+    let _ = errors.write_all(&fault);
+    Ok(false)
+}

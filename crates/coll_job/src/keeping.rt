@@ -1,0 +1,73 @@
+//! A file that is written whole or not at all.
+
+ghost use Rattle.std.specs.Prelude.{◌≡◌, ◌≢◌, ◌<◌, ◌≤◌, IfOk, IfErr};
+ghost use Rattle.std.specs.Io.KnownBytes.{Keeps};
+
+use coll_script::{JobFault, write_lines};
+use std::alloc::Global;
+use std::fs::{File, Files, remove_file, rename};
+use std::io;
+use std::io::Write;
+
+/// The exit status where a file can't be written: that of a write fault.
+pub(crate) const UNWRITTEN: u8 = 1;
+
+/// Writes to the file that is named, or without one to standard output. Answers the exit status: where the file can't be written,
+/// that is told behind its name.
+pub(crate) fn put<F: Files, W: Write, E: Write>(
+    files: &F,
+    alloc: Global,
+    file: Option<&str>,
+    bytes: &[u8],
+    output: &mut W,
+    errors: &mut E,
+) -> Result<u8, JobFault>
+    ensures status { IfOk result (λ status. status ≤ 1) }
+    ensures unwritten { IfErr result (λ fault. fault ≡ JobFault.Write) }
+{
+    match file {
+        None => write_lines(output, bytes)?,
+        Some(file) => {
+            if !is_kept(files, alloc, file, bytes, errors) {
+                return Ok(UNWRITTEN);
+            }
+        }
+    }
+    Ok(0)
+}
+
+/// Whether the file could be written. If not, that is told behind its name.
+pub(crate) fn is_kept<F: Files, E: Write>(
+    files: &F,
+    alloc: Global,
+    file: &str,
+    bytes: &[u8],
+    errors: &mut E,
+) -> bool {
+    match keep(files, alloc, file, bytes) {
+        Ok(()) => true,
+        Err(error) => {
+            let _ = writeln!(errors, "{file}: {error}");
+            false
+        }
+    }
+}
+
+/// Writes a file. Until it is complete it has another name beside it; at an error nothing of it is left, and a file that had
+/// the name keeps its bytes.
+fn keep<F: Files>(files: &F, alloc: Global, name: &str, bytes: &[u8]) -> io::Result<()> {
+    let part = format!(in alloc; "{name}.part")?;
+    let kept = keep_as(files, part.as_str(), name, bytes);
+    if kept.is_err() {
+        let _ = remove_file(files, part.as_str());
+    }
+    kept
+}
+
+/// Writes a file under one name, and gives it the other when it is complete.
+fn keep_as<F: Files>(files: &F, part: &str, name: &str, bytes: &[u8]) -> io::Result<()> {
+    let mut file = File::create(files, part)?;
+    file.write_all(bytes)?;
+    file.flush()?;
+    rename(files, part, name)
+}

@@ -1,0 +1,128 @@
+//! How far a long run is, in one line of a terminal.
+
+use crate::observing::Watch;
+use crate::screen::Screen;
+use std::alloc::{AllocError, Global};
+use std::rt::Clock;
+use std::sync::{Mutex, Wait};
+use std::time::Instant;
+
+/// The milliseconds from the beginning of a run until its progress is shown, and from one line to the next.
+const FIRST: u64 = 1_000;
+
+const BETWEEN: u64 = 250;
+
+/// Shows how far a run is: how many ranks are done, how many posts and starts are completed, and the time since it began. The
+/// threads of the ranks show it as they go, so nothing changes while all of them wait.
+#[derive(Drop)]
+pub(crate) struct Progress<'m, M: Clock + Wait, S: Screen> {
+    machine: &'m M,
+    alloc: Global,
+    screen: &'m S,
+    begin: Option<Instant>,
+    state: Mutex<State>,
+}
+
+/// How far the run is, and what stands on the screen.
+#[derive(Clone, Copy, Debug)]
+struct State {
+    ranks: u8,
+    ranks_done: u8,
+    starts: usize,
+    completed: usize,
+    /// When the next line is due, in milliseconds from the beginning.
+    due: u64,
+    /// The columns that the line on the screen takes.
+    width: usize,
+}
+
+impl<'m, M: Clock + Wait, S: Screen> Progress<'m, M, S> {
+    /// Of a run that begins now.
+    pub(crate) fn new(machine: &'m M, alloc: Global, screen: &'m S) -> Progress<'m, M, S> {
+        Progress {
+            machine,
+            alloc,
+            screen,
+            begin: Instant::now(machine).ok(),
+            state: Mutex::new(State {
+                ranks: 0,
+                ranks_done: 0,
+                starts: 0,
+                completed: 0,
+                due: FIRST,
+                width: 0,
+            }),
+        }
+    }
+
+    /// Takes what was shown off the screen.
+    pub(crate) fn clear(&self) {
+        let mut state = self.state.lock(self.machine);
+        let width = state.width;
+        if width > 0 {
+            if let Ok(blank) = format!(in self.alloc; "\r{:width$}\r", "") {
+                self.screen.show(blank.as_str());
+            }
+            state.width = 0;
+        }
+    }
+
+    /// Shows the line, if it is due.
+    fn show(&self, state: &mut State) {
+        let Some(passed) = self.passed() else {
+            return;
+        };
+        if passed < state.due {
+            return;
+        }
+        state.due = passed.saturating_add(BETWEEN);
+        if let Ok(line) = self.line(state, passed) {
+            state.width = state.width.max(line.len());
+            self.screen.show(line.as_str());
+        }
+    }
+
+    /// The line, which goes over the one before it.
+    fn line(&self, state: &State, passed: u64) -> Result<String, AllocError> {
+        let State {
+            ranks,
+            ranks_done,
+            starts,
+            completed,
+            width,
+            ..
+        } = *state;
+        let (seconds, tenths) = (passed / 1_000, passed % 1_000 / 100);
+        let told = format!(in self.alloc;
+            "{ranks_done} of {ranks} ranks done, {completed} of {starts} collective calls completed, {seconds}.{tenths} s"
+        )?;
+        format!(in self.alloc; "\r{:<width$}", told.as_str())
+    }
+
+    /// The milliseconds since the run began; none where the clock can't be read.
+    fn passed(&self) -> Option<u64> {
+        let now = Instant::now(self.machine).ok()?;
+        let passed = now.checked_duration_since(self.begin?)?;
+        u64::try_from(passed.as_millis()).ok()
+    }
+}
+
+impl<M: Clock + Wait, S: Screen> Watch for Progress<'_, M, S> {
+    fn begin(&self, ranks: u8, starts: usize) {
+        let mut state = self.state.lock(self.machine);
+        state.ranks = ranks;
+        state.starts = starts;
+    }
+
+    fn completed(&self, count: usize) {
+        let mut state = self.state.lock(self.machine);
+        state.completed = state.completed.saturating_add(count);
+        self.show(&mut state);
+    }
+
+    fn ended(&self) {
+        let mut state = self.state.lock(self.machine);
+        state.ranks_done = state.ranks_done.saturating_add(1);
+        self.show(&mut state);
+    }
+}
