@@ -8,6 +8,8 @@ pub mod Laws
 pub mod Faults
 -- what the words of a command line ask for
 pub mod Tasks
+-- what the files on a run get
+pub mod Pages
 -- worked rows
 pub mod AttestedRows
 pub mod FaultRows

@@ -5,7 +5,7 @@ ghost use Rattle.std.specs.Io.KnownBytes.{Keeps};
 
 use coll_script::{JobFault, write_lines};
 use std::alloc::Global;
-use std::fs::{File, Files, remove_file, rename};
+use std::fs::{File, Files, remove_file, rename, symlink_metadata};
 use std::io;
 use std::io::Write;
 
@@ -53,9 +53,12 @@ pub(crate) fn is_kept<F: Files, E: Write>(
     }
 }
 
-/// Writes a file. Until it is complete it has another name beside it; at an error nothing of it is left, and a file that had
-/// the name keeps its bytes.
+/// Writes a file, whole or not at all: until it is complete it has another name beside it; at an error nothing of it is left, and
+/// a file that had the name keeps its bytes. What stands there and is no file, as a link, a pipe or a device, gets the bytes itself.
 fn keep<F: Files>(files: &F, alloc: Global, name: &str, bytes: &[u8]) -> io::Result<()> {
+    if is_written_in_place(files, name) {
+        return write(files, name, bytes);
+    }
     let part = format!(in alloc; "{name}.part")?;
     let kept = keep_as(files, part.as_str(), name, bytes);
     if kept.is_err() {
@@ -64,10 +67,22 @@ fn keep<F: Files>(files: &F, alloc: Global, name: &str, bytes: &[u8]) -> io::Res
     kept
 }
 
+/// Whether something stands there that mustn't be replaced by a file.
+fn is_written_in_place<F: Files>(files: &F, name: &str) -> bool {
+    match symlink_metadata(files, name) {
+        Ok(found) => !found.is_file(),
+        Err(_) => false,
+    }
+}
+
 /// Writes a file under one name, and gives it the other when it is complete.
 fn keep_as<F: Files>(files: &F, part: &str, name: &str, bytes: &[u8]) -> io::Result<()> {
-    let mut file = File::create(files, part)?;
-    file.write_all(bytes)?;
-    file.flush()?;
+    write(files, part, bytes)?;
     rename(files, part, name)
+}
+
+fn write<F: Files>(files: &F, name: &str, bytes: &[u8]) -> io::Result<()> {
+    let mut file = File::create(files, name)?;
+    file.write_all(bytes)?;
+    file.flush()
 }

@@ -9,7 +9,7 @@
 //! | Module | Has |
 //! |---|---|
 //! | `machine` | `main_of`, which takes words and streams from the machine |
-//! | `task`, `words` | `Task`, what the words of the command line ask for; how they are read |
+//! | `task`, `words`, `draw_words` | `Task`, what the words of the command line ask for; how they are read |
 //! | `tasks` | `run`, which checks the words and does what they ask for |
 //! | `opening`, `keeping` | the file that the words name is opened; a file is written whole or not at all |
 //! | `signature`, `drawing` | the words of a signature are read; its schedules are drawn |
@@ -35,6 +35,7 @@ mod attest_fault;
 mod attested;
 mod caller;
 mod carrying_out;
+mod draw_words;
 mod drawing;
 mod ends;
 mod following;

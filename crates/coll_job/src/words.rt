@@ -3,7 +3,7 @@
 ghost use Rattle.std.specs.Prelude.{◌≡◌, ◌≤◌, IfOk};
 ghost use Rattle.coll_job.specs.Tasks.{workers_of};
 
-use crate::drawing::{Draft, DrawForm};
+use crate::draw_words::{draw_command, draw_task};
 use crate::task::{RunOptions, Task, Way};
 use crate::views::{views_of, with_views};
 use clap::builder::ValueParser;
@@ -39,18 +39,6 @@ static CHECK_FORMS: [&str; 2] = ["text", "json"];
 
 /// When colours are wanted.
 static COLORS: [&str; 3] = ["auto", "always", "never"];
-
-const SIGNATURE: &str = "signature";
-
-const MEMBERS: &str = "members";
-
-const MAX_MEMBERS: u8 = 64;
-
-const SVG: &str = "svg";
-
-const DOT: &str = "dot";
-
-const OUT: &str = "out";
 
 const NAME: &str = "colljob";
 
@@ -118,7 +106,7 @@ fn run_command<'a>(alloc: Global) -> Result<Command<'a>, AllocError> {
     with_views(alloc, run)?.arg(text_file(alloc))
 }
 
-fn workers_argument<'a>(alloc: Global) -> Arg<'a> {
+pub(crate) fn workers_argument<'a>(alloc: Global) -> Arg<'a> {
     Arg::new(alloc, WORKERS)
         .long(WORKERS)
         .value_name("W")
@@ -179,68 +167,8 @@ fn check_command<'a>(alloc: Global) -> Result<Command<'a>, AllocError> {
         .arg(text_file(alloc))
 }
 
-fn draw_command<'a>(alloc: Global) -> Result<Command<'a>, AllocError> {
-    let signature = Arg::new(alloc, SIGNATURE)
-        .value_name("SIGNATURE")
-        .required(true)
-        .help(
-            "A collective as a job text says it behind `post C`, as one word: \"allreduce sum i32 1\"",
-        );
-    let members = Arg::new(alloc, MEMBERS)
-        .long("members")
-        .value_name("N")
-        .value_parser(ValueParser::unsigned(1, u64::from(MAX_MEMBERS)))
-        .required(true)
-        .help("How many members there are, 1 to 64");
-    let svg = Arg::new(alloc, SVG)
-        .long("svg")
-        .action(ArgAction::SetTrue)
-        .help("Draws a vector picture in place of lines");
-    Command::new(alloc, "draw")
-        .about(
-            "Draws the schedules of a collective: who sends what to whom in which round, and where it is combined; or a run, or waits",
-        )
-        .subcommand_negates_reqs(true)
-        .args_conflicts_with_subcommands(true)
-        .arg(signature)?
-        .arg(members)?
-        .arg(svg)?
-        .arg(out_file(alloc))?
-        .subcommand(draw_run_command(alloc)?)?
-        .subcommand(draw_waits_command(alloc)?)
-}
-
-fn draw_run_command<'a>(alloc: Global) -> Result<Command<'a>, AllocError> {
-    Command::new(alloc, "run")
-        .about(
-            "Draws what a run of a job text did: a column for each rank, with a bar from each post or start to its completion",
-        )
-        .arg(workers_argument(alloc))?
-        .arg(out_file(alloc))?
-        .arg(text_file(alloc))
-}
-
-fn draw_waits_command<'a>(alloc: Global) -> Result<Command<'a>, AllocError> {
-    let dot = Arg::new(alloc, DOT)
-        .long(DOT)
-        .action(ArgAction::SetTrue)
-        .help("Draws a graph in the DOT language, which Graphviz reads, in place of lines");
-    Command::new(alloc, "waits")
-        .about("Draws who waits for whom where the runs of a job text stall, as `explain` does")
-        .arg(dot)?
-        .arg(text_file(alloc))
-}
-
-/// The word that names the file of a drawing.
-fn out_file<'a>(alloc: Global) -> Arg<'a> {
-    Arg::new(alloc, OUT)
-        .long(OUT)
-        .value_name("OUT")
-        .help("Writes to the file OUT, all of it or nothing")
-}
-
 /// The word for a file.
-fn text_file<'a>(alloc: Global) -> Arg<'a> {
+pub(crate) fn text_file<'a>(alloc: Global) -> Arg<'a> {
     Arg::new(alloc, FILE).value_name("FILE").help(
         "The job text; standard input where there is no FILE, or where it is -",
     )
@@ -295,7 +223,7 @@ fn run_task<'w>(matches: &ArgMatches<'w>) -> Task<'w>
 }
 
 /// How many progress threads the words behind a subcommand name.
-fn workers_in(matches: &ArgMatches<'_>) -> u8
+pub(crate) fn workers_in(matches: &ArgMatches<'_>) -> u8
     ensures { result ≤ 8 }
 {
     matches
@@ -304,56 +232,8 @@ fn workers_in(matches: &ArgMatches<'_>) -> u8
         .min(MAX_WORKERS)
 }
 
-/// The drawing that the words behind `draw` ask for: of a run, of waits, or else of a collective.
-fn draw_task<'w>(matches: &ArgMatches<'w>) -> Task<'w>
-    ensures { workers_of result.way ≤ 8 }
-{
-    if let Some(run) = matches.subcommand_matches("run") {
-        let way = Way::DrawRun {
-            workers: workers_in(run),
-            file: run.get_str(OUT),
-        };
-        return task_on(way, run);
-    }
-    if let Some(waits) = matches.subcommand_matches("waits") {
-        return task_on(Way::Explain(waits_options(waits)), waits);
-    }
-    Task {
-        way: Way::Draw(draft_of(matches)),
-        file: None,
-    }
-}
-
-/// How the waits are drawn that the words behind `draw waits` ask for.
-fn waits_options(matches: &ArgMatches<'_>) -> ExplainOptions {
-    let form = if matches.get_flag(DOT) {
-        Form::Dot
-    } else {
-        Form::Text
-    };
-    ExplainOptions {
-        form,
-        is_strict: false,
-    }
-}
-
-/// The drawing of a collective that the words behind `draw` ask for.
-fn draft_of<'w>(matches: &ArgMatches<'w>) -> Draft<'w> {
-    let form = if matches.get_flag(SVG) {
-        DrawForm::Svg
-    } else {
-        DrawForm::Text
-    };
-    Draft {
-        words: matches.get_str(SIGNATURE).unwrap_or(""),
-        members: matches.get_one::<u8>(MEMBERS).unwrap_or(1),
-        form,
-        file: matches.get_str(OUT),
-    }
-}
-
 /// A task on the file that the words behind a subcommand name.
-fn task_on<'w>(way: Way<'w>, matches: &ArgMatches<'w>) -> Task<'w>
+pub(crate) fn task_on<'w>(way: Way<'w>, matches: &ArgMatches<'w>) -> Task<'w>
     ensures { result.way ≡ way }
 {
     Task {

@@ -1,0 +1,133 @@
+//! The words behind `draw`.
+
+ghost use Rattle.std.specs.Prelude.{◌≡◌, ◌≤◌};
+ghost use Rattle.coll_job.specs.Tasks.{workers_of};
+
+use crate::drawing::{Draft, DrawForm};
+use crate::task::{Task, Way};
+use crate::words::{task_on, text_file, workers_argument, workers_in};
+use clap::builder::ValueParser;
+use clap::{Arg, ArgAction, ArgMatches, Command};
+use coll_diagnosis::{ExplainOptions, Form};
+use std::alloc::{AllocError, Global};
+
+const SIGNATURE: &str = "signature";
+
+const MEMBERS: &str = "members";
+
+const MAX_MEMBERS: u8 = 64;
+
+const SVG: &str = "svg";
+
+const DOT: &str = "dot";
+
+const OUT: &str = "out";
+
+/// The command that draws a collective, and below it those that draw a run or waits.
+pub(crate) fn draw_command<'a>(alloc: Global) -> Result<Command<'a>, AllocError> {
+    let signature = Arg::new(alloc, SIGNATURE)
+        .value_name("SIGNATURE")
+        .required(true)
+        .help(
+            "A collective as a job text says it behind `post C`, as one word: \"allreduce sum i32 1\"",
+        );
+    let members = Arg::new(alloc, MEMBERS)
+        .long("members")
+        .value_name("N")
+        .value_parser(ValueParser::unsigned(1, u64::from(MAX_MEMBERS)))
+        .required(true)
+        .help("How many members there are, 1 to 64");
+    let svg = Arg::new(alloc, SVG)
+        .long("svg")
+        .action(ArgAction::SetTrue)
+        .help("Draws a vector picture in place of lines");
+    Command::new(alloc, "draw")
+        .about(
+            "Draws the schedules of a collective: who sends what to whom in which round, and where it is combined; or a run, or waits",
+        )
+        .subcommand_negates_reqs(true)
+        .args_conflicts_with_subcommands(true)
+        .arg(signature)?
+        .arg(members)?
+        .arg(svg)?
+        .arg(out_file(alloc))?
+        .subcommand(draw_run_command(alloc)?)?
+        .subcommand(draw_waits_command(alloc)?)
+}
+
+fn draw_run_command<'a>(alloc: Global) -> Result<Command<'a>, AllocError> {
+    Command::new(alloc, "run")
+        .about(
+            "Draws what a run of a job text did: a column for each rank, with a bar from each post or start to its completion",
+        )
+        .arg(workers_argument(alloc))?
+        .arg(out_file(alloc))?
+        .arg(text_file(alloc))
+}
+
+fn draw_waits_command<'a>(alloc: Global) -> Result<Command<'a>, AllocError> {
+    let dot = Arg::new(alloc, DOT)
+        .long(DOT)
+        .action(ArgAction::SetTrue)
+        .help("Draws a graph in the DOT language, which Graphviz reads, in place of lines");
+    Command::new(alloc, "waits")
+        .about("Draws who waits for whom where the runs of a job text stall, as `explain` does")
+        .arg(dot)?
+        .arg(text_file(alloc))
+}
+
+/// The word that names the file of a drawing.
+fn out_file<'a>(alloc: Global) -> Arg<'a> {
+    Arg::new(alloc, OUT)
+        .long(OUT)
+        .value_name("OUT")
+        .help("Writes to the file OUT, all of it or nothing")
+}
+
+/// The drawing that the words behind `draw` ask for: of a run, of waits, or else of a collective.
+pub(crate) fn draw_task<'w>(matches: &ArgMatches<'w>) -> Task<'w>
+    ensures { workers_of result.way ≤ 8 }
+{
+    if let Some(run) = matches.subcommand_matches("run") {
+        let way = Way::DrawRun {
+            workers: workers_in(run),
+            file: run.get_str(OUT),
+        };
+        return task_on(way, run);
+    }
+    if let Some(waits) = matches.subcommand_matches("waits") {
+        return task_on(Way::Explain(waits_options(waits)), waits);
+    }
+    Task {
+        way: Way::Draw(draft_of(matches)),
+        file: None,
+    }
+}
+
+/// How the waits are drawn that the words behind `draw waits` ask for.
+fn waits_options(matches: &ArgMatches<'_>) -> ExplainOptions {
+    let form = if matches.get_flag(DOT) {
+        Form::Dot
+    } else {
+        Form::Text
+    };
+    ExplainOptions {
+        form,
+        is_strict: false,
+    }
+}
+
+/// The drawing of a collective that the words behind `draw` ask for.
+fn draft_of<'w>(matches: &ArgMatches<'w>) -> Draft<'w> {
+    let form = if matches.get_flag(SVG) {
+        DrawForm::Svg
+    } else {
+        DrawForm::Text
+    };
+    Draft {
+        words: matches.get_str(SIGNATURE).unwrap_or(""),
+        members: matches.get_one::<u8>(MEMBERS).unwrap_or(1),
+        form,
+        file: matches.get_str(OUT),
+    }
+}
