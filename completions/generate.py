@@ -24,7 +24,7 @@ class Option:
 
 
 class Page:
-    """What `--help` prints, taken apart."""
+    """What `--help` prints, taken apart. `inner` has the pages of its own commands."""
 
     def __init__(self, name, text):
         self.name = name
@@ -43,12 +43,24 @@ class Page:
         self.arguments = parts["Arguments"]
         self.options = [Option(head, told) for head, told in parts["Options"]]
         self.behind = behind
+        self.inner = []
+
+
+def page_of(name):
+    """The page of a command, with those of its own commands."""
+    page = Page(name, (WORDS / f"help_{name.replace(' ', '_')}").read_text())
+    page.inner = [page_of(f"{name} {word}") for word, _ in page.commands if word != "help"]
+    return page
 
 
 def pages():
     whole = Page("colljob", (WORDS / "help").read_text())
-    names = [name for name, _ in whole.commands if name != "help"]
-    return whole, [Page(name, (WORDS / f"help_{name}").read_text()) for name in names]
+    return whole, [page_of(name) for name, _ in whole.commands if name != "help"]
+
+
+def flat(commands):
+    """The pages with those of their own commands behind them."""
+    return [each for page in commands for each in [page, *page.inner]]
 
 
 # ---- the manual page
@@ -78,10 +90,11 @@ def blocks(texts):
 
 def manual(whole, commands, version):
     out = f'.TH COLLJOB 1 "" "{version}" "User Commands"\n.SH NAME\ncolljob \\- {roff(whole.about)}\n.SH SYNOPSIS\n'
-    out += "".join(f".PP\n.B {roff(page.usage)}\n" for page in [whole, *commands])
+    usages = [line.strip() for page in [whole, *flat(commands)] for line in page.usage.split("\n")]
+    out += "".join(f".PP\n.B {roff(usage)}\n" for usage in usages)
     out += ".SH OPTIONS\n" + "".join(map(option_item, whole.options))
     out += ".SH COMMANDS\n"
-    for page in commands:
+    for page in flat(commands):
         out += f".SS {roff(page.name)}\n{roff(page.about)}.\n"
         out += "".join(item(f"\\fI{head}\\fR", told) for head, told in page.arguments)
         out += "".join(map(option_item, page.options)) + blocks(page.behind)
@@ -95,7 +108,7 @@ def bash(whole, commands):
     names = " ".join(name for name, _ in whole.commands)
     options = " ".join(name for option in whole.options for name in option.names)
     cases = ""
-    for page in commands:
+    for page in flat(commands):
         all_names = " ".join(name for option in page.options for name in option.names)
         values = "".join(
             f"                {'|'.join(option.names)}) COMPREPLY=($(compgen -W '{' '.join(option.values)}' -- \"$word\")); return ;;\n"
@@ -108,22 +121,31 @@ def bash(whole, commands):
             if option.value and not option.values
         )
         inner = f'            case "$before" in\n{values}            esac\n' if values else ""
-        cases += f"        {page.name})\n{inner}            options='{all_names}'\n            ;;\n"
+        own = " ".join(each.name.split()[-1] for each in page.inner)
+        inner += f"            own='{own}'\n" if own else ""
+        cases += f"        '{page.name}')\n{inner}            options='{all_names}'\n            ;;\n"
     cases += f"        help)\n            COMPREPLY=($(compgen -W '{names}' -- \"$word\"))\n            return\n            ;;\n"
+    inner = " | ".join(f"'{each.name}'" for page in commands for each in page.inner)
     return f"""# Completions of colljob for bash; completions/generate.py writes this file.
 _colljob() {{
-    local word=${{COMP_WORDS[COMP_CWORD]}} before=${{COMP_WORDS[COMP_CWORD - 1]}} options
+    local word=${{COMP_WORDS[COMP_CWORD]}} before=${{COMP_WORDS[COMP_CWORD - 1]}} command=${{COMP_WORDS[1]}} own options
     if [ "$COMP_CWORD" -eq 1 ]; then
         COMPREPLY=($(compgen -W '{names} {options}' -- "$word"))
         return
     fi
-    case "${{COMP_WORDS[1]}}" in
+    if [ "$COMP_CWORD" -gt 2 ]; then
+        case "$command ${{COMP_WORDS[2]}}" in
+            {inner}) command+=" ${{COMP_WORDS[2]}}" ;;
+        esac
+    fi
+    case "$command" in
 {cases}        *) return ;;
     esac
     if [[ $word == -* ]]; then
         COMPREPLY=($(compgen -W "$options" -- "$word"))
     else
-        COMPREPLY=($(compgen -f -- "$word"))
+        [ "$COMP_CWORD" -eq 2 ] || own=
+        COMPREPLY=($(compgen -W "$own" -- "$word") $(compgen -f -- "$word"))
     fi
 }}
 complete -o filenames -F _colljob colljob
@@ -148,15 +170,18 @@ def zsh_option(option):
 def zsh(whole, commands):
     listed = "".join(f"                '{name}:{quoted(told)}'\n" for name, told in whole.commands)
     cases = ""
-    for page in commands:
+    for page in flat(commands):
         lines = [zsh_option(option) for option in page.options]
-        lines += [f"'::{head.strip('[]')}:_files'" for head, _ in page.arguments]
-        cases += f"                {page.name})\n                    _arguments " + " \\\n                        ".join(lines) + "\n                    ;;\n"
+        own = " ".join(each.name.split()[-1] for each in page.inner)
+        files = f"({own})" if own else "_files"
+        lines += [f"'::{head.strip('[]<>')}:{files}'" for head, _ in page.arguments]
+        cases += f"                '{page.name}')\n                    _arguments " + " \\\n                        ".join(lines) + "\n                    ;;\n"
     own = " \\\n        ".join(zsh_option(option) for option in whole.options)
+    inner = " | ".join(f"'{each.name}'" for page in commands for each in page.inner)
     return f"""#compdef colljob
 # Completions of colljob for zsh; completions/generate.py writes this file.
 _colljob() {{
-    local state line
+    local state line command
     local -a commands
     _arguments -C \\
         {own} \\
@@ -169,7 +194,17 @@ _colljob() {{
             _describe command commands
             ;;
         words)
-            case $line[1] in
+            command=$line[1]
+            if (( CURRENT > 2 )); then
+                case "$command $words[2]" in
+                    {inner})
+                        command+=" $words[2]"
+                        shift words
+                        (( CURRENT -= 1 ))
+                        ;;
+                esac
+            fi
+            case $command in
 {cases}            esac
             ;;
     esac

@@ -64,6 +64,7 @@ pub use attested::attested_lines;
 pub use drawing::{Draft, DrawForm};
 pub use machine::main_of;
 pub use observing::{NoWatch, Watch};
+pub use progress::Progress;
 pub use running::{Recording, recorded_job, run_job};
 pub use screen::{NoScreen, Screen};
 pub use task::{RunOptions, Task, Way};

@@ -15,7 +15,7 @@ const BETWEEN: u64 = 250;
 /// Shows how far a run is: how many ranks are done, how many posts and starts are completed, and the time since it began. The
 /// threads of the ranks show it as they go, so nothing changes while all of them wait.
 #[derive(Drop)]
-pub(crate) struct Progress<'m, M: Clock + Wait, S: Screen> {
+pub struct Progress<'m, M: Clock + Wait, S: Screen> {
     machine: &'m M,
     alloc: Global,
     screen: &'m S,
@@ -38,7 +38,7 @@ struct State {
 
 impl<'m, M: Clock + Wait, S: Screen> Progress<'m, M, S> {
     /// Of a run that begins now.
-    pub(crate) fn new(machine: &'m M, alloc: Global, screen: &'m S) -> Progress<'m, M, S> {
+    pub fn new(machine: &'m M, alloc: Global, screen: &'m S) -> Progress<'m, M, S> {
         Progress {
             machine,
             alloc,
@@ -56,14 +56,11 @@ impl<'m, M: Clock + Wait, S: Screen> Progress<'m, M, S> {
     }
 
     /// Takes what was shown off the screen.
-    pub(crate) fn clear(&self) {
+    pub fn clear(&self) {
         let mut state = self.state.lock(self.machine);
-        let width = state.width;
-        if width > 0 {
-            if let Ok(blank) = format!(in self.alloc; "\r{:width$}\r", "") {
-                self.screen.show(blank.as_str());
-            }
-            state.width = 0;
+        if state.width > 0 {
+            self.put("", &mut state);
+            self.screen.show("\r");
         }
     }
 
@@ -77,26 +74,32 @@ impl<'m, M: Clock + Wait, S: Screen> Progress<'m, M, S> {
         }
         state.due = passed.saturating_add(BETWEEN);
         if let Ok(line) = self.line(state, passed) {
-            state.width = state.width.max(line.len());
-            self.screen.show(line.as_str());
+            self.put(line.as_str(), state);
         }
     }
 
-    /// The line, which goes over the one before it.
+    /// Puts a line over the one that stands on the screen.
+    fn put(&self, line: &str, state: &mut State) {
+        let width = state.width;
+        if let Ok(text) = format!(in self.alloc; "\r{line:<width$}") {
+            self.screen.show(text.as_str());
+            state.width = line.len();
+        }
+    }
+
+    /// What is told of the run.
     fn line(&self, state: &State, passed: u64) -> Result<String, AllocError> {
         let State {
             ranks,
             ranks_done,
             starts,
             completed,
-            width,
             ..
         } = *state;
         let (seconds, tenths) = (passed / 1_000, passed % 1_000 / 100);
-        let told = format!(in self.alloc;
+        format!(in self.alloc;
             "{ranks_done} of {ranks} ranks done, {completed} of {starts} collective calls completed, {seconds}.{tenths} s"
-        )?;
-        format!(in self.alloc; "\r{:<width$}", told.as_str())
+        )
     }
 
     /// The milliseconds since the run began; none where the clock can't be read.

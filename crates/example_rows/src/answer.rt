@@ -47,6 +47,14 @@ impl Answer {
         }
     }
 
+    /// The lines that tell of a stall.
+    pub fn of_stall(alloc: Global, lines: Vec<u8>) -> Answer {
+        Answer {
+            status: 3,
+            ..Answer::of_lines(alloc, lines)
+        }
+    }
+
     /// A fault with that status.
     pub fn of_fault(alloc: Global, status: u8, told: Vec<u8>) -> Answer {
         Answer {

@@ -5,9 +5,9 @@ use std::rt::Clock;
 use std::sync::Wait;
 use std::thread::Threads;
 
-/// The stored texts of `draws/`, and the words of a command line that print them: a drawing on standard output, or what is
-/// wrong with the words on standard error.
-pub const DRAWS: [(&str, &[&str]); 6] = [
+/// The stored texts of `draws/`, and the words of a command line that print them: a drawing on standard output, of waits with the
+/// status of a stall, or what is wrong with the words on standard error.
+pub const DRAWS: [(&str, &[&str]); 7] = [
     (
         "allreduce_of_six.txt",
         &["draw", "allreduce sum i32 1", "--members", "6"],
@@ -23,6 +23,10 @@ pub const DRAWS: [(&str, &[&str]); 6] = [
     (
         "alltoall_of_four.svg",
         &["draw", "alltoall byte 3", "--members", "4", "--svg"],
+    ),
+    (
+        "crossed_barriers.dot",
+        &["draw", "waits", "--dot", "crossed_barriers.job"],
     ),
     (
         "other_operation.fault",
@@ -44,6 +48,8 @@ pub fn is_drawn<M: Threads + Wait + Sync + Files + Clock>(
     let stored = fs::read(rt, format!(in rt.alloc(); "draws/{name}")?)?;
     let wanted = if name.ends_with(".fault") {
         Answer::of_fault(rt.alloc(), 2, stored)
+    } else if name.ends_with(".dot") {
+        Answer::of_stall(rt.alloc(), stored)
     } else {
         Answer::of_lines(rt.alloc(), stored)
     };

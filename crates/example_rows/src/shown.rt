@@ -57,7 +57,8 @@ impl Stored {
 }
 
 /// Whether runs of a text tell what they did as stored in `runs/`: each rank's entries in `NAME.trace`, rank by rank, the tables
-/// in `NAME.stats`, if no number of them varies, and the values in `NAME.json`. The picture and the timeline have a bar for each completion.
+/// in `NAME.stats`, if no number of them varies, and the values in `NAME.json`. The picture, that of `draw run`, and the timeline
+/// have a bar for each completion.
 pub fn is_shown<M: Threads + Wait + Sync + Files + Clock>(
     rt: &HostRuntime,
     machine: &M,
@@ -93,11 +94,21 @@ fn is_run_shown<M: Threads + Wait + Sync + Files + Clock>(
     for file in FILES {
         remove_file(machine, file)?;
     }
+    let run = ["draw", "run", "--workers", workers, stored.text.as_str()];
+    let drawing = Answer::to(machine, alloc, &run, b"")?;
     let bars = count(&stored.trace, b" completed ");
     let drawn = count(&picture, b"  completed ");
     let timed = count(&timeline, b"\"ph\":\"X\"");
+    let is_drawn = drawing.status == 0 && count(&drawing.lines, b"  completed ") == bars;
     let is_counted = is_counted(&stored.stats, &stats);
-    Ok(trace == stored.trace && json == stored.json && is_counted && drawn == bars && timed == bars)
+    Ok(
+        trace == stored.trace
+            && json == stored.json
+            && is_counted
+            && is_drawn
+            && drawn == bars
+            && timed == bars,
+    )
 }
 
 /// Whether a run whose file can't be written says so behind its name, and writes nothing else; and whether a run that stalls

@@ -6,7 +6,7 @@ use std::sync::Wait;
 use std::thread::Threads;
 
 /// Words of a command line, and the stored text of `words/` that they print. The script `colljob` answers them from it.
-pub const TEXTS: [(&str, &[&str]); 21] = [
+pub const TEXTS: [(&str, &[&str]); 25] = [
     ("help", &["--help"]),
     ("help", &["-h"]),
     ("help", &["help"]),
@@ -25,6 +25,10 @@ pub const TEXTS: [(&str, &[&str]); 21] = [
     ("help_draw", &["draw", "--help"]),
     ("help_draw", &["draw", "-h"]),
     ("help_draw", &["help", "draw"]),
+    ("help_draw_run", &["draw", "run", "--help"]),
+    ("help_draw_run", &["draw", "run", "-h"]),
+    ("help_draw_waits", &["draw", "waits", "--help"]),
+    ("help_draw_waits", &["draw", "waits", "-h"]),
     ("version", &["--version"]),
     ("version", &["-V"]),
     ("no_words", &[]),

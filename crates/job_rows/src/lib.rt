@@ -27,6 +27,7 @@
 //! | `run_tests` | texts run by threads, with their lines or their fault |
 //! | `wait_tests` | texts run by threads that go on only by the right wait, or by none |
 //! | `memory_tests` | a run in which memory may be refused |
+//! | `progress_tests` | what a long run shows on a terminal |
 //! | `program_tests` | the program's status, and what it writes |
 #![tactic(auto)]
 
@@ -60,6 +61,8 @@ mod limit_tests;
 mod memory_tests;
 #[cfg(test)]
 mod program_tests;
+#[cfg(test)]
+mod progress_tests;
 #[cfg(test)]
 mod reading_tests;
 #[cfg(test)]

@@ -156,6 +156,7 @@ fn words(rt: HostRuntime) -> Result<(), Fail> {
         &["colljob", "draw", "--members", "2"],
         &["colljob", "draw", "barrier", "--members", "0"],
         &["colljob", "draw", "barrier", "--members", "65"],
+        &["colljob", "draw", "run", "--members", "2"],
     ];
     for words in wrong {
         let (status, lines, told) = seen(&rt, rt.alloc(), words, SUM_OF_TWO, 4096)?;
