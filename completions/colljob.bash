@@ -1,12 +1,17 @@
 # Completions of colljob for bash; completions/generate.py writes this file.
 _colljob() {
-    local word=${COMP_WORDS[COMP_CWORD]} before=${COMP_WORDS[COMP_CWORD - 1]} options
+    local word=${COMP_WORDS[COMP_CWORD]} before=${COMP_WORDS[COMP_CWORD - 1]} command=${COMP_WORDS[1]} own options
     if [ "$COMP_CWORD" -eq 1 ]; then
         COMPREPLY=($(compgen -W 'run plain explain check draw help -h --help -V --version' -- "$word"))
         return
     fi
-    case "${COMP_WORDS[1]}" in
-        run)
+    if [ "$COMP_CWORD" -gt 2 ]; then
+        case "$command ${COMP_WORDS[2]}" in
+            'draw run' | 'draw waits') command+=" ${COMP_WORDS[2]}" ;;
+        esac
+    fi
+    case "$command" in
+        'run')
             case "$before" in
                 --format) COMPREPLY=($(compgen -W 'text json' -- "$word")); return ;;
                 --workers) COMPREPLY=($(compgen -f -- "$word")); return ;;
@@ -17,30 +22,41 @@ _colljob() {
                 --picture) COMPREPLY=($(compgen -f -- "$word")); return ;;
                 --out) COMPREPLY=($(compgen -f -- "$word")); return ;;
             esac
-            options='--workers --explain --trace --stats --timeline --picture --format --out -h --help'
+            options='--workers -q --quiet --explain --trace --stats --timeline --picture --format --out -h --help'
             ;;
-        plain)
+        'plain')
             options='-h --help'
             ;;
-        explain)
+        'explain')
             case "$before" in
                 --format) COMPREPLY=($(compgen -W 'text json dot' -- "$word")); return ;;
             esac
             options='--format --strict -h --help'
             ;;
-        check)
+        'check')
             case "$before" in
                 --format) COMPREPLY=($(compgen -W 'text json' -- "$word")); return ;;
                 --color) COMPREPLY=($(compgen -W 'auto always never' -- "$word")); return ;;
             esac
             options='--format --color -h --help'
             ;;
-        draw)
+        'draw')
             case "$before" in
                 --members) COMPREPLY=($(compgen -f -- "$word")); return ;;
                 --out) COMPREPLY=($(compgen -f -- "$word")); return ;;
             esac
+            own='run waits'
             options='--members --svg --out -h --help'
+            ;;
+        'draw run')
+            case "$before" in
+                --workers) COMPREPLY=($(compgen -f -- "$word")); return ;;
+                --out) COMPREPLY=($(compgen -f -- "$word")); return ;;
+            esac
+            options='--workers --out -h --help'
+            ;;
+        'draw waits')
+            options='--dot -h --help'
             ;;
         help)
             COMPREPLY=($(compgen -W 'run plain explain check draw help' -- "$word"))
@@ -51,7 +67,8 @@ _colljob() {
     if [[ $word == -* ]]; then
         COMPREPLY=($(compgen -W "$options" -- "$word"))
     else
-        COMPREPLY=($(compgen -f -- "$word"))
+        [ "$COMP_CWORD" -eq 2 ] || own=
+        COMPREPLY=($(compgen -W "$own" -- "$word") $(compgen -f -- "$word"))
     fi
 }
 complete -o filenames -F _colljob colljob
