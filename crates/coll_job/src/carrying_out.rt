@@ -1,6 +1,6 @@
 //! A job text carried out by threads, and what is told of it.
 
-ghost use Rattle.std.specs.Prelude.{◌≡◌, ◌≢◌, ◌≤◌, IfOk, IfErr};
+ghost use Rattle.std.specs.Prelude.{◌≡◌, ◌≢◌, ◌<◌, ◌≤◌, IfOk, IfErr};
 ghost use Rattle.std.specs.Io.KnownBytes.{Keeps};
 
 use crate::keeping::{UNWRITTEN, is_kept, put};
@@ -48,7 +48,8 @@ pub(crate) fn run_text<
     requires unread { reader.old.reads ≡ 0 }
     requires workers { options.workers ≤ 8 }
     ensures status { IfOk result (λ status. status ≤ 1) }
-    ensures unwritten { IfErr result (λ fault. fault ≢ JobFault.Write → Keeps (W.contents output.old) (W.contents output.new)) }
+    ensures unwritten { IfOk result (λ status. 1 < status → Keeps (W.contents output.old) (W.contents output.new)) }
+    ensures unwritten_fault { IfErr result (λ fault. fault ≢ JobFault.Write → Keeps (W.contents output.old) (W.contents output.new)) }
 {
     let is_shown = !options.is_quiet && screen.is_watched();
     if !is_shown && !options.views.are_wanted() && options.explanation.is_none() {
@@ -83,7 +84,6 @@ fn shown_job<M: Threads + Wait + Sync + Clock, S: Screen + Sync>(
     workers: u8,
 ) -> Result<Recording, JobFault>
     requires { workers ≤ 8 }
-    ensures { IfErr result (λ fault. fault ≢ JobFault.Write) }
 {
     let progress = Progress::new(machine, alloc, screen);
     let recorded = recorded_job(machine, alloc, text, workers, &progress);
@@ -104,7 +104,8 @@ pub(crate) fn draw_run<M: Threads + Wait + Sync + Files + Clock, R: Read, W: Wri
     requires unread { reader.old.reads ≡ 0 }
     requires workers { workers ≤ 8 }
     ensures status { IfOk result (λ status. status ≤ 1) }
-    ensures unwritten { IfErr result (λ fault. fault ≢ JobFault.Write → Keeps (W.contents output.old) (W.contents output.new)) }
+    ensures unwritten { IfOk result (λ status. 1 < status → Keeps (W.contents output.old) (W.contents output.new)) }
+    ensures unwritten_fault { IfErr result (λ fault. fault ≢ JobFault.Write → Keeps (W.contents output.old) (W.contents output.new)) }
 {
     let text = read_text(alloc, reader)?;
     let recording = recorded_job(machine, alloc, &text, workers, &NoWatch)?;
@@ -120,9 +121,7 @@ fn is_explained<F: Files, E: Write>(
     text: &[u8],
     explanation: &str,
     errors: &mut E,
-) -> Result<bool, JobFault>
-    ensures { IfErr result (λ fault. fault ≢ JobFault.Write) }
-{
+) -> Result<bool, JobFault> {
     let lines = explain_text(alloc, name_of(file), EXPLAINED, text)?.lines;
     let bytes = lines.as_str().as_bytes();
     let mut fault = Vec::new(alloc);

@@ -1,6 +1,6 @@
 //! Writes what a run did to the files that are named.
 
-ghost use Rattle.std.specs.Prelude.{◌≡◌, ◌≢◌, IfErr, IfOk};
+ghost use Rattle.std.specs.Prelude.{◌≡◌, IfOk};
 ghost use Rattle.coll_job.specs.Pages.{lines_of, outcomes_page, requests_of, stats_page, trace_page};
 
 use crate::keeping::is_kept;
@@ -35,9 +35,7 @@ pub(crate) fn keep_views<F: Files, E: Write>(
     views: &Views<'_>,
     recording: &Recording,
     errors: &mut E,
-) -> Result<bool, JobFault>
-    ensures { IfErr result (λ fault. fault ≢ JobFault.Write) }
-{
+) -> Result<bool, JobFault> {
     if !views.are_wanted() {
         return Ok(true);
     }
@@ -52,9 +50,7 @@ pub(crate) fn keep_views<F: Files, E: Write>(
 /// # Errors
 ///
 /// As of [`keep_views`].
-pub(crate) fn picture_of(alloc: Global, recording: &Recording) -> Result<Vec<u8>, JobFault>
-    ensures { IfErr result (λ fault. fault ≢ JobFault.Write) }
-{
+pub(crate) fn picture_of(alloc: Global, recording: &Recording) -> Result<Vec<u8>, JobFault> {
     match picture(alloc, recording) {
         Ok(picture) => Ok(picture),
         Err(fault) => Err(told_of(fault)),
@@ -82,9 +78,7 @@ fn are_kept<F: Files, E: Write>(
     true
 }
 
-fn told_of(fault: ViewFault) -> JobFault
-    ensures { result ≢ JobFault.Write }
-{
+fn told_of(fault: ViewFault) -> JobFault {
     match fault {
         ViewFault::NoMemory => JobFault::Memory,
         ViewFault::Torn => JobFault::Torn,
