@@ -1,5 +1,5 @@
 -- The entries of a trace as lines, and its outcomes as JSON.
-use Rattle.std.specs.Prelude.{ℕ, ◌==◌, Bool, true, false, List, [], ◌∷◌, ◌++◌, drop, flat_map, slice_index, codes, count_by, Option, Some, None, if◌then◌else◌}
+use Rattle.std.specs.Prelude.{ℕ, ◌==◌, Bool, true, false, List, [], ◌++◌, drop, flat_map, slice_index, codes, count_by, Option, Some, None, if◌then◌else◌}
 use Rattle.std.specs.List.{enumerate_from, range_with_len}
 use Rattle.std.specs.Fmt.{decimal}
 use Rattle.coll_kinds.specs.Words.{datatype_word, kind_word}

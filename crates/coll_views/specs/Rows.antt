@@ -6,7 +6,6 @@ use Rattle.coll_kinds.specs.declared.kind.Mode.TheVariants.{Once}
 use Rattle.coll_kinds.specs.declared.signature.Signature.{Signature}
 use Rattle.coll_kinds.specs.Lengths.{lent}
 use Rattle.coll_machine.specs.Entries.{Entry, Posted, Inited, Started, Retired, Freed}
-use Rattle.coll_report.specs.Traces.{caller}
 use Rattle.coll_views.specs.declared.request.Named.{Named}
 use Rattle.coll_views.specs.declared.request.Request.{Request}
 use Rattle.coll_views.specs.declared.row.Row.{Row}

@@ -1,4 +1,4 @@
-use Rattle.std.proofs.Common.{◌≡◌, ◌≤◌, arith}
+use Rattle.std.proofs.Common.{◌≡◌, arith}
 use Rattle.std.specs.Prelude.{max}
 use Rattle.coll_views.proofs.Lending.{most_lent-at}
 use Rattle.coll_views.proofs.totals.most_lent.Goals as goal

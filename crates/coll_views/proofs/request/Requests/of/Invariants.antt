@@ -1,4 +1,4 @@
-use Rattle.std.proofs.Common.{◌≡◌, ◌-◌, ◌++◌, List, Vec, map}
+use Rattle.std.proofs.Common.{◌≡◌, ◌-◌, ◌++◌, Vec, map}
 use Rattle.std.specs.Global.{Global}
 use Rattle.std.specs.List.{range_with_len}
 use Rattle.coll_report.specs.Views.{groups_seen, trace_seen}
