@@ -234,7 +234,7 @@ pub(crate) fn workers_in(matches: &ArgMatches<'_>) -> u8
 
 /// A task on the file that the words behind a subcommand name.
 pub(crate) fn task_on<'w>(way: Way<'w>, matches: &ArgMatches<'w>) -> Task<'w>
-    ensures { result.way ≡ way }
+    ensures { result.way ≡ way.entry }
 {
     Task {
         way,
