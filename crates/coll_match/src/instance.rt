@@ -7,7 +7,7 @@ ghost use Rattle.coll_kinds.specs.Puts.{put};
 ghost use Rattle.coll_match.specs.Held.{IsOver, given_in, mail_in, put_mail, seat_in};
 
 use crate::envelope::Envelope;
-use crate::mailbox::{Message, Mailbox};
+use crate::mailbox::{Mailbox, Message};
 use coll_kinds::Refused;
 use std::alloc::{AllocError, Global};
 use std::marker::Model;
@@ -141,7 +141,9 @@ impl Instance {
         ensures seats { OnOk result (seat_in self.new ≡ seat_in self.old) }
         ensures mail { OnOk result (mail_in self.new ≡ put_mail (mail_in self.old) from envelope.to envelope.round (Some message.items)) }
     {
-        self.shares[usize::from(from)].mailbox.put(envelope, message)?;
+        self.shares[usize::from(from)]
+            .mailbox
+            .put(envelope, message)?;
         Ok(self.seated(envelope.to))
     }
 

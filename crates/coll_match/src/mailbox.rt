@@ -45,14 +45,18 @@ impl Model for Mailbox {
 fn place_of(messages: &[Unreceived], envelope: Envelope) -> Option<usize>
     ensures { result ≡ position (λ unreceived. same_envelope envelope unreceived.envelope) messages.now }
 {
-    messages.iter().position(|unreceived| envelope == unreceived.envelope)
+    messages
+        .iter()
+        .position(|unreceived| envelope == unreceived.envelope)
 }
 
 /// Whether the message to a receiver for a round is among these.
 fn has(messages: &[Unreceived], envelope: Envelope) -> bool
     ensures { result ≡ list_any (λ unreceived. same_envelope envelope unreceived.envelope) messages.now }
 {
-    messages.iter().any(|unreceived| envelope == unreceived.envelope)
+    messages
+        .iter()
+        .any(|unreceived| envelope == unreceived.envelope)
 }
 
 impl Mailbox {

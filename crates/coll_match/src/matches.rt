@@ -3,8 +3,8 @@ ghost use Rattle.std.specs.Option.{option_copied, option_copied_mut};
 ghost use Rattle.coll_kinds.specs.declared.refusal.Refused.{Refused};
 ghost use Rattle.coll_match.specs.Instances.{IsLast, dissolved, given, is_of, joined, left, look_ups, mail, mailed, nothing, roomed, seated, seats, size, standing};
 
-use crate::instance::Instance;
 use crate::envelope::Envelope;
+use crate::instance::Instance;
 use crate::mailbox::Message;
 use coll_kinds::{Refusal, Refused};
 use coll_machine::Key;
