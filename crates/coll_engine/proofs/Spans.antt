@@ -1,0 +1,77 @@
+-- Bytes that are written at the front of a span of memory.
+use Rattle.std.proofs.Common.{◌≡◌, ℕ, zero, suc, ◌+◌, ◌-◌, ◌<◌, ◌≤◌, ◌⊎◌, inl, inr, Bool, true, false, List, [], ◌∷◌, ◌++◌, length, take, drop, nat_lt, Option, Some, None, refl, sym, ap, subst, ◌∙◌, arith, ltb-true, ltb-false, append_assoc}
+use Rattle.std.specs.Prelude.{if◌then◌else◌}
+use Rattle.std.proofs.lemmas.Bool.{false≢true}
+use Rattle.std.proofs.lemmas.List.{append-nil, drop_all, length-append, length-drop, length-take, take-append-drop, take_all}
+use Rattle.coll_kinds.specs.declared.refusal.Refusal.{Refusal}
+use Rattle.coll_kinds.specs.declared.ticket.Ticket.{Ticket}
+use Rattle.coll_machine.specs.Settings.{Setting}
+use Rattle.coll_machine.specs.States.{Machine}
+use Rattle.coll_engine.specs.declared.part.Part.{Part}
+use Rattle.coll_engine.specs.Lists.{written}
+use Rattle.coll_engine.specs.Parts.{span_len}
+
+-- of two numbers the lesser is no more than either
+pub span_low : (p : Part) (len : ℕ) → span_len p len ≤ len - p.at
+span_low p len = go (nat_lt p.room (len - p.at)) refl
+  where
+    go : (b : Bool) → nat_lt p.room (len - p.at) ≡ b → span_len p len ≤ len - p.at
+    go true e =
+        let h : p.room < len - p.at = ltb-true p.room (len - p.at) e in
+        subst (λ b. (if b then p.room else len - p.at) ≤ len - p.at) (sym e) (omega (arith, h))
+    go false e = subst (λ b. (if b then p.room else len - p.at) ≤ len - p.at) (sym e) (omega arith)
+
+cut : (ys : List ℕ) (k n : ℕ) → k ≤ n → drop k (take n ys) ++ drop n ys ≡ drop k ys
+cut ys zero n le = take-append-drop n ys
+cut [] (suc k) zero le = absurd (omega arith)
+cut [] (suc k) (suc n) le = refl
+cut (y ∷ ys) (suc k) zero le = absurd (omega arith)
+cut (y ∷ ys) (suc k) (suc n) le = cut ys k n (omega arith)
+
+drop-more : (xs : List ℕ) (b n : ℕ) → drop n (drop b xs) ≡ drop (b + n) xs
+drop-more xs zero n = let e : n ≡ 0 + n = omega arith in ap (λ k. drop k xs) e
+drop-more [] (suc b) zero = refl
+drop-more [] (suc b) (suc n) = refl
+drop-more (x ∷ xs) (suc b) n = let e : suc (b + n) ≡ suc b + n = omega arith in drop-more xs b n ∙ ap (λ k. drop k (x ∷ xs)) e
+
+-- bytes in place of the front of a span
+replaced : (old bytes : List ℕ) (b n : ℕ) → length bytes ≤ n
+    → take b old ++ (bytes ++ drop (length bytes) (take n (drop b old))) ++ drop (b + n) old ≡ written b bytes old
+replaced old bytes b n le =
+    ap (λ ys. take b old ++ ys)
+    (append_assoc bytes (drop (length bytes) (take n (drop b old))) (drop (b + n) old)
+    ∙ ap (λ ys. bytes ++ ys)
+    (ap (λ ys. drop (length bytes) (take n (drop b old)) ++ ys) (sym (drop-more old b n))
+    ∙ (cut (drop b old) (length bytes) n le ∙ drop-more old b (length bytes))))
+
+-- where nothing is written, the memory stays
+nothing : (old : List ℕ) (at : ℕ) → written at [] old ≡ old
+nothing old at = let e : at + 0 ≡ at = omega arith in ap (λ k. take at old ++ drop k old) e ∙ take-append-drop at old
+
+-- the same in the words of a part
+pub spliced : (p : Part) (old bytes sub : List ℕ) (b e : ℕ)
+    → b ≡ length old - (length old - p.at) → e ≡ b + span_len p (length old) → length bytes ≤ span_len p (length old)
+    → sub ≡ bytes ++ drop (length bytes) (take (e - b) (drop b old))
+    → take b old ++ sub ++ drop e old ≡ written p.at bytes old
+spliced p old bytes sub b e b_is e_is fits sub_is =
+    let n = span_len p (length old) in
+    let size : e - b ≡ n = omega (arith, e_is) in
+    let low = span_low p (length old) in
+    ap (λ ys. take b old ++ ys ++ drop e old) (sub_is ∙ ap (λ k. bytes ++ drop (length bytes) (take k (drop b old))) size)
+    ∙ (ap (λ k. take b old ++ (bytes ++ drop (length bytes) (take n (drop b old))) ++ drop k old) e_is
+    ∙ (replaced old bytes b n fits ∙ go (nat_lt (length old) p.at) refl))
+  where
+    go : (c : Bool) → nat_lt (length old) p.at ≡ c → written b bytes old ≡ written p.at bytes old
+    go false h =
+        let le : p.at ≤ length old = ltb-false (length old) p.at h in
+        let same : b ≡ p.at = omega (arith, le, b_is) in
+        ap (λ k. written k bytes old) same
+    go true h =
+        let lt : length old < p.at = ltb-true (length old) p.at h in
+        let low = span_low p (length old) in
+        let none : length bytes ≡ 0 = omega (arith, lt, low, fits) in
+        empty bytes none
+
+    empty : (xs : List ℕ) → length xs ≡ 0 → written b xs old ≡ written p.at xs old
+    empty [] e = nothing old b ∙ sym (nothing old p.at)
+    empty (x ∷ xs) e = absurd (omega (arith, e))
