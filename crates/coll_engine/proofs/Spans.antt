@@ -28,21 +28,22 @@ cut [] (suc k) (suc n) le = refl
 cut (y ∷ ys) (suc k) zero le = absurd (omega arith)
 cut (y ∷ ys) (suc k) (suc n) le = cut ys k n (omega arith)
 
+drop-nil : (k : ℕ) → drop {A = ℕ} k [] ≡ []
+drop-nil zero = refl
+drop-nil (suc k) = refl
+
 drop-more : (xs : List ℕ) (b n : ℕ) → drop n (drop b xs) ≡ drop (b + n) xs
 drop-more xs zero n = let e : n ≡ 0 + n = omega arith in ap (λ k. drop k xs) e
-drop-more [] (suc b) zero = refl
-drop-more [] (suc b) (suc n) = refl
+drop-more [] (suc b) n = drop-nil n ∙ sym (drop-nil (suc b + n))
 drop-more (x ∷ xs) (suc b) n = let e : suc (b + n) ≡ suc b + n = omega arith in drop-more xs b n ∙ ap (λ k. drop k (x ∷ xs)) e
 
 -- bytes in place of the front of a span
 replaced : (old bytes : List ℕ) (b n : ℕ) → length bytes ≤ n
-    → take b old ++ (bytes ++ drop (length bytes) (take n (drop b old))) ++ drop (b + n) old ≡ written b bytes old
+    → take b old ++ ((bytes ++ drop (length bytes) (take n (drop b old))) ++ drop n (drop b old)) ≡ written b bytes old
 replaced old bytes b n le =
     ap (λ ys. take b old ++ ys)
-    (append_assoc bytes (drop (length bytes) (take n (drop b old))) (drop (b + n) old)
-    ∙ ap (λ ys. bytes ++ ys)
-    (ap (λ ys. drop (length bytes) (take n (drop b old)) ++ ys) (sym (drop-more old b n))
-    ∙ (cut (drop b old) (length bytes) n le ∙ drop-more old b (length bytes))))
+    (append_assoc bytes (drop (length bytes) (take n (drop b old))) (drop n (drop b old))
+    ∙ ap (λ ys. bytes ++ ys) (cut (drop b old) (length bytes) n le ∙ drop-more old b (length bytes)))
 
 -- where nothing is written, the memory stays
 nothing : (old : List ℕ) (at : ℕ) → written at [] old ≡ old
@@ -52,15 +53,21 @@ nothing old at = let e : at + 0 ≡ at = omega arith in ap (λ k. take at old ++
 pub spliced : (p : Part) (old bytes sub : List ℕ) (b e : ℕ)
     → b ≡ length old - (length old - p.at) → e ≡ b + span_len p (length old) → length bytes ≤ span_len p (length old)
     → sub ≡ bytes ++ drop (length bytes) (take (e - b) (drop b old))
-    → take b old ++ sub ++ drop e old ≡ written p.at bytes old
+    → take b old ++ (sub ++ drop (e - b) (drop b old)) ≡ written p.at bytes old
 spliced p old bytes sub b e b_is e_is fits sub_is =
-    let n = span_len p (length old) in
-    let size : e - b ≡ n = omega (arith, e_is) in
-    let low = span_low p (length old) in
-    ap (λ ys. take b old ++ ys ++ drop e old) (sub_is ∙ ap (λ k. bytes ++ drop (length bytes) (take k (drop b old))) size)
-    ∙ (ap (λ k. take b old ++ (bytes ++ drop (length bytes) (take n (drop b old))) ++ drop k old) e_is
-    ∙ (replaced old bytes b n fits ∙ go (nat_lt (length old) p.at) refl))
+    let size : e - b ≡ span_len p (length old) = omega (arith, e_is) in
+    (λ z. take b old ++ (at_size z ++ drop (size z) (drop b old)))
+    ∙ (replaced old bytes b (span_len p (length old)) fits ∙ go (nat_lt (length old) p.at) refl)
   where
+    at_size : sub ≡ bytes ++ drop (length bytes) (take (span_len p (length old)) (drop b old))
+    at_size =
+        let size : e - b ≡ span_len p (length old) = omega (arith, e_is) in
+        sub_is ∙ ap (λ k. bytes ++ drop (length bytes) (take k (drop b old))) size
+
+    empty : (xs : List ℕ) → length xs ≡ 0 → written b xs old ≡ written p.at xs old
+    empty [] e = nothing old b ∙ sym (nothing old p.at)
+    empty (x ∷ xs) e = absurd (omega (arith, e))
+
     go : (c : Bool) → nat_lt (length old) p.at ≡ c → written b bytes old ≡ written p.at bytes old
     go false h =
         let le : p.at ≤ length old = ltb-false (length old) p.at h in
@@ -71,7 +78,3 @@ spliced p old bytes sub b e b_is e_is fits sub_is =
         let low = span_low p (length old) in
         let none : length bytes ≡ 0 = omega (arith, lt, low, fits) in
         empty bytes none
-
-    empty : (xs : List ℕ) → length xs ≡ 0 → written b xs old ≡ written p.at xs old
-    empty [] e = nothing old b ∙ sym (nothing old p.at)
-    empty (x ∷ xs) e = absurd (omega (arith, e))

@@ -45,7 +45,7 @@ DoFit g m parts len = (i : ℕ) (p : Part) → slice_get parts i ≡ Some p → 
 
 -- bytes stand in memory from a position on
 abbrev pub written : ℕ → List ℕ → List ℕ → List ℕ
-written at bytes memory = take at memory ++ bytes ++ drop (at + length bytes) memory
+written at bytes memory = take at memory ++ (bytes ++ drop (at + length bytes) memory)
 
 -- each outcome is written at the front of its part's span, in rising position
 abbrev pub laid : List Part → List (ℕ × Outcome) → List ℕ → List ℕ

@@ -10,6 +10,7 @@
 //! | `distinct` | `are_distinct`, what the tests of lists ask of a list |
 //! | `first` | `First`, what the test of a list for one request tells |
 //! | `stopped` | `Stopped`, where the starts of a list stopped |
+//! | `threads` | which values may go from one thread to another |
 //! | `engine` | `Engine`, with its calls by what they do |
 //!
 //! ```
@@ -29,6 +30,7 @@ mod first;
 mod part;
 mod stopped;
 mod test;
+pub mod threads;
 
 pub use coll_complete::Request;
 pub use coll_core::{About, Config, Phase};
