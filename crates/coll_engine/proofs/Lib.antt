@@ -8,3 +8,5 @@ pub mod Advancing
 pub mod Handing
 pub mod Listing
 pub mod Spans
+pub mod Completing
+pub mod Finding

@@ -1,12 +1,10 @@
 -- A list whose Done requests are completed one after the other, into one memory.
-use Rattle.std.proofs.Common.{◌≡◌, ℕ, zero, suc, ◌+◌, ◌-◌, ◌<◌, ◌≤◌, ◌⊎◌, inl, inr, Bool, true, false, List, [], ◌∷◌, ◌++◌, length, get_or, set, take, drop, map, Option, Some, None, refl, sym, ap, subst, ◌∙◌, arith, cond, append_assoc}
+use Rattle.std.proofs.Common.{◌≡◌, ℕ, suc, ◌+◌, ◌<◌, ◌≤◌, inl, inr, Bool, true, false, List, [], ◌∷◌, ◌++◌, length, get_or, set, take, map, Option, Some, None, refl, sym, ap, subst, ◌∙◌, arith, cond, append_assoc}
 use Rattle.std.specs.List.{range_with_len}
 use Rattle.std.specs.Prelude.{filter, is_some, option_map, slice_get, slice_index, slice_index_or, slice_set}
-use Rattle.std.proofs.lemmas.Bool.{cases_eq, false≢true}
 use Rattle.std.proofs.lemmas.List.{append-nil, length-append, length-map, length-take, map-append, map-set, take_all, take_more_set}
-use Rattle.std.proofs.lemmas.Option.{get_or_from_slice_get, none-some, same_Some, slice_get-map, slice_get_within}
+use Rattle.std.proofs.lemmas.Option.{get_or_from_slice_get, slice_get-get_or, slice_get-map, slice_get_within}
 use Rattle.std.proofs.Math.Seq.{map-set_same}
-use Rattle.coll_kinds.specs.declared.refusal.Refusal.{Refusal}
 use Rattle.coll_kinds.specs.declared.signature.Signature.{Signature}
 use Rattle.coll_kinds.specs.declared.ticket.Ticket.{Ticket}
 use Rattle.coll_machine.specs.Calls as calls
@@ -14,19 +12,19 @@ use Rattle.coll_machine.specs.Changes.{holding, rested}
 use Rattle.coll_machine.specs.Machines.{MachineStep, retire}
 use Rattle.coll_machine.specs.Runs.{Runs}
 use Rattle.coll_machine.specs.Settings.{Setting}
-use Rattle.coll_machine.specs.States.{Machine, Request, State, found, key_of, signature_of}
-use Rattle.coll_machine.specs.Steps.{Clears, Retires}
+use Rattle.coll_machine.specs.States.{Machine, Request, State, found, key_of}
+use Rattle.coll_machine.specs.Steps.{Clears}
 use Rattle.coll_core.specs.declared.outcome.Outcome.{Outcome}
 use Rattle.coll_core.specs.Phases.{phase_by, phase_of}
-use Rattle.coll_complete.specs.Completing.{CompletesDone, completion_if, done_positions}
-use Rattle.coll_complete.specs.Requests.{AreDistinct, done_by, hold_after, is_done, left_of, list_refusal, refusal_at}
+use Rattle.coll_complete.specs.Completing.{completion_if, done_positions}
+use Rattle.coll_complete.specs.Requests.{AreDistinct, done_by, is_done, list_refusal, refusal_at}
 use Rattle.coll_complete.proofs.Retiring.{Same}
 use Rattle.coll_complete.proofs.Sweeps.{Swept, noted, swept-fits, swept-left, swept_list, swept_list-all, swept_list-set, swept_more, swept_none}
 use Rattle.coll_engine.specs.declared.part.Part.{Part}
-use Rattle.coll_engine.specs.Lengths.{IsOutcomeLength, IsOutcomeLengthAt}
+use Rattle.coll_engine.specs.Lengths.{IsOutcomeLengthAt}
 use Rattle.coll_engine.specs.Lists.{CompletesPart, CompletesParts, DoFit, Fits, completed_from, count_if, counts_of, laid, spans_of, written, written_if}
 use Rattle.coll_engine.specs.Parts.{span_len, ticket_of, tickets_of}
-use Rattle.coll_engine.proofs.Sets.{as_many, elsewhere, here}
+use Rattle.coll_engine.proofs.Sets.{as_many, elsewhere}
 
 -- ---- what a completion leaves
 
@@ -261,3 +259,31 @@ going-count g rank m n was now old new i many end go =
     let tickets : i ≡ length (tickets_of was) = end ∙ sym (length-map was ticket_of) in
     go.many_is ∙ (sym (length-map go.outcomes (λ (out : ℕ × Outcome). out.0))
     ∙ ap length (go.swept.positions ∙ ap (λ k. filter (λ j. is_done m (slice_index_or (tickets_of was) j None)) (range_with_len 0 k)) tickets))
+
+pub one_low : (b : Bool) (n : ℕ) → n ≡ cond b 1 0 → n ≤ 1
+one_low true n e = omega (arith, e)
+one_low false n e = omega (arith, e)
+
+-- ---- in the words of a loop
+
+pub go_accepted : (g h : Setting) (rank : ℕ) (m n : Machine) (was now : List Part) (old new : List ℕ) (i many : ℕ) (d : Part)
+    → h ≡ g → Going g rank m n was now old new i many → i < length now
+    → list_refusal g m.state rank (tickets_of was) ≡ None → refusal_at h n.state rank (ticket_of (get_or now i d)) ≡ None
+go_accepted g h rank m n was now old new i many d set k lt fits =
+    going-accepted g h rank m n was now old new i many (get_or now i d) set k (slice_get-get_or now i d lt) fits
+
+pub go_fits : (g h : Setting) (rank : ℕ) (m n : Machine) (was now : List Part) (old new : List ℕ) (i many : ℕ) (d : Part)
+    (len : ℕ) → h ≡ g → len ≡ length old → Going g rank m n was now old new i many → i < length now
+    → DoFit g m was (length old) → is_done n (ticket_of (get_or now i d)) ≡ true → Fits h n.state (get_or now i d) len
+go_fits g h rank m n was now old new i many d len set long k lt fits done =
+    going-fits g h rank m n was now old new i many (get_or now i d) len set long k (slice_get-get_or now i d lt) fits done
+
+pub go_more : (g h : Setting) (rank : ℕ) (m n k : Machine) (was now : List Part) (old new next : List ℕ) (i many more one : ℕ)
+    (d : Part) (q : Part)
+    → h ≡ g → AreDistinct (tickets_of was) → list_refusal g m.state rank (tickets_of was) ≡ None
+    → Going g rank m n was now old new i many → i < length now
+    → CompletesPart h rank n k (get_or now i d) q new next → more ≡ many + one → one ≡ cond q.completed 1 0
+    → Going g rank m k was (slice_set now i q) old next (i + 1) more
+go_more g h rank m n k was now old new next i many more one d q set distinct fits go lt c more_is one_is =
+    going_more g h rank m n k was now old new next i many more (get_or now i d) q set distinct fits go
+    (slice_get-get_or now i d lt) c (more_is ∙ ap (λ k. many + k) one_is)

@@ -1,7 +1,6 @@
 -- What the calls over lists of requests do, and how they are refused.
-use Rattle.std.specs.Prelude.{◌≡◌, ◌⊎◌, ◌<◌, ◌≤◌, ◌+◌, ◌++◌, ℕ, Bool, true, false, List, [], ◌∷◌, drop, length, map, slice_get, slice_index, slice_set, take, Option, Some, None, is_some, if◌then◌else◌}
+use Rattle.std.specs.Prelude.{◌≡◌, ◌⊎◌, ◌≤◌, ◌+◌, ◌++◌, ℕ, Bool, true, false, List, [], ◌∷◌, drop, length, map, slice_get, slice_index, slice_set, take, Option, Some, None, is_some, if◌then◌else◌}
 use Rattle.coll_kinds.specs.declared.refusal.Refusal.{Refusal}
-use Rattle.coll_kinds.specs.declared.ticket.Ticket.{Ticket}
 use Rattle.coll_machine.specs.Runs.{Runs}
 use Rattle.coll_machine.specs.Settings.{Setting}
 use Rattle.coll_machine.specs.States.{Machine, State}

@@ -7,12 +7,19 @@ ghost use Rattle.coll_engine.specs.Parts.{ticket_of, tickets_of};
 use crate::part::Part;
 use coll_kinds::Ticket;
 
+/// Whether a part names what a ticket does.
+fn names(part: &Part, ticket: Ticket) -> bool
+    ensures { IsTrue result ↔ (ticket_of part.now ≡ Some ticket) }
+{
+    part.request().ticket() == Some(ticket)
+}
+
 /// Whether a ticket stands in a list.
 fn stands_in(ticket: Ticket, parts: &[Part]) -> bool
     ensures { IsTrue result ↔ ((k : ℕ) × (slice_get (tickets_of parts.now) k ≡ Some (Some ticket))) }
 {
     for part in parts {
-        if part.request().ticket() == Some(ticket) {
+        if names(part, ticket) {
             return true;
         }
     }

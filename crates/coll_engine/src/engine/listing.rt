@@ -1,6 +1,6 @@
 //! Tests of lists of requests, whose outcomes go into the caller's memory.
 
-ghost use Rattle.std.specs.Prelude.{◌≡◌, IfErr, IfNone, IfOk, IfSome, None, OnErr, OnSome, Some, is_some, length, not, position, true};
+ghost use Rattle.std.specs.Prelude.{◌≡◌, if◌then◌else◌, IfErr, IfNone, IfOk, IfSome, None, OnErr, OnSome, Some, is_some, length, not, position, true};
 ghost use Rattle.std.specs.Bool.{OnFalse, OnTrue};
 ghost use Rattle.std.specs.List.{list_any};
 ghost use Rattle.coll_core.specs.Cores.{seen, setting};
@@ -137,9 +137,7 @@ impl Engine {
         let mut many = 0;
         for part in parts.iter_mut() {
             self.complete_part(rank, part, out);
-            if part.completed {
-                many += 1;
-            }
+            many += one_if(part.completed);
         }
         many
     }
@@ -160,4 +158,11 @@ impl Engine {
             Err(_) => unreachable!(),
         }
     }
+}
+
+/// What a request adds to the number of those that were completed.
+fn one_if(completed: bool) -> usize
+    ensures { result ≡ (if completed then 1 else 0) }
+{
+    if completed { 1 } else { 0 }
 }
