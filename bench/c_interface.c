@@ -5,7 +5,10 @@
 
 #include "../include/worzsunab_threads.h"
 
-enum { MOST = 8, TURNS = 20000 };
+enum { MOST = 8, ROW = 262144 };
+#ifndef TURNS
+#define TURNS 20000
+#endif
 
 static void must(int32_t code) {
     if (code == WZ_DONE) return;
@@ -106,13 +109,35 @@ static void *rank_of(void *number) {
     return NULL;
 }
 
+/* Sums of rows of so many bytes, as many as take some time. */
+static uint32_t row_bytes;
+
+static void *rows_of(void *number) {
+    static uint8_t rows[MOST][ROW], sums[MOST][ROW];
+    uint8_t me = (uint8_t)(size_t)number;
+    wz_call sum = { WZ_ALLREDUCE, WZ_SUM, WZ_INT32, 0, row_bytes / 4 };
+    wz_request request;
+    size_t count;
+    int turns = (int)(40000000 / (row_bytes + 16384));
+    double from = now();
+    for (int turn = 0; turn < turns; turn++) {
+        must(wz_shared_post(&shared, me, 0, &sum, rows[me], row_bytes, &request));
+        must(wz_shared_wait(&shared, me, &request, sums[me], row_bytes, &count));
+    }
+    if (me == 0) printf("sum of %u bytes: %.0f\n", row_bytes, (now() - from) / turns);
+    return NULL;
+}
+
 int main(int argc, char **argv) {
     pthread_t threads[MOST];
     ranks = argc > 1 ? atoi(argv[1]) : 2;
-    if (ranks < 1 || ranks > MOST) return 1;
-    one_thread();
+    row_bytes = argc > 2 ? (uint32_t)atoi(argv[2]) : 0;
+    if (ranks < 1 || ranks > MOST || row_bytes > ROW) return 1;
+    if (row_bytes == 0) one_thread();
+    if (argc > 3) return 0;
     must(wz_shared_open_world(&shared, (uint8_t)ranks));
-    for (size_t i = 0; i < (size_t)ranks; i++) pthread_create(&threads[i], NULL, rank_of, (void *)i);
+    for (size_t i = 0; i < (size_t)ranks; i++)
+        pthread_create(&threads[i], NULL, row_bytes == 0 ? rank_of : rows_of, (void *)i);
     for (int i = 0; i < ranks; i++) pthread_join(threads[i], NULL);
     must(wz_shared_close(&shared));
     return 0;

@@ -5,11 +5,15 @@ theirs are processes.
 
     bench/c_interface.py [RUNS]    (3 where no number is said)
 
+With `rows` behind RUNS it compares sums of rows of 1 to 256 KiB under the shim instead, where combinations are computed with the lock
+free and where they aren't, by 2 and 4 ranks. With `instructions` it counts those of one thread that plays all ranks, by valgrind.
+
 Run it at the top of the repository after `make -C bindings` has built out/lib/libworzsunab.a, with nothing beside it. Each library
 is measured whose compiler is found, mpicc.openmpi or mpicc.mpich (Debian's libopenmpi-dev and libmpich-dev).
 """
 
 import os
+import re
 import shutil
 import statistics
 import subprocess
@@ -36,17 +40,56 @@ def ours(program):
     return found
 
 
+def compiled(folder, library, name, *defines):
+    """The program, with these definitions."""
+    program = os.path.join(folder, name)
+    source = os.path.join(mpi.HERE, "c_interface.c")
+    subprocess.run(["cc", "-O2", "-D_GNU_SOURCE", *defines, source, library, "-pthread", "-o", program], check=True)
+    return program
+
+
+def rows(library, runs):
+    """Medians of sums of rows, by turns."""
+    with tempfile.TemporaryDirectory() as folder:
+        programs = {"free": compiled(folder, library, "free", "-DWZ_LONG=1"),
+                    "held": compiled(folder, library, "held", "-DWZ_LONG=2147483647")}
+        for ranks in (2, 4):
+            for size in (1024, 4096, 16384, 65536, 262144):
+                times = {name: [] for name in programs}
+                for _ in range(runs):
+                    for name, program in programs.items():
+                        line = subprocess.run([program, str(ranks), str(size)], check=True, capture_output=True, text=True).stdout
+                        times[name].append(int(line.split(": ")[1]))
+                row = (f"{name} {statistics.median(column) / 1000:.1f}" for name, column in times.items())
+                print(f"{ranks} ranks, {size} bytes:", *row, flush=True)
+
+
+def instructions(library):
+    """Instructions of a post and a test of each rank, with the settling, of each measure of one thread: the difference of two runs."""
+    with tempfile.TemporaryDirectory() as folder:
+        for ranks in RANKS:
+            counts = []
+            for turns in (100, 1100):
+                program = compiled(folder, library, f"turns{turns}", f"-DTURNS={turns}")
+                words = ["valgrind", "--tool=callgrind", "--callgrind-out-file=/dev/null", program, str(ranks), "0", "one"]
+                told = subprocess.run(words, check=True, capture_output=True, text=True).stderr
+                counts.append(int(re.search(r"Collected : (\d+)", told).group(1)))
+            print(f"{ranks} ranks: {(counts[1] - counts[0]) / 1000:.0f} instructions for an allreduce, a persistent one and a barrier")
+
+
 def main():
     library = os.environ.get("WORZSUNAB_LIB", LIBRARY)
     if not os.path.exists(library):
         sys.exit(f"{library} isn't built: call `make -C bindings` first")
     runs = int(sys.argv[1]) if len(sys.argv) > 1 else 3
+    if sys.argv[2:] == ["rows"]:
+        return rows(library, runs)
+    if sys.argv[2:] == ["instructions"]:
+        return instructions(library)
     mpi.RANKS = RANKS
     mpi.SECONDS = SECONDS
     with tempfile.TemporaryDirectory() as folder:
-        program = os.path.join(folder, "ours")
-        source = os.path.join(mpi.HERE, "c_interface.c")
-        subprocess.run(["cc", "-O2", "-D_GNU_SOURCE", source, library, "-pthread", "-o", program], check=True)
+        program = compiled(folder, library, "ours")
         measured = {"ours": lambda: ours(program)}
         for name in mpi.LIBRARIES:
             if shutil.which(f"mpicc.{name}"):

@@ -91,7 +91,7 @@ typedef struct wz_reason {
     uint8_t cause;   /* WZ_BAD_SIGNATURE: WZ_RULE_ROOT and so on; WZ_BAD_CONFIG: WZ_FIELD_RANKS and so on */
     uint8_t first;   /* WZ_MISMATCH: the lowest rank that has that place */
     bool persistent; /* WZ_MISMATCH: whether that rank's collective is persistent */
-    wz_call call;    /* WZ_MISMATCH: that rank's collective, without the counts of an allgatherv */
+    wz_call call;    /* WZ_MISMATCH: that rank's collective, without the counts of an allgatherv (wz_posted_at) */
     uint32_t comm;   /* WZ_BAD_COMM: the number that names none */
     uint32_t place;  /* WZ_MISMATCH: the place in the posting lists, from 0 on */
     uint32_t want;   /* WZ_BAD_LENGTH: the bytes that are due; in wz_test, those of the outcome */
@@ -191,7 +191,9 @@ enum {
     WZ_CLOSED = 20,         /* the engine is closed */
     WZ_OPEN = 21,           /* the engine is open already */
     WZ_NO_WORK = 22,        /* there is no combination: none is left to take, or the wz_work has none */
-    WZ_HAS_WORK = 23        /* the wz_work has a combination already */
+    WZ_HAS_WORK = 23,       /* the wz_work has a combination already */
+    WZ_TWICE = 24,          /* a request stands twice in a list */
+    WZ_NO_PLACE = 25        /* no member has posted so much, or there is no such communicator */
 };
 
 /* A sentence for an answer. */
@@ -222,6 +224,8 @@ static inline const char *wz_message(int32_t code) {
     case WZ_OPEN: return "the engine is open already";
     case WZ_NO_WORK: return "there is no combination";
     case WZ_HAS_WORK: return "there is a combination already";
+    case WZ_TWICE: return "a request stands twice in the list";
+    case WZ_NO_PLACE: return "no member has posted so much on the communicator";
     default: return "no answer of this library";
     }
 }
@@ -231,10 +235,10 @@ static inline const char *wz_name(int32_t code) {
     static const char *const names[] = {
         "Done", "BadComm", "NotMember", "BadSignature", "BadLength", "Mismatch", "Stale", "NotYours", "Active", "NotPersistent",
         "PlacesUsed", "StartsUsed", "Full", "TraceFull", "Stalled", "StillActive", "Torn", "NoMemory", "BadConfig", "BadNumber",
-        "Closed", "Open", "NoWork", "HasWork"
+        "Closed", "Open", "NoWork", "HasWork", "Twice", "NoPlace"
     };
     if (code == WZ_PENDING) return "Pending";
-    return code >= 0 && code <= WZ_HAS_WORK ? names[code] : "Unknown";
+    return code >= 0 && code <= WZ_NO_PLACE ? names[code] : "Unknown";
 }
 
 /* The word of a kind, an operation or a type, as job texts have it; "?" for a number that names none. */
@@ -295,7 +299,8 @@ static inline const char *wz_mpi_class(int32_t code) {
     case WZ_STALE:
     case WZ_NOT_YOURS:
     case WZ_ACTIVE:
-    case WZ_NOT_PERSISTENT: return "MPI_ERR_REQUEST";
+    case WZ_NOT_PERSISTENT:
+    case WZ_TWICE: return "MPI_ERR_REQUEST";
     case WZ_BAD_SIGNATURE:
     case WZ_MISMATCH:
     case WZ_BAD_CONFIG:
@@ -303,7 +308,8 @@ static inline const char *wz_mpi_class(int32_t code) {
     case WZ_CLOSED:
     case WZ_OPEN:
     case WZ_NO_WORK:
-    case WZ_HAS_WORK: return "MPI_ERR_ARG";
+    case WZ_HAS_WORK:
+    case WZ_NO_PLACE: return "MPI_ERR_ARG";
     case WZ_NO_MEMORY: return "MPI_ERR_NO_MEM";
     case WZ_PLACES_USED:
     case WZ_STARTS_USED:
@@ -420,103 +426,55 @@ int32_t wz_return_work(wz_engine *engine, wz_work *work);
    WZ_NO_WORK. */
 int32_t wz_drop_work(wz_work *work);
 
-/* ---- lists of requests of one rank, in which none stands twice (MPI 4.1, 3.7.5 and 3.9). outs[i] has room for rooms[i] bytes,
-        and counts[i] is set for each request that is completed. All requests are looked at before anything changes. They are
-        made of the functions above, and compiled as part of the program. */
+/* ---- what members have posted */
+
+/* The collective at a place of a communicator's posting lists. */
+typedef struct wz_posted {
+    wz_call call;
+    bool persistent;
+    uint32_t counts[64]; /* of an allgatherv, the elements that each member gives; else 0 */
+} wz_posted;
+
+/* The collective that the members of a communicator have at a place, from 0 on: all that have the place have the same. After a
+   WZ_MISMATCH it tells the whole of what the reason tells, with an allgatherv's counts:
+   wz_posted_at(&engine, comm, engine.reason.place, &posted).
+   WZ_CLOSED, WZ_NO_PLACE (no member has posted so much, or there is no such communicator). */
+int32_t wz_posted_at(wz_engine *engine, uint32_t comm, uint32_t place, wz_posted *posted);
+
+/* ---- lists of requests of one rank (MPI 4.1, 3.7.5 and 3.9). All outcomes of a list go into one memory, in which each request has
+        a span. All requests are looked at before anything changes. No request of a test's list stands twice in it, but for
+        null ones. */
+
+/* A request of a list, with its span: room bytes from at on, as far as the memory reaches. */
+typedef struct wz_part {
+    wz_request request;
+    size_t at;
+    size_t room;
+    size_t count;   /* set by a test: the bytes of the outcome, which stand at the front of the span */
+    bool completed; /* set by a test: whether it completed the request */
+} wz_part;
 
 /* No position: no request of the list is active (MPI_UNDEFINED). */
 #define WZ_UNDEFINED SIZE_MAX
 
-/* What a list has. */
-typedef struct wz_survey_ {
-    size_t first_done;
-    bool active, pending;
-} wz_survey_;
+/* Completes the lowest request that is done (MPI_Testany): *index is its position, or WZ_UNDEFINED where none is active. The
+   other parts stay. WZ_PENDING where some are active and none is done.
+   WZ_CLOSED, WZ_STALE, WZ_NOT_YOURS, WZ_BAD_LENGTH (the outcome has more bytes than its span). */
+int32_t wz_test_any(wz_engine *engine, uint8_t rank, wz_part *parts, size_t many, void *out, size_t room, size_t *index);
 
-static inline int32_t wz_survey_list_(wz_engine *engine, uint8_t rank, const wz_request *requests, size_t many,
-                                      const size_t *rooms, bool all, wz_survey_ *survey) {
-    survey->first_done = WZ_UNDEFINED;
-    survey->active = survey->pending = false;
-    for (size_t i = 0; i < many; i++) {
-        uint8_t phase = WZ_IDLE;
-        size_t bytes = 0;
-        if (requests[i].generation == 0) continue;
-        int32_t code = wz_phase(engine, rank, &requests[i], &phase);
-        if (code != WZ_DONE) return code;
-        survey->active = survey->active || phase != WZ_IDLE;
-        survey->pending = survey->pending || phase == WZ_IS_PENDING;
-        if (phase != WZ_IS_DONE || (!all && survey->first_done != WZ_UNDEFINED)) continue;
-        code = wz_outcome_length(engine, rank, &requests[i], &bytes);
-        if (code != WZ_DONE) return code;
-        if (bytes > rooms[i]) return WZ_BAD_LENGTH;
-        if (survey->first_done == WZ_UNDEFINED) survey->first_done = i;
-    }
-    return WZ_DONE;
-}
+/* Completes each request that is done, in rising position (MPI_Testsome): *completed tells how many, and each part whether it
+   was it. *completed is WZ_UNDEFINED where none is active, and the parts stay.
+   WZ_TWICE, WZ_CLOSED, WZ_STALE, WZ_NOT_YOURS, WZ_BAD_LENGTH. */
+int32_t wz_test_some(wz_engine *engine, uint8_t rank, wz_part *parts, size_t many, void *out, size_t room, size_t *completed);
 
-/* Completes the lowest request that is done (MPI_Testany): *index is its position, or WZ_UNDEFINED where none is active.
-   WZ_PENDING where some are active and none is done.
-   WZ_CLOSED, WZ_STALE, WZ_NOT_YOURS, WZ_BAD_LENGTH. */
-static inline int32_t wz_test_any(wz_engine *engine, uint8_t rank, wz_request *requests, size_t many, void *const *outs,
-                                  const size_t *rooms, size_t *counts, size_t *index) {
-    wz_survey_ survey;
-    int32_t code = wz_survey_list_(engine, rank, requests, many, rooms, false, &survey);
-    if (code != WZ_DONE) return code;
-    size_t at = survey.first_done;
-    if (at == WZ_UNDEFINED && survey.active) return WZ_PENDING;
-    *index = at;
-    return at == WZ_UNDEFINED ? WZ_DONE : wz_test(engine, rank, &requests[at], outs[at], rooms[at], &counts[at]);
-}
+/* Completes all requests if none is pending (MPI_Testall), else WZ_PENDING. A part that wasn't active isn't completed.
+   WZ_TWICE, WZ_CLOSED, WZ_STALE, WZ_NOT_YOURS, WZ_BAD_LENGTH. */
+int32_t wz_test_all(wz_engine *engine, uint8_t rank, wz_part *parts, size_t many, void *out, size_t room);
 
-/* Completes each request that is done, in rising position (MPI_Testsome): *completed tells how many, and done[i] whether that
-   was request i; *completed is WZ_UNDEFINED where none is active.
-   WZ_CLOSED, WZ_STALE, WZ_NOT_YOURS, WZ_BAD_LENGTH. */
-static inline int32_t wz_test_some(wz_engine *engine, uint8_t rank, wz_request *requests, size_t many, void *const *outs,
-                                   const size_t *rooms, size_t *counts, bool *done, size_t *completed) {
-    wz_survey_ survey;
-    int32_t code = wz_survey_list_(engine, rank, requests, many, rooms, true, &survey);
-    if (code != WZ_DONE) return code;
-    size_t found = 0;
-    for (size_t i = 0; i < many; i++) {
-        uint8_t phase = WZ_IDLE;
-        done[i] = false;
-        if (requests[i].generation == 0) continue;
-        code = wz_phase(engine, rank, &requests[i], &phase);
-        if (code == WZ_DONE && phase == WZ_IS_DONE) {
-            code = wz_test(engine, rank, &requests[i], outs[i], rooms[i], &counts[i]);
-            done[i] = code == WZ_DONE;
-            found++;
-        }
-        if (code != WZ_DONE) return code;
-    }
-    *completed = survey.active ? found : WZ_UNDEFINED;
-    return WZ_DONE;
-}
-
-/* Completes all requests if none is pending (MPI_Testall), else WZ_PENDING; counts[i] is 0 for one that wasn't active.
-   WZ_CLOSED, WZ_STALE, WZ_NOT_YOURS, WZ_BAD_LENGTH. */
-static inline int32_t wz_test_all(wz_engine *engine, uint8_t rank, wz_request *requests, size_t many, void *const *outs,
-                                  const size_t *rooms, size_t *counts) {
-    wz_survey_ survey;
-    int32_t code = wz_survey_list_(engine, rank, requests, many, rooms, true, &survey);
-    if (code != WZ_DONE) return code;
-    if (survey.pending) return WZ_PENDING;
-    for (size_t i = 0; i < many && code == WZ_DONE; i++)
-        code = wz_test(engine, rank, &requests[i], outs[i], rooms[i], &counts[i]);
-    return code;
-}
-
-/* Starts requests in rising position (MPI_Startall), with lengths[i] bytes at given[i]. *started tells how many were: those before
-   the first whose start is refused, with that refusal, as wz_start answers it. */
-static inline int32_t wz_start_all(wz_engine *engine, uint8_t rank, const wz_request *requests, size_t many,
-                                   const void *const *given, const size_t *lengths, size_t *started) {
-    for (*started = 0; *started < many; ++*started) {
-        size_t i = *started;
-        int32_t code = wz_start(engine, rank, &requests[i], given[i], lengths[i]);
-        if (code != WZ_DONE) return code;
-    }
-    return WZ_DONE;
-}
+/* Starts requests in rising position (MPI_Startall), each with the bytes of its span of given, which are copied. *started tells how
+   many were: those before the first whose start is refused, with that refusal, as wz_start answers it. */
+int32_t wz_start_all(wz_engine *engine, uint8_t rank, const wz_part *parts, size_t many, const void *given, size_t length,
+                     size_t *started);
 
 #ifdef __cplusplus
 }

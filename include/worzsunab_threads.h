@@ -22,9 +22,13 @@ extern "C" {
 enum {
     WZ_MOST_RANKS = 64,
     WZ_LOOKS = 2000, /* how often a wait looks at its flag before it offers its processor */
-    WZ_OFFERS = 20,  /* and how often it offers it before it sleeps */
-    WZ_LONG = 4096   /* once a rank gives so many bytes, combinations are computed with the lock free */
+    WZ_OFFERS = 20   /* and how often it offers it before it sleeps */
 };
+
+/* Once a rank gives so many bytes, combinations are computed with the lock free. */
+#ifndef WZ_LONG
+#define WZ_LONG 4096
+#endif
 
 /* What others know of a rank's thread. */
 typedef struct wz_waiter {

@@ -253,6 +253,87 @@ static void gather_size_limit(void) {
     }
 }
 
+/* A null, an Idle and a Pending request: none is completed, but one is active. */
+static void some_over_inactive(void) {
+    wz_engine engine = opened(2, 8, 9);
+    wz_part parts[3] = { { WZ_NULL_REQUEST, 0, 4, 0, false }, { WZ_NULL_REQUEST, 4, 4, 0, false }, { WZ_NULL_REQUEST, 8, 4, 0, false } };
+    int32_t one = 1, out[3];
+    size_t completed = 9;
+    DONE(wz_init(&engine, 0, 0, &sum, &parts[1].request));
+    DONE(wz_post(&engine, 0, 0, &sum, &one, 4, &parts[2].request));
+    DONE(wz_settle(&engine));
+    DONE(wz_test_some(&engine, 0, parts, 3, out, sizeof out, &completed));
+    HOLDS(completed == 0);
+    DONE(wz_test_some(&engine, 0, parts, 2, out, sizeof out, &completed));
+    HOLDS(completed == WZ_UNDEFINED);
+    DONE(wz_close(&engine));
+}
+
+/* Rank 0 posts a bcast, then rank 1 an allreduce: it is told what rank 0 has, and its own place stays 0. */
+static void mismatch_names_the_first(void) {
+    wz_engine engine = opened(2, 8, 9);
+    wz_request first, second;
+    wz_about_request about;
+    wz_posted posted;
+    int32_t seven = 7;
+    DONE(wz_post(&engine, 0, 0, &bcast, &seven, 4, &first));
+    HOLDS(wz_post(&engine, 1, 0, &sum, &seven, 4, &second) == WZ_MISMATCH);
+    HOLDS(engine.reason.place == 0 && engine.reason.first == 0 && memcmp(&engine.reason.call, &bcast, sizeof bcast) == 0);
+    DONE(wz_posted_at(&engine, 0, 0, &posted));
+    HOLDS(memcmp(&posted.call, &bcast, sizeof bcast) == 0 && !posted.persistent && posted.counts[0] == 0);
+    DONE(wz_post(&engine, 1, 0, &bcast, NULL, 0, &second));
+    DONE(wz_about(&engine, &second, &about));
+    HOLDS(about.rank == 1 && about.place == 0);
+    DONE(wz_close(&engine));
+}
+
+/* Start and free of an active request are refused; once it is completed and freed, it is none. */
+static void persistent_life(void) {
+    wz_engine engine = opened(1, 8, 9);
+    wz_request request, gone;
+    int32_t three = 3, got = 0;
+    size_t count = 9;
+    DONE(wz_init(&engine, 0, 0, &sum, &request));
+    DONE(wz_start(&engine, 0, &request, &three, 4));
+    HOLDS(wz_start(&engine, 0, &request, &three, 4) == WZ_ACTIVE && wz_free(&engine, 0, &request) == WZ_ACTIVE);
+    DONE(wz_settle(&engine));
+    DONE(wz_test(&engine, 0, &request, &got, 4, &count));
+    HOLDS(got == 3 && count == 4);
+    DONE(wz_test(&engine, 0, &request, &got, 4, &count));
+    HOLDS(count == 0);
+    gone = request;
+    DONE(wz_free(&engine, 0, &request));
+    HOLDS(wz_start(&engine, 0, &gone, &three, 4) == WZ_STALE);
+    DONE(wz_close(&engine));
+}
+
+/* Another rank's request is refused, with nothing changed; a list has one place. */
+static void another_ranks_ticket(void) {
+    wz_engine engine = WZ_CLOSED_ENGINE;
+    wz_limits limits = wz_greatest_limits(2);
+    wz_request request, second;
+    uint8_t two = 2, members[2] = { 0, 1 }, phase = 9;
+    int32_t one = 1, got = 0;
+    size_t count = 9;
+    limits.places = 1;
+    DONE(wz_open(&engine, &limits, &two, 1, members, 2));
+    DONE(wz_post(&engine, 0, 0, &sum, &one, 4, &request));
+    HOLDS(wz_test(&engine, 1, &request, &got, 4, &count) == WZ_NOT_YOURS && count == 9);
+    DONE(wz_phase(&engine, 0, &request, &phase));
+    HOLDS(phase == WZ_IS_PENDING);
+    HOLDS(wz_post(&engine, 0, 0, &sum, &one, 4, &second) == WZ_PLACES_USED);
+    DONE(wz_close(&engine));
+}
+
+/* Sums of raw bytes aren't defined. */
+static void byte_has_no_sum(void) {
+    wz_engine engine = opened(1, 8, 9);
+    wz_call bytes = { WZ_ALLREDUCE, WZ_SUM, WZ_BYTE, 0, 1 };
+    wz_request request;
+    HOLDS(wz_post(&engine, 0, 0, &bytes, "x", 1, &request) == WZ_BAD_SIGNATURE && engine.reason.cause == WZ_RULE_OPERATION);
+    DONE(wz_close(&engine));
+}
+
 int main(void) {
     values();
     rows_that_differ();
@@ -263,6 +344,11 @@ int main(void) {
     starts_out_of_order();
     worn_slot();
     gather_size_limit();
+    some_over_inactive();
+    mismatch_names_the_first();
+    persistent_life();
+    another_ranks_ticket();
+    byte_has_no_sum();
     puts("cases: all as it should be");
     return 0;
 }

@@ -218,6 +218,7 @@ static void counted(void) {
     int32_t two[] = { 5, 6 }, one = 7, out[4] = { -1, -1, -1, -1 };
     wz_request mine = { 9, 9 }, yours;
     wz_call call = { WZ_ALLGATHERV, WZ_NO_OPERATION, WZ_INT32, 0, 0 };
+    wz_posted posted;
     size_t count = 0;
     WANT(WZ_BAD_NUMBER, wz_post(&engine, 0, 0, &call, two, 8, &mine)); /* a wz_call has no counts */
     WANT(WZ_BAD_NUMBER, wz_post_allgatherv(&engine, 0, 0, 10, counts, 2, two, 8, &mine));
@@ -235,6 +236,12 @@ static void counted(void) {
     WANT(WZ_DONE, wz_post_allgatherv(&engine, 0, 0, WZ_INT32, counts, 64, two, 8, &mine)); /* zeros behind may be left out */
     WANT(WZ_MISMATCH, wz_post_allgatherv(&engine, 1, 0, WZ_INT32, others, 2, two, 8, &yours));
     HOLDS(engine.reason.call.kind == WZ_ALLGATHERV && engine.reason.call.op == WZ_NO_OPERATION);
+    WANT(WZ_DONE, wz_posted_at(&engine, 0, engine.reason.place, &posted)); /* the counts that the reason leaves out */
+    HOLDS(memcmp(&posted.call, &engine.reason.call, sizeof posted.call) == 0 && !posted.persistent);
+    HOLDS(posted.counts[0] == 2 && posted.counts[1] == 1 && posted.counts[2] == 0 && posted.counts[63] == 0);
+    WANT(WZ_NO_PLACE, wz_posted_at(&engine, 0, 1, &posted));
+    WANT(WZ_NO_PLACE, wz_posted_at(&engine, 2, 0, &posted));
+    HOLDS(posted.counts[0] == 2 && engine.reason.code == WZ_MISMATCH);
     WANT(WZ_DONE, wz_post_allgatherv(&engine, 1, 0, WZ_INT32, counts, 2, &one, 4, &yours));
     WANT(WZ_DONE, wz_settle(&engine));
     WANT(WZ_DONE, wz_test(&engine, 1, &yours, out, sizeof out, &count));
@@ -436,53 +443,65 @@ static void budgets(void) {
 
 static void lists(void) {
     wz_engine engine = opened(8, 16, 4);
-    enum { MANY = 3 };
-    wz_request mine[MANY + 1] = { WZ_NULL_REQUEST }, yours[MANY];
-    int32_t out[MANY + 1] = { 0 }, given[MANY] = { 1, 2, 3 };
-    void *outs[MANY + 1];
-    const void *gives[MANY];
-    size_t rooms[MANY + 1], counts[MANY + 1], lengths[MANY], index = 7, some = 7, started = 7;
-    bool done[MANY + 1];
-    for (int i = 0; i <= MANY; i++) {
-        outs[i] = &out[i];
-        rooms[i] = sizeof out[i];
-        counts[i] = 9;
-    }
-    WANT(WZ_DONE, wz_test_any(&engine, 0, mine, MANY + 1, outs, rooms, counts, &index)); /* only null requests */
-    WANT(WZ_DONE, wz_test_some(&engine, 0, mine, MANY + 1, outs, rooms, counts, done, &some));
-    HOLDS(index == WZ_UNDEFINED && some == WZ_UNDEFINED);
-    WANT(WZ_DONE, wz_test_all(&engine, 0, mine, MANY + 1, outs, rooms, counts));
+    enum { MANY = 3, LIST = MANY + 1 };
+    wz_part mine[LIST];
+    wz_request yours[MANY], first;
+    int32_t out[LIST] = { 0 }, given[MANY] = { 1, 2, 3 };
+    size_t index = 7, some = 7, started = 7;
+    for (size_t i = 0; i < LIST; i++) mine[i] = (wz_part){ WZ_NULL_REQUEST, 4 * i, 4, 9, true };
+    WANT(WZ_DONE, wz_test_any(&engine, 0, mine, LIST, out, sizeof out, &index)); /* only null requests */
+    WANT(WZ_DONE, wz_test_some(&engine, 0, mine, LIST, out, sizeof out, &some));
+    HOLDS(index == WZ_UNDEFINED && some == WZ_UNDEFINED && mine[0].completed);
+    WANT(WZ_DONE, wz_test_all(&engine, 0, mine, LIST, out, sizeof out));
+    HOLDS(!mine[0].completed && mine[0].count == 0);
+    WANT(WZ_DONE, wz_test_all(&engine, 0, NULL, 0, NULL, 0));
     for (int i = 0; i < MANY; i++) {
-        gives[i] = &given[i];
-        lengths[i] = 4;
-        WANT(WZ_DONE, wz_init(&engine, 0, 0, &sum, &mine[i]));
+        WANT(WZ_DONE, wz_init(&engine, 0, 0, &sum, &mine[i].request));
         WANT(WZ_DONE, wz_init(&engine, 1, 0, &sum, &yours[i]));
     }
-    lengths[2] = 3;
-    WANT(WZ_BAD_LENGTH, wz_start_all(&engine, 0, mine, MANY, gives, lengths, &started));
-    HOLDS(started == 2);
-    WANT(WZ_DONE, wz_start(&engine, 0, &mine[2], &given[2], 4));
-    WANT(WZ_PENDING, wz_test_any(&engine, 0, mine, MANY + 1, outs, rooms, counts, &index));
-    WANT(WZ_DONE, wz_test_some(&engine, 0, mine, MANY + 1, outs, rooms, counts, done, &some));
-    HOLDS(some == 0);
+    mine[2].room = 3;
+    WANT(WZ_BAD_LENGTH, wz_start_all(&engine, 0, mine, MANY, given, sizeof given, &started));
+    HOLDS(started == 2 && engine.reason.want == 4 && engine.reason.got == 3);
+    mine[2].room = 4;
+    WANT(WZ_BAD_LENGTH, wz_start_all(&engine, 0, mine + 2, 1, given, 10, &started)); /* two of its bytes lie beyond */
+    HOLDS(started == 0 && engine.reason.got == 2);
+    WANT(WZ_ACTIVE, wz_start_all(&engine, 0, mine, MANY, given, sizeof given, &started));
+    HOLDS(started == 0);
+    WANT(WZ_DONE, wz_start_all(&engine, 0, mine + 2, 1, given, sizeof given, &started));
+    HOLDS(started == 1);
+    WANT(WZ_PENDING, wz_test_any(&engine, 0, mine, LIST, out, sizeof out, &index));
+    WANT(WZ_DONE, wz_test_some(&engine, 0, mine, LIST, out, sizeof out, &some));
+    HOLDS(some == 0 && index == WZ_UNDEFINED);
     WANT(WZ_DONE, wz_start(&engine, 1, &yours[1], &given[0], 4));
     WANT(WZ_DONE, wz_start(&engine, 1, &yours[2], &given[0], 4));
     WANT(WZ_DONE, wz_settle(&engine));
-    WANT(WZ_PENDING, wz_test_all(&engine, 0, mine, MANY + 1, outs, rooms, counts));
-    WANT(WZ_NOT_YOURS, wz_test_all(&engine, 1, mine, MANY + 1, outs, rooms, counts));
-    rooms[2] = 3;
-    WANT(WZ_BAD_LENGTH, wz_test_some(&engine, 0, mine, MANY + 1, outs, rooms, counts, done, &some)); /* none is completed */
-    HOLDS(out[1] == 0);
-    WANT(WZ_DONE, wz_test_any(&engine, 0, mine, MANY + 1, outs, rooms, counts, &index));
-    HOLDS(index == 1 && out[1] == 3 && counts[1] == 4);
-    rooms[2] = 4;
-    WANT(WZ_DONE, wz_test_some(&engine, 0, mine, MANY + 1, outs, rooms, counts, done, &some));
-    HOLDS(some == 1 && done[2] && !done[0] && !done[1] && out[2] == 4 && out[0] == 0);
+    WANT(WZ_PENDING, wz_test_all(&engine, 0, mine, LIST, out, sizeof out));
+    WANT(WZ_NOT_YOURS, wz_test_all(&engine, 1, mine, LIST, out, sizeof out));
+    WANT(WZ_NOT_YOURS, wz_test_any(&engine, 1, mine, LIST, out, sizeof out, &index));
+    first = mine[3].request;
+    mine[3].request = mine[1].request;
+    WANT(WZ_TWICE, wz_test_all(&engine, 0, mine, LIST, out, sizeof out));
+    WANT(WZ_TWICE, wz_test_some(&engine, 0, mine, LIST, out, sizeof out, &some));
+    mine[3].request = first;
+    mine[2].room = 3;
+    WANT(WZ_BAD_LENGTH, wz_test_some(&engine, 0, mine, LIST, out, sizeof out, &some)); /* none is completed */
+    HOLDS(out[1] == 0 && engine.reason.want == 4 && engine.reason.got == 3);
+    WANT(WZ_BAD_LENGTH, wz_test_any(&engine, 0, mine, LIST, out, 7, &index));
+    HOLDS(engine.reason.got == 3);
+    WANT(WZ_DONE, wz_test_any(&engine, 0, mine, LIST, out, sizeof out, &index));
+    HOLDS(index == 1 && out[1] == 3 && mine[1].count == 4 && mine[1].completed);
+    mine[2].room = 4;
+    WANT(WZ_DONE, wz_test_some(&engine, 0, mine, LIST, out, sizeof out, &some));
+    HOLDS(some == 1 && mine[2].completed && !mine[0].completed && !mine[1].completed && out[2] == 4 && out[0] == 0);
     WANT(WZ_DONE, wz_start(&engine, 1, &yours[0], &given[0], 4));
     WANT(WZ_DONE, wz_settle(&engine));
-    WANT(WZ_DONE, wz_test_all(&engine, 0, mine, MANY + 1, outs, rooms, counts));
-    HOLDS(out[0] == 2 && counts[0] == 4 && counts[1] == 0 && mine[0].generation != 0);
+    WANT(WZ_DONE, wz_test_all(&engine, 0, mine, LIST, out, sizeof out));
+    HOLDS(out[0] == 2 && mine[0].count == 4 && mine[1].count == 0 && mine[0].request.generation != 0);
     WANT(WZ_DONE, wz_close(&engine));
+    WANT(WZ_CLOSED, wz_test_any(&engine, 0, mine, LIST, out, sizeof out, &index));
+    WANT(WZ_CLOSED, wz_test_some(&engine, 0, mine, LIST, out, sizeof out, &some));
+    WANT(WZ_CLOSED, wz_test_all(&engine, 0, mine, LIST, out, sizeof out));
+    WANT(WZ_CLOSED, wz_start_all(&engine, 0, mine, LIST, out, sizeof out, &started));
 }
 
 int main(int argc, char **argv) {
@@ -490,9 +509,9 @@ int main(int argc, char **argv) {
         for (int32_t code = 1; code <= WZ_BAD_CONFIG; code++) printf("%d %s\n", (int)code, wz_name(code));
         return 0;
     }
-    for (int32_t code = -1; code <= WZ_HAS_WORK; code++)
+    for (int32_t code = -1; code <= WZ_NO_PLACE; code++)
         HOLDS(strlen(wz_message(code)) > 3 && strcmp(wz_name(code), "Unknown") != 0 && strncmp(wz_mpi_class(code), "MPI_", 4) == 0);
-    HOLDS(strcmp(wz_name(WZ_HAS_WORK + 1), "Unknown") == 0);
+    HOLDS(strcmp(wz_name(WZ_NO_PLACE + 1), "Unknown") == 0);
     closed();
     configurations();
     posts();

@@ -1,6 +1,7 @@
 use std::sync::{Condvar, Mutex, MutexGuard};
 
 use crate::call::{Call, Type};
+use crate::list::List;
 use crate::raw::{self, RawEngine, RawLimits, RawReason, RawRequest};
 use crate::refusal::Refusal;
 
@@ -51,6 +52,14 @@ impl Request {
     /// Whether it names nothing any longer.
     pub fn is_null(&self) -> bool {
         self.raw.generation == 0
+    }
+
+    pub(crate) fn of(rank: u8, raw: RawRequest) -> Request {
+        Request { rank, raw }
+    }
+
+    pub(crate) fn raw(&self) -> RawRequest {
+        self.raw
     }
 }
 
@@ -264,6 +273,80 @@ impl Engine {
         }
     }
 
+    /// Completes the lowest request of a list that is done (`MPI_Testany`): its outcome stands at the front of its span of `out`. Ok
+    /// with its position, or with none where no request is active.
+    ///
+    /// # Errors
+    ///
+    /// Pending where some are active and none is done. Stale, BadLength where the outcome has more bytes than its span, and
+    /// NoMemory; the requests can still be completed.
+    pub fn test_any(&self, list: &mut List, out: &mut [u8]) -> Result<Option<usize>, ListRefusal> {
+        let mut held = self.lock();
+        self.progress(&mut held)?;
+        let mut index = 0;
+        let (rank, parts) = (list.rank(), list.parts());
+        // SAFETY: the engine is open and this thread has the lock; list and memory are as long as is said.
+        list_answer(unsafe {
+            let (parts, many) = (parts.as_mut_ptr(), parts.len());
+            raw::wz_test_any(&mut held.raw, rank, parts, many, out.as_mut_ptr(), out.len(), &mut index)
+        })?;
+        Ok(Some(index).filter(|index| *index != UNDEFINED))
+    }
+
+    /// Completes all requests of a list that are done (`MPI_Testsome`), as `test_any` does one. Ok with their number, or with none
+    /// where no request is active.
+    ///
+    /// # Errors
+    ///
+    /// Stale, BadLength where an outcome has more bytes than its span, and NoMemory; the requests can still be completed.
+    pub fn test_some(&self, list: &mut List, out: &mut [u8]) -> Result<Option<usize>, ListRefusal> {
+        let mut held = self.lock();
+        self.progress(&mut held)?;
+        let mut completed = 0;
+        let (rank, parts) = (list.rank(), list.parts());
+        // SAFETY: the engine is open and this thread has the lock; list and memory are as long as is said.
+        list_answer(unsafe {
+            let (parts, many) = (parts.as_mut_ptr(), parts.len());
+            raw::wz_test_some(&mut held.raw, rank, parts, many, out.as_mut_ptr(), out.len(), &mut completed)
+        })?;
+        Ok(Some(completed).filter(|completed| *completed != UNDEFINED))
+    }
+
+    /// Completes all requests of a list if none is pending (`MPI_Testall`), as `test_some` does.
+    ///
+    /// # Errors
+    ///
+    /// Pending where one is. Those of `test_some`.
+    pub fn test_all(&self, list: &mut List, out: &mut [u8]) -> Result<(), ListRefusal> {
+        let mut held = self.lock();
+        self.progress(&mut held)?;
+        let (rank, parts) = (list.rank(), list.parts());
+        // SAFETY: the engine is open and this thread has the lock; list and memory are as long as is said.
+        list_answer(unsafe {
+            let (parts, many) = (parts.as_mut_ptr(), parts.len());
+            raw::wz_test_all(&mut held.raw, rank, parts, many, out.as_mut_ptr(), out.len())
+        })
+    }
+
+    /// Starts the requests of a list one after the other (`MPI_Startall`), each with the bytes of its span of `given`.
+    ///
+    /// # Errors
+    ///
+    /// The position of the first whose start is refused, with that refusal; those before it are started.
+    pub fn start_all(&self, list: &mut List, given: &[u8]) -> Result<(), (usize, Refusal)> {
+        let mut held = self.lock();
+        let mut started = 0;
+        let (rank, parts) = (list.rank(), list.parts());
+        // SAFETY: the engine is open and this thread has the lock; list and memory are as long as is said.
+        let answer = answer(unsafe {
+            let (parts, many) = (parts.as_ptr(), parts.len());
+            raw::wz_start_all(&mut held.raw, rank, parts, many, given.as_ptr(), given.len(), &mut started)
+        });
+        held.stalled = false;
+        self.progress(&mut held).ok();
+        answer.map_err(|why| (started, why))
+    }
+
     /// Says that a rank makes no further call, so that a wait which nobody can end is told.
     pub fn leave(&self, rank: u8) {
         let mut held = self.lock();
@@ -343,6 +426,36 @@ fn few(counts: &[u32]) -> Result<usize, Refusal> {
     Ok(counts.len())
 }
 
+/// What a function over a list answers that has none of its requests active.
+const UNDEFINED: usize = usize::MAX;
+
+const PENDING: i32 = -1;
+const TWICE: i32 = 24;
+
+/// Why the test of a list completed nothing.
+#[derive(Clone, Copy, Debug, PartialEq, Eq)]
+pub enum ListRefusal {
+    /// It is to be called again: nothing is done yet that it asks for.
+    Pending,
+    /// It was refused.
+    Refused(Refusal),
+}
+
+impl From<Refusal> for ListRefusal {
+    fn from(why: Refusal) -> ListRefusal {
+        ListRefusal::Refused(why)
+    }
+}
+
+fn list_answer(code: i32) -> Result<(), ListRefusal> {
+    match code {
+        PENDING => Err(ListRefusal::Pending),
+        // Requests of two engines may have one name.
+        TWICE => Err(Refusal::Stale.into()),
+        code => Ok(answer(code)?),
+    }
+}
+
 fn answer(code: i32) -> Result<(), Refusal> {
     match code {
         0 => Ok(()),
@@ -351,7 +464,6 @@ fn answer(code: i32) -> Result<(), Refusal> {
 }
 
 fn test_once(held: &mut Held, request: &mut Request, out: &mut [u8]) -> Result<Option<usize>, Refusal> {
-    const PENDING: i32 = -1;
     let mut count = 0;
     // SAFETY: the engine is open and this thread has the lock; the memory is as long as is said.
     let code = unsafe {

@@ -24,9 +24,11 @@
 
 mod call;
 mod engine;
+mod list;
 mod raw;
 mod refusal;
 
 pub use call::{Call, Kind, Op, Type};
-pub use engine::{Engine, Limits, Phase, Request};
+pub use engine::{Engine, Limits, ListRefusal, Phase, Request};
+pub use list::List;
 pub use refusal::Refusal;

@@ -42,6 +42,16 @@ pub struct RawEngine {
 }
 
 #[repr(C)]
+#[derive(Clone, Copy, Debug)]
+pub struct RawPart {
+    pub request: RawRequest,
+    pub at: usize,
+    pub room: usize,
+    pub count: usize,
+    pub completed: bool,
+}
+
+#[repr(C)]
 pub struct RawLimits {
     pub ranks: u32,
     pub slots: u32,
@@ -117,6 +127,41 @@ extern "C" {
         rank: u8,
         request: &RawRequest,
         phase: &mut u8,
+    ) -> i32;
+    pub fn wz_test_any(
+        engine: &mut RawEngine,
+        rank: u8,
+        parts: *mut RawPart,
+        many: usize,
+        out: *mut u8,
+        room: usize,
+        index: &mut usize,
+    ) -> i32;
+    pub fn wz_test_some(
+        engine: &mut RawEngine,
+        rank: u8,
+        parts: *mut RawPart,
+        many: usize,
+        out: *mut u8,
+        room: usize,
+        completed: &mut usize,
+    ) -> i32;
+    pub fn wz_test_all(
+        engine: &mut RawEngine,
+        rank: u8,
+        parts: *mut RawPart,
+        many: usize,
+        out: *mut u8,
+        room: usize,
+    ) -> i32;
+    pub fn wz_start_all(
+        engine: &mut RawEngine,
+        rank: u8,
+        parts: *const RawPart,
+        many: usize,
+        given: *const u8,
+        length: usize,
+        started: &mut usize,
     ) -> i32;
     pub fn wz_settle(engine: &mut RawEngine) -> i32;
     pub fn wz_lent(engine: &mut RawEngine, bytes: &mut u64) -> i32;

@@ -1,7 +1,7 @@
 //! Ranks as threads, and each refusal.
 
 use std::thread;
-use worzsunab::{Call, Engine, Limits, Op, Phase, Refusal, Type};
+use worzsunab::{Call, Engine, Limits, List, ListRefusal, Op, Phase, Refusal, Type};
 
 fn by_ranks(engine: &Engine, ranks: u8, body: impl Fn(&Engine, u8) + Sync) {
     thread::scope(|threads| {
@@ -170,4 +170,36 @@ fn members_of_an_allgatherv_give_as_many_as_is_counted() {
     assert_eq!(engine.post_allgatherv(0, 0, Type::U8, &counts, &[1]).err(), Some(Refusal::BadSignature));
     assert_eq!(engine.post_allgatherv(0, 0, Type::U8, &counts[..4], &[1]).err(), Some(Refusal::BadSignature));
     assert_eq!(engine.post_allgatherv(0, 0, Type::U8, &counts[..3], &[1, 2]).err(), Some(Refusal::BadLength));
+}
+
+#[test]
+fn lists_of_requests() {
+    let engine = Engine::of_ranks(2).unwrap();
+    let (mut mine, mut yours) = (List::new(0), List::new(1));
+    for i in 0..2 {
+        mine.push(engine.init(0, 0, SUM()).unwrap(), 4 * i, 4).unwrap();
+        yours.push(engine.init(1, 0, SUM()).unwrap(), 4 * i, 4).unwrap();
+    }
+    let mut out = [0; 8];
+    assert_eq!(engine.test_any(&mut mine, &mut out), Ok(None));
+    assert_eq!(engine.start_all(&mut mine, &[1; 6]), Err((1, Refusal::BadLength)));
+    assert_eq!(engine.test_any(&mut mine, &mut out), Err(ListRefusal::Pending));
+    assert_eq!(engine.test_some(&mut mine, &mut out), Ok(Some(0)));
+    engine.start_all(&mut yours, &[0, 0, 0, 1, 0, 0, 0, 2]).unwrap();
+    assert_eq!(engine.test_all(&mut yours, &mut out), Err(ListRefusal::Pending));
+    assert_eq!(engine.test_any(&mut yours, &mut out), Ok(Some(0)));
+    assert_eq!((out, yours.completed(0), yours.completed(1)), ([1, 1, 1, 2, 0, 0, 0, 0], Some(4), None));
+    let first = mine.take(0).unwrap();
+    assert_eq!(engine.test_all(&mut mine, &mut out), Ok(()));
+    let second = mine.take(1).unwrap();
+    assert!(mine.take(0).unwrap().is_null() && mine.take(2).is_none());
+    engine.start(&second, &[5; 4]).unwrap();
+    mine = List::new(0);
+    mine.push(second, 4, 4).unwrap();
+    mine.push(first, 0, 3).unwrap();
+    assert_eq!(engine.test_all(&mut mine, &mut out), Err(Refusal::BadLength.into()));
+    assert_eq!(engine.test_any(&mut mine, &mut out), Ok(Some(0)));
+    assert_eq!(out[4..], [5, 5, 5, 7]);
+    let other = engine.init(1, 0, SUM()).unwrap();
+    assert!(mine.push(other, 0, 4).is_err());
 }

@@ -14,6 +14,13 @@
 //! | `some` | `test_some` |
 //! | `halted` | `Halted`, where the starts of a list stopped |
 //! | `starting` | `start_all` |
+//!
+//! ```
+//! let mut requests = [Request::of(ticket), Request::null()];
+//! if let Any::At(position, outcome) = test_any(core, 0, &mut requests)? {
+//!     println!(rt; "request {position}: {} bytes", outcome.bytes.len())?;
+//! }
+//! ```
 #![tactic(auto)]
 
 mod all;

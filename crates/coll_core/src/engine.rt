@@ -2,6 +2,7 @@
 
 mod posting;
 mod retiring;
+mod signatures;
 mod starting;
 mod stepping;
 mod working;

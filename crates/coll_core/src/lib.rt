@@ -16,6 +16,14 @@
 //! | `stepped` | `Stepped`, what a step did |
 //! | `engine` | `Core`, with its calls by what they do |
 //! | `laws` | what holds of an engine between its calls |
+//!
+//! ```
+//! let plan = plan(alloc, Signature::allreduce(Op::Sum, Datatype::I32, 1), 1, 0)?;
+//! let offer = Offer::of_i32s(alloc, plan, &[7])?;
+//! let ticket = core.post(0, 0, offer).map_err(|refused| refused.why)?;
+//! core.settle()?;
+//! let outcome = core.retire(0, ticket)?;
+//! ```
 #![tactic(auto)]
 
 mod about;

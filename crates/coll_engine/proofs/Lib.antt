@@ -6,3 +6,7 @@ pub mod Seats
 pub mod Refused
 pub mod Advancing
 pub mod Handing
+pub mod Listing
+pub mod Spans
+pub mod Completing
+pub mod Finding

@@ -5,3 +5,6 @@ pub mod Engines
 pub mod Progress
 pub mod Tests
 pub mod Combinations
+pub mod Parts
+pub mod Lists
+pub mod Signatures

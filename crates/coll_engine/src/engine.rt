@@ -1,8 +1,12 @@
 //! The engine, its opening, and the questions on it.
 
 mod combining;
+mod listing;
+mod looking;
 mod posting;
 mod progress;
+mod signatures;
+mod starting;
 mod testing;
 
 ghost use Rattle.std.specs.Prelude.{◌≡◌, ◌↔◌, Some, IfErr, IfOk, IsTrue};

@@ -6,18 +6,40 @@
 //! | `combination` | `Combination`, one that is computed outside the engine |
 //! | `communicators` | `Communicators`, the members of each communicator |
 //! | `test` | `Test`, what the test of one request tells |
+//! | `part` | `Part`, a request of a list with its span of the list's memory |
+//! | `distinct` | `are_distinct`, what the tests of lists ask of a list |
+//! | `first` | `First`, what the test of a list for one request tells |
+//! | `stopped` | `Stopped`, where the starts of a list stopped |
+//! | `threads` | which values may go from one thread to another |
 //! | `engine` | `Engine`, with its calls by what they do |
+//!
+//! ```
+//! let sum = Signature::allreduce(Op::Sum, Datatype::U8, 1);
+//! let mut request = engine.post(0, 0, sum, &[7])?;
+//! engine.settle()?;
+//! let mut value = [0; 1];
+//! let test = engine.test(0, &mut request, &mut value)?;
+//! ```
 #![tactic(auto)]
 
 mod combination;
 mod communicators;
+mod distinct;
 mod engine;
+mod first;
+mod part;
+mod stopped;
 mod test;
+pub mod threads;
 
 pub use coll_complete::Request;
 pub use coll_core::{About, Config, Phase};
 pub use coll_kinds::{Datatype, Kind, Mode, Op, Refusal, Signature, Ticket};
 pub use combination::{Combination, Stage};
 pub use communicators::Communicators;
+pub use distinct::are_distinct;
 pub use engine::Engine;
+pub use first::First;
+pub use part::Part;
+pub use stopped::Stopped;
 pub use test::Test;

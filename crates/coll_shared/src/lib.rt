@@ -37,6 +37,17 @@
 //! | `wish` | `Wish`, what a waiting port wants |
 //! | `spent` | `Spent`, what is left of a port |
 //! | `shared` | `Shared`, the core with its trace, and the calls on both |
+//!
+//! ```
+//! let sum = Signature::allreduce(Op::Sum, Datatype::I32, 1);
+//! let plan = port.ready_plan(0, &sum)?;
+//! let offer = Offer::of_i32s(alloc, plan, &[number])?;
+//! let (mut request, _receipt) = match port.post(rt, 0, offer) {
+//!     Ok(posted) => posted,
+//!     Err(refused) => return Err(refused.why),
+//! };
+//! let (outcome, _receipts) = port.wait(rt, &NoGate, &mut request)?;
+//! ```
 #![tactic(auto)]
 
 mod balance;

@@ -1,8 +1,9 @@
 //! The engine as a library: three ranks, a thread for each, give a number each and get the sum of all. It prints what each
-//! of them got.
+//! of them got, and what the examples on the crates' first pages come to.
 #![tactic(auto)]
 
 mod adding;
+mod examples;
 mod rank;
 
 use adding::sums;
@@ -11,5 +12,5 @@ fn main(rt: HostRuntime) -> anyhow::Result<()> {
     for (rank, sum) in sums(&rt, rt.alloc(), [1, 2, 3])?.iter().enumerate() {
         println!(rt; "rank {rank}: {sum}")?;
     }
-    Ok(())
+    examples::show(&rt, rt.alloc())
 }

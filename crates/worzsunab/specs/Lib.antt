@@ -5,3 +5,5 @@ pub mod Reasons
 pub mod Forms
 pub mod Answers
 pub mod Works
+pub mod Listing
+pub mod Posted

@@ -22,3 +22,9 @@ pub const NO_WORK: i32 = 22;
 
 /// The handle has a combination already.
 pub const HAS_WORK: i32 = 23;
+
+/// A request stands twice in a list.
+pub const TWICE: i32 = 24;
+
+/// No member has posted so much, or there is no such communicator.
+pub const NO_PLACE: i32 = 25;

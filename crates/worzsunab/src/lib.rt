@@ -12,6 +12,8 @@
 //! | `codes` | what functions answer |
 //! | `posting` | the functions that post and initialise |
 //! | `working` | the functions over combinations |
+//! | `listing` | the functions over lists of requests |
+//! | `posted` | `Posted`, what stands in a place of posting lists |
 //! | `lib` | the other functions |
 #![tactic(auto)]
 
@@ -32,6 +34,8 @@ ghost use Rattle.coll_engine.specs.Lengths.{IsOutcomeLengthAt};
 ghost use Rattle.coll_engine.specs.Progress.{Advances};
 ghost use Rattle.worzsunab.specs.Answers.{Answers, IsPhase, Tests, phase_number};
 ghost use Rattle.worzsunab.specs.Forms.{IsAbout, named_by, request_of};
+ghost use Rattle.coll_engine.specs.Signatures.{signature_at};
+ghost use Rattle.worzsunab.specs.Posted.{Tells};
 ghost use Rattle.worzsunab.specs.Reasons.{no_reason, reason_of};
 
 mod call;
@@ -40,16 +44,19 @@ mod forms;
 mod handle;
 mod held;
 mod held_work;
+mod listing;
 mod parts;
+mod posted;
 mod posting;
 mod reason;
 mod work_handle;
 mod working;
 
-use codes::{CLOSED, DONE, OPEN, PENDING};
+use codes::{CLOSED, DONE, NO_PLACE, OPEN, PENDING};
 use coll_engine::{Engine, Phase, Refusal, Test};
 use forms::{About, Limits, Request, groups_of};
 use handle::Handle;
+use posted::Posted;
 use std::alloc::Global;
 
 #[unsafe(no_mangle)]
@@ -314,5 +321,39 @@ pub extern "C" fn wz_about(
             DONE
         }
         None => handle.refuse(Refusal::Stale),
+    }
+}
+
+#[unsafe(no_mangle)]
+pub extern "C" fn wz_posted_at(
+    alloc: Global,
+    handle: &mut Handle,
+    comm: u32,
+    place: u32,
+    posted: &mut Posted,
+) -> i32
+    ensures closed { handle.old.held.engine ≡ None → (result ≡ pos 20) × (posted.new ≡ posted.old) }
+    ensures engine { handle.new.held.engine ≡ handle.old.held.engine }
+    ensures reason { handle.new.reason ≡ handle.old.reason }
+    ensures tells { IfSome handle.old.held.engine (λ p. Tells (signature_at (setting p) (seen p).state comm place) posted.old posted.new result) }
+{
+    let Some(engine) = handle.take(alloc) else {
+        return CLOSED;
+    };
+    let code = tell(&engine, comm, place, posted);
+    handle.put(engine);
+    code
+}
+
+/// Tells what stands in a place.
+fn tell(engine: &Engine, comm: u32, place: u32, posted: &mut Posted) -> i32
+    ensures { Tells (signature_at (setting engine.now) (seen engine.now).state comm place) posted.old posted.new result }
+{
+    match engine.signature(comm, place) {
+        Some(sig) => {
+            *posted = Posted::of(sig);
+            DONE
+        }
+        None => NO_PLACE,
     }
 }

@@ -1,0 +1,10 @@
+-- What the posting lists have at a place.
+use Rattle.std.specs.Prelude.{ℕ, Option, option_map}
+use Rattle.coll_kinds.specs.declared.signature.Signature.{Signature}
+use Rattle.coll_machine.specs.Refusals.{first_there}
+use Rattle.coll_machine.specs.Settings.{Setting, size}
+use Rattle.coll_machine.specs.States.{State}
+
+-- the signature of the lowest member that has the place, which a Mismatch names
+abbrev pub signature_at : Setting → State → ℕ → ℕ → Option Signature
+signature_at g s comm place = option_map (λ first. first.1) (first_there (s.posts comm) place 0 (size g comm))
