@@ -8,8 +8,9 @@ use Rattle.std.proofs.lemmas.Option.{get_or_from_slice_get, slice_get-get_or}
 use Rattle.coll_kinds.specs.declared.refusal.Refusal.{Refusal}
 use Rattle.coll_kinds.specs.declared.ticket.Ticket.{Ticket}
 use Rattle.coll_machine.specs.Settings.{Setting}
+use Rattle.coll_machine.specs.Calls.{Call}
 use Rattle.coll_machine.specs.States.{Machine}
-use Rattle.coll_complete.specs.Starting.{Begun, RefusesAt, StartsAll, StartsAt, lists_of, unused}
+use Rattle.coll_complete.specs.Starting.{Begun, DeniesAt, StartsAll, StartsAt, lists_of, unused}
 
 starts-take : (g : Setting) (rank : ℕ) (bs : List Begun) (i : ℕ) (d : Begun) (m n k : Machine) → i < length bs
     → StartsAll g rank m (take i bs) n → StartsAt g rank n (get_or bs i d) k → StartsAll g rank m (take (suc i) bs) k
@@ -103,9 +104,6 @@ starts-all g rank list lists m n i long le h =
     subst (λ (bs : List Begun). StartsAll g rank m bs n) (take-zip list lists i long le) h
 
 -- a refused start, in the words of the call
-pub refuses-at : (g h : Setting) (rank : ℕ) (m n : Machine) (b d : Begun) (why : Refusal) → h ≡ g → n ≡ m → b ≡ d
-    → RefusesAt h rank m b why → RefusesAt g rank n d why
-refuses-at g h rank m n b d why set same is at =
-    subst (λ (b : Begun). RefusesAt g rank n b why) is
-    (subst (λ (m : Machine). RefusesAt g rank m b why) (sym same)
-    (subst (λ (g : Setting). RefusesAt g rank m b why) set at))
+pub refuses-at : (Denies : Call → Refusal → Type 0) (rank : ℕ) (b d : Begun) (why : Refusal) → b ≡ d
+    → DeniesAt Denies rank b why → DeniesAt Denies rank d why
+refuses-at Denies rank b d why is at = subst (λ (b : Begun). DeniesAt Denies rank b why) is at

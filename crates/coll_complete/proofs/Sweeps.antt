@@ -20,11 +20,6 @@ use Rattle.coll_complete.proofs.Retiring.{Same, named, one_slot, same_retired, s
 
 -- ---- runs and positions, one more at the end
 
-pub runs-append : (g : Setting) (es fs : List Event) (m k n : Machine) → Runs g m es k → Runs g k fs n
-    → Runs g m (es ++ fs) n
-runs-append g [] fs m k n r h = subst (λ (m : Machine). Runs g m fs n) (sym r) h
-runs-append g (e ∷ es) fs m k n r h = (r.0, r.1, runs-append g es fs r.0 k n r.2 h)
-
 range-more : (a n : ℕ) → range_with_len a (suc n) ≡ range_with_len a n ++ (a + n) ∷ []
 range-more a zero = let e : a ≡ a + 0 = omega arith in ap (λ k. k ∷ []) e
 range-more a (suc n) =
@@ -73,14 +68,16 @@ refusal_same g m n rank (Some t) h = ap (λ (o : Option Request). first_of (nami
 abbrev done_in : Machine → List (Option Ticket) → ℕ → Bool
 done_in m list i = is_done m (slice_index_or list i None)
 
-pub record Swept (g : Setting) (rank : ℕ) (list : List (Option Ticket)) (m n : Machine) (i : ℕ)
-    (outs : List (ℕ × Outcome)) : Type 0 where
+pub record Swept (rank : ℕ) (list : List (Option Ticket)) (m n : Machine) (i : ℕ)
+    (Did : List Event → Type 0) (outs : List (ℕ × Outcome)) : Type 0 where
   pub positions : map (λ out. out.0) outs ≡ filter (done_in m list) (range_with_len 0 i)
-  pub runs : Runs g m (completions rank list outs) n
+  pub did : Did (completions rank list outs)
   pub rest : (j : ℕ) (t : Ticket) → i ≤ j → slice_get list j ≡ Some (Some t) → Same m n t
 
-pub swept_none : (g : Setting) (rank : ℕ) (list : List (Option Ticket)) (m : Machine) → Swept g rank list m m 0 []
-swept_none g rank list m = record { positions = refl; runs = refl; rest = λ j t le is. same_self m t }
+pub swept_none : (rank : ℕ) (list : List (Option Ticket)) (m : Machine) (Did : List Event → Type 0) → Did []
+    → Swept rank list m m 0 Did []
+swept_none rank list m Did stays =
+    record { positions = refl; did = stays; rest = λ j t le is. same_self m t }
 
 -- what the next request adds to the outcomes
 abbrev pub noted : ℕ → Option Outcome → List (ℕ × Outcome)
@@ -135,52 +132,52 @@ other_same g rank (Some u) (Some o) t n k run off =
     (same_retired g rank u t o.rank o.comm o.place o.start o.bytes.items n run.0 run.1 (off u refl))
 
 -- the request at position i is seen as at first
-pub same_at : (g : Setting) (rank : ℕ) (list : List (Option Ticket)) (m n : Machine) (i : ℕ)
+pub same_at : (rank : ℕ) (list : List (Option Ticket)) (m n : Machine) (i : ℕ) (Did : List Event → Type 0)
     (outs : List (ℕ × Outcome)) (x : Option Ticket)
-    → Swept g rank list m n i outs → slice_get list i ≡ Some x → SameAt m n x
-same_at g rank list m n i outs None h is = tt
-same_at g rank list m n i outs (Some t) h is = h.rest i t (omega arith) is
+    → Swept rank list m n i Did outs → slice_get list i ≡ Some x → SameAt m n x
+same_at rank list m n i Did outs None h is = tt
+same_at rank list m n i Did outs (Some t) h is = h.rest i t (omega arith) is
 
 -- and may be completed
 pub swept-fits : (g : Setting) (rank : ℕ) (list : List (Option Ticket)) (m n : Machine) (i : ℕ)
-    (outs : List (ℕ × Outcome)) (x : Option Ticket)
-    → Swept g rank list m n i outs → list_refusal g m.state rank list ≡ None
+    (Did : List Event → Type 0) (outs : List (ℕ × Outcome)) (x : Option Ticket)
+    → Swept rank list m n i Did outs → list_refusal g m.state rank list ≡ None
     → slice_get list i ≡ Some x → refusal_at g n.state rank x ≡ None
-swept-fits g rank list m n i outs x h fits is =
-    refusal_same g m n rank x (same_at g rank list m n i outs x h is)
+swept-fits g rank list m n i Did outs x h fits is =
+    refusal_same g m n rank x (same_at rank list m n i Did outs x h is)
     ∙ (ap (refusal_at g m.state rank) (sym (get_or_from_slice_get list i x None is))
     ∙ first_of-map (refusal_at g m.state rank) list i None fits (slice_get_within list i x is))
 
-pub swept-left : (g : Setting) (rank : ℕ) (list : List (Option Ticket)) (m n : Machine) (i : ℕ)
-    (outs : List (ℕ × Outcome)) (x : Option Ticket)
-    → Swept g rank list m n i outs → slice_get list i ≡ Some x
+pub swept-left : (rank : ℕ) (list : List (Option Ticket)) (m n : Machine) (i : ℕ)
+    (Did : List Event → Type 0) (outs : List (ℕ × Outcome)) (x : Option Ticket)
+    → Swept rank list m n i Did outs → slice_get list i ≡ Some x
     → left_of n x ≡ left_of m x
-swept-left g rank list m n i outs x h is = left_same m n x (same_at g rank list m n i outs x h is)
+swept-left rank list m n i Did outs x h is = left_same m n x (same_at rank list m n i Did outs x h is)
 
 -- one request more
-pub swept_more : (g : Setting) (rank : ℕ) (list : List (Option Ticket)) (m n k : Machine) (i : ℕ)
-    (outs : List (ℕ × Outcome)) (x : Option Ticket) (r : Option Outcome)
-    → AreDistinct list → list_refusal g m.state rank list ≡ None → Swept g rank list m n i outs
-    → slice_get list i ≡ Some x → is_some r ≡ is_done n x → Runs g n (completion_if rank x r) k
-    → Swept g rank list m k (i + 1) (outs ++ noted i r)
-swept_more g rank list m n k i outs x r distinct fits h is done run =
+pub swept_more : (g h : Setting) (rank : ℕ) (list : List (Option Ticket)) (m n k : Machine) (i : ℕ)
+    (Before After : List Event → Type 0) (outs : List (ℕ × Outcome)) (x : Option Ticket) (r : Option Outcome)
+    → AreDistinct list → list_refusal g m.state rank list ≡ None → Swept rank list m n i Before outs
+    → slice_get list i ≡ Some x → is_some r ≡ is_done n x → Runs h n (completion_if rank x r) k
+    → ((es : List Event) → Before es → After (es ++ completion_if rank x r))
+    → Swept rank list m k (i + 1) After (outs ++ noted i r)
+swept_more g h rank list m n k i Before After outs x r distinct fits s is done run more =
     let here : is_some r ≡ done_in m list i =
-    done ∙ (done_same m n x (same_at g rank list m n i outs x h is)
+    done ∙ (done_same m n x (same_at rank list m n i Before outs x s is)
     ∙ ap (is_done m) (sym (get_or_from_slice_get list i x None is))) in
     record {
       positions =
           map-append (λ (out : ℕ × Outcome). out.0) outs (noted i r)
-          ∙ (ap (λ xs. xs ++ map (λ (out : ℕ × Outcome). out.0) (noted i r)) h.positions
+          ∙ (ap (λ xs. xs ++ map (λ (out : ℕ × Outcome). out.0) (noted i r)) s.positions
           ∙ (ap (λ xs. filter (done_in m list) (range_with_len 0 i) ++ xs)
           (noted-positions i r (done_in m list i) here) ∙ sym (filter-range (done_in m list) i)));
-      runs =
+      did =
           let es = flat_map-append (λ (out : ℕ × Outcome). completion rank (slice_index_or list out.0 None) out.1)
           outs (noted i r) ∙ ap (λ es. completions rank list outs ++ es) (noted-completions rank list i x r is) in
-          subst (λ es. Runs g m es k) (sym es)
-          (runs-append g (completions rank list outs) (completion_if rank x r) m n k h.runs run);
+          subst After (sym es) (more (completions rank list outs) s.did);
       rest = λ j t le at.
-          same_then m n k t (h.rest j t (omega arith) at)
-          (other_same g rank x r t n k run
+          same_then m n k t (s.rest j t (omega arith) at)
+          (other_same h rank x r t n k run
           (λ u e. apart g rank list m.state distinct fits i j u t (is ∙ ap (λ (x : Option Ticket). Some x) e) at
           (omega arith)));
     }
@@ -233,16 +230,16 @@ pub swept_list-all : (m : Machine) (list now : List (Option Ticket)) (i : ℕ) �
     → length list ≤ i → now ≡ map (left_of m) list
 swept_list-all m list now i is le = is ∙ all_swept (left_of m) list i le
 
--- what is pushed with one request more; the engine's setting is written as before the call and as at the first
+-- what is pushed with one request more
 pub swept_pushed : (g h : Setting) (rank : ℕ) (list : List (Option Ticket)) (m n k : Machine) (i : ℕ)
-    (old now new : List (ℕ × Outcome)) (x : Option Ticket) (r : Option Outcome)
-    → h ≡ g → AreDistinct list → list_refusal g m.state rank list ≡ None → Pushes old now (Swept g rank list m n i)
+    (Before After : List Event → Type 0) (old now new : List (ℕ × Outcome)) (x : Option Ticket) (r : Option Outcome)
+    → AreDistinct list → list_refusal g m.state rank list ≡ None → Pushes old now (Swept rank list m n i Before)
     → slice_get list i ≡ Some x
-    → is_some r ≡ is_done n x → Runs h n (completion_if rank x r) k → new ≡ now ++ noted i r
-    → Pushes old new (Swept g rank list m k (i + 1))
-swept_pushed g h rank list m n k i old now new x r set distinct fits p at done run is = (
+    → is_some r ≡ is_done n x → Runs h n (completion_if rank x r) k
+    → ((es : List Event) → Before es → After (es ++ completion_if rank x r)) → new ≡ now ++ noted i r
+    → Pushes old new (Swept rank list m k (i + 1) After)
+swept_pushed g h rank list m n k i Before After old now new x r distinct fits p at done run more is = (
   p.0 ++ noted i r,
   is ∙ (ap (λ xs. xs ++ noted i r) p.1 ∙ append_assoc old p.0 (noted i r)),
-  swept_more g rank list m n k i p.0 x r distinct fits p.2 at done
-      (subst (λ g. Runs g n (completion_if rank x r) k) set run),
+  swept_more g h rank list m n k i Before After p.0 x r distinct fits p.2 at done run more,
 )

@@ -34,6 +34,12 @@ pub record CompletesDone (g : Setting) (rank : ℕ) (list : List (Option Ticket)
   pub positions : map (λ out. out.0) outs ≡ done_positions m list
   pub runs : Runs g m (completions rank list outs) n
 
+-- the same, where what was done is told by the calls with their answers
+pub record CompletesBy (rank : ℕ) (list : List (Option Ticket)) (m : Machine) (Did : List Event → Type 0)
+    (outs : List (ℕ × Outcome)) : Type 0 where
+  pub positions : map (λ out. out.0) outs ≡ done_positions m list
+  pub did : Did (completions rank list outs)
+
 -- a list has more at its end, as is said
 abbrev pub Pushes : {X : Type 0} → List X → List X → (List X → Type 0) → Type 0
 Pushes {X} old new IsMore = (more : List X) × (new ≡ old ++ more) × IsMore more

@@ -6,7 +6,7 @@ use Rattle.coll_kinds.specs.declared.refusal.Refusal.TheVariants.{Stale}
 use Rattle.coll_kinds.specs.declared.ticket.Ticket.{Ticket}
 use Rattle.coll_machine.specs.Settings.{Setting}
 use Rattle.coll_machine.specs.States.{Machine}
-use Rattle.coll_machine.specs.Calls.{Nothing, Start}
+use Rattle.coll_machine.specs.Calls.{Call, Nothing, Start}
 use Rattle.coll_tables.specs.Machines.{StepsTo}
 use Rattle.coll_core.specs.Calls.{Refuses}
 
@@ -23,6 +23,11 @@ StartsAt g rank m (Some t, bytes) n = StepsTo g m (Start rank t bytes) Nothing n
 abbrev pub RefusesAt : Setting → ℕ → Machine → Begun → Refusal → Type 0
 RefusesAt g rank m (None, bytes) why = why ≡ Stale
 RefusesAt g rank m (Some t, bytes) why = Refuses g m (Start rank t bytes) why
+
+-- the same of any engine with requests, which denies starts so
+abbrev pub DeniesAt : (Call → Refusal → Type 0) → ℕ → Begun → Refusal → Type 0
+DeniesAt Denies rank (None, bytes) why = why ≡ Stale
+DeniesAt Denies rank (Some t, bytes) why = Denies (Start rank t bytes) why
 
 -- they are started one after the other
 abbrev pub StartsAll : Setting → ℕ → Machine → List Begun → Machine → Type 0

@@ -4,11 +4,11 @@ ghost use Rattle.std.specs.Prelude.{◌≡◌, ◌||◌, IfOk, None, Some, posit
 ghost use Rattle.std.specs.List.{list_any};
 ghost use Rattle.std.specs.Option.{option_or};
 ghost use Rattle.std.specs.Result.{result_err};
-ghost use Rattle.coll_core.specs.Cores.{seen, setting};
 ghost use Rattle.coll_complete.specs.Requests.{active_by, done_by, is_active, is_done, is_pending, list_refusal, phase_at, refusal_at, pending_by};
 
 use crate::request::Request;
-use coll_core::{Core, Phase};
+use crate::requests::Requests;
+use coll_core::Phase;
 use coll_kinds::Refusal;
 
 /// What a list of requests has.
@@ -23,9 +23,9 @@ pub struct Survey {
 }
 
 /// How far a request is; none where it is null.
-fn phase(core: &Core, rank: u8, request: &Request) -> Result<Option<Phase>, Refusal>
-    ensures refused { result_err result ≡ refusal_at (setting core.now) (seen core.now).state rank request.now }
-    ensures phase { IfOk result (λ phase. phase ≡ phase_at (seen core.now) request.now) }
+fn phase<C: Requests>(core: &C, rank: u8, request: &Request) -> Result<Option<Phase>, Refusal>
+    ensures refused { result_err result ≡ refusal_at (C.setting core.now) (C.machine core.now).state rank request.now }
+    ensures phase { IfOk result (λ phase. phase ≡ phase_at (C.machine core.now) request.now) }
 {
     let Some(ticket) = request.ticket() else {
         return Ok(None);
@@ -42,11 +42,11 @@ impl Survey {
     /// # Errors
     ///
     /// Stale where a ticket names no live request, NotYours where it names another rank's: that of the first such one.
-    pub fn of(core: &Core, rank: u8, requests: &[Request]) -> Result<Survey, Refusal>
-        ensures refused { result_err result ≡ list_refusal (setting core.now) (seen core.now).state rank requests.now }
-        ensures done { IfOk result (λ survey. survey.done ≡ position (is_done (seen core.now)) requests.now) }
-        ensures active { IfOk result (λ survey. survey.active ≡ list_any (is_active (seen core.now)) requests.now) }
-        ensures pending { IfOk result (λ survey. survey.pending ≡ list_any (is_pending (seen core.now)) requests.now) }
+    pub fn of<C: Requests>(core: &C, rank: u8, requests: &[Request]) -> Result<Survey, Refusal>
+        ensures refused { result_err result ≡ list_refusal (C.setting core.now) (C.machine core.now).state rank requests.now }
+        ensures done { IfOk result (λ survey. survey.done ≡ position (is_done (C.machine core.now)) requests.now) }
+        ensures active { IfOk result (λ survey. survey.active ≡ list_any (is_active (C.machine core.now)) requests.now) }
+        ensures pending { IfOk result (λ survey. survey.pending ≡ list_any (is_pending (C.machine core.now)) requests.now) }
     {
         let mut survey = Survey {
             done: None,

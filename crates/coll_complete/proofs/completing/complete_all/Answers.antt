@@ -2,7 +2,6 @@ use Rattle.std.proofs.Common.{◌≡◌, ◌<◌, ◌≤◌, ◌+◌, ◌++◌, 
 use Rattle.std.specs.Global.{Global}
 use Rattle.coll_core.specs.declared.outcome.Outcome.{Outcome}
 use Rattle.coll_machine.specs.Settings.{Setting}
-use Rattle.coll_core.specs.Cores.{seen, setting}
 use Rattle.coll_complete.specs.Requests.{refusal_at}
 use Rattle.coll_complete.proofs.Sweeps.{noted, noted-none, swept-at, swept-fits, swept-left, swept_list-set, swept_pushed}
 use Rattle.coll_complete.proofs.completing.complete_all.Goals as goal
@@ -15,9 +14,9 @@ abbrev items_of : Outcomes → List (ℕ × Outcome)
 items_of v = v.items
 
 pub complete_if_done-requires : goal.complete_if_done-requires
-complete_if_done-requires c =
-    let m = seen c.args.core.now in
-    let n = seen c.loop-position.core in
+complete_if_done-requires g c =
+    let m = g.C.Requests.machine c.args.core.now in
+    let n = g.C.Requests.machine c.loop-position.core in
     let i = c.loop-position.position in
     let list = c.args.requests.now in
     let lt : i < length list = omega arith in
@@ -28,13 +27,13 @@ complete_if_done-requires c =
     record {
       accepted =
           ap (λ (g : Setting). refusal_at g n.state c.args.rank x) c.loop-position.invariant.set
-          ∙ swept-fits (setting c.args.core.now) c.args.rank list m n i p.0 x p.2 c.requires.accepted at;
+          ∙ swept-fits (g.C.Requests.setting c.args.core.now) c.args.rank list m n i _ p.0 x p.2 c.requires.accepted at;
     }
 
 pub loop-position-preserved : goal.loop-position-preserved
-loop-position-preserved c =
-    let m = seen c.args.core.now in
-    let n = seen c.loop-position.core in
+loop-position-preserved g c =
+    let m = g.C.Requests.machine c.args.core.now in
+    let n = g.C.Requests.machine c.loop-position.core in
     let i = c.loop-position.position in
     let list = c.args.requests.now in
     let lt : i < length list = omega arith in
@@ -64,13 +63,15 @@ loop-position-preserved c =
       requests =
           swept_list-set m n list c.loop-position.requests i x c.complete_if_done.new.request
           c.loop-position.invariant.requests at c.complete_if_done.ensures.request
-          (swept-left (setting c.args.core.now) c.args.rank list m n i p.0 x p.2 at);
+          (swept-left c.args.rank list m n i _ p.0 x p.2 at);
       room = omega arith;
       capacity = capacity ∙ c.loop-position.invariant.capacity;
       pushes =
-          swept_pushed (setting c.args.core.now) (setting c.loop-position.core) c.args.rank list m n
-          (seen c.complete_if_done.new.core) i
+          swept_pushed (g.C.Requests.setting c.args.core.now) (g.C.Requests.setting c.loop-position.core) c.args.rank
+          list m n (g.C.Requests.machine c.complete_if_done.new.core) i _ _
           c.args.out.now.items c.loop-position.out.items c.match-complete_if_done.out.items x r
-          c.loop-position.invariant.set c.requires.distinct c.requires.accepted p at
-          c.complete_if_done.ensures.outcome c.complete_if_done.ensures.completes pushed;
+          c.requires.distinct c.requires.accepted p at
+          c.complete_if_done.ensures.outcome
+          (g.met.C.Requests.did_runs _ _ _ _ _ c.complete_if_done.ensures.completes)
+          (λ es before. g.met.C.Requests.did_more _ _ _ _ _ _ es _ before c.complete_if_done.ensures.completes) pushed;
     }

@@ -1,26 +1,23 @@
 use Rattle.std.proofs.Common.{◌≡◌, ◌<◌, length, arith, sym, ◌∙◌}
 use Rattle.std.proofs.lemmas.List.{length-map}
-use Rattle.coll_core.specs.Cores.{seen, setting}
 use Rattle.coll_complete.specs.Starting.{lists_of}
 use Rattle.coll_complete.proofs.Starts.{begun-at, given-set, refuses-at, starts-all, starts-more}
-use Rattle.coll_complete.proofs.starting.start_all.Goals as goal
+use Rattle.coll_complete.proofs.starting.start_all_on.Goals as goal
 
 pub returns-in-Err-clause-refused : goal.returns-in-Err-clause-refused
-returns-in-Err-clause-refused c =
+returns-in-Err-clause-refused g c =
     let list = c.args.requests.now in
     let given = c.args.given.items in
     let now = c.loop-at.given.items in
     let long : length list ≡ length given = sym c.requires ∙ c.args.given.ok.0 in
     let same : length now ≡ length given = sym c.loop-at.given.ok.0 ∙ (c.loop-at.invariant.long ∙ c.args.given.ok.0) in
-    refuses-at (setting c.args.core.now) (setting c.loop-at.core) c.args.rank (seen c.loop-at.core)
-    (seen c.start_one.new.core) _ _ c.in-Err.why
-    c.loop-at.invariant.set c.in-Err.ensures.err
+    refuses-at (g.C.Requests.Denies c.start_one.new.core) c.args.rank _ _ c.in-Err.why
     (begun-at list given now c.loop-at.at c.index-requests-at.result c.index_mut.result.now c.loop-at.invariant.given
     long same c.loop-at-test.true c.index-requests-at.is c.index_mut.ensures.value)
     c.in-Err.ensures.refused
 
 pub loop-at-preserved : goal.loop-at-preserved
-loop-at-preserved c =
+loop-at-preserved g c =
     let list = c.args.requests.now in
     let given = c.args.given.items in
     let now = c.loop-at.given.items in
@@ -32,8 +29,8 @@ loop-at-preserved c =
     record {
       set = c.start_one.ensures.setting ∙ c.loop-at.invariant.set;
       starts =
-          starts-more (setting c.args.core.now) (setting c.loop-at.core) c.args.rank list (lists_of given)
-          (seen c.args.core.now) (seen c.loop-at.core) (seen c.start_one.new.core) i _
+          starts-more (g.C.Requests.setting c.args.core.now) (g.C.Requests.setting c.loop-at.core) c.args.rank list (lists_of given)
+          (g.C.Requests.machine c.args.core.now) (g.C.Requests.machine c.loop-at.core) (g.C.Requests.machine c.start_one.new.core) i _
           c.loop-at.invariant.set lists c.loop-at-test.true c.loop-at.invariant.starts
           (begun-at list given now i c.index-requests-at.result c.index_mut.result.now c.loop-at.invariant.given long
           same c.loop-at-test.true c.index-requests-at.is c.index_mut.ensures.value)
@@ -43,10 +40,10 @@ loop-at-preserved c =
     }
 
 pub returns-clause-starts : goal.returns-clause-starts
-returns-clause-starts c =
+returns-clause-starts g c =
     let given = c.args.given.items in
     let list = c.args.requests.now in
     let lists : length list ≡ length (lists_of given) =
     sym c.requires ∙ (c.args.given.ok.0 ∙ sym (length-map given _)) in
-    starts-all (setting c.args.core.now) c.args.rank list (lists_of given) (seen c.args.core.now)
-    (seen c.loop-at.core) c.loop-at.at lists (omega arith) c.loop-at.invariant.starts
+    starts-all (g.C.Requests.setting c.args.core.now) c.args.rank list (lists_of given) (g.C.Requests.machine c.args.core.now)
+    (g.C.Requests.machine c.loop-at.core) c.loop-at.at lists (omega arith) c.loop-at.invariant.starts
