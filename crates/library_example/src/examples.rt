@@ -46,7 +46,10 @@ fn kinds(rt: &impl Print) -> anyhow::Result<()> {
 /// That of `coll_plans`.
 fn plans(rt: &impl Print, alloc: Global) -> anyhow::Result<()> {
     let plan = plan(alloc, Signature::barrier(), 8, 3)?;
-    println!(rt; "member 3 of 8 takes part in {} exchanges", plan.schedule().exchanges())?;
+    println!(rt;
+        "member 3 of 8 takes part in {} exchanges",
+        plan.schedule().exchanges()
+    )?;
     Ok(())
 }
 
