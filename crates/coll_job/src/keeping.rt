@@ -1,6 +1,6 @@
 //! A file that is written whole or not at all.
 
-ghost use Rattle.std.specs.Prelude.{◌≡◌, ◌<◌, ◌≤◌, IfOk, IfErr};
+ghost use Rattle.std.specs.Prelude.{◌≢◌, ◌<◌, ◌≤◌, IfOk, IfErr};
 ghost use Rattle.std.specs.Io.KnownBytes.{Keeps};
 
 use coll_script::{JobFault, write_lines};
@@ -24,7 +24,7 @@ pub(crate) fn put<F: Files, W: Write, E: Write>(
 ) -> Result<u8, JobFault>
     ensures status { IfOk result (λ status. status ≤ 1) }
     ensures unwritten { IfOk result (λ status. 1 < status → Keeps (W.contents output.old) (W.contents output.new)) }
-    ensures fault { IfErr result (λ fault. fault ≡ JobFault.Write) }
+    ensures unwritten_fault { IfErr result (λ fault. fault ≢ JobFault.Write → Keeps (W.contents output.old) (W.contents output.new)) }
 {
     match file {
         None => write_lines(output, bytes)?,
