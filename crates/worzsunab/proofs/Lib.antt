@@ -4,3 +4,4 @@ mod Coding
 mod Padding
 mod Recoding
 mod Answering
+pub mod ListAnswers

@@ -19,6 +19,10 @@ use Rattle.worzsunab.specs.Reasons.{reason_of}
 abbrev pub undefined : ℕ
 undefined = 18446744073709551615
 
+abbrev pub told_of : Option ℕ → ℕ
+told_of None = undefined
+told_of (Some many) = many
+
 -- one of five: a request stands twice; the engine is closed; the test is refused; it is to be called again after progress,
 -- with nothing changed; or it was done
 pub data ListTests (old new : Option Parts) (had noted : Reason) (code : ℤ) (rank : ℕ) (parts : List Part) (room : ℕ)

@@ -1,7 +1,7 @@
 //! Tests and starts of lists of requests.
 
 ghost use Rattle.std.specs.Prelude.{◌≡◌, ◌⊎◌, length};
-ghost use Rattle.worzsunab.specs.Listing.{CompletesAll, CompletesLowest, CompletesSome, ListTests, NoneIsActive, NoneIsDone, Starts};
+ghost use Rattle.worzsunab.specs.Listing.{CompletesAll, CompletesLowest, CompletesSome, ListTests, NoneIsActive, NoneIsDone, Starts, told_of};
 ghost use Rattle.coll_core.specs.Cores.{seen};
 ghost use Rattle.coll_complete.specs.Requests.{is_pending};
 ghost use Rattle.coll_engine.specs.Parts.{tickets_of};
@@ -68,17 +68,19 @@ pub extern "C" fn wz_test_some(
     };
     let answer = engine.test_some(rank, parts, out);
     handle.put(engine);
-    match answer {
-        Ok(Some(many)) => {
-            *completed = many;
-            DONE
-        }
-        Ok(None) => {
-            *completed = UNDEFINED;
-            DONE
-        }
-        Err(why) => handle.refuse(why),
-    }
+    let found = match answer {
+        Ok(found) => found,
+        Err(why) => return handle.refuse(why),
+    };
+    *completed = told(found);
+    DONE
+}
+
+/// How many were completed, as C is told.
+fn told(found: Option<usize>) -> usize
+    ensures { result ≡ told_of found }
+{
+    found.unwrap_or(UNDEFINED)
 }
 
 #[unsafe(no_mangle)]
