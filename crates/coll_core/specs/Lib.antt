@@ -10,7 +10,6 @@ pub mod Steps
 pub mod Works
 -- what functions promise one another on the way to a call's effect
 pub mod Buffers
-pub mod Operands
 pub mod Requests
 pub mod Advancing
 pub mod Completions

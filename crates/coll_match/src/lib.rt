@@ -12,11 +12,11 @@
 //! | `matches` | `Matches`, all that stand |
 #![tactic(auto)]
 
-mod instance;
 mod envelope;
-mod matches;
+mod instance;
 mod mailbox;
+mod matches;
 
 pub use coll_machine::Key;
-pub use matches::Matches;
 pub use mailbox::Message;
+pub use matches::Matches;

@@ -26,17 +26,17 @@ invariant_of-self c =
     let r = the_record _ c.in_default.ensures.found in
     started_core
     _ c.args.self.now c.make_start_room.new.self c.self.view_is c.in-Ok.ensures.same c.in-Ok.ensures.arena c.args.ticket c.self.invariant r.0 r.1
-    c.begin.new.arena c.begin.new.matches c.args.rank c.args.bytes.items c.in-Ok.buffer.items c.start_core.ensures
+    c.begin.new.arena c.begin.new.matches c.args.rank c.args.bytes.items c.in-Ok.buffer c.start_core.ensures
     (read_as c.args.self.now c.args.rank c.args.ticket c.deref.result.now c.args.bytes.items _ c.deref.ensures.value c.in_default.ensures.refused)
     c.in_default.ensures.named (subst AreBytes c.deref.ensures.value c.in_default.ensures.bytes)
-    (laid_as _ c.deref-2.result.now c.args.bytes.items c.in-Ok.buffer.items c.deref-2.ensures.value c.in-Ok.ensures.buffer) c.begin.ensures
+    (laid_as _ c.deref-2.result.now c.args.bytes.items c.in-Ok.buffer c.deref-2.ensures.value c.in-Ok.ensures.buffer) c.begin.ensures
 
 pub returns-clause-starts : goal.returns-clause-starts
 returns-clause-starts c =
     let r = the_record _ c.in_default.ensures.found in
     starts
     _ c.args.self.now c.make_start_room.new.self c.self.view_is c.in-Ok.ensures.same c.in-Ok.ensures.arena c.args.ticket c.self.invariant r.0 r.1
-    c.begin.new.arena c.begin.new.matches c.args.rank c.args.bytes.items c.in-Ok.buffer.items c.start_core.ensures
+    c.begin.new.arena c.begin.new.matches c.args.rank c.args.bytes.items c.in-Ok.buffer c.start_core.ensures
     (read_as c.args.self.now c.args.rank c.args.ticket c.deref.result.now c.args.bytes.items _ c.deref.ensures.value c.in_default.ensures.refused)
     c.in_default.ensures.named (subst AreBytes c.deref.ensures.value c.in_default.ensures.bytes)
-    (laid_as _ c.deref-2.result.now c.args.bytes.items c.in-Ok.buffer.items c.deref-2.ensures.value c.in-Ok.ensures.buffer) c.begin.ensures
+    (laid_as _ c.deref-2.result.now c.args.bytes.items c.in-Ok.buffer c.deref-2.ensures.value c.in-Ok.ensures.buffer) c.begin.ensures
