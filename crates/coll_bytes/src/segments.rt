@@ -12,7 +12,7 @@ use std::alloc::{AllocError, Global};
 use std::marker::Model;
 
 /// So many writes need no memory, before any room is made.
-pub const WRITES_IN_PLACE: usize = 4;
+pub const WRITES_IN_PLACE: usize = 1;
 
 // Bytes at their place in a buffer.
 #[derive(Debug, Default, Drop)]

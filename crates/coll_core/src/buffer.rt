@@ -11,11 +11,12 @@ use coll_sched::{Action, Region, Schedule};
 use std::alloc::Global;
 use std::marker::Model;
 
-/// Buffers of more bytes have room for a segment a round from the beginning: to put their bytes together costs more.
+/// Buffers of up to so many bytes lie together from the beginning: to share them costs more than to copy them.
 const SHORT: u32 = 1_024;
 
-/// A schedule's buffer. What was written lies in segments, which messages, operands and contributions share with it, as long as there is
-/// room for one more of them. Then the bytes are put together, and from then on a write copies. So no write takes memory.
+/// A schedule's buffer. What was written to a long one lies in segments, which messages, operands and contributions share with it, as
+/// long as there is room for one more of them. Then the bytes are put together, and from then on a write copies. So no write takes
+/// memory.
 #[derive(Debug, Drop)]
 pub struct Buffer {
     segments: Segments,
@@ -61,7 +62,7 @@ impl Buffer {
         }
     }
 
-    /// The schedule's buffer with the contribution laid in, and zeros elsewhere. Nothing is copied. Only NoMemory is refused.
+    /// The schedule's buffer with the contribution laid in, and zeros elsewhere. Only NoMemory is refused.
     pub(crate) fn lay_in(
         alloc: Global,
         schedule: &Schedule,
@@ -71,12 +72,17 @@ impl Buffer {
         ensures ok { IfOk result (λ buffer. buffer ≡ laid_in schedule.now bytes) }
         ensures refusal { IsOkUnless result Refusal.NoMemory }
     {
-        let rounds = schedule.rounds().len();
         let size = schedule.size();
-        let mut segments = Segments::lay_in(alloc, size, schedule.input(), bytes);
-        if size > SHORT {
-            segments.reserve(rounds)?;
+        if size <= SHORT {
+            return Ok(Buffer {
+                segments: Segments::new(alloc, 0),
+                own: schedule.lay_in(alloc, bytes.as_slice())?,
+                is_flat: true,
+            });
         }
+        let rounds = schedule.rounds().len();
+        let mut segments = Segments::lay_in(alloc, size, schedule.input(), bytes);
+        segments.reserve(rounds)?;
         let own = Vec::with_capacity(alloc, size as usize)?;
         Ok(Buffer {
             segments,
