@@ -66,22 +66,24 @@ impl Buffer {
     pub(crate) fn lay_in(
         alloc: Global,
         schedule: &Schedule,
-        bytes: Bytes,
+        bytes: &[u8],
     ) -> Result<Buffer, Refusal>
-        requires { length bytes ≡ schedule.now.input.len }
-        ensures ok { IfOk result (λ buffer. buffer ≡ laid_in schedule.now bytes) }
+        requires { length bytes.now ≡ schedule.now.input.len }
+        ensures ok { IfOk result (λ buffer. buffer ≡ laid_in schedule.now bytes.now) }
         ensures refusal { IsOkUnless result Refusal.NoMemory }
     {
         let size = schedule.size();
         if size <= SHORT {
             return Ok(Buffer {
                 segments: Segments::new(alloc, 0),
-                own: schedule.lay_in(alloc, bytes.as_slice())?,
+                own: schedule.lay_in(alloc, bytes)?,
                 is_flat: true,
             });
         }
         let rounds = schedule.rounds().len();
-        let mut segments = Segments::lay_in(alloc, size, schedule.input(), bytes);
+        let input = schedule.input();
+        let given = Bytes::copy(alloc, bytes)?;
+        let mut segments = Segments::lay_in(alloc, size, input, given);
         segments.reserve(rounds)?;
         let own = Vec::with_capacity(alloc, size as usize)?;
         Ok(Buffer {

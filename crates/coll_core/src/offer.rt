@@ -3,7 +3,6 @@ ghost use Rattle.coll_core.specs.Posts.{IsLaid};
 ghost use Rattle.coll_core.specs.Numbers.{number_bytes};
 
 use crate::buffer::Buffer;
-use coll_bytes::Bytes;
 use coll_kinds::Refusal;
 use coll_plans::Plan;
 use std::alloc::Global;
@@ -49,6 +48,6 @@ impl Offer {
         if self.bytes.len() != schedule.input().len as usize {
             return Ok(Buffer::empty(alloc));
         }
-        Buffer::lay_in(alloc, schedule, Bytes::copy(alloc, &self.bytes)?)
+        Buffer::lay_in(alloc, schedule, &self.bytes)
     }
 }

@@ -128,7 +128,6 @@ impl Core {
     fn make_start_room(&mut self, ticket: Ticket, bytes: &[u8]) -> Result<Buffer, Refusal>
         requires named { names self.old.arena ticket ≡ true }
         requires long { IfSome (record_in self.old.arena ticket.slot) (λ x. length bytes.now ≡ given_len x.plan.sig x.plan.n x.plan.member) }
-        requires short { length bytes.now < 2 ^ 32 }
         ensures same { Unchanged self.old self.new }
         ensures arena { self.new.arena ≡ self.old.arena }
         ensures room { OnOk result (IfSome (record_in self.old.arena ticket.slot) (λ x. x.plan.member < size self.new.matches (next_instance x))) }
@@ -138,8 +137,7 @@ impl Core {
         let Ok(request) = self.arena.get(ticket) else {
             unreachable!()
         };
-        let given = Bytes::copy(self.alloc, bytes)?;
-        let buffer = Buffer::lay_in(self.alloc, request.plan.schedule(), given)?;
+        let buffer = Buffer::lay_in(self.alloc, request.plan.schedule(), bytes)?;
         let key = Key {
             comm: request.comm,
             place: request.place,

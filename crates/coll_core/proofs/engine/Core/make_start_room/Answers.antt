@@ -11,8 +11,7 @@ use Rattle.coll_core.proofs.engine.Core.make_start_room.Goals as goal
 
 pub lay_in-requires : goal.lay_in-requires
 lay_in-requires c =
-    ap length c.in_ok-given.ensures.ok
-    ∙ takes_in _ c.args.ticket.slot c.in-Ok.request.now c.args.bytes.now c.schedule.result.now c.self.invariant c.in-Ok.ensures.found
+    takes_in _ c.args.ticket.slot c.in-Ok.request.now c.args.bytes.now c.schedule.result.now c.self.invariant c.in-Ok.ensures.found
     (subst (λ p. IfSome (record_in p.arena c.args.ticket.slot) (λ x. length c.args.bytes.now ≡ given_len x.plan.sig x.plan.n x.plan.member)) (sym c.self.view_is) c.requires.long)
     c.schedule.ensures.schedule
 
