@@ -7,7 +7,7 @@ use crate::combined::combined;
 use coll_bytes::{Bytes, Segments};
 use coll_kinds::Refusal;
 use coll_ops::are_same;
-use coll_sched::{Action, Region, Schedule};
+use coll_sched::{Action, Region, Round, Schedule};
 use std::alloc::Global;
 use std::marker::Model;
 
@@ -50,6 +50,15 @@ fn cut(buffer: Vec<u8>, region: Region) -> Vec<u8>
     bytes
 }
 
+/// How many actions there are: no more writes than that.
+fn action_count(rounds: &[Round]) -> usize {
+    let mut count: usize = 0;
+    for round in rounds {
+        count = count.saturating_add(round.actions().len());
+    }
+    count
+}
+
 impl Buffer {
     /// Without bytes. It takes no memory.
     pub fn empty(alloc: Global) -> Buffer
@@ -80,11 +89,11 @@ impl Buffer {
                 is_flat: true,
             });
         }
-        let rounds = schedule.rounds().len();
+        let writes = action_count(schedule.rounds());
         let input = schedule.input();
         let given = Bytes::copy(alloc, bytes)?;
         let mut segments = Segments::lay_in(alloc, size, input, given);
-        segments.reserve(rounds)?;
+        segments.reserve(writes)?;
         let own = Vec::with_capacity(alloc, size as usize)?;
         Ok(Buffer {
             segments,
