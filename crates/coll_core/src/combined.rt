@@ -5,7 +5,7 @@ ghost use Rattle.coll_ops.specs.Combinations.{combined as combination};
 
 use coll_bytes::{Bytes, FEW};
 use coll_kinds::{Datatype, Op, Refusal};
-use coll_ops::{combine, combine_into};
+use coll_ops::combine;
 use std::alloc::Global;
 
 /// The combination of two operands, `left` being the first. Only NoMemory is refused; a few bytes take none.
@@ -29,7 +29,7 @@ pub(crate) fn combined(
         combine(op, ty, left.as_slice(), right.as_slice(), out);
         return Ok(Bytes::few(out));
     }
-    let mut out = Vec::from_slice(alloc, left.as_slice())?;
-    combine_into(op, ty, &mut out, right.as_slice());
+    let mut out = vec![in alloc; 0; len]?;
+    combine(op, ty, left.as_slice(), right.as_slice(), &mut out);
     Ok(Bytes::from_vec(out))
 }
