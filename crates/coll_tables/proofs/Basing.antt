@@ -31,7 +31,7 @@ unbegun n f g w t none = tracks_agrees n g empty w (record { given = none; progr
   where
     nothing : (q r j : ℕ) (o : Option (List ℕ)) → w.mail q r j ≡ o → w.mail q r j ≡ None
     nothing q r j None e = e
-    nothing q r j (Some bytes) e = absurd ((t.messages q r j bytes e).heard q (heard_self f j q) (none q))
+    nothing q r j (Some bytes) e = absurd ((t.letters q r j bytes e).heard q (heard_self f j q) (none q))
 
 module _ (v : Tables) (paths : Paths) (b : Base v paths) (i : ℕ) (q : Live) (here : v.request i ≡ Some q) where
   -- the family of a live request is that of its own signature
