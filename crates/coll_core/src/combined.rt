@@ -5,7 +5,7 @@ ghost use Rattle.coll_ops.specs.Combinations.{combined as combination};
 
 use coll_bytes::{Bytes, FEW};
 use coll_kinds::{Datatype, Op, Refusal};
-use coll_ops::combine;
+use coll_ops::{combine, combine_into};
 use std::alloc::Global;
 
 /// The combination of two operands, `left` being the first. Only NoMemory is refused; a few bytes take none.
@@ -26,7 +26,8 @@ pub(crate) fn combined(
     if len <= FEW {
         let mut row = [0; FEW];
         let out = &mut row[..len];
-        combine(op, ty, left.as_slice(), right.as_slice(), out);
+        out.copy_from_slice(left.as_slice());
+        combine_into(op, ty, out, right.as_slice());
         return Ok(Bytes::few(out));
     }
     let mut out = vec![in alloc; 0; len]?;
