@@ -20,6 +20,7 @@ pub(crate) fn combined(
     requires whole { length left.now % width ty ≡ 0 }
     requires same { length right.now ≡ length left.now }
     ensures ok { IfOk result (λ bytes. bytes ≡ combination op ty left.now right.now) }
+    ensures long { IfOk result (λ bytes. length bytes ≡ length left.now) }
     ensures refusal { IsOkUnless result Refusal.NoMemory }
 {
     let len = left.len() as usize;
