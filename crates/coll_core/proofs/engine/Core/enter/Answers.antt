@@ -17,6 +17,8 @@ use Rattle.coll_core.proofs.Posting.{Calls, accepted_from, emptied, given_now, l
 use Rattle.coll_match.specs.Instances.{LookUps, joined, look_ups}
 use Rattle.coll_kinds.specs.Lengths.{given_len}
 use Rattle.coll_kinds.specs.Limits.{max_len}
+use Rattle.coll_machine.specs.declared.key.Key.{Key}
+use Rattle.coll_tables.specs.Shown.{Instances}
 use Rattle.coll_core.proofs.engine.Core.enter.Goals as goal
 
 short : (len given : ℕ) → len ≡ given → given ≤ max_len → len < 2 ^ 32
@@ -51,11 +53,11 @@ join-hint-requires-clause-new c =
     not_given p.matches c.key-key.result (next_instance p.queues c.args.rank c.args.comm) c.member-member.result plan.member instance_is c.member-member.ensures.member
     ((c.new_core.ensures shown (setting p) p.arena p.queues p.matches c.self.invariant).0 c.args.rank c.args.comm plan bytes accepted)
 
-gave : (c : goal.After-join-hint) → look_ups c.join-hint.new.self ≡ joined (look_ups c.self.inside.matches) c.key-key.result c.member-member.result c.args.offer.bytes.items
-gave c = c.join-hint.ensures ∙ ap (λ (bytes : List ℕ). joined (look_ups c.self.inside.matches) c.key-key.result c.member-member.result bytes) c.from_vec-given.ensures
+gave : (n m : Instances) (k : Key) (member : ℕ) (given bytes : List ℕ) → look_ups n ≡ joined (look_ups m) k member given → given ≡ bytes → look_ups n ≡ joined (look_ups m) k member bytes
+gave n m k member given bytes e same = e ∙ ap (λ (b : List ℕ). joined (look_ups m) k member b) same
 
 pub seat-requires : goal.seat-requires
-seat-requires c = given_now c.self.inside.matches c.join-hint.new.self c.key-key.result c.member-member.result c.args.offer.bytes.items (ap (λ (s : LookUps). s.given) (gave c))
+seat-requires c = given_now c.self.inside.matches c.join-hint.new.self c.key-key.result c.member-member.result c.args.offer.bytes.items (ap (λ (s : LookUps). s.given) (gave c.join-hint.new.self c.self.inside.matches c.key-key.result c.member-member.result c.from_vec-given.result c.args.offer.bytes.items c.join-hint.ensures c.from_vec-given.ensures))
 
 pub invariant_of-self : goal.invariant_of-self
 invariant_of-self c =
@@ -74,7 +76,7 @@ invariant_of-self c =
       place_is = c.offer-place.ensures.place;
       key_is = key_is;
       member_is = c.member-member.ensures.member;
-      joins = record { members_is = (ap (λ (s : LookUps). s.members) (gave c)); given_is = (ap (λ (s : LookUps). s.given) (gave c)); seats_is = (ap (λ (s : LookUps). s.seats) (gave c)); mail_is = (ap (λ (s : LookUps). s.mail) (gave c)); then_members = (ap (λ (s : LookUps). s.members) c.seat.ensures); then_given = (ap (λ (s : LookUps). s.given) c.seat.ensures); then_seats = (ap (λ (s : LookUps). s.seats) c.seat.ensures); then_mail = (ap (λ (s : LookUps). s.mail) c.seat.ensures) };
+      joins = record { members_is = (ap (λ (s : LookUps). s.members) (gave c.join-hint.new.self c.self.inside.matches c.key-key.result c.member-member.result c.from_vec-given.result c.args.offer.bytes.items c.join-hint.ensures c.from_vec-given.ensures)); given_is = (ap (λ (s : LookUps). s.given) (gave c.join-hint.new.self c.self.inside.matches c.key-key.result c.member-member.result c.from_vec-given.result c.args.offer.bytes.items c.join-hint.ensures c.from_vec-given.ensures)); seats_is = (ap (λ (s : LookUps). s.seats) (gave c.join-hint.new.self c.self.inside.matches c.key-key.result c.member-member.result c.from_vec-given.result c.args.offer.bytes.items c.join-hint.ensures c.from_vec-given.ensures)); mail_is = (ap (λ (s : LookUps). s.mail) (gave c.join-hint.new.self c.self.inside.matches c.key-key.result c.member-member.result c.from_vec-given.result c.args.offer.bytes.items c.join-hint.ensures c.from_vec-given.ensures)); then_members = (ap (λ (s : LookUps). s.members) c.seat.ensures); then_given = (ap (λ (s : LookUps). s.given) c.seat.ensures); then_seats = (ap (λ (s : LookUps). s.seats) c.seat.ensures); then_mail = (ap (λ (s : LookUps). s.mail) c.seat.ensures) };
       puts = c.in-Ok.ensures.puts;
       weight_is = c.lent-weight.ensures ∙ lent_moved c.sig.result.now plan.sig c.n.result plan.n c.member-member.result plan.member c.sig.ensures.sig c.n.ensures.n c.member-member.ensures.member;
       made_is = refl;
@@ -110,7 +112,7 @@ returns-clause-posted c =
       place_is = c.offer-place.ensures.place;
       key_is = key_is;
       member_is = c.member-member.ensures.member;
-      joins = record { members_is = (ap (λ (s : LookUps). s.members) (gave c)); given_is = (ap (λ (s : LookUps). s.given) (gave c)); seats_is = (ap (λ (s : LookUps). s.seats) (gave c)); mail_is = (ap (λ (s : LookUps). s.mail) (gave c)); then_members = (ap (λ (s : LookUps). s.members) c.seat.ensures); then_given = (ap (λ (s : LookUps). s.given) c.seat.ensures); then_seats = (ap (λ (s : LookUps). s.seats) c.seat.ensures); then_mail = (ap (λ (s : LookUps). s.mail) c.seat.ensures) };
+      joins = record { members_is = (ap (λ (s : LookUps). s.members) (gave c.join-hint.new.self c.self.inside.matches c.key-key.result c.member-member.result c.from_vec-given.result c.args.offer.bytes.items c.join-hint.ensures c.from_vec-given.ensures)); given_is = (ap (λ (s : LookUps). s.given) (gave c.join-hint.new.self c.self.inside.matches c.key-key.result c.member-member.result c.from_vec-given.result c.args.offer.bytes.items c.join-hint.ensures c.from_vec-given.ensures)); seats_is = (ap (λ (s : LookUps). s.seats) (gave c.join-hint.new.self c.self.inside.matches c.key-key.result c.member-member.result c.from_vec-given.result c.args.offer.bytes.items c.join-hint.ensures c.from_vec-given.ensures)); mail_is = (ap (λ (s : LookUps). s.mail) (gave c.join-hint.new.self c.self.inside.matches c.key-key.result c.member-member.result c.from_vec-given.result c.args.offer.bytes.items c.join-hint.ensures c.from_vec-given.ensures)); then_members = (ap (λ (s : LookUps). s.members) c.seat.ensures); then_given = (ap (λ (s : LookUps). s.given) c.seat.ensures); then_seats = (ap (λ (s : LookUps). s.seats) c.seat.ensures); then_mail = (ap (λ (s : LookUps). s.mail) c.seat.ensures) };
       puts = c.in-Ok.ensures.puts;
       weight_is = c.lent-weight.ensures ∙ lent_moved c.sig.result.now plan.sig c.n.result plan.n c.member-member.result plan.member c.sig.ensures.sig c.n.ensures.n c.member-member.ensures.member;
       made_is = refl;

@@ -1,7 +1,6 @@
-use Rattle.std.proofs.Common.{◌≡◌, ◌∙◌, ap, refl, subst, sym}
+use Rattle.std.proofs.Common.{◌∙◌, ap, subst, sym}
 use Rattle.coll_sched.specs.declared.action.Action.TheVariants.{Send}
 use Rattle.coll_sched.specs.Actions.{Fits}
-use Rattle.coll_arena.specs.Changes.{rewritten}
 use Rattle.coll_arena.specs.Slots.{Slots}
 use Rattle.coll_core.specs.declared.request.Request.{Request}
 use Rattle.coll_core.specs.Advancing.{HaveLists}
@@ -21,10 +20,6 @@ part-requires c =
     let at = acts_at _ c.args.self.now c.args.ticket c.in-Ok.request.now (Send c.args.to c.args.from) c.self.view_is c.requires c.in-Ok.ensures.found in
     subst (λ n. Fits n (Send c.args.to c.args.from)) (sym at.filled) at.fits
 
--- who shares a part of its buffer has the same bytes
-kept : (c : goal.After-part) → rewritten c.self.inside.arena c.args.ticket.slot (record c.in-Ok.request.now { buffer = c.part.new.self }) ≡ c.self.inside.arena
-kept c = same_written c.self.inside.arena c.args.ticket.slot c.in-Ok.request.now c.part.new.self c.in-Ok.ensures.found c.part.ensures.same
-
 pub put-requires-clause-joined : goal.put-requires-clause-joined
 put-requires-clause-joined c =
     let x = c.in-Ok.request.now in
@@ -39,37 +34,34 @@ put-requires-clause-new c =
 
 pub deliver-requires : goal.deliver-requires
 deliver-requires c = record {
-  lists = subst HaveLists (sym (kept c)) (have_lists (parts c.self.inside.ranks c.self.inside.starts c.self.inside.trace c.self.inside.arena c.self.inside.queues c.self.inside.matches) c.self.invariant);
+  lists = subst HaveLists (sym (same_written c.self.inside.arena c.args.ticket.slot c.in-Ok.request.now c.part.new.self c.in-Ok.ensures.found c.part.ensures.same)) (have_lists (parts c.self.inside.ranks c.self.inside.starts c.self.inside.trace c.self.inside.arena c.self.inside.queues c.self.inside.matches) c.self.invariant);
   sent = stands_sent c.self.inside.matches c.put.new.self c.key-key.result c.member-member.result c.args.to c.in-Ok.request.now.round c.in_ok-message.message (ap (λ (s : LookUps). s.mail) c.in-Ok-put.ensures.kept);
   seat = c.in-Ok-put.ensures.receiver ∙ ap (λ f. f c.key-key.result c.args.to) (sym (ap (λ (s : LookUps). s.seats) c.in-Ok-put.ensures.kept));
 }
-
-delivered : (c : goal.After-deliver) → Delivers shown c.self.inside.arena c.deliver.new.arena c.put.new.self c.key-key.result c.args.to
-delivered c = subst (λ (a : Slots Request). Delivers shown a c.deliver.new.arena c.put.new.self c.key-key.result c.args.to) (kept c) c.deliver.ensures.delivers
 
 pub advance-requires : goal.advance-requires
 advance-requires c =
     let x = c.in-Ok.request.now in
     let at = acts_at _ c.args.self.now c.args.ticket x (Send c.args.to c.args.from) c.self.view_is c.requires c.in-Ok.ensures.found in
     can_go_then _ c.deliver.new.arena c.args.ticket x c.args.to c.args.from at
-    (stood c.self.inside.arena c.deliver.new.arena c.put.new.self c.key-key.result c.args.to c.args.ticket x at.live at.here at.on_ready (delivered c))
+    (stood c.self.inside.arena c.deliver.new.arena c.put.new.self c.key-key.result c.args.to c.args.ticket x at.live at.here at.on_ready (subst (λ (a : Slots Request). Delivers shown a c.deliver.new.arena c.put.new.self c.key-key.result c.args.to) (same_written c.self.inside.arena c.args.ticket.slot c.in-Ok.request.now c.part.new.self c.in-Ok.ensures.found c.part.ensures.same) c.deliver.ensures.delivers))
 
 pub invariant_of-self : goal.invariant_of-self
-invariant_of-self c = subst (λ (a : Slots Request). IsCore (parts c.self.inside.ranks c.self.inside.starts c.self.inside.trace a c.self.inside.queues c.self.inside.matches)) (sym (kept c)) c.self.invariant
+invariant_of-self c = subst (λ (a : Slots Request). IsCore (parts c.self.inside.ranks c.self.inside.starts c.self.inside.trace a c.self.inside.queues c.self.inside.matches)) (sym (same_written c.self.inside.arena c.args.ticket.slot c.in-Ok.request.now c.part.new.self c.in-Ok.ensures.found c.part.ensures.same)) c.self.invariant
 
 pub returns-in_err-message-clause-err : goal.returns-in_err-message-clause-err
 returns-in_err-message-clause-err c =
-    on_err c.from_residual.result _ (ap (λ (a : Slots Request). parts c.self.inside.ranks c.self.inside.starts c.self.inside.trace a c.self.inside.queues c.self.inside.matches) (kept c) ∙ c.self.view_is)
+    on_err c.from_residual.result _ (ap (λ (a : Slots Request). parts c.self.inside.ranks c.self.inside.starts c.self.inside.trace a c.self.inside.queues c.self.inside.matches) (same_written c.self.inside.arena c.args.ticket.slot c.in-Ok.request.now c.part.new.self c.in-Ok.ensures.found c.part.ensures.same) ∙ c.self.view_is)
 
-pub invariant_of-self-3 : goal.invariant_of-self-3
-invariant_of-self-3 c =
+pub invariant_of-self-2 : goal.invariant_of-self-2
+invariant_of-self-2 c =
     let x = c.in-Ok.request.now in
     let at = acts_at _ c.args.self.now c.args.ticket x (Send c.args.to c.args.from) c.self.view_is c.requires c.in-Ok.ensures.found in
     (sent c.self.inside.ranks c.self.inside.starts c.self.inside.trace c.self.inside.arena c.deliver.new.arena c.advance.new.arena c.self.inside.queues c.self.inside.matches c.put.new.self
     c.args.ticket x c.args.to c.args.from c.key-key.result c.member-member.result c.in_ok-message.message c.advance.result c.self.invariant at c.key-key.ensures c.member-member.ensures.member
     c.in_ok-message.ensures.ok
     (record { members = (ap (λ (s : LookUps). s.members) c.in-Ok-put.ensures.kept); given = (ap (λ (s : LookUps). s.given) c.in-Ok-put.ensures.kept); seats = (ap (λ (s : LookUps). s.seats) c.in-Ok-put.ensures.kept) })
-    (ap (λ (s : LookUps). s.mail) c.in-Ok-put.ensures.kept) (delivered c) c.deliver.ensures.running c.deliver.ensures.first c.advance.ensures).0
+    (ap (λ (s : LookUps). s.mail) c.in-Ok-put.ensures.kept) (subst (λ (a : Slots Request). Delivers shown a c.deliver.new.arena c.put.new.self c.key-key.result c.args.to) (same_written c.self.inside.arena c.args.ticket.slot c.in-Ok.request.now c.part.new.self c.in-Ok.ensures.found c.part.ensures.same) c.deliver.ensures.delivers) c.deliver.ensures.running c.deliver.ensures.first c.advance.ensures).0
 
 pub returns-clause-acts : goal.returns-clause-acts
 returns-clause-acts c =
@@ -80,4 +72,4 @@ returns-clause-acts c =
     c.args.ticket x c.args.to c.args.from c.key-key.result c.member-member.result c.in_ok-message.message c.advance.result c.self.invariant at c.key-key.ensures c.member-member.ensures.member
     c.in_ok-message.ensures.ok
     (record { members = (ap (λ (s : LookUps). s.members) c.in-Ok-put.ensures.kept); given = (ap (λ (s : LookUps). s.given) c.in-Ok-put.ensures.kept); seats = (ap (λ (s : LookUps). s.seats) c.in-Ok-put.ensures.kept) })
-    (ap (λ (s : LookUps). s.mail) c.in-Ok-put.ensures.kept) (delivered c) c.deliver.ensures.running c.deliver.ensures.first c.advance.ensures).1
+    (ap (λ (s : LookUps). s.mail) c.in-Ok-put.ensures.kept) (subst (λ (a : Slots Request). Delivers shown a c.deliver.new.arena c.put.new.self c.key-key.result c.args.to) (same_written c.self.inside.arena c.args.ticket.slot c.in-Ok.request.now c.part.new.self c.in-Ok.ensures.found c.part.ensures.same) c.deliver.ensures.delivers) c.deliver.ensures.running c.deliver.ensures.first c.advance.ensures).1

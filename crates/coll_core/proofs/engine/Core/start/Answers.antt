@@ -1,4 +1,7 @@
-use Rattle.std.proofs.Common.{subst}
+use Rattle.std.proofs.Common.{List, subst}
+use Rattle.std.specs.Prelude.{IfSome}
+use Rattle.coll_arena.specs.Slots.{record_in}
+use Rattle.coll_core.specs.Starts.{Begun}
 use Rattle.coll_kinds.specs.Elements.{AreBytes}
 use Rattle.coll_core.proofs.Restarting.{can_begin, laid_as, read_as, refused_so, short_so, started_core, starts, the_record}
 use Rattle.coll_core.proofs.engine.Core.start.Goals as goal
@@ -29,7 +32,8 @@ invariant_of-self c =
     c.begin.new.arena c.begin.new.matches c.args.rank c.args.bytes.items c.in-Ok.buffer c.start_core.ensures
     (read_as c.args.self.now c.args.rank c.args.ticket c.deref.result.now c.args.bytes.items _ c.deref.ensures.value c.in_default.ensures.refused)
     c.in_default.ensures.named (subst AreBytes c.deref.ensures.value c.in_default.ensures.bytes)
-    (laid_as _ c.deref-2.result.now c.args.bytes.items c.in-Ok.buffer c.deref-2.ensures.value c.in-Ok.ensures.buffer) c.begin.ensures
+    (laid_as _ c.deref-2.result.now c.args.bytes.items c.in-Ok.buffer c.deref-2.ensures.value c.in-Ok.ensures.buffer)
+    (subst (λ (bytes : List ℕ). IfSome (record_in c.self.inside.arena c.args.ticket.slot) (λ x. Begun c.self.inside.arena c.begin.new.arena c.self.inside.matches c.begin.new.matches c.args.ticket x bytes c.in-Ok.buffer)) c.from_vec-given.ensures c.begin.ensures)
 
 pub returns-clause-starts : goal.returns-clause-starts
 returns-clause-starts c =
@@ -39,4 +43,5 @@ returns-clause-starts c =
     c.begin.new.arena c.begin.new.matches c.args.rank c.args.bytes.items c.in-Ok.buffer c.start_core.ensures
     (read_as c.args.self.now c.args.rank c.args.ticket c.deref.result.now c.args.bytes.items _ c.deref.ensures.value c.in_default.ensures.refused)
     c.in_default.ensures.named (subst AreBytes c.deref.ensures.value c.in_default.ensures.bytes)
-    (laid_as _ c.deref-2.result.now c.args.bytes.items c.in-Ok.buffer c.deref-2.ensures.value c.in-Ok.ensures.buffer) c.begin.ensures
+    (laid_as _ c.deref-2.result.now c.args.bytes.items c.in-Ok.buffer c.deref-2.ensures.value c.in-Ok.ensures.buffer)
+    (subst (λ (bytes : List ℕ). IfSome (record_in c.self.inside.arena c.args.ticket.slot) (λ x. Begun c.self.inside.arena c.begin.new.arena c.self.inside.matches c.begin.new.matches c.args.ticket x bytes c.in-Ok.buffer)) c.from_vec-given.ensures c.begin.ensures)
