@@ -375,6 +375,13 @@ impl<R: Drop> Arena<R> {
         self.lent
     }
 
+    /// The links of the lists, for the laws.
+    pub(crate) fn links(&self) -> &Links
+        ensures { result.now ≡ self.now.lists }
+    {
+        &self.links
+    }
+
     /// What holds of every arena, for the laws.
     pub(crate) fn check(&self)
         ensures { IsSound self.now }

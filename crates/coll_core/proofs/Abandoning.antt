@@ -33,6 +33,7 @@ returned ranks starts trace a b q m v w t t_is e sound core out is puts = (
   kept.0,
   subst (λ (z : Parts). Returns z (parts ranks starts trace b q m) w) e (record {
     first = subst (λ (z : Ticket). first_in (sequence b.lists 2) ≡ Some z.slot) t_is (ap (λ (z : Slots Request). first_in (sequence z.lists 2)) is ∙ front_first a.lists t.slot (two_low (length a.lists) a.comms sound.lists_is));
+    is = ap (λ (z : Slots Request). parts ranks starts trace z q m) (is ∙ ap (λ (u : Ticket). shifted_front a u.slot 2) t_is);
     stays = kept.1;
     running_is = subst (λ (z : Ticket). sequence b.lists 3 ≡ taken_out z.slot (sequence a.lists 3)) t_is (puts.from 3 (λ f. absurd (omega (arith, f))));
   }),

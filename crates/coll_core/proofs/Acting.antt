@@ -37,7 +37,7 @@ use Rattle.coll_core.specs.declared.request.Request.{Request}
 use Rattle.coll_core.specs.Cores.{IsCore, Parts, setting}
 use Rattle.coll_core.specs.Requests.{IsListOf, next_of, schedule, shown}
 use Rattle.coll_core.specs.Advancing.{CanAdvance, HasAdvanced, is_end}
-use Rattle.coll_core.specs.Steps.{Goes, StepsBy}
+use Rattle.coll_core.specs.Steps.{Goes, StepsBy, placed}
 use Rattle.coll_core.proofs.Advancing.{puts_written, record_written}
 
 -- ---- from advance's words
@@ -49,6 +49,7 @@ pub record Gone (a b : Slots Request) (n : Instances) (t : Ticket) (x : Request)
   pub list : ListName
   pub puts : PutsSlot a b t.slot t.generation (weight_of a t.slot) (Some to) (number_of list)
   pub stays : home a t.slot ≡ number_of list → b.lists ≡ a.lists
+  pub placed_is : b.lists ≡ placed t.slot (number_of list) a.lists
   pub is : shown to ≡ advanced (shown x) point
   pub buf : point.buf ≡ bytes
   pub over : Over (schedule (shown x)) x.round (suc x.index) point.round point.index
@@ -66,6 +67,7 @@ gone_from a b n t x finished here g =
       list = g.list;
       puts = g.puts;
       stays = g.stays;
+      placed_is = g.placed_is;
       is = g.is;
       buf = g.buf;
       over = g.over;
@@ -90,6 +92,7 @@ gone_written a b n t x y bytes finished sound low w g = record {
   list = on.list;
   puts = puts_written a b t.slot t.generation (weight_of a t.slot) (number_of on.list) y (Some on.to) sound low on.puts;
   stays = on.stays;
+  placed_is = on.placed_is;
   is = on.is ∙ ap (λ (q : Live). advanced q on.point) w.is;
   buf = on.buf ∙ w.buf;
   over = subst (λ (q : Live). Over (schedule q) q.round (suc q.index) on.point.round on.point.index) w.is on.over;

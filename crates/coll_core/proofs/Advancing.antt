@@ -1,12 +1,13 @@
 -- A slot whose request was written, and which then advanced to another list.
-use Rattle.std.proofs.Common.{◌≡◌, ◌∙◌, ◌<◌, ◌&&◌, ◌==◌, ℕ, suc, Bool, true, Option, Some, ap, refl, sym, subst, eqb-true}
+use Rattle.std.proofs.Common.{◌≡◌, ◌∙◌, ◌<◌, ◌&&◌, ◌==◌, ℕ, suc, Bool, true, false, cond, Option, Some, ap, refl, sym, subst, eqb-true}
 use Rattle.std.proofs.lemmas.Bool.{and_parts}
 use Rattle.coll_kinds.specs.declared.ticket.Ticket.{Ticket}
 use Rattle.coll_kinds.specs.Puts.{put}
 use Rattle.coll_kinds.proofs.Puts.{put_put, put_same}
 use Rattle.coll_arena.specs.declared.list_name.ListName.{ListName}
 use Rattle.coll_arena.specs.ListNames.{number_of}
-use Rattle.coll_arena.specs.Changes.{rewritten}
+use Rattle.coll_lists.specs.Moves.{moved_back}
+use Rattle.coll_arena.specs.Changes.{rewritten, shifted}
 use Rattle.coll_arena.specs.Lookups.{PutsSlot}
 use Rattle.coll_arena.specs.Slots.{Slots, count, generation_of, home, names, record_in, weight_of}
 use Rattle.coll_arena.specs.Sound.{IsSound}
@@ -19,6 +20,7 @@ use Rattle.coll_tables.specs.Sound.{Stands}
 use Rattle.coll_core.specs.declared.request.Request.{Request}
 use Rattle.coll_core.specs.Requests.{PassesEnds, IsListOf, shown}
 use Rattle.coll_core.specs.Advancing.{HasAdvanced, is_end}
+use Rattle.coll_core.specs.Steps.{placed as into_place}
 
 -- a change of a slot after a write to it is that change alone
 pub puts_written : (a b : Slots Request) (i gen w list : ℕ) (y : Request) (o : Option Request) → IsSound a → i < count a
@@ -63,6 +65,18 @@ placed a t list sound on =
       from = λ other away. sym (still-out (count a) t.slot a.lists sound.lawful other (λ same. away (same ∙ there)));
     }
 
+-- and its list is as it was; one that goes to another list goes to the back of that
+pub placed_there : (a : Slots Request) (t : Ticket) (list : ℕ) → (names a t && (home a t.slot == list)) ≡ true
+    → a.lists ≡ into_place t.slot list a.lists
+placed_there a t list on =
+    sym (ap (λ b. cond b a.lists (moved_back t.slot list a.lists)) (and_parts (names a t) (home a t.slot == list) on).1)
+
+pub placed_behind : (a b : Slots Request) (t : Ticket) (list : ℕ) → names a t ≡ true → (names a t && (home a t.slot == list)) ≡ false
+    → b ≡ shifted a t.slot list → b.lists ≡ into_place t.slot list a.lists
+placed_behind a b t list live off is =
+    ap (λ (z : Slots Request). z.lists) is
+    ∙ sym (ap (λ b. cond b a.lists (moved_back t.slot list a.lists)) (sym (ap (λ n. n && (home a t.slot == list)) live) ∙ off))
+
 pub gone_on : (a b : Slots Request) (n : Instances) (t : Ticket) (x y : Request) (list : ListName) (finished : Bool)
     → IsSound a → names a t ≡ true → record_in a t.slot ≡ Some x
     → PassesEnds (shown x) (shown y) (suc x.index)
@@ -70,9 +84,10 @@ pub gone_on : (a b : Slots Request) (n : Instances) (t : Ticket) (x y : Request)
     → IsListOf y.comm list
     → PutsSlot (rewritten a t.slot y) b t.slot t.generation (weight_of a t.slot) (record_in (rewritten a t.slot y) t.slot) (number_of list)
     → (home a t.slot ≡ number_of list → b ≡ rewritten a t.slot y)
+    → b.lists ≡ into_place t.slot (number_of list) a.lists
     → finished ≡ is_end list
     → HasAdvanced a b n t finished
-gone_on a b n t x y list finished sound live here goes stands onto puts stays end = record {
+gone_on a b n t x y list finished sound live here goes stands onto puts stays place end = record {
   from = x;
   to = y;
   point = record { round = y.round; index = y.index; buf = x.buffer };
@@ -81,6 +96,7 @@ gone_on a b n t x y list finished sound live here goes stands onto puts stays en
   puts = puts_written a b t.slot t.generation (weight_of a t.slot) (number_of list) y (Some y) sound low
       (subst (λ (o : Option Request). PutsSlot (rewritten a t.slot y) b t.slot t.generation (weight_of a t.slot) o (number_of list)) (record_written a t.slot y sound low) puts);
   stays = λ e. ap (λ (z : Slots Request). z.lists) (stays e);
+  placed_is = place;
   is = goes.is;
   buf = refl;
   over = goes.over;

@@ -6,7 +6,8 @@ use Rattle.coll_kinds.specs.Lengths.{lent}
 use Rattle.coll_kinds.specs.Puts.{put}
 use Rattle.coll_arena.specs.declared.list_name.ListName.{ListName}
 use Rattle.coll_arena.specs.ListNames.{number_of}
-use Rattle.coll_arena.specs.Changes.{rewritten}
+use Rattle.coll_lists.specs.Moves.{moved_back}
+use Rattle.coll_arena.specs.Changes.{reweighed, rewritten, shifted}
 use Rattle.coll_arena.specs.Lookups.{PutsSlot}
 use Rattle.coll_arena.specs.Slots.{Slots, generation_of, home, names, record_in, weight_of}
 use Rattle.coll_arena.specs.Sound.{IsSound}
@@ -21,7 +22,7 @@ use Rattle.coll_tables.specs.Shown.{Instances}
 use Rattle.coll_tables.specs.Sound.{Stands}
 use Rattle.coll_tables.proofs.Slots.{one_written, then_reweighed, then_shifted}
 use Rattle.coll_core.specs.declared.request.Request.{Request}
-use Rattle.coll_core.specs.Requests.{shown}
+use Rattle.coll_core.specs.Requests.{IsListOf, shown}
 use Rattle.coll_core.specs.Starts.{Begins, Begun, next_instance}
 use Rattle.coll_core.proofs.Retiring.{if_some}
 
@@ -67,12 +68,17 @@ module _ (a b c : Slots Request) (m n : Instances) (t : Ticket) (x y : Request) 
       → member ≡ y.plan.member
       → IsJoined m n k member t.slot bytes
       → Stands y.plan.n (mail n (key (shown y))) (number_of list) (shown y)
+      → IsListOf y.comm list
+      → b ≡ reweighed (rewritten a t.slot y) t.slot w
+      → c ≡ shifted b t.slot (number_of list)
       → IfSome (record_in a t.slot) (λ x. Begun a c m n t x bytes buf)
-  begun_there w list k member heavy weighs moves key_is member_is joins stands =
+  begun_there w list k member heavy weighs moves key_is member_is joins stands onto reweighs shifts =
       if_some (λ x. Begun a c m n t x bytes buf) (record_in a t.slot) x here (record {
         to = y;
         list = list;
         puts = slot_of w list heavy weighs moves;
+        lists_is = ap (λ (z : Slots Request). z.lists) shifts ∙ ap (λ (z : Slots Request). moved_back t.slot (number_of list) z.lists) reweighs;
+        onto = subst (λ (q : Live). IsListOf q.comm list) begins.is onto;
         begins = begins;
         joined = subst (λ m'. IsJoined m n (next_instance x) m' t.slot bytes) (member_is ∙ ap (λ (q : Live). q.member) begins.is)
             (subst (λ k. IsJoined m n k member t.slot bytes) (key_is ∙ ap key begins.is) joins);

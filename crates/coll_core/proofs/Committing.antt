@@ -1,13 +1,13 @@
 -- A combination that was out.
-use Rattle.std.proofs.Common.{◌≡◌, ◌∙◌, ◌&&◌, ◌==◌, inr, ℕ, Bool, true, false, List, length, Option, Some, ap, sym, subst, eqb-true}
+use Rattle.std.proofs.Common.{◌≡◌, ◌∙◌, ◌&&◌, ◌==◌, inr, ℕ, Bool, true, false, List, length, cond, Option, Some, ap, sym, subst, eqb-true, ne_eqb}
 use Rattle.std.specs.Prelude.{IsTrue}
 use Rattle.std.proofs.lemmas.Bool.{and_parts}
 use Rattle.std.proofs.lemmas.Option.{same_Some}
 use Rattle.coll_kinds.specs.declared.ticket.Ticket.{Ticket}
-use Rattle.coll_kinds.proofs.Puts.{put_same}
+use Rattle.coll_kinds.proofs.Puts.{put_other, put_same}
 use Rattle.coll_ops.specs.Combinations.{combined}
 use Rattle.coll_lists.specs.Layouts.{sequence}
-use Rattle.coll_lists.specs.Moves.{taken_out}
+use Rattle.coll_lists.specs.Moves.{moved_back, taken_out}
 use Rattle.coll_sched.specs.declared.action.Action.{Action}
 use Rattle.coll_sched.specs.declared.action.Action.TheVariants.{Send, Copy, Combine, Recv}
 use Rattle.coll_sched.specs.declared.region.Region.{Region}
@@ -27,7 +27,7 @@ use Rattle.coll_core.specs.declared.stepped.Stepped.{Stepped}
 use Rattle.coll_core.specs.Cores.{IsCore, Parts, setting}
 use Rattle.coll_core.specs.Requests.{schedule, shown}
 use Rattle.coll_core.specs.Advancing.{CanAdvance, HasAdvanced}
-use Rattle.coll_core.specs.Steps.{Commits, CommitSteps, IsOut, stepped_by}
+use Rattle.coll_core.specs.Steps.{Commits, CommitSteps, IsOut, MovesOne, stepped_by}
 use Rattle.coll_core.specs.Works.{Combined, Made, Piece, StandsAt, result_of}
 use Rattle.coll_core.proofs.Acting.{Gone, Rewrites, can_go_on, core_after, done_here, goes, goes_on, going_not_done, gone_written, list_low, none_ends, parts}
 use Rattle.coll_core.proofs.Reading.{have_lists, running_acting}
@@ -128,6 +128,14 @@ module _ (ranks starts trace : ℕ) (a b : Slots Request) (q : Postings) (m : In
     there : record_in b t.slot ≡ Some on.to
     there = ap (λ (f : ℕ → Option Request). f t.slot) on.puts.records ∙ put_same (record_in a) t.slot (Some on.to)
 
+    moves : MovesOne (parts ranks starts trace a q m) (parts ranks starts trace b q m) t.slot
+    moves = record {
+      lists_is = on.placed_is
+          ∙ (ap (λ d. cond d a.lists (moved_back t.slot (number_of on.list) a.lists)) (ne_eqb (home a t.slot) (number_of on.list) (λ e. list_low x.comm on.list on.onto (sym e ∙ out.runs)))
+          ∙ ap (λ l. moved_back t.slot l a.lists) (sym (ap (λ (f : ℕ → ℕ). f t.slot) on.puts.homes ∙ put_same (home a) t.slot (number_of on.list))));
+      others = λ j away. ap (λ (f : ℕ → Option Request). f j) on.puts.records ∙ put_other (record_in a) t.slot (Some on.to) j away;
+    }
+
     pub committed : IsCore (parts ranks starts trace b q m) × Commits (parts ranks starts trace a q m) (parts ranks starts trace b q m) d finished
     committed = (
       core_after ranks starts trace a b q m m on.puts.count_is on.puts.wear_is once,
@@ -135,6 +143,7 @@ module _ (ranks starts trace : ℕ) (a b : Slots Request) (q : Postings) (m : In
         goes = goes ranks starts trace a b q m m on.puts.count_is on.puts.wear_is once t.slot finished
             (going_not_done a t.slot x out.here (inr out.runs)) (done_here a b m t x bytes finished on)
             (λ e. none_ends a b m t x bytes (subst (λ f. Gone a b m t x bytes f) e on));
+        moves = subst (λ (z : Ticket). MovesOne (parts ranks starts trace a q m) (parts ranks starts trace b q m) z.slot) t_is moves;
         result = record {
           from = x;
           to = on.to;

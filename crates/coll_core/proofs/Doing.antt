@@ -1,5 +1,5 @@
 -- Actions of requests of Ready, each with what it writes.
-use Rattle.std.proofs.Common.{◌≡◌, ◌≢◌, ◌∙◌, inl, ℕ, Bool, List, [], length, Option, Some, None, Result, Ok, Err, ap, sym, subst, arith}
+use Rattle.std.proofs.Common.{◌≡◌, ◌≢◌, ◌∙◌, inl, ℕ, Bool, List, [], length, Option, Some, None, Result, Ok, Err, ap, refl, sym, subst, arith}
 use Rattle.std.specs.Prelude.{OnErr, slice_set}
 use Rattle.std.proofs.lemmas.List.{set-get_or}
 use Rattle.coll_kinds.specs.declared.ticket.Ticket.{Ticket}
@@ -32,6 +32,7 @@ use Rattle.coll_core.specs.Advancing.{HasAdvanced}
 use Rattle.coll_core.specs.Steps.{Acts, IsActingAt}
 use Rattle.coll_core.proofs.Reading.{acting}
 use Rattle.coll_core.proofs.Firsts.{first_stays, if_some}
+use Rattle.coll_core.proofs.Alone.{acts_alone}
 use Rattle.coll_core.proofs.Acting.{Gone, Rewrites, core_after, done_here, goes, goes_on, going_not_done, gone_written, list_low, none_ends, parts}
 
 -- ---- nothing was written
@@ -57,6 +58,7 @@ module _ (ranks starts trace : ℕ) (a b : Slots Request) (q : Postings) (m n : 
       goes = goes ranks starts trace a b q m n g.puts.count_is g.puts.wear_is once t.slot finished
           (going_not_done a t.slot x at.here (inl at.on_ready)) (done_here a b n t x bytes finished g)
           (λ e. none_ends a b n t x bytes (subst (λ f. Gone a b n t x bytes f) e g));
+      acts = acts_alone (parts ranks starts trace a q m) (parts ranks starts trace b q n) n a t x act bytes finished at g (λ j. refl) (inl refl);
       running_is = g.puts.others 3 (λ e. off (home a t.slot) at.on_ready e) (λ e. list_low x.comm g.list g.onto (sym e));
       stays_first = if_some (first_in (sequence a.lists 2)) _
           (first_stays a b t.slot t.generation (weight_of a t.slot) (number_of g.list) (Some g.to) at.on_ready g.puts g.stays);

@@ -6,6 +6,7 @@ pub mod Advancing
 pub mod Receiving
 pub mod Firsts
 pub mod Acting
+pub mod Alone
 pub mod Reading
 pub mod Doing
 pub mod Sending
@@ -15,6 +16,8 @@ pub mod Settling
 pub mod Found
 pub mod Refused
 pub mod Standings
+pub mod Between
+pub mod LockSteps
 pub mod Retiring
 pub mod StartRooms
 pub mod Starting
@@ -22,6 +25,7 @@ pub mod Beginning
 pub mod Fitting
 pub mod Entering
 pub mod Rooming
+pub mod Progressing
 pub mod Posting
 pub mod Opening
 pub mod Abandoning

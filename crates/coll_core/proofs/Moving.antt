@@ -2,6 +2,7 @@
 use Rattle.std.proofs.Common.{◌≡◌, ◌∙◌, ◌<◌, ◌⊎◌, inl, inr, ℕ, true, length, Option, Some, ap, refl, sym, subst, arith}
 use Rattle.coll_kinds.specs.declared.ticket.Ticket.{Ticket}
 use Rattle.coll_kinds.proofs.Puts.{put_same}
+use Rattle.coll_arena.specs.Changes.{shifted}
 use Rattle.coll_arena.specs.Lookups.{IsFirst, PutsSlot}
 use Rattle.coll_arena.specs.Slots.{Slots, generation_of, home, names, record_in, weight_of}
 use Rattle.coll_arena.proofs.Sounds.{Named, Named-names, names_all}
@@ -81,13 +82,15 @@ is_out_now ranks starts trace a b q m t x w e live here stands puts = record {
 pub hands_out : (ranks starts trace : ℕ) (a b : Slots Request) (q : Postings) (m : Instances) (t : Ticket) (x : Request) (w : Piece) → w.ticket ≡ t
     → IsCore (parts ranks starts trace a q m) → IsFirst a 2 t → record_in a t.slot ≡ Some x → StandsAt (shown x) w
     → PutsSlot a b t.slot t.generation (weight_of a t.slot) (record_in a t.slot) 3
+    → b ≡ shifted a t.slot 3
     → IsCore (parts ranks starts trace b q m) × HandsOut (parts ranks starts trace a q m) (parts ranks starts trace b q m) w
-hands_out ranks starts trace a b q m t x w e core first here stands puts =
+hands_out ranks starts trace a b q m t x w e core first here stands puts is =
     let kept = moved ranks starts trace a b q m t x 3 w core first.live here (inl first.home_is) stands (inr refl) puts in (
       kept.0,
       record {
         first = first.first ∙ ap (λ (u : Ticket). Some u.slot) (sym e);
         out = is_out_now ranks starts trace a b q m t x w e first.live here stands puts;
+        is = ap (λ (z : Slots Request). parts ranks starts trace z q m) (is ∙ ap (λ (u : Ticket). shifted a u.slot 3) (sym e));
         stays = kept.1;
       },
     )

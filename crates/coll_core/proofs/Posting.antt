@@ -1,5 +1,5 @@
 -- A post, in the shapes of the code's calls.
-use Rattle.std.proofs.Common.{◌≡◌, ◌≢◌, ◌∙◌, ◌==◌, ◌<◌, [], ℕ, true, cond, List, Option, Some, None, ap, sym, subst, arith}
+use Rattle.std.proofs.Common.{◌≡◌, ◌≢◌, ◌∙◌, ◌==◌, ◌<◌, ◌+◌, ◌*◌, [], ℕ, true, cond, List, Option, Some, None, ap, refl, sym, subst, arith}
 use Rattle.std.proofs.lemmas.Bool.Decides.{nat_tests}
 use Rattle.std.proofs.lemmas.Option.{none-some}
 use Rattle.coll_kinds.specs.Elements.{AreBytes}
@@ -7,8 +7,10 @@ use Rattle.coll_kinds.specs.Lengths.{lent}
 use Rattle.coll_kinds.specs.Puts.{put}
 use Rattle.coll_kinds.specs.declared.signature.Signature.{Signature}
 use Rattle.coll_kinds.specs.declared.ticket.Ticket.{Ticket}
+use Rattle.coll_lists.specs.Moves.{moved_back}
 use Rattle.coll_arena.specs.Lookups.{PutsSlot}
-use Rattle.coll_arena.specs.Slots.{Slots}
+use Rattle.coll_arena.specs.Slots.{Slots, home}
+use Rattle.coll_arena.proofs.Sounds.{free_first}
 use Rattle.coll_arena.specs.Sound.{IsSound as IsArena}
 use Rattle.coll_machine.specs.Calls.{Call, Planned, Post, Init, Ticketed}
 use Rattle.coll_machine.specs.Machines.{MachineStep, refuse, short, takes_memory}
@@ -33,13 +35,16 @@ use Rattle.coll_tables.specs.Sound.{Stands}
 use Rattle.coll_tables.specs.Tables.{Mail, Tables, machine, state}
 use Rattle.coll_core.specs.declared.request.Request.{Request}
 use Rattle.coll_core.specs.Cores.{Parts, IsCore, seen, setting, Unchanged}
+use Rattle.coll_core.specs.Progress.{BeginsSchedule, KeepsProgress}
 use Rattle.coll_core.specs.Requests.{PassesEnds, shown}
 use Rattle.coll_core.specs.Posts.{next_instance, refused_in}
 use Rattle.coll_core.specs.Calls.{Refuses}
 use Rattle.coll_kinds.specs.declared.refusal.Refusal.{Refusal}
 use Rattle.coll_kinds.specs.declared.refusal.Refusal.TheVariants.{NoMemory}
 use Rattle.coll_machine.specs.Refusals.{refusal}
-use Rattle.coll_machine.specs.States.{Machine}
+use Rattle.coll_tables.proofs.EngineCalls.{free_low, free_spare}
+use Rattle.coll_tables.proofs.Lefts.{left_idle}
+use Rattle.coll_core.proofs.Progressing.{begins_schedule, keeps_progress, left_without, three_free, three_idle}
 use Rattle.coll_core.proofs.Rooming.{at_own_key}
 
 pub one_slot : (a b : Slots Request) (slot generation weight lends : ℕ) (found : Option Request) (list : ℕ) → weight ≡ lends
@@ -94,6 +99,8 @@ pub record Calls (p : Parts) (b : Slots Request) (r : Postings) (j n : Instances
   pub over : PassesEnds (shown x) (shown y) 0
   pub buf : x.buffer ≡ laid_in (family plan.sig plan.n plan.member) bytes
   pub stands : Stands y.plan.n (mail j (key (shown y))) list (shown y)
+  pub taken_is : b.lists ≡ moved_back t.slot list p.arena.lists
+  pub apart : 3 ≢ list
 
 abbrev pub parts_of : Parts → Slots Request → Postings → Instances → Parts
 parts_of p b r n = record {
@@ -156,6 +163,15 @@ module _ (p : Parts) (b : Slots Request) (r : Postings) (j n : Instances) (t : T
       subst (λ (g : Setting). StepsTo (setting p) (seen p) (Post rank comm plan bytes) (Ticketed t) (machine (tabled_parts.tables shown g b r n)))
       (sym setting_same) both.1
 
+  -- it goes to the back of its list, with all its actions left
+  pub post_begins : BeginsSchedule p (parts_of p b r n) t.slot (family plan.sig plan.n plan.member)
+  post_begins =
+      begins_schedule p (parts_of p b r n) t.slot t.generation (lent plan.sig plan.n plan.member) list (Some y) posts.puts setting_same sound
+      (free_low p.arena sound t c.free) c.apart (three_free (home p.arena t.slot) (free_first p.arena sound t.slot c.free.first).1)
+      (left_without p.arena t.slot (free_spare p.arena sound t c.free)) c.taken_is
+      y (made rank comm plan (place_of p.queues comm rank) 1 o) (mail p.matches (next_instance p.queues rank comm)) refl is
+      (subst (λ (q : Live). Stands plan.n (mail p.matches (next_instance p.queues rank comm)) list q) is posts.stands) refl posts.over
+
 -- ---- an initialisation
 
 pub offered_as : (q r : Postings) (comm rank : ℕ) (sig : Signature) (plan : Planned) → sig ≡ plan.sig
@@ -198,6 +214,13 @@ module _ (p : Parts) (b : Slots Request) (r : Postings) (t : Ticket) (rank comm 
       subst (λ (g : Setting). MachineStep (setting p) (seen p) (Init rank comm plan) (Ticketed t)
       (machine (tabled_parts.tables shown g b r p.matches)))
       (sym setting_kept) initialised.1
+
+  pub init_progress : b.lists ≡ moved_back t.slot (4 + 3 * comm) p.arena.lists → KeepsProgress p (parts_of p b r p.matches) t.slot
+  init_progress lists_is =
+      keeps_progress p (parts_of p b r p.matches) t.slot t.generation 0 (4 + 3 * comm) (Some y) h.puts setting_kept sound
+      (free_low p.arena sound t h.free) (three_idle (4 + 3 * comm) comm refl) (three_free (home p.arena t.slot) (free_first p.arena sound t.slot h.free.first).1)
+      (left_without p.arena t.slot (free_spare p.arena sound t h.free)) lists_is
+      (left_idle comm (shown y) (ap (λ (q : Live). q.comm) h.is))
 
 -- ---- what the calls ask for
 

@@ -49,6 +49,7 @@ at_first : (p : Parts) (t : Ticket) (x : Request) (a : Action) → IsCore p → 
     → record_in p.arena t.slot ≡ Some x → next_of (shown x) ≡ Some a → Fits (schedule (shown x)).size a
     → IsActingAt p t a x
 at_first p t x a core first here next fits = record {
+  first = first.first;
   live = first.live;
   here = here;
   on_ready = first.home_is;

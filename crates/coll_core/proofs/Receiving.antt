@@ -4,6 +4,7 @@ use Rattle.std.proofs.lemmas.Bool.{and_parts}
 use Rattle.std.proofs.lemmas.Option.{none-some, same_Some}
 use Rattle.coll_kinds.specs.declared.ticket.Ticket.{Ticket}
 use Rattle.coll_sched.specs.declared.action.Action.TheVariants.{Recv}
+use Rattle.coll_arena.specs.Changes.{shifted}
 use Rattle.coll_arena.specs.Lookups.{PutsSlot}
 use Rattle.coll_arena.specs.Slots.{Slots, home, is_live, names, record_in, ticket_of, weight_of}
 use Rattle.coll_arena.proofs.Sounds.{Named-names}
@@ -16,7 +17,7 @@ use Rattle.coll_tables.proofs.Slots.{one_shifted}
 use Rattle.coll_core.specs.declared.request.Request.{Request}
 use Rattle.coll_tables.specs.Requests.{key}
 use Rattle.coll_core.specs.Requests.{CanReceive, shown}
-use Rattle.coll_core.specs.Advancing.{IsReceiver}
+use Rattle.coll_core.specs.Advancing.{Brings, IsReceiver}
 
 slot_by : (a : Slots Request) (slot : ℕ) (t : Ticket) (live : Bool) → Some t ≡ cond live (Some (ticket_of a slot)) None → t.slot ≡ slot
 slot_by a slot t true e = ap (λ (u : Ticket). u.slot) (same_Some t (ticket_of a slot) e)
@@ -53,6 +54,22 @@ delivers a b n k to t h puts = inr (
     waits = h.waits;
     ready = ready (Recv h.can_receive.of h.can_receive.into) refl refl h.can_receive.next_is h.can_receive.came;
     puts = one_shifted a b t.slot t.generation 2 h.request h.here puts;
+  },
+)
+
+pub brings : (a b : Slots Request) (n : Instances) (k : Key) (to : ℕ) (t : Ticket)
+    → IsReceiver a n k to t
+    → b ≡ shifted a t.slot 2
+    → Brings a b n k to
+brings a b n k to t h is = inr (
+  t.slot,
+  record {
+    request = h.request;
+    seat = h.seat;
+    here = h.here;
+    waits = h.waits;
+    records_are = ap (λ (z : Slots Request). z.records) is;
+    lists_is = ap (λ (z : Slots Request). z.lists) is;
   },
 )
 

@@ -1,5 +1,5 @@
 -- A start from its tests to its steps.
-use Rattle.std.proofs.Common.{◌≡◌, ◌∙◌, ◌<◌, ◌^◌, ℕ, suc, true, List, Option, Some, None, is_some, ap, refl, sym, subst}
+use Rattle.std.proofs.Common.{◌≡◌, ◌∙◌, ◌<◌, ◌^◌, ◌+◌, ◌*◌, ◌==◌, not, false, ℕ, suc, true, List, Option, Some, None, is_some, ap, refl, sym, subst}
 use Rattle.std.specs.Prelude.{IfSome}
 use Rattle.std.proofs.lemmas.Bool.{false≢true}
 use Rattle.coll_kinds.specs.declared.ticket.Ticket.{Ticket}
@@ -7,23 +7,32 @@ use Rattle.coll_kinds.specs.declared.refusal.Refusal.{Refusal}
 use Rattle.coll_kinds.specs.declared.refusal.Refusal.TheVariants.{NoMemory}
 use Rattle.coll_kinds.specs.Elements.{AreBytes}
 use Rattle.coll_sched.specs.Families.{laid_in}
-use Rattle.coll_arena.specs.Slots.{Slots, names, record_in}
-use Rattle.coll_match.specs.Instances.{size}
+use Rattle.coll_arena.specs.ListNames.{number_of}
+use Rattle.coll_arena.specs.Slots.{Slots, generation_of, home, names, record_in}
+use Rattle.coll_arena.specs.Sound.{IsSound as IsArena}
+use Rattle.coll_arena.proofs.Sounds.{Named-names}
+use Rattle.coll_match.specs.Instances.{mail, size}
 use Rattle.coll_machine.specs.Calls.{Nothing, Start}
 use Rattle.coll_machine.specs.Machines.{refuse, short}
 use Rattle.coll_machine.specs.Refusals.{refusal}
 use Rattle.coll_tables.specs.Cores as tabled
 use Rattle.coll_tables.specs.EngineLaws.{NewCore, StartCore}
 use Rattle.coll_tables.specs.Machines.{StepsTo}
-use Rattle.coll_tables.specs.Shown.{Instances}
+use Rattle.coll_tables.specs.Requests.{Live, begun as begun_at}
+use Rattle.coll_tables.specs.Shown.{Instances, listed}
+use Rattle.coll_tables.specs.Sound.{Stands}
+use Rattle.coll_tables.proofs.Accepting.{start_passed}
 use Rattle.coll_tables.specs.Tables.{Tables, machine}
 use Rattle.coll_core.specs.declared.request.Request.{Request}
 use Rattle.coll_core.specs.Calls.{Refuses}
 use Rattle.coll_core.specs.Cores.{IsCore, Parts, seen, setting, tables, Unchanged}
+use Rattle.coll_core.specs.Progress.{BeginsSchedule}
 use Rattle.coll_core.specs.Requests.{schedule, shown}
 use Rattle.coll_core.specs.Starts.{Begun, CanBegin, next_instance}
 use Rattle.coll_core.proofs.Retiring.{generation_named, if_some, setting_with, the_one, with}
-use Rattle.coll_core.proofs.Standings.{comm_in}
+use Rattle.coll_core.proofs.Acting.{list_low}
+use Rattle.coll_core.proofs.Progressing.{begins_schedule, begins_since, idle_by, left_inactive, three_idle}
+use Rattle.coll_core.proofs.Standings.{comm_in, live as request_here}
 
 -- the bytes as they were handed in
 pub read_as : (p : Parts) (rank : ℕ) (t : Ticket) (d bytes : List ℕ) (o : Option Refusal) → d ≡ bytes
@@ -107,3 +116,23 @@ module _ (p o w : Parts) (view : p ≡ w) (same : Unchanged o w) (arena : w.aren
     starts =
         subst (λ (v : Tables). StepsTo (setting o) (machine v) (Start rank t bytes) Nothing (seen (with p b n))) tables_is
         (subst (λ g. StepsTo g (seen p) (Start rank t bytes) Nothing (seen (with p b n))) setting_is done.1)
+
+    generation_is : generation_of p.arena t.slot ≡ t.generation
+    generation_is = generation_named p.arena t (subst (λ a. names a t ≡ true) (sym arena_is) live)
+
+    idle : not (home p.arena t.slot == 4 + 3 * x.comm) ≡ false
+    idle = (start_passed (tables p) core.sound.paths core.sound.sound.base t.slot (listed (home p.arena t.slot) (shown x)) (request_here p t.slot x found) rank bytes
+        ((λ z. refusal (setting_is z) (machine (tables_is z)).state (Start rank (record { slot = t.slot; generation = generation_is z }) bytes)) ∙ sym accepted)).inactive
+
+    pub started_begins : IsArena p.arena → IfSome (record_in o.arena t.slot) (λ x. BeginsSchedule o (with p b n) t.slot (schedule (shown x)))
+    started_begins sound =
+        if_some (λ x. BeginsSchedule o (with p b n) t.slot (schedule (shown x))) (record_in o.arena t.slot) x was
+        (begins_since o w (with p b n) t.slot (schedule (shown x)) same
+        (subst (λ (v : Parts). BeginsSchedule v (with p b n) t.slot (schedule (shown x))) view
+        (begins_schedule p (with p b n) t.slot t.generation _ (number_of now.list) (Some now.to) now.puts
+        (setting_with p b n now.puts.count_is now.puts.wear_is) sound
+        (Named-names p.arena t (subst (λ a. names a t ≡ true) (sym arena_is) live)).low
+        (λ e. list_low x.comm now.list now.onto (sym e)) (three_idle (home p.arena t.slot) x.comm (idle_by (home p.arena t.slot) x.comm idle))
+        (left_inactive p.arena t.slot x found idle) now.lists_is
+        now.to (begun_at (shown x) (record { round = now.to.round; index = now.to.index; buf = buf })) (mail p.matches (next_instance x))
+        refl now.begins.is (subst (λ (q : Live). Stands x.plan.n (mail p.matches (next_instance x)) (number_of now.list) q) now.begins.is now.stands) refl now.begins.over)))

@@ -1,13 +1,15 @@
 -- What a completion leaves in the arena.
-use Rattle.std.proofs.Common.{◌≡◌, ◌≢◌, ◌∙◌, ◌+◌, ◌*◌, ◌==◌, ◌&&◌, ℕ, Bool, true, false, List, [], Option, Some, None, ap, sym, subst, arith}
-use Rattle.std.specs.Prelude.{IfSome}
+use Rattle.std.proofs.Common.{◌≡◌, ◌≢◌, ◌∙◌, ◌+◌, ◌*◌, ◌==◌, ◌&&◌, ℕ, Bool, true, false, List, [], Option, Some, None, ap, refl, sym, subst, arith, ◌<◌}
+use Rattle.std.specs.Prelude.{IfSome, option_map}
 use Rattle.std.proofs.lemmas.Bool.{eqb-true, false≢true}
 use Rattle.coll_kinds.specs.declared.kind.Mode.{Mode}
 use Rattle.coll_kinds.specs.declared.kind.Mode.TheVariants.{Once, Persistent}
 use Rattle.coll_kinds.specs.declared.ticket.Ticket.{Ticket}
 use Rattle.coll_arena.specs.declared.list_name.ListName.TheVariants.{Idle}
 use Rattle.coll_arena.specs.ListNames.{number_of}
-use Rattle.coll_arena.specs.Changes.{rewritten}
+use Rattle.coll_kinds.proofs.Puts.{put_same}
+use Rattle.coll_lists.specs.Moves.{moved_back}
+use Rattle.coll_arena.specs.Changes.{retired, reweighed, rewritten, shifted}
 use Rattle.coll_arena.specs.Lookups.{PutsSlot}
 use Rattle.coll_arena.specs.Slots.{Slots, count, generation_of, home, is_live, names, record_in, weight_of}
 use Rattle.coll_arena.specs.Sound.{IsSound}
@@ -15,19 +17,25 @@ use Rattle.coll_arena.proofs.Sounds.{Named-names}
 use Rattle.coll_sched.specs.Regions.{read_of}
 use Rattle.coll_queues.specs.Postings.{groups_of}
 use Rattle.coll_machine.specs.declared.key.Key.{Key}
-use Rattle.coll_match.specs.Instances.{seats}
-use Rattle.coll_machine.specs.Settings.{Setting}
+use Rattle.coll_match.specs.Instances.{mail, seats}
+use Rattle.coll_machine.specs.Settings.{size}
 use Rattle.coll_machine.specs.Calls.{Nothing, Outcome, Retire}
 use Rattle.coll_machine.specs.Machines.{MachineStep, wait}
 use Rattle.coll_machine.specs.Refusals.{refusal}
 use Rattle.coll_tables.specs.Cores as tabled
-use Rattle.coll_tables.specs.Engines.{IsLeft, Rests}
+use Rattle.coll_tables.specs.Engines.{IsLeft, Rests, given_up}
 use Rattle.coll_tables.specs.EngineLaws.{ActingCore, IsActing, RetireCore}
 use Rattle.coll_tables.specs.Requests.{Live, before, advanced, key}
-use Rattle.coll_tables.specs.Shown.{Instances}
+use Rattle.coll_tables.specs.Remaining.{left_by}
+use Rattle.coll_tables.specs.Shown.{Instances, listed}
+use Rattle.coll_tables.specs.Shown as tabled_parts
 use Rattle.coll_tables.specs.Tables.{is_done}
 use Rattle.coll_tables.specs.OneSlots.{OneSlot}
-use Rattle.coll_tables.proofs.Slots.{one_written, then_reweighed, then_shifted}
+use Rattle.coll_tables.proofs.Lefts.{left_done, left_idle}
+use Rattle.coll_tables.proofs.Slots.{home_here, one_written, then_reweighed, then_shifted}
+use Rattle.coll_tables.proofs.Standing.{finished_there}
+use Rattle.coll_core.specs.Progress.{KeepsProgress}
+use Rattle.coll_core.proofs.Progressing.{has_left, keeps_progress, three_done, three_given_up, three_idle}
 use Rattle.coll_core.specs.declared.request.Request.{Request}
 use Rattle.coll_core.specs.Completions.{GivesUp, Owns}
 use Rattle.coll_core.specs.Cores.{IsCore, Parts, seen, setting}
@@ -57,6 +65,27 @@ rested a b c t x y comm sound live here is same weighs moves =
 
     moved : OneSlot a c t.slot t.generation 0 (Some y) (number_of (Idle comm))
     moved = then_shifted a b t.slot t.generation 0 (home a t.slot) (Some y) weighed c t.generation (number_of (Idle comm)) moves
+
+-- the slot is at the back of the list that it lies on
+pub rested_lists : (a b c : Slots Request) (t : Ticket) (y : Request) (comm : ℕ)
+    → b ≡ reweighed (rewritten a t.slot y) t.slot 0
+    → c ≡ shifted b t.slot (number_of (Idle comm))
+    → PutsSlot b c t.slot t.generation (weight_of b t.slot) (record_in b t.slot) (number_of (Idle comm))
+    → c.lists ≡ moved_back t.slot (home c t.slot) a.lists
+rested_lists a b c t y comm weighs moves puts =
+    ap (λ (z : Slots Request). z.lists) moves
+    ∙ (ap (λ (z : Slots Request). moved_back t.slot (number_of (Idle comm)) z.lists) weighs
+    ∙ ap (λ l. moved_back t.slot l a.lists) (sym (ap (λ (f : ℕ → ℕ). f t.slot) puts.homes ∙ put_same (home b) t.slot (number_of (Idle comm)))))
+
+pub ended_lists : (a b : Slots Request) (t : Ticket) → names a t ≡ true
+    → b ≡ retired a t.slot
+    → PutsSlot a b t.slot t.generation 0 None (given_up a.wear t.generation)
+    → b.lists ≡ moved_back t.slot (home b t.slot) a.lists
+ended_lists a b t named is puts =
+    ap (λ (z : Slots Request). z.lists) is
+    ∙ ap (λ l. moved_back t.slot l a.lists)
+    (ap (given_up a.wear) (Named-names a t named).generation
+    ∙ sym (ap (λ (f : ℕ → ℕ). f t.slot) puts.homes ∙ put_same (home a) t.slot (given_up a.wear t.generation)))
 
 -- ---- the tests
 
@@ -175,3 +204,36 @@ module _ (p : Parts) (b : Slots Request) (n : Instances) (t : Ticket) (rank : �
       subst (λ o. MachineStep (setting o) (seen o) (Retire rank t) (Outcome rank k.comm k.place k.start bytes) (seen (with p b n))) same
       (subst (λ (k : Key). MachineStep (setting p) (seen p) (Retire rank t) (Outcome rank k.comm k.place k.start bytes) (seen (with p b n)))
       (sym key_is) completed.1)
+
+  -- it had no actions left, and goes to Free, to Worn or to Idle
+  had_none : has_left p.arena t.slot ≡ 0
+  had_none =
+      let q : Live = listed (home p.arena t.slot) (shown x) in
+      let here = live p t.slot x owns.found in
+      let stands = core.sound.sound.stands t.slot q here in
+      ap (λ (r : Option Request). left_by (tabled_parts.seen (home p.arena t.slot) (option_map shown r))) owns.found
+      ∙ left_done (size (setting p) x.comm) (home p.arena t.slot) (mail p.matches (key (shown x))) q stands
+      (finished_there (size (setting p) x.comm) (home p.arena t.slot) (mail p.matches (key (shown x))) q on stands).0
+      (core.sound.sound.base.sized t.slot q here) on
+
+  pub retires_alone : (o : Parts) → p ≡ o → IsSound p.arena → b.lists ≡ moved_back t.slot (home b t.slot) p.arena.lists
+      → KeepsProgress o (with p b n) t.slot
+  retires_alone o same sound lists_is = subst (λ o. KeepsProgress o (with p b n) t.slot) same (by x.plan.sig.mode left)
+    where
+      low : t.slot < count p.arena
+      low = (Named-names p.arena t owns.named).low
+
+      at_list : (list : ℕ) → home b t.slot ≡ list → b.lists ≡ moved_back t.slot list p.arena.lists
+      at_list list e = lists_is ∙ ap (λ l. moved_back t.slot l p.arena.lists) e
+
+      by : (mode : Mode) → Rests shown mode p.arena b t x → KeepsProgress p (with p b n) t.slot
+      by Once h =
+          let list : ℕ = given_up p.arena.wear t.generation in
+          keeps_progress p (with p b n) t.slot t.generation 0 list None h (setting_with p b n h.count_is h.wear_is) sound low
+          (three_given_up (t.generation == p.arena.wear)) (three_done (home p.arena t.slot) x.comm on) had_none
+          (at_list list (home_here p.arena b t.slot t.generation 0 list None h)) refl
+      by Persistent h =
+          keeps_progress p (with p b n) t.slot t.generation 0 (4 + 3 * x.comm) (Some h.0) h.1 (setting_with p b n h.1.count_is h.1.wear_is) sound low
+          (three_idle (4 + 3 * x.comm) x.comm refl) (three_done (home p.arena t.slot) x.comm on) had_none
+          (at_list (4 + 3 * x.comm) (home_here p.arena b t.slot t.generation 0 (4 + 3 * x.comm) (Some h.0) h.1))
+          (left_idle x.comm (shown h.0) (ap (λ (q : Live). q.comm) h.2))

@@ -15,7 +15,6 @@ use Rattle.coll_tables.specs.Engines.{HasMade}
 use Rattle.coll_tables.specs.EngineLaws.{RoomCore}
 use Rattle.coll_tables.specs.Shown.{Instances}
 use Rattle.coll_tables.specs.Shown as tabled_parts
-use Rattle.coll_tables.specs.Tables.{machine}
 use Rattle.coll_core.specs.declared.request.Request.{Request}
 use Rattle.coll_core.specs.Requests.{shown}
 use Rattle.coll_core.specs.Cores.{Parts, IsCore, setting, tables, Unchanged}
@@ -57,7 +56,7 @@ module _ (p : Parts) (r : Postings) (n : Instances) (k : Key) (law : RoomCore Re
       ∙ (law shown (setting p) p.arena p.queues r p.matches n k core made).1
 
   pub room_unchanged : Unchanged p (with_room p r n)
-  room_unchanged = record { setting_is = setting_same; tables_is = tables_same }
+  room_unchanged = record { setting_is = setting_same; tables_is = tables_same; arena_is = refl }
 
 -- ---- room for an instance
 

@@ -28,9 +28,10 @@ use Rattle.coll_core.specs.declared.request.Request.{Request}
 use Rattle.coll_core.specs.Cores.{IsCore, Parts, setting}
 use Rattle.coll_tables.specs.Requests.{key}
 use Rattle.coll_core.specs.Requests.{shown}
-use Rattle.coll_core.specs.Advancing.{CanAdvance, HasAdvanced}
+use Rattle.coll_core.specs.Advancing.{Brings, CanAdvance, HasAdvanced}
 use Rattle.coll_core.specs.Steps.{Acts, IsActingAt}
 use Rattle.coll_core.proofs.Acting.{Gone, core_after, done_by, done_here, done_in, goes, goes_on, going_not_done, gone_from, list_low, none_ends, parts}
+use Rattle.coll_core.proofs.Alone.{acts_alone, lists_brought, records_brought}
 use Rattle.coll_core.proofs.Reading.{acting}
 use Rattle.coll_core.proofs.Firsts.{first_stays}
 
@@ -144,11 +145,12 @@ pub sent : (ranks starts trace : ℕ) (a b d : Slots Request) (q : Postings) (m 
     → KeepsContributions m n
     → mail n ≡ put_key (mail m) k (put_mail (mail m k) member to x.round (Some message))
     → Delivers shown a b n k to
+    → Brings a b n k to
     → sequence b.lists 3 ≡ sequence a.lists 3
     → IfSome (first_in (sequence a.lists 2)) (λ slot. first_in (sequence b.lists 2) ≡ Some slot)
     → HasAdvanced b d n t finished
     → IsCore (parts ranks starts trace d q n) × Acts (parts ranks starts trace a q m) (parts ranks starts trace d q n) finished
-sent ranks starts trace a b d q m n t x to from k member message finished core at k_is member_is message_is keeps mails delivered runs first gone = (
+sent ranks starts trace a b d q m n t x to from k member message finished core at k_is member_is message_is keeps mails delivered brings runs first gone = (
   core_after ranks starts trace a d q m n count_is wear_is once,
   record {
     goes = goes ranks starts trace a d q m n count_is wear_is once t.slot finished
@@ -156,6 +158,9 @@ sent ranks starts trace a b d q m n t x to from k member message finished core a
         (done_here b d n t x x.buffer finished on)
         (λ e i done. sym (done_same a b n k to delivered i)
         ∙ none_ends b d n t x x.buffer (subst (λ f. Gone b d n t x x.buffer f) e on) i done);
+    acts = acts_alone (parts ranks starts trace a q m) (parts ranks starts trace d q n) n b t x (Send to from) x.buffer finished at on
+        (records_brought a b n k to brings)
+        (lists_brought (parts ranks starts trace a q m) b n x to from k core k_is keeps.seats brings);
     running_is = on.puts.others 3 (λ e. off (home b t.slot) (at_b.home_is ∙ at.on_ready) e) (λ e. list_low x.comm on.list on.onto (sym e)) ∙ runs;
     stays_first = IfSome_then (first_in (sequence a.lists 2)) first
         (first_stays b d t.slot t.generation (weight_of b t.slot) (number_of on.list) (Some on.to) (at_b.home_is ∙ at.on_ready) on.puts on.stays);

@@ -6,10 +6,10 @@ use Rattle.coll_machine.specs.Settings.{Setting}
 use Rattle.coll_machine.specs.States.{Machine}
 use Rattle.coll_tables.proofs.Remainders.{little_left}
 use Rattle.coll_core.specs.Cores.{IsCore, Parts, seen, setting, tables}
-use Rattle.coll_core.specs.Steps.{Acts, Finishings, none, more, Ran, StepsBy, left}
+use Rattle.coll_core.specs.Steps.{Acts, Finishings, none, more, Makes, no_step, one_more, Ran, StepsBy, left}
 
 pub ran_none : (p : Parts) → Ran p p 0
-ran_none p = record { set = refl; finishes = none; running_is = refl; lowers = zero_on (left p) }
+ran_none p = record { makes = no_step; set = refl; finishes = none; running_is = refl; lowers = zero_on (left p) }
   where
     zero_on : (n : ℕ) → n + 0 ≡ n
     zero_on n = omega arith
@@ -20,12 +20,16 @@ finished_more false g h m mid n e before same = subst (λ (k : Machine). Finishi
 
 pub ran_more : (p r s : Parts) (steps : ℕ) (finished : Bool) → Ran p r steps → Acts r s finished → Ran p s (steps + 1)
 ran_more p r s steps finished ran acts = record {
+  makes = subst (λ n. Makes p n s) (suc_is steps) (one_more finished ran.makes acts);
   set = acts.goes.set ∙ ran.set;
   finishes = finished_more finished (setting p) (setting r) (seen p) (seen r) (seen s) ran.set ran.finishes acts.goes.steps;
   running_is = acts.running_is ∙ ran.running_is;
   lowers = one_less (left p) (left r) (left s) ran.lowers acts.goes.lowers;
 }
   where
+    suc_is : (n : ℕ) → suc n ≡ n + 1
+    suc_is n = omega arith
+
     one_less : (i j k : ℕ) → j + steps ≡ i → suc k ≡ j → k + (steps + 1) ≡ i
     one_less i j k e d = omega (arith, e, d)
 

@@ -1,5 +1,5 @@
 -- What a start and a free have tested, and what they change.
-use Rattle.std.proofs.Common.{◌≡◌, ◌∙◌, ◌<◌, ◌≤◌, ◌++◌, ◌==◌, ℕ, Bool, true, false, List, Option, Some, None, ap, refl, sym, subst, arith, not, is_some, eq-eqb}
+use Rattle.std.proofs.Common.{◌≡◌, ◌∙◌, ◌<◌, ◌≤◌, ◌++◌, ◌==◌, ◌+◌, ◌*◌, ℕ, Bool, true, false, List, Option, Some, None, ap, refl, sym, subst, arith, not, is_some, eq-eqb}
 use Rattle.std.specs.Prelude.{length, nat_lt, option_and_then, slice_get}
 use Rattle.std.specs.Option.{option_or}
 use Rattle.std.proofs.lemmas.Option.{none-some}
@@ -7,7 +7,11 @@ use Rattle.std.proofs.lemmas.Bool.{eqb-true, false≢true}
 use Rattle.std.proofs.lemmas.Bool.Decides.{nat_tests}
 use Rattle.coll_kinds.specs.declared.ticket.Ticket.{Ticket}
 use Rattle.coll_arena.specs.Lookups.{PutsSlot}
+use Rattle.coll_arena.specs.Changes.{retired}
 use Rattle.coll_arena.specs.Slots.{Slots, home, names, record_in}
+use Rattle.coll_arena.specs.Sound.{IsSound as IsArena}
+use Rattle.coll_arena.proofs.Sounds.{Named-names}
+use Rattle.coll_lists.specs.Moves.{moved_back}
 use Rattle.coll_kinds.specs.declared.refusal.Refusal.{Refusal}
 use Rattle.coll_kinds.specs.declared.refusal.Refusal.TheVariants.{Active, BadLength, NotPersistent, NotYours, Stale, StartsUsed}
 use Rattle.coll_kinds.specs.declared.signature.Signature.{Signature}
@@ -25,10 +29,13 @@ use Rattle.coll_core.proofs.Standings.{live}
 use Rattle.coll_tables.specs.Cores as tabled
 use Rattle.coll_tables.specs.Engines.{given_up}
 use Rattle.coll_tables.specs.EngineLaws.{FreeCore}
+use Rattle.coll_tables.proofs.Accepting.{free_passed}
 use Rattle.coll_tables.proofs.Slots.{one_slot}
 use Rattle.coll_core.specs.declared.request.Request.{Request}
-use Rattle.coll_core.specs.Cores.{IsCore, Parts, seen, setting}
+use Rattle.coll_core.specs.Cores.{IsCore, Parts, seen, setting, tables}
 use Rattle.coll_core.specs.Requests.{shown}
+use Rattle.coll_core.specs.Progress.{KeepsProgress}
+use Rattle.coll_core.proofs.Progressing.{idle_by, keeps_progress, left_inactive, three_given_up, three_idle}
 use Rattle.coll_core.proofs.Retiring.{generation_named, setting_with, with}
 
 module _ (p o : Parts) (same : p ≡ o) (b : Slots Request) (t : Ticket) (rank : ℕ) (x : Request) (law : FreeCore Request) (core : IsCore p)
@@ -48,6 +55,27 @@ module _ (p o : Parts) (same : p ≡ o) (b : Slots Request) (t : Ticket) (rank :
 
   pub frees : MachineStep (setting o) (seen o) (Free rank t) Nothing (seen (with p b p.matches))
   frees = subst (λ o. MachineStep (setting o) (seen o) (Free rank t) Nothing (seen (with p b p.matches))) same freed.1
+
+  idle : not (home p.arena t.slot == 4 + 3 * x.comm) ≡ false
+  idle = (free_passed (tables p) t.slot (listed (home p.arena t.slot) (shown x)) (live p t.slot x found) rank
+      (ap (λ g. refusal (setting p) (seen p).state (Free rank (record { slot = t.slot; generation = g })))
+      (generation_named p.arena t (subst (λ p. names p.arena t ≡ true) (sym same) named))
+      ∙ subst (λ p. refusal (setting p) (seen p).state (Free rank t) ≡ None) (sym same) (sym accepted))).0
+
+  -- it goes to Free or Worn, and had no actions left
+  pub frees_alone : IsArena p.arena → b ≡ retired p.arena t.slot → KeepsProgress o (with p b p.matches) t.slot
+  frees_alone sound is =
+      let generation_is = generation_named p.arena t (subst (λ p. names p.arena t ≡ true) (sym same) named) in
+      subst (λ o. KeepsProgress o (with p b p.matches) t.slot) same
+      (keeps_progress p (with p b p.matches) t.slot t.generation 0 (given_up p.arena.wear t.generation) None
+      (one_slot p.arena b t.slot t.generation 0 (given_up p.arena.wear t.generation) None puts)
+      (setting_with p b p.matches puts.count_is puts.wear_is) sound
+      (Named-names p.arena t (subst (λ p. names p.arena t ≡ true) (sym same) named)).low
+      (three_given_up (t.generation == p.arena.wear))
+      (three_idle (home p.arena t.slot) x.comm (idle_by (home p.arena t.slot) x.comm idle))
+      (left_inactive p.arena t.slot x found idle)
+      (ap (λ (z : Slots Request). z.lists) is ∙ ap (λ g. moved_back t.slot (given_up p.arena.wear g) p.arena.lists) generation_is)
+      refl)
 
 -- ---- a start's tests
 

@@ -1,6 +1,7 @@
 -- A request that goes on from one list to another.
-use Rattle.std.specs.Prelude.{◌≡◌, ◌≢◌, ◌<◌, ◌≤◌, ℕ, suc, Bool, true, false, length, Some, None}
+use Rattle.std.specs.Prelude.{◌≡◌, ◌≢◌, ◌<◌, ◌≤◌, ◌⊎◌, ℕ, suc, Bool, true, false, length, Some, None}
 use Rattle.coll_kinds.specs.declared.ticket.Ticket.{Ticket}
+use Rattle.coll_lists.specs.Moves.{moved_back}
 use Rattle.coll_sched.specs.Points.{Over}
 use Rattle.coll_sched.specs.Worlds.{Progress}
 use Rattle.coll_arena.specs.declared.list_name.ListName.{ListName}
@@ -16,6 +17,7 @@ use Rattle.coll_tables.specs.Shown.{Instances}
 use Rattle.coll_tables.specs.Sound.{Stands}
 use Rattle.coll_core.specs.declared.request.Request.{Request}
 use Rattle.coll_core.specs.declared.sent.Sent.{Sent}
+use Rattle.coll_core.specs.Steps.{placed}
 use Rattle.coll_core.specs.Requests.{CanReceive, IsListOf, next_of, schedule, shown}
 
 -- the ticket names a request that has a next action
@@ -47,6 +49,7 @@ pub record HasAdvanced (a b : Slots Request) (n : Instances) (t : Ticket) (finis
   pub puts : PutsSlot a b t.slot t.generation (weight_of a t.slot) (Some to) (number_of list)
   -- a request that is on its list already keeps its place there
   pub stays : home a t.slot ≡ number_of list → b.lists ≡ a.lists
+  pub placed_is : b.lists ≡ placed t.slot (number_of list) a.lists
   pub is : shown to ≡ advanced (shown from) point
   pub buf : point.buf ≡ from.buffer
   pub over : Over (schedule (shown from)) from.round (suc from.index) point.round point.index
@@ -70,6 +73,18 @@ pub record IsReceiver (a : Slots Request) (n : Instances) (k : Key) (to : ℕ) (
   pub here : record_in a t.slot ≡ Some request
   pub waits : home a t.slot ≡ number_of (Queue request.comm)
   pub can_receive : CanReceive (mail n (key (shown request))) (shown request)
+
+-- nothing changes, or the slot that is noted for a member goes from its Queue to the back of Ready
+pub record Moved (a b : Slots Request) (n : Instances) (k : Key) (to slot : ℕ) : Type 0 where
+  pub request : Request
+  pub seat : seats n k to ≡ Some slot
+  pub here : record_in a slot ≡ Some request
+  pub waits : home a slot ≡ number_of (Queue request.comm)
+  pub records_are : b.records ≡ a.records
+  pub lists_is : b.lists ≡ moved_back slot (number_of Ready) a.lists
+
+abbrev pub Brings : Slots Request → Slots Request → Instances → Key → ℕ → Type 0
+Brings a b n k to = (b ≡ a) ⊎ ((slot : ℕ) × Moved a b n k to slot)
 
 abbrev pub NoReceiver : Slots Request → Instances → Key → ℕ → Type 0
 NoReceiver a n k to = (slot : ℕ) (r : Request) → IsCalled shown a n k to slot r → ⊥

@@ -37,3 +37,4 @@ IsCore p = tabled.IsCore shown (setting p) p.arena p.queues p.matches
 pub record Unchanged (old new : Parts) : Type 0 where
   pub setting_is : setting new ≡ setting old
   pub tables_is : tables new ≡ tables old
+  pub arena_is : new.arena ≡ old.arena

@@ -7,7 +7,10 @@ pub mod Posts
 pub mod Numbers
 pub mod Starts
 pub mod Steps
+pub mod Progress
 pub mod Works
+pub mod BetweenCalls
+pub mod LockSteps
 -- what functions promise one another on the way to a call's effect
 pub mod Buffers
 pub mod Requests

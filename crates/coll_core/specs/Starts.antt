@@ -2,6 +2,7 @@
 use Rattle.std.specs.Prelude.{◌≡◌, ◌<◌, ◌^◌, ℕ, suc, List, Some, None}
 use Rattle.coll_kinds.specs.declared.ticket.Ticket.{Ticket}
 use Rattle.coll_kinds.specs.Lengths.{lent}
+use Rattle.coll_lists.specs.Moves.{moved_back}
 use Rattle.coll_sched.specs.Points.{IsPoint, Over}
 use Rattle.coll_arena.specs.declared.list_name.ListName.{ListName}
 use Rattle.coll_arena.specs.ListNames.{number_of}
@@ -14,7 +15,7 @@ use Rattle.coll_tables.specs.Requests.{Live, at, begun}
 use Rattle.coll_tables.specs.Shown.{Instances}
 use Rattle.coll_tables.specs.Sound.{Stands}
 use Rattle.coll_core.specs.declared.request.Request.{Request}
-use Rattle.coll_core.specs.Requests.{schedule, shown}
+use Rattle.coll_core.specs.Requests.{IsListOf, schedule, shown}
 
 -- the instance of the request's next start
 abbrev pub next_instance : Request → Key
@@ -38,6 +39,8 @@ pub record Begun (a b : Slots Request) (m n : Instances) (t : Ticket) (x : Reque
   pub to : Request
   pub list : ListName
   pub puts : OneSlot a b t.slot t.generation (lent x.plan.sig x.plan.n x.plan.member) (Some to) (number_of list)
+  pub lists_is : b.lists ≡ moved_back t.slot (number_of list) a.lists
+  pub onto : IsListOf x.comm list
   pub begins : Begins (shown x) (shown to) buf
   pub joined : IsJoined m n (next_instance x) x.plan.member t.slot bytes
   pub stands : Stands x.plan.n (mail m (next_instance x)) (number_of list) (shown to)

@@ -1,15 +1,18 @@
 -- What steps do to an engine.
-use Rattle.std.specs.Prelude.{◌≡◌, ◌<◌, ◌≤◌, ◌+◌, ◌⊎◌, ℕ, suc, length, List, [], Bool, true, false, IfSome, Some}
+use Rattle.std.specs.Prelude.{◌≡◌, ◌≢◌, ◌<◌, ◌≤◌, ◌+◌, ◌==◌, ◌⊎◌, ℕ, suc, length, List, [], Bool, true, false, IfSome, Some, if◌then◌else◌}
 use Rattle.coll_kinds.specs.declared.ticket.Ticket.{Ticket}
-use Rattle.coll_lists.specs.Layouts.{sequence}
-use Rattle.coll_lists.specs.Moves.{taken_out}
+use Rattle.coll_lists.specs.Layouts.{Layout, list_of, sequence}
+use Rattle.coll_lists.specs.Moves.{moved_back, taken_out}
 use Rattle.coll_lists.specs.Neighbours.{first_in}
 use Rattle.coll_sched.specs.declared.action.Action.{Action}
-use Rattle.coll_sched.specs.declared.action.Action.TheVariants.{Combine}
+use Rattle.coll_sched.specs.declared.action.Action.TheVariants.{Combine, Send}
 use Rattle.coll_sched.specs.declared.region.Region.{Region}
 use Rattle.coll_sched.specs.Actions.{Fits, IsCombine}
+use Rattle.coll_sched.specs.Points.{Over}
 use Rattle.coll_sched.specs.Regions.{written}
-use Rattle.coll_arena.specs.declared.list_name.ListName.TheVariants.{Ready, Running}
+use Rattle.coll_sched.specs.Worlds.{Progress}
+use Rattle.coll_arena.specs.declared.list_name.ListName.TheVariants.{Ready, Running, Queue}
+use Rattle.coll_arena.specs.Changes.{shifted, shifted_front}
 use Rattle.coll_arena.specs.ListNames.{number_of}
 use Rattle.coll_arena.specs.Slots.{home, names, record_in}
 use Rattle.coll_match.specs.Instances.{mail}
@@ -23,7 +26,7 @@ use Rattle.coll_core.specs.declared.request.Request.{Request}
 use Rattle.coll_core.specs.declared.stepped.Stepped.{Stepped}
 use Rattle.coll_core.specs.declared.stepped.Stepped.TheVariants.{Quiet, Moved, Finished, Out}
 use Rattle.coll_core.specs.Cores.{Parts, seen, setting, tables}
-use Rattle.coll_tables.specs.Requests.{key}
+use Rattle.coll_tables.specs.Requests.{advanced, key}
 use Rattle.coll_core.specs.Requests.{next_of, schedule, shown}
 use Rattle.coll_core.specs.Works.{Made, Piece, StandsAt}
 
@@ -37,8 +40,14 @@ ready p = sequence p.arena.lists (number_of Ready)
 abbrev pub running : Parts → List ℕ
 running p = sequence p.arena.lists (number_of Running)
 
--- the ticket's request is on Ready, and can do this action next
+-- one slot goes to the back of the list on which it lies then; every other slot keeps its record and its place
+pub record MovesOne (p r : Parts) (slot : ℕ) : Type 0 where
+  pub lists_is : r.arena.lists ≡ moved_back slot (home r.arena slot) p.arena.lists
+  pub others : (other : ℕ) → other ≢ slot → record_in r.arena other ≡ record_in p.arena other
+
+-- the ticket's request is the first of Ready, and can do this action next
 pub record IsActingAt (p : Parts) (t : Ticket) (a : Action) (request : Request) : Type 0 where
+  pub first : first_in (ready p) ≡ Some t.slot
   pub live : names p.arena t ≡ true
   pub here : record_in p.arena t.slot ≡ Some request
   pub on_ready : home p.arena t.slot ≡ number_of Ready
@@ -67,9 +76,46 @@ pub record Goes (p r : Parts) (finished : Bool) : Type 0 where
   pub steps : StepsBy finished (setting p) (seen p) (seen r)
   pub lowers : suc (left r) ≡ left p
 
+-- a slot at the back of a list, unless it lies on that list already
+abbrev pub placed : ℕ → ℕ → Layout → Layout
+placed slot list lists = if list_of lists slot == list then lists else moved_back slot list lists
+
+-- the slot's request is that of the member to which a request sends, in the same collective, and waits for a message
+pub record Receives (p : Parts) (sender : Request) (action : Action) (slot : ℕ) : Type 0 where
+  pub request : Request
+  pub to : ℕ
+  pub from : Region
+  pub sends : action ≡ Send to from
+  pub here : record_in p.arena slot ≡ Some request
+  pub key_is : key (shown request) ≡ key (shown sender)
+  pub member_is : request.plan.member ≡ to
+  pub waits : home p.arena slot ≡ number_of (Queue request.comm)
+
+-- the first of Ready is one action on, and lies where its next one puts it; before that the receiver of its message may
+-- come to the back of Ready; every other slot keeps its record and its place
+pub record ActsFirst (p r : Parts) : Type 0 where
+  pub slot : ℕ
+  pub from : Request
+  pub to : Request
+  pub action : Action
+  pub point : Progress
+  pub first : first_in (ready p) ≡ Some slot
+  pub here : record_in p.arena slot ≡ Some from
+  pub there : record_in r.arena slot ≡ Some to
+  pub next_is : next_of (shown from) ≡ Some action
+  pub is : shown to ≡ advanced (shown from) point
+  pub over : Over (schedule (shown from)) from.round (suc from.index) point.round point.index
+  pub others : (other : ℕ) → other ≢ slot → record_in r.arena other ≡ record_in p.arena other
+  pub lists_is :
+      (r.arena.lists ≡ placed slot (home r.arena slot) p.arena.lists)
+      ⊎ ((receiver : ℕ)
+      × Receives p from action receiver
+      × (r.arena.lists ≡ placed slot (home r.arena slot) (moved_back receiver (number_of Ready) p.arena.lists)))
+
 -- the same of a request of Ready
 pub record Acts (p r : Parts) (finished : Bool) : Type 0 where
   pub goes : Goes p r finished
+  pub acts : ActsFirst p r
   pub running_is : running r ≡ running p
   -- the first of Ready stays the first where it can still go on
   pub stays_first :
@@ -89,10 +135,11 @@ pub record Stays (p r : Parts) : Type 0 where
   pub same : seen r ≡ seen p
   pub keeps : left r ≡ left p
 
--- the first request of Ready goes out
+-- the first request of Ready goes out, to the back of Running, and nothing else changes
 pub record HandsOut (p r : Parts) (w : Piece) : Type 0 where
   pub first : first_in (ready p) ≡ Some w.ticket.slot
   pub out : IsOut r w
+  pub is : r ≡ record p { arena = shifted p.arena w.ticket.slot (number_of Running) }
   pub stays : Stays p r
 
 abbrev pub Steps : Parts → Parts → Stepped → Type 0
@@ -135,6 +182,7 @@ pub record HasResult (p r : Parts) (d : Made) : Type 0 where
 -- a combination that was out is done
 pub record Commits (p r : Parts) (d : Made) (finished : Bool) : Type 0 where
   pub goes : Goes p r finished
+  pub moves : MovesOne p r d.piece.ticket.slot
   pub result : HasResult p r d
   pub running_is : running r ≡ taken_out d.piece.ticket.slot (running p)
 
@@ -154,15 +202,22 @@ abbrev pub stepped_by : Bool → Stepped
 stepped_by true = Finished
 stepped_by false = Moved
 
+-- so many steps were made, one after the other
+pub data Makes (p : Parts) : ℕ → Parts → Type 0 where
+  no_step : Makes p 0 p
+  one_more : {n : ℕ} {mid r : Parts} (finished : Bool) → Makes p n mid → Acts mid r finished → Makes p (suc n) r
+
 -- some actions were done, so many
 pub record Ran (p r : Parts) (steps : ℕ) : Type 0 where
+  pub makes : Makes p steps r
   pub set : setting r ≡ setting p
   pub finishes : Finishings (setting p) (seen p) (seen r)
   pub running_is : running r ≡ running p
   pub lowers : left r + steps ≡ left p
 
--- a combination that was out comes back undone: its request is the first that is ready
+-- a combination that was out comes back undone: its request goes to the front of Ready, and nothing else changes
 pub record Returns (p r : Parts) (w : Piece) : Type 0 where
   pub first : first_in (ready r) ≡ Some w.ticket.slot
+  pub is : r ≡ record p { arena = shifted_front p.arena w.ticket.slot (number_of Ready) }
   pub stays : Stays p r
   pub running_is : running r ≡ taken_out w.ticket.slot (running p)

@@ -14,10 +14,13 @@ ghost use Rattle.coll_machine.specs.Refusals.{refusal};
 ghost use Rattle.coll_arena.specs.Slots.{names, record_in, lent};
 ghost use Rattle.coll_tables.specs.FreeLocks.{NothingGoes};
 ghost use Rattle.coll_tables.specs.Sound.{IsSound};
-ghost use Rattle.coll_core.specs.Configs.{IsUnopened, idle, setting_by};
+ghost use Rattle.coll_core.specs.BetweenCalls.{BetweenCalls};
+ghost use Rattle.coll_core.specs.Configs.{IsConfig, IsUnopened, idle, setting_by};
 ghost use Rattle.coll_core.specs.Cores.{seen, setting, tables};
 ghost use Rattle.coll_core.specs.Phases.{IsQuiet, about_in, phase_in};
-ghost use Rattle.coll_core.specs.Steps.{ready};
+ghost use Rattle.coll_core.specs.LockSteps.{OfLockStep};
+ghost use Rattle.coll_core.specs.Steps.{IsOut, ready};
+ghost use Rattle.coll_core.specs.Works.{Piece};
 
 use crate::about::About;
 use crate::config::Config;
@@ -63,6 +66,7 @@ impl Core {
     pub fn open(alloc: Global, config: Config) -> Result<Core, Refusal>
         ensures setting { IfOk result (λ core. setting core ≡ setting_by config) }
         ensures idle { IfOk result (λ core. seen core ≡ idle) }
+        ensures fits { OnOk result (IsConfig config) }
         ensures refused { IfErr result (IsUnopened config) }
     {
         config.check()?;
@@ -154,6 +158,27 @@ impl Core {
         ensures { IsTrue result ↔ IsQuiet self.now }
     {
         self.arena.first(ListName::Ready).is_none() && self.arena.first(ListName::Running).is_none()
+    }
+
+    /// The requests' slots, for the laws.
+    pub(crate) fn arena(&self) -> &Arena<Request>
+        ensures { result.now ≡ self.now.arena }
+    {
+        &self.arena
+    }
+
+    /// What holds of every engine between its calls, for the laws.
+    pub(crate) fn check_between(&self)
+        ensures { BetweenCalls self.now }
+    {
+        is_sound(&self.arena);
+    }
+
+    /// What is handed out was read in lock-step, for the laws.
+    pub(crate) fn check_operands(&self)
+        ensures { (work : Piece) → IsOut self.now work → OfLockStep self.now work }
+    {
+        let _arena = &self.arena;
     }
 
     /// What holds of every engine, for the laws.

@@ -6,9 +6,9 @@ use Rattle.coll_history.specs.Reading.{and_then}
 use Rattle.coll_history.specs.Histories.{History}
 use Rattle.coll_script.specs.Jobs.{script_of, job_of}
 use Rattle.coll_script.specs.Meaning.{meaning, job_lines}
-use Rattle.coll_job.specs.declared.fault.JobFault.{JobFault}
-use Rattle.coll_job.specs.declared.fault.JobFault.TheVariants.{Read, Write, Text, Stalled, Refused, Memory, NoThread, Torn}
-use Rattle.coll_job.proofs.Answering.{meaning-read}
+use Rattle.coll_script.specs.declared.fault.JobFault.{JobFault}
+use Rattle.coll_script.specs.declared.fault.JobFault.TheVariants.{Read, Write, Text, Stalled, Refused, Memory, NoThread, Torn}
+use Rattle.coll_script.proofs.Answering.{meaning-read}
 use Rattle.coll_diagnosis.specs.Explained.{HasMeaning, IsFaultOf, IsExplainFault}
 
 -- a text that has a script has a meaning

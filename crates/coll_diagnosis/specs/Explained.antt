@@ -1,7 +1,7 @@
 -- What explaining a text may end in.
 use Rattle.std.specs.Prelude.{◌≡◌, ℕ, List, Option, IfSome, Ok, Err}
-use Rattle.coll_job.specs.declared.fault.JobFault.{JobFault}
-use Rattle.coll_job.specs.declared.fault.JobFault.TheVariants.{Read, Write, Text, Memory}
+use Rattle.coll_script.specs.declared.fault.JobFault.{JobFault}
+use Rattle.coll_script.specs.declared.fault.JobFault.TheVariants.{Read, Write, Text, Memory}
 use Rattle.coll_script.specs.Meaning.{meaning}
 
 -- the text has no fault

@@ -9,9 +9,8 @@ use crate::dot_form::dot_form;
 use crate::explanation::Explanation;
 use crate::json_form::json_form;
 use crate::text_form::text_form;
-use coll_job::{Counted, JobFault, read_text, write_lines};
 use coll_kinds::Refusal;
-use coll_script::Script;
+use coll_script::{Counted, JobFault, Script, read_text, write_lines};
 use std::alloc::Global;
 use std::io::{Read, Write};
 

@@ -2,10 +2,10 @@
 use Rattle.std.proofs.Common.{◌≡◌, ℕ, List, take, Option, Some, None, sym, subst, ◌∙◌}
 use Rattle.std.specs.Prelude.{IfSome, MatchResult, Result, Ok, Err}
 use Rattle.coll_history.specs.declared.fault.Fault.{Fault}
-use Rattle.coll_job.specs.declared.fault.JobFault.{JobFault}
-use Rattle.coll_job.specs.declared.fault.JobFault.TheVariants.{Read, Write, Text, Stalled, Refused, Memory, NoThread, Torn}
+use Rattle.coll_script.specs.declared.fault.JobFault.{JobFault}
+use Rattle.coll_script.specs.declared.fault.JobFault.TheVariants.{Read, Write, Text, Stalled, Refused, Memory, NoThread, Torn}
 use Rattle.coll_script.specs.Meaning.{meaning}
-use Rattle.coll_job.proofs.Answering.{meaning-read}
+use Rattle.coll_script.proofs.Answering.{meaning-read}
 use Rattle.coll_diagnosis.specs.Explained.{HasMeaning}
 use Rattle.coll_diagnosis.specs.Explained as explained
 use Rattle.coll_diagnosis.specs.Verdicts.{IsStatus}

@@ -1,8 +1,8 @@
 -- What checking a text may end in.
 use Rattle.std.specs.Prelude.{◌≡◌, ◌⊎◌, ℕ, List, Option, IfSome, MatchResult}
 use Rattle.std.specs.Io.KnownBytes.{Keeps}
-use Rattle.coll_job.specs.declared.fault.JobFault.{JobFault}
-use Rattle.coll_job.specs.declared.fault.JobFault.TheVariants.{Read, Write, Text, Memory}
+use Rattle.coll_script.specs.declared.fault.JobFault.{JobFault}
+use Rattle.coll_script.specs.declared.fault.JobFault.TheVariants.{Read, Write, Text, Memory}
 use Rattle.coll_script.specs.Meaning.{meaning}
 use Rattle.coll_diagnosis.specs.Explained.{HasMeaning}
 use Rattle.coll_diagnosis.specs.Verdicts.{IsStatus}

@@ -12,7 +12,7 @@ use crate::faults::Faults;
 use crate::json_form::{faultless_json, faults_json};
 use crate::text_form::{faultless_text, faults_text};
 use coll_diagnosis::{ExplainOptions, Form, explain_text};
-use coll_job::{Counted, JobFault, read_text, write_lines};
+use coll_script::{Counted, JobFault, read_text, write_lines};
 use std::alloc::Global;
 use std::io::{Read, Write};
 

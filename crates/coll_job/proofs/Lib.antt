@@ -1,2 +1,8 @@
-pub mod Consuming
-pub mod Answering
+pub mod Asking
+pub mod Telling
+pub mod Meant
+mod Indexing
+mod Printed
+mod Ending
+mod AttestedRows
+pub mod Failing

@@ -1,32 +1,45 @@
--- Why the program ends without its answer, and with which status.
-use Rattle.std.specs.Prelude.{ℕ}
+-- Why a run has no answer, and which fault is told where several threads end with one.
+use Rattle.std.specs.Prelude.{◌≡◌, ◌++◌, ℕ, Bool, true, false, List, Option, Some, None, Err, IsOk, IfSome}
+use Rattle.std.specs.List.{fold}
+use Rattle.std.specs.Option.{option_map}
 use Rattle.coll_kinds.specs.declared.refusal.Refusal.{Refusal}
 use Rattle.coll_kinds.specs.declared.refusal.Refusal.TheVariants as refusal
-use Rattle.coll_history.specs.declared.fault.ScriptFault.{ScriptFault}
-use Rattle.coll_history.specs.declared.fault.ScriptFault.TheVariants as script
-use Rattle.coll_job.specs.declared.fault.JobFault.{JobFault}
-use Rattle.coll_job.specs.declared.fault.JobFault.TheVariants.{Read, Write, Text, Stalled, Refused, Memory}
-use Rattle.coll_job.specs.declared.fault.JobFault.TheVariants.{NoThread, Torn}
+use Rattle.coll_script.specs.Meaning.{meaning}
+use Rattle.coll_script.specs.declared.fault.JobFault.{JobFault}
+use Rattle.coll_script.specs.declared.fault.JobFault.TheVariants.{Read, Write, Text, Memory, NoThread}
+use Rattle.coll_script.specs.Faults.{fault_of_refusal}
 
--- the exit status of a fault
-abbrev pub status_of : JobFault → ℕ
-status_of Read = 1
-status_of Write = 1
-status_of (Text fault) = 2
-status_of Stalled = 3
-status_of (Refused why) = 4
-status_of Memory = 5
-status_of NoThread = 5
-status_of Torn = 5
+-- the faults of a run: that of a text is the one that its definition gives, and only a text without one is run
+abbrev pub IsRunFault : List ℕ → JobFault → Type 0
+IsRunFault text Read = ⊥
+IsRunFault text Write = ⊥
+IsRunFault text (Text fault) = meaning text ≡ Err fault
+IsRunFault text Memory = Unit {0}
+IsRunFault text fault = IsOk (meaning text)
 
--- the fault of a text that couldn't be read
-abbrev pub fault_of_script : ScriptFault → JobFault
-fault_of_script (script.Text fault) = Text fault
-fault_of_script script.NoMemory = Memory
+-- the faults of the run of a script
+abbrev pub IsEnd : JobFault → Type 0
+IsEnd Read = ⊥
+IsEnd Write = ⊥
+IsEnd (Text fault) = ⊥
+IsEnd fault = Unit {0}
 
--- the fault of a call that was refused: want of memory, a stall and a torn report have faults of their own
-abbrev pub fault_of_refusal : Refusal → JobFault
-fault_of_refusal refusal.NoMemory = Memory
-fault_of_refusal refusal.Stalled = Stalled
-fault_of_refusal refusal.Torn = Torn
-fault_of_refusal why = Refused why
+-- of the ends of two threads, the earlier one first, the one that is told: a stall gives way to another refusal
+abbrev pub graver : Option Refusal → Option Refusal → Option Refusal
+graver None later = later
+graver (Some refusal.Stalled) (Some later) = Some later
+graver (Some why) later = Some why
+
+-- the fault that is told of the ends of the ranks' threads and of the progress threads: the first refusal that isn't a
+-- stall, and else a stall; but where a thread couldn't be started, that
+abbrev pub fault_of : Bool → List (Option Refusal) → List (Option Refusal) → Option JobFault
+fault_of false ranks workers = Some NoThread
+fault_of true ranks workers = option_map fault_of_refusal (fold graver None (ranks ++ workers))
+
+-- the faults of a job from a reader to a writer; where the text is known, that of a text is the one that its definition
+-- gives, and only a text without one is run
+abbrev pub IsThreadedFault : Option (List ℕ) → JobFault → Type 0
+IsThreadedFault input Read = Unit {0}
+IsThreadedFault input Write = Unit {0}
+IsThreadedFault input Memory = Unit {0}
+IsThreadedFault input fault = IfSome input (λ text. IsRunFault text fault)

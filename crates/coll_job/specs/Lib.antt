@@ -1,3 +1,16 @@
--- why there is no answer, and how reading and answering end
+-- what a run of a job is
+pub mod Commands
+pub mod Runs
+-- what its report tells, and that it is the job's meaning
+pub mod Lines
+pub mod Laws
+-- why a run has no answer, and which fault is told
 pub mod Faults
-pub mod Plain
+-- what the words of a command line ask for
+pub mod Tasks
+-- worked rows
+pub mod AttestedRows
+pub mod FaultRows
+-- what functions of this crate promise one another, on the way to the lines
+pub mod Missing
+pub mod Index

@@ -1,3 +1,11 @@
+pub mod Lists
+pub mod Standing
+pub mod Counted
+pub mod Valued
+pub mod Running
+pub mod TracesTelling
+pub mod Strangers
+pub mod ScriptRows
 pub mod Attesting
 pub mod Groups
 pub mod Handing

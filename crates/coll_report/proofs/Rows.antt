@@ -6,10 +6,10 @@ use Rattle.coll_machine.specs.States.{State}
 use Rattle.coll_machine.specs.Rows.{two_ranks, left_late, late_bcast, freed, two_starts}
 use Rattle.coll_machine.proofs.Rows.{rows_are_legal}
 use Rattle.coll_machine.proofs.Slots.{AreLow, live_low}
-use Rattle.coll_trace.specs.Scripts.{Command}
-use Rattle.coll_trace.specs.Told.{IsIdle}
-use Rattle.coll_trace.specs.Rows.{bcasts, gathers}
-use Rattle.coll_trace.proofs.Rows.{rows_are_told}
+use Rattle.coll_report.specs.Scripts.{Command}
+use Rattle.coll_report.specs.Told.{IsIdle}
+use Rattle.coll_report.specs.ScriptRows.{bcasts, gathers}
+use Rattle.coll_report.proofs.ScriptRows.{rows_are_told}
 use Rattle.coll_report.specs.Rows.{RowsAreClosed}
 
 none_live : (s : State) → AreLow two_ranks s → s.request 0 ≡ None → s.request 1 ≡ None → IsIdle s

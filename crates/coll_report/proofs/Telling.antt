@@ -10,10 +10,10 @@ use Rattle.coll_machine.specs.declared.key.Key.{Key}
 use Rattle.coll_machine.specs.States.{State}
 use Rattle.coll_machine.specs.Entries.{Entry, Posted, Inited, Started, Retired, Freed}
 use Rattle.coll_machine.specs.Reports.{posts_of}
-use Rattle.coll_trace.specs.Scripts.{Command, Asked, asked, at_place, outcome, Says, IsAsked}
-use Rattle.coll_trace.specs.Told.{HasValue, retires, IsTraceOf, IsIdle, Counts}
-use Rattle.coll_trace.proofs.Strangers.{strangers_are_silent}
-use Rattle.coll_trace.proofs.Telling.{traces_tell, traces_count}
+use Rattle.coll_report.specs.Scripts.{Command, Asked, asked, at_place, outcome, Says, IsAsked}
+use Rattle.coll_report.specs.Told.{HasValue, retires, IsTraceOf, IsIdle, Counts}
+use Rattle.coll_report.proofs.Strangers.{strangers_are_silent}
+use Rattle.coll_report.proofs.TracesTelling.{traces_tell, traces_count}
 use Rattle.coll_report.specs.Attested.{IsAttested}
 use Rattle.coll_report.specs.Reports.{Closed, IsClosed}
 use Rattle.coll_report.specs.Scripted.{Follows, IsScripted, Tells, AttestedTells}

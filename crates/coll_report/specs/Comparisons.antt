@@ -2,7 +2,7 @@
 use Rattle.std.specs.Prelude.{◌≡◌, List, map, slice_get, Option, Some, None}
 use Rattle.coll_kinds.specs.declared.ticket.Ticket.{Ticket}
 use Rattle.coll_machine.specs.Entries.{Entry, Posted, Inited, Started, Retired, Freed}
-use Rattle.coll_trace.specs.Scripts.{Command, Post, Init, Start, Other, Says}
+use Rattle.coll_report.specs.Scripts.{Command, Post, Init, Start, Other, Says}
 use Rattle.coll_report.specs.declared.command.Command as rust_command
 use Rattle.coll_report.specs.declared.command.Command.TheVariants as rust
 

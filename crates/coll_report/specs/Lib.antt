@@ -5,9 +5,13 @@ pub mod Views
 pub mod Traces
 pub mod Posts
 pub mod Comparisons
+-- what each rank is told to do, and what a legal trace then says
+pub mod Scripts
+pub mod Told
 -- what a closed engine leaves, and what it attests
 pub mod Reports
 pub mod Attested
 pub mod Scripted
 -- worked rows
+pub mod ScriptRows
 pub mod Rows

@@ -4,7 +4,7 @@ use Rattle.coll_machine.specs.Settings.{Setting, AreGroups}
 use Rattle.coll_machine.specs.States.{State}
 use Rattle.coll_machine.specs.Entries.{Entry}
 use Rattle.coll_machine.specs.Traces.{LegalTrace}
-use Rattle.coll_trace.specs.Told.{IsIdle}
+use Rattle.coll_report.specs.Told.{IsIdle}
 use Rattle.coll_core.specs.declared.config.Config.{Config}
 use Rattle.coll_core.specs.Configs.{setting_by}
 use Rattle.coll_report.specs.declared.entry.Entry as rust_entry

@@ -4,8 +4,8 @@ use Rattle.std.proofs.Common.{lit<}
 use Rattle.coll_machine.specs.Reports.{posts_of}
 use Rattle.coll_machine.specs.Entries.{Entry, Posted, Inited, Started, Retired}
 use Rattle.coll_machine.specs.Rows.{bcast, gather, i32, key, late_bcast, ticket, two_ranks, two_starts}
-use Rattle.coll_trace.specs.Scripts.{Start}
-use Rattle.coll_trace.specs.Rows.{bcasts, gathers}
+use Rattle.coll_report.specs.Scripts.{Start}
+use Rattle.coll_report.specs.ScriptRows.{bcasts, gathers}
 use Rattle.coll_report.specs.Attested.{IsAttested, attests}
 use Rattle.coll_report.specs.Comparisons.{IsOf}
 use Rattle.coll_report.specs.Reports.{Closed, IsClosed}

@@ -3,8 +3,8 @@ use Rattle.std.specs.Prelude.{◌≡◌, ◌↔◌, ◌<◌, ◌≤◌, ℕ, Lis
 use Rattle.std.specs.List.{AllByRecursion}
 use Rattle.coll_machine.specs.declared.key.Key.{Key}
 use Rattle.coll_machine.specs.Reports.{posts_of}
-use Rattle.coll_trace.specs.Scripts.{Command, Asked, asked, outcome, Says, IsAsked}
-use Rattle.coll_trace.specs.Told.{HasValue, retires}
+use Rattle.coll_report.specs.Scripts.{Command, Asked, asked, outcome, Says, IsAsked}
+use Rattle.coll_report.specs.Told.{HasValue, retires}
 use Rattle.coll_report.specs.Attested.{IsAttested}
 use Rattle.coll_report.specs.Reports.{Closed, IsClosed}
 

@@ -1,5 +1,5 @@
 ghost use Rattle.std.specs.Prelude.{◌≡◌, ◌↔◌, [], ◌∷◌, List, map, IsTrue, IfOk, OnErr, Some, slice_get};
-ghost use Rattle.coll_trace.specs.Scripts.{Command as ScriptCommand, Says};
+ghost use Rattle.coll_report.specs.Scripts.{Command as ScriptCommand, Says};
 ghost use Rattle.coll_report.specs.Comparisons.{Compared, IsOf, SaysLeft, all_said, said, ticket_made};
 ghost use Rattle.coll_report.specs.Posts.{posts_left};
 ghost use Rattle.coll_report.specs.Views.{seen};

@@ -1,4 +1,4 @@
-//! The trace of an engine as data, and what it tells once the engine is closed.
+//! The trace of an engine as data, what a legal trace of a script tells, and what it tells once the engine is closed.
 //!
 //! | Module | Has |
 //! |---|---|
@@ -9,7 +9,7 @@
 //! | `comparison` | `Comparison`, of a rank's entries with its commands |
 //! | `report` | `Report`, the trace of a closed engine |
 //! | `shell` | `Shell`, in which bytes can be shared |
-//! | `laws` | what holds of every closed engine |
+//! | `laws` | what holds of every legal trace of a script, and of every closed engine |
 #![tactic(auto)]
 
 mod bytes;

@@ -2,7 +2,7 @@ ghost use Rattle.std.specs.Prelude.{◌≡◌, ◌↔◌, ℕ, All, IsTrue, List
 ghost use Rattle.std.specs.Bool.{OnTrue};
 ghost use Rattle.std.specs.List.{list_any};
 ghost use Rattle.coll_machine.specs.Reports.{posts_of};
-ghost use Rattle.coll_trace.specs.Scripts.{Command, asked};
+ghost use Rattle.coll_report.specs.Scripts.{Command, asked};
 ghost use Rattle.coll_core.specs.Configs.{setting_by};
 ghost use Rattle.coll_report.specs.Attested.{HandedOut, IsAttested, attests, key_of};
 ghost use Rattle.coll_report.specs.Posts.{posts_left};

@@ -16,3 +16,5 @@ mod Printing
 mod Finding
 mod Printed
 mod Final
+pub mod Consuming
+pub mod Answering

@@ -9,6 +9,9 @@ pub mod Rows
 -- a script, and what holds of every one
 pub mod PostingViews
 pub mod Scripts
+-- why there is no answer, and how reading and answering end
+pub mod Faults
+pub mod Plain
 -- what functions of this crate promise one another, on the way to the meaning
 pub mod Keeping
 pub mod Outcomes

@@ -14,13 +14,19 @@
 //! | `values`, `evaluation` | `Values` of all members at a start, and those of a whole job |
 //! | `laws` | what holds of all texts |
 //! | `outcome`, `rank_lines` | the lines of an outcome, a request and a rank |
+//! | `counted` | `Counted`, a reader that counts its reads |
+//! | `fault` | `JobFault`, why there is no answer, with its line and exit status |
+//! | `plain` | `read_text`, `plain_job` and `write_lines`, from a reader to a writer without an engine |
 #![tactic(auto)]
 
+mod counted;
 mod evaluation;
+mod fault;
 mod first;
 pub mod laws;
 mod matching;
 mod outcome;
+mod plain;
 mod postings;
 mod rank_lines;
 mod script;
@@ -28,6 +34,9 @@ mod sizes;
 mod values;
 
 pub use coll_history::{Cause, Command, Fault, Given, History, Named, ScriptFault};
+pub use counted::Counted;
+pub use fault::JobFault;
 pub use outcome::print_outcome;
+pub use plain::{plain_job, read_text, write_lines};
 pub use script::Script;
 pub use sizes::Sizes;

@@ -18,7 +18,7 @@ use Rattle.coll_machine.proofs.Held.{traces_are_posted}
 use Rattle.coll_machine.proofs.Members.{member_at}
 use Rattle.coll_machine.proofs.Slots.{Slots, over_put, live_low}
 use Rattle.coll_machine.proofs.Tracing.{leads_push}
-use Rattle.coll_trace.specs.Told.{IsIdle}
+use Rattle.coll_report.specs.Told.{IsIdle}
 use Rattle.coll_report.specs.Traces.{completes_by}
 use Rattle.coll_shared.specs.Closings.{IsBusy, begins_by}
 

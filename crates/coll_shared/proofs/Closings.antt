@@ -6,7 +6,7 @@ use Rattle.std.proofs.lemmas.Bool.{cases_eq}
 use Rattle.std.proofs.lemmas.List.FromFn.{length-map-range_with_len, get_or-map-range_with_len, map-range_with_len_more}
 use Rattle.coll_machine.specs.Entries.{Entry}
 use Rattle.coll_machine.specs.Settings.{Setting, AreGroups}
-use Rattle.coll_trace.specs.Told.{IsIdle}
+use Rattle.coll_report.specs.Told.{IsIdle}
 use Rattle.coll_core.specs.declared.config.Config.{Config}
 use Rattle.coll_core.specs.Configs.{setting_by}
 use Rattle.coll_core.specs.Cores.{Parts, seen, setting}

@@ -6,7 +6,7 @@ use Rattle.coll_kinds.specs.declared.refusal.Refusal.{Refusal}
 use Rattle.coll_kinds.specs.declared.refusal.Refusal.TheVariants.{StillActive, Torn}
 use Rattle.coll_machine.specs.Entries.{Entry, Posted, Inited, Started, Retired, Freed}
 use Rattle.coll_machine.specs.States.{Request, State}
-use Rattle.coll_trace.specs.Told.{IsIdle}
+use Rattle.coll_report.specs.Told.{IsIdle}
 use Rattle.coll_core.specs.Cores.{seen, setting}
 use Rattle.coll_report.specs.Traces.{completes_by, entries_of}
 use Rattle.coll_shared.specs.Halls.{Hall}

@@ -14,6 +14,7 @@ pub mod EngineTests
 pub mod Finished
 pub mod Holding
 pub mod Keys
+pub mod Lefts
 pub mod Listing
 pub mod Postings
 pub mod Remainders

@@ -1,4 +1,4 @@
-use coll_program::run;
+use coll_job::run;
 use std::alloc::Global;
 use std::fs::Files;
 use std::io::{self, Cursor};

@@ -14,7 +14,7 @@ mod shown;
 mod stall;
 mod words;
 
-use coll_program::main_of;
+use coll_job::main_of;
 use draw::{DRAWS, is_drawn};
 use example::Example;
 use mistake::is_checked;

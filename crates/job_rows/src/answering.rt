@@ -1,6 +1,6 @@
 //! The calls that read and answer a text, with nothing that they promise: what they do is compared when a test runs.
 
-use coll_job::{Counted, JobFault, plain_job, read_text};
+use coll_script::{Counted, JobFault, plain_job, read_text};
 use std::alloc::Global;
 use std::io::{Cursor, Read, Write};
 

@@ -7,8 +7,8 @@ ghost use Rattle.coll_core.specs.Configs.{setting_by};
 ghost use Rattle.coll_report.specs.Rows.{two};
 ghost use Rattle.coll_report.specs.Views.{seen, trace_seen};
 
-use coll_attest::{AttestFault, attested_lines};
 use coll_core::Config;
+use coll_job::{AttestFault, attested_lines};
 use coll_kinds::{Datatype, Kind, Mode, Signature, Ticket};
 use coll_report::laws::rows_are_closed;
 use coll_report::{Bytes, Entry, Report};

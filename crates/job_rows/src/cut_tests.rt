@@ -3,7 +3,7 @@
 use crate::answering::answer_text;
 use crate::run_tests::STARTS_OUT_OF_ORDER;
 use crate::shown::{Row, first_misfit};
-use coll_job::JobFault;
+use coll_script::JobFault;
 use std::alloc::Global;
 use std::test::Fail;
 

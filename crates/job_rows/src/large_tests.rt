@@ -1,7 +1,7 @@
 //! A job with many ranks, bytes and starts.
 
 use crate::answering::answer_text;
-use coll_job::JobFault;
+use coll_script::JobFault;
 use std::alloc::{AllocError, Global};
 use std::test::Fail;
 

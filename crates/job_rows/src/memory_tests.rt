@@ -1,8 +1,8 @@
 //! A run in which memory may be refused.
 
 use crate::run_tests::STARTS_OUT_OF_ORDER;
-use coll_job::JobFault;
-use coll_run::run_job;
+use coll_job::run_job;
+use coll_script::JobFault;
 use coll_shared::NoGate;
 use std::alloc::Global;
 use std::sync::Wait;

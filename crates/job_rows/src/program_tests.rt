@@ -1,7 +1,7 @@
 //! What a user of the program sees: the status, and what goes to standard output and to standard error.
 
 use crate::run_tests::CROSSED_BARRIERS;
-use coll_program::run;
+use coll_job::run;
 use std::alloc::Global;
 use std::fs::Files;
 use std::io;

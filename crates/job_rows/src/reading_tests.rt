@@ -2,8 +2,7 @@
 
 use crate::answering::{COMMENTS, SUM_OF_THREE, answer, answer_text, read};
 use crate::fakes::{Endless, Failing, Full, Unflushed};
-use coll_job::JobFault;
-use coll_script::{Cause, Fault};
+use coll_script::{Cause, Fault, JobFault};
 use std::alloc::Global;
 use std::io::Cursor;
 use std::test::Fail;

@@ -1,10 +1,9 @@
 //! Job texts run by threads, with their lines or their fault.
 
 use coll_core::Outcome;
-use coll_job::JobFault;
+use coll_job::run_job;
 use coll_report::{Entry, Report};
-use coll_run::run_job;
-use coll_script::{Cause, Fault, Script};
+use coll_script::{Cause, Fault, JobFault, Script};
 use coll_shared::NoGate;
 use std::alloc::Global;
 use std::test::Fail;

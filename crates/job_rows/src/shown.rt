@@ -1,7 +1,7 @@
 //! What a user is shown of a text.
 
 use crate::answering::{answer_text, text_of};
-use coll_job::JobFault;
+use coll_script::JobFault;
 use std::alloc::Global;
 use std::io;
 use std::io::Write;

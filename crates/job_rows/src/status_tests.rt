@@ -1,9 +1,8 @@
 //! The status and the line of each fault of a job.
 
 use crate::answering::text_of;
-use coll_job::JobFault;
 use coll_kinds::{Refusal, SignatureFault};
-use coll_script::{Cause, Fault};
+use coll_script::{Cause, Fault, JobFault};
 use std::alloc::Global;
 use std::test::Fail;
 

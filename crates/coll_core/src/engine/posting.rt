@@ -18,6 +18,7 @@ ghost use Rattle.coll_tables.specs.EngineTests.{entry_refusals};
 ghost use Rattle.coll_tables.specs.Machines.{StepsTo};
 ghost use Rattle.coll_core.specs.Calls.{Refuses};
 ghost use Rattle.coll_core.specs.Cores.{seen, setting, Unchanged};
+ghost use Rattle.coll_core.specs.Progress.{BeginsSchedule, KeepsProgress};
 ghost use Rattle.coll_core.specs.Posts.{init_of, next_instance, planned, post_of, refused_in, IsLaid, IsRoomy};
 
 use crate::buffer::Buffer;
@@ -86,6 +87,7 @@ impl Core {
     pub fn post(&mut self, rank: u8, comm: u32, offer: Offer) -> Result<Ticket, Refused<Offer>>
         ensures setting { setting self.new ≡ setting self.old }
         ensures posted { IfOk result (λ ticket. StepsTo (setting self.old) (seen self.old) (post_of rank comm offer) (Ticketed ticket) (seen self.new)) }
+        ensures begins { IfOk result (λ ticket. BeginsSchedule self.old self.new ticket.slot (family offer.plan.sig offer.plan.n offer.plan.member)) }
         ensures back { IfErr result (λ refused. refused.back ≡ offer) }
         ensures refused { IfErr result (λ refused. Refuses (setting self.old) (seen self.old) (post_of rank comm offer) refused.why) }
         ensures unchanged { OnErr result (Unchanged self.old self.new) }
@@ -110,6 +112,7 @@ impl Core {
         requires short { IfErr laid (λ why. why ≡ Refusal.NoMemory) }
         ensures setting { setting self.new ≡ setting self.old }
         ensures posted { IfOk result (λ ticket. StepsTo (setting self.old) (seen self.old) (post_of rank comm offer) (Ticketed ticket) (seen self.new)) }
+        ensures begins { IfOk result (λ ticket. BeginsSchedule self.old self.new ticket.slot (family offer.plan.sig offer.plan.n offer.plan.member)) }
         ensures back { IfErr result (λ refused. refused.back ≡ offer) }
         ensures refused { IfErr result (λ refused. Refuses (setting self.old) (seen self.old) (post_of rank comm offer) refused.why) }
         ensures unchanged { OnErr result (Unchanged self.old self.new) }
@@ -133,6 +136,7 @@ impl Core {
     pub fn init(&mut self, rank: u8, comm: u32, plan: Plan) -> Result<Ticket, Refused<Plan>>
         ensures setting { setting self.new ≡ setting self.old }
         ensures made { IfOk result (λ ticket. MachineStep (setting self.old) (seen self.old) (init_of rank comm plan) (Ticketed ticket) (seen self.new)) }
+        ensures progress { IfOk result (λ ticket. KeepsProgress self.old self.new ticket.slot) }
         ensures back { IfErr result (λ refused. refused.back ≡ plan) }
         ensures refused { IfErr result (λ refused. Refuses (setting self.old) (seen self.old) (init_of rank comm plan) refused.why) }
         ensures unchanged { OnErr result (Unchanged self.old self.new) }
@@ -279,6 +283,7 @@ impl Core {
         requires buffer { buffer ≡ laid_in (family offer.plan.sig offer.plan.n offer.plan.member) offer.bytes.items }
         ensures setting { setting self.new ≡ setting self.old }
         ensures posted { StepsTo (setting self.old) (seen self.old) (post_of rank comm offer) (Ticketed result) (seen self.new) }
+        ensures begins { BeginsSchedule self.old self.new result.slot (family offer.plan.sig offer.plan.n offer.plan.member) }
     {
         is_sound(&self.arena);
         lengths_are_small();
@@ -323,6 +328,7 @@ impl Core {
         requires sig { arc_value sig ≡ plan.sig }
         ensures setting { setting self.new ≡ setting self.old }
         ensures made { MachineStep (setting self.old) (seen self.old) (init_of rank comm plan) (Ticketed result) (seen self.new) }
+        ensures progress { KeepsProgress self.old self.new result.slot }
     {
         is_sound(&self.arena);
         entry_core(&self.arena);

@@ -2,7 +2,8 @@
 
 ghost use Rattle.std.specs.Prelude.{◌≡◌, Some, true, IfOk, IfErr, IfSome, OnErr, IsNone};
 ghost use Rattle.std.specs.Result.{result_err};
-ghost use Rattle.coll_arena.specs.Slots.{names, record_in};
+ghost use Rattle.coll_lists.specs.Moves.{moved_back};
+ghost use Rattle.coll_arena.specs.Slots.{home, names, record_in};
 ghost use Rattle.coll_machine.specs.Calls.{Outcome as Completed, Nothing, Retire};
 ghost use Rattle.coll_machine.specs.Machines.{MachineStep};
 ghost use Rattle.coll_machine.specs.Refusals.{refusal};
@@ -10,6 +11,7 @@ ghost use Rattle.coll_sched.specs.Regions.{Inside, read_of};
 ghost use Rattle.coll_tables.specs.Engines.{Rests};
 ghost use Rattle.coll_core.specs.Completions.{GivesUp};
 ghost use Rattle.coll_core.specs.Cores.{seen, setting};
+ghost use Rattle.coll_core.specs.Progress.{KeepsProgress};
 ghost use Rattle.coll_core.specs.Requests.{schedule, shown};
 
 use crate::engine::Core;
@@ -36,7 +38,9 @@ impl Core {
         ensures waits { IfOk result (λ found. IsNone found → MachineStep (setting self.old) (seen self.old) (Retire rank ticket) Nothing (seen self.new)) }
         ensures completes { IfOk result (λ found. IfSome found (λ o. MachineStep (setting self.old) (seen self.old) (Retire rank ticket) (Completed o.rank o.comm o.place o.start o.bytes.items) (seen self.new))) }
         ensures rank { IfOk result (λ found. IfSome found (λ o. o.rank ≡ rank)) }
+        ensures progress { IfOk result (λ found. IfSome found (λ o. KeepsProgress self.old self.new ticket.slot)) }
     {
+        is_sound(&self.arena);
         laws::retire_core(&self.arena);
         laws::acting_core(&self.arena);
         let request = self.named(rank, ticket)?;
@@ -64,6 +68,7 @@ fn give_up(arena: &mut Arena<Request>, alloc: Global, ticket: Ticket) -> Vec<u8>
     requires can { IfSome (record_in arena.old ticket.slot) (GivesUp arena.old) }
     ensures bytes { IfSome (record_in arena.old ticket.slot) (λ x. result.items ≡ read_of x.buffer (schedule (shown x)).output) }
     ensures rests { IfSome (record_in arena.old ticket.slot) (λ x. Rests shown x.plan.sig.mode arena.old arena.new ticket x) }
+    ensures lists { arena.new.lists ≡ moved_back ticket.slot (home arena.new ticket.slot) arena.old.lists }
 {
     let Ok(request) = arena.get(ticket) else {
         unreachable!()
@@ -80,6 +85,7 @@ fn end(arena: &mut Arena<Request>, alloc: Global, ticket: Ticket) -> Vec<u8>
     requires can { IfSome (record_in arena.old ticket.slot) (GivesUp arena.old) }
     ensures bytes { IfSome (record_in arena.old ticket.slot) (λ x. result.items ≡ read_of x.buffer (schedule (shown x)).output) }
     ensures rests { IfSome (record_in arena.old ticket.slot) (λ x. Rests shown Mode.Once arena.old arena.new ticket x) }
+    ensures lists { arena.new.lists ≡ moved_back ticket.slot (home arena.new ticket.slot) arena.old.lists }
 {
     match arena.retire(ticket) {
         Ok(mut request) => request.take_outcome(alloc),
@@ -93,6 +99,7 @@ fn rest(arena: &mut Arena<Request>, alloc: Global, ticket: Ticket) -> Vec<u8>
     requires can { IfSome (record_in arena.old ticket.slot) (GivesUp arena.old) }
     ensures bytes { IfSome (record_in arena.old ticket.slot) (λ x. result.items ≡ read_of x.buffer (schedule (shown x)).output) }
     ensures rests { IfSome (record_in arena.old ticket.slot) (λ x. Rests shown Mode.Persistent arena.old arena.new ticket x) }
+    ensures lists { arena.new.lists ≡ moved_back ticket.slot (home arena.new ticket.slot) arena.old.lists }
 {
     is_sound(arena);
     let Ok(request) = arena.get_mut(ticket) else {

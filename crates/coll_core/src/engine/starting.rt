@@ -13,6 +13,7 @@ ghost use Rattle.coll_machine.specs.Refusals.{refusal};
 ghost use Rattle.coll_tables.specs.Machines.{StepsTo};
 ghost use Rattle.coll_core.specs.Calls.{Refuses};
 ghost use Rattle.coll_core.specs.Cores.{seen, setting, Unchanged};
+ghost use Rattle.coll_core.specs.Progress.{BeginsSchedule, KeepsProgress};
 ghost use Rattle.coll_core.specs.Requests.{schedule, shown};
 ghost use Rattle.coll_core.specs.Starts.{Begins, Begun, CanBegin, next_instance};
 
@@ -42,6 +43,7 @@ impl Core {
     ) -> Result<(), Refused<Vec<u8>>>
         ensures setting { setting self.new ≡ setting self.old }
         ensures starts { OnOk result (StepsTo (setting self.old) (seen self.old) (Start rank ticket bytes.items) Nothing (seen self.new)) }
+        ensures begins { OnOk result (IfSome (record_in self.old.arena ticket.slot) (λ x. BeginsSchedule self.old self.new ticket.slot (schedule (shown x)))) }
         ensures back { IfErr result (λ refused. refused.back ≡ bytes) }
         ensures refused { IfErr result (λ refused. Refuses (setting self.old) (seen self.old) (Start rank ticket bytes.items) refused.why) }
         ensures unchanged { OnErr result (Unchanged self.old self.new) }
@@ -53,6 +55,7 @@ impl Core {
             Ok(buffer) => buffer,
             Err(why) => return Err(Refused { why, back: bytes }),
         };
+        is_sound(&self.arena);
         laws::start_core(&self.arena);
         laws::new_core(&self.arena);
         let given = Bytes::from_vec(bytes);
@@ -71,7 +74,9 @@ impl Core {
         ensures err { OnErr result (self.new ≡ self.old) }
         ensures setting { setting self.new ≡ setting self.old }
         ensures frees { OnOk result (MachineStep (setting self.old) (seen self.old) (Free rank ticket) Nothing (seen self.new)) }
+        ensures progress { OnOk result (KeepsProgress self.old self.new ticket.slot) }
     {
+        is_sound(&self.arena);
         laws::free_core(&self.arena);
         self.may_free(rank, ticket)?;
         let Ok(_) = self.arena.retire(ticket) else {

@@ -1,6 +1,6 @@
 //! Steps.
 
-ghost use Rattle.std.specs.Prelude.{◌≡◌, ◌<◌, ◌≤◌, ◌+◌, ◌↔◌, [], true, IfOk, IfSome, IsOkUnless, None, Ok, OnErr, OnOk, Some};
+ghost use Rattle.std.specs.Prelude.{◌≡◌, ◌<◌, ◌≤◌, ◌+◌, ◌↔◌, [], ℕ, true, IfOk, IfSome, IsOkUnless, None, Ok, OnErr, OnOk, Some};
 ghost use Rattle.coll_lists.specs.Layouts.{sequence};
 ghost use Rattle.coll_lists.specs.Neighbours.{first_in};
 ghost use Rattle.coll_match.specs.Instances.{seats};
@@ -12,9 +12,9 @@ ghost use Rattle.coll_arena.specs.Slots.{home, names, record_in, weight_of};
 ghost use Rattle.coll_tables.specs.Engines.{Delivers};
 ghost use Rattle.coll_core.specs.declared.stepped.Stepped.TheVariants.{Quiet};
 ghost use Rattle.coll_core.specs.Cores.{seen, setting};
-ghost use Rattle.coll_core.specs.Advancing.{CanAdvance, IsReceiver, HasAdvanced, HaveLists, IsSent, NoReceiver, is_end};
+ghost use Rattle.coll_core.specs.Advancing.{Brings, CanAdvance, IsReceiver, HasAdvanced, HaveLists, IsSent, NoReceiver, is_end};
 ghost use Rattle.coll_core.specs.Requests.{shown};
-ghost use Rattle.coll_core.specs.Steps.{Acts, AwaitsWork, CombinesFirst, CombinesNext, Finishings, HandsOut, IsActing, IsWork, Steps, left, ready, running};
+ghost use Rattle.coll_core.specs.Steps.{Acts, AwaitsWork, CombinesFirst, CombinesNext, Finishings, HandsOut, IsActing, IsWork, Makes, Steps, left, placed, ready, running};
 
 use crate::engine::Core;
 use crate::request::Request;
@@ -78,6 +78,9 @@ impl Core {
     /// NoMemory; the actions that were done before stay done.
     pub fn settle(&mut self) -> Result<u64, Refusal>
         ensures quiet { OnOk result (ready self.new ≡ []) }
+        ensures steps { IfOk result (λ steps. Makes self.old steps self.new) }
+        ensures made { OnErr result ((steps : ℕ) × Makes self.old steps self.new) }
+        ensures setting { setting self.new ≡ setting self.old }
         ensures running { running self.new ≡ running self.old }
         ensures left { IfOk result (λ steps. left self.new + steps ≡ left self.old) }
         ensures finishes { Finishings (setting self.old) (seen self.old) (seen self.new) }
@@ -227,6 +230,7 @@ fn place(arena: &mut Arena<Request>, ticket: Ticket, list: ListName)
     requires list_in { number_of list < list_count arena.old.comms }
     ensures puts { PutsSlot arena.old arena.new ticket.slot ticket.generation (weight_of arena.old ticket.slot) (record_in arena.old ticket.slot) (number_of list) }
     ensures stays { home arena.old ticket.slot ≡ number_of list → arena.new ≡ arena.old }
+    ensures placed { arena.new.lists ≡ placed ticket.slot (number_of list) arena.old.lists }
 {
     is_sound(arena);
     if arena.is_on(ticket, list) {
@@ -250,6 +254,7 @@ fn deliver(arena: &mut Arena<Request>, matches: &Matches, sent: Sent, seat: Opti
     requires sent { IsSent matches.now sent }
     requires seat { seat ≡ seats matches.now sent.key sent.to }
     ensures delivers { Delivers shown arena.old arena.new matches.now sent.key sent.to }
+    ensures others { Brings arena.old arena.new matches.now sent.key sent.to }
     ensures running { sequence arena.new.lists (number_of Running) ≡ sequence arena.old.lists (number_of Running) }
     ensures first { IfSome (first_in (sequence arena.old.lists (number_of Ready))) (λ slot. first_in (sequence arena.new.lists (number_of Ready)) ≡ Some slot) }
 {

@@ -3,7 +3,7 @@
 ghost use Rattle.std.specs.Prelude.{◌≡◌, IfSome, IsNone, length};
 ghost use Rattle.coll_core.specs.Cores.{seen, setting};
 ghost use Rattle.coll_shared.specs.Closings.{IsFirstBusy, Objects, ends_of};
-ghost use Rattle.coll_trace.specs.Told.{IsIdle};
+ghost use Rattle.coll_report.specs.Told.{IsIdle};
 
 use crate::shared::Shared;
 use crate::spent::Spent;

@@ -1,5 +1,5 @@
 use Rattle.std.proofs.Common.{drop, [], ◌↔◌}
-use Rattle.coll_trace.specs.Scripts.{Says}
+use Rattle.coll_report.specs.Scripts.{Says}
 use Rattle.coll_report.specs.Posts.{posts_left}
 use Rattle.coll_report.specs.Comparisons.{SaysLeft, all_said}
 use Rattle.coll_report.proofs.comparison.follows.Given as goal

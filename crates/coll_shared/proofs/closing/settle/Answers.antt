@@ -1,6 +1,6 @@
 use Rattle.std.proofs.Common.{◌∙◌, length, refl, sym, ap, subst, arith}
 use Rattle.coll_core.specs.Cores.{seen}
-use Rattle.coll_trace.specs.Told.{IsIdle}
+use Rattle.coll_report.specs.Told.{IsIdle}
 use Rattle.coll_shared.proofs.Closings.{ends_len}
 use Rattle.coll_shared.proofs.closing.settle.Goals as goal
 

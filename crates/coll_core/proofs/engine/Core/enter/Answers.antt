@@ -1,4 +1,4 @@
-use Rattle.std.proofs.Common.{◌≡◌, ◌∙◌, ◌<◌, ◌≤◌, ◌^◌, ℕ, List, None, length, ap, refl, subst, arith}
+use Rattle.std.proofs.Common.{◌≡◌, ◌∙◌, ◌<◌, ◌≤◌, ◌^◌, ℕ, List, None, length, ap, refl, subst, sym, arith}
 use Rattle.std.specs.Arc.{arc_value}
 use Rattle.coll_arena.specs.ListNames.{number_of}
 use Rattle.coll_lists.specs.Layouts.{sequence}
@@ -10,10 +10,14 @@ use Rattle.coll_queues.specs.Refusing.{judge_refusal}
 use Rattle.coll_tables.specs.EngineTests.{MayEnter}
 use Rattle.coll_tables.specs.Machines.{StepsTo}
 use Rattle.coll_core.specs.declared.request.Request.{Request}
+use Rattle.coll_plans.specs.Plans.{family}
+use Rattle.coll_arena.specs.Slots.{Slots}
+use Rattle.coll_core.specs.Progress.{BeginsSchedule}
+use Rattle.coll_core.proofs.Acting.{list_low}
 use Rattle.coll_core.specs.Requests.{shown}
 use Rattle.coll_core.specs.Cores.{Parts, seen, setting}
 use Rattle.coll_core.specs.Posts.{planned, refused_in, next_instance}
-use Rattle.coll_core.proofs.Posting.{Calls, accepted_from, emptied, given_now, lent_moved, not_given, parts_of, post_kept, post_steps}
+use Rattle.coll_core.proofs.Posting.{Calls, accepted_from, emptied, given_now, lent_moved, not_given, parts_of, post_begins, post_kept, post_steps}
 use Rattle.coll_match.specs.Instances.{LookUps, joined, look_ups}
 use Rattle.coll_kinds.specs.Lengths.{given_len}
 use Rattle.coll_kinds.specs.Limits.{max_len}
@@ -83,6 +87,8 @@ invariant_of-self c =
       over = c.pass_ends.ensures;
       buf = c.requires.buffer;
       stands = c.list-list.ensures.stands;
+      taken_is = ap (λ (a : Slots Request). a.lists) c.in-Ok.ensures.taken;
+      apart = λ e. list_low c.pass_ends.new.self.comm c.list-list.result c.list-list.ensures.list (sym e);
     } in
     post_kept p c.take.new.self c.offer-place.new.self c.join-hint.new.self c.seat.new.self c.in-Ok.ticket c.args.rank c.args.comm plan bytes (arc_value c.args.sig) c.key-key.result c.offer-place.result c.member-member.result c.lent-weight.result (number_of c.list-list.result) x c.pass_ends.new.self c.post_core.ensures c.self.invariant c.is_sound.ensures calls
 
@@ -119,6 +125,38 @@ returns-clause-posted c =
       over = c.pass_ends.ensures;
       buf = c.requires.buffer;
       stands = c.list-list.ensures.stands;
+      taken_is = ap (λ (a : Slots Request). a.lists) c.in-Ok.ensures.taken;
+      apart = λ e. list_low c.pass_ends.new.self.comm c.list-list.result c.list-list.ensures.list (sym e);
     } in
     subst (λ (v : Parts). StepsTo (setting v) (seen v) (Post c.args.rank c.args.comm plan bytes) (Ticketed c.in-Ok.ticket) (seen (parts_of p c.take.new.self c.offer-place.new.self c.seat.new.self))) c.self.view_is
     (post_steps p c.take.new.self c.offer-place.new.self c.join-hint.new.self c.seat.new.self c.in-Ok.ticket c.args.rank c.args.comm plan bytes (arc_value c.args.sig) c.key-key.result c.offer-place.result c.member-member.result c.lent-weight.result (number_of c.list-list.result) x c.pass_ends.new.self c.post_core.ensures c.self.invariant c.is_sound.ensures calls)
+
+pub returns-clause-begins : goal.returns-clause-begins
+returns-clause-begins c =
+    let p : Parts = record { ranks = c.self.inside.ranks; starts = c.self.inside.starts; trace = c.self.inside.trace; arena = c.self.inside.arena; queues = c.self.inside.queues; matches = c.self.inside.matches } in
+    let plan = planned c.args.offer.plan in
+    let bytes = c.args.offer.bytes.items in
+    let accepted : refused_in p (Post c.args.rank c.args.comm plan bytes) ≡ None = accepted_from p c.args.self.now (Post c.args.rank c.args.comm plan bytes) c.self.view_is c.requires.accepted in
+    let key_is : c.key-key.result ≡ record { comm = c.args.comm; place = c.offer-place.result; start = 0 } = c.key-key.ensures in
+    let x : Request = record { rank = c.args.rank; comm = c.args.comm; place = c.offer-place.result; hint = c.join-hint.result; plan = c.args.offer.plan; starts = 1; round = 0; index = 0; buffer = c.args.buffer } in
+    let calls : Calls p c.take.new.self c.offer-place.new.self c.join-hint.new.self c.seat.new.self c.in-Ok.ticket c.args.rank c.args.comm plan bytes (arc_value c.args.sig) c.key-key.result c.offer-place.result c.member-member.result c.lent-weight.result (number_of c.list-list.result) x c.pass_ends.new.self = record {
+      accepted = accepted;
+      are = subst AreBytes c.deref.ensures.value c.are_bytes.ensures;
+      free = record { first = c.in-Ok.ensures.slot; next = c.in-Ok.ensures.generation };
+      offered = record { groups = c.offer-place.ensures.groups; places = c.offer-place.ensures.places; posted = c.offer-place.ensures.posts; signs = c.offer-place.ensures.signed };
+      sig_is = c.requires.sig;
+      place_is = c.offer-place.ensures.place;
+      key_is = key_is;
+      member_is = c.member-member.ensures.member;
+      joins = record { members_is = (ap (λ (s : LookUps). s.members) (gave c.join-hint.new.self c.self.inside.matches c.key-key.result c.member-member.result c.from_vec-given.result c.args.offer.bytes.items c.join-hint.ensures c.from_vec-given.ensures)); given_is = (ap (λ (s : LookUps). s.given) (gave c.join-hint.new.self c.self.inside.matches c.key-key.result c.member-member.result c.from_vec-given.result c.args.offer.bytes.items c.join-hint.ensures c.from_vec-given.ensures)); seats_is = (ap (λ (s : LookUps). s.seats) (gave c.join-hint.new.self c.self.inside.matches c.key-key.result c.member-member.result c.from_vec-given.result c.args.offer.bytes.items c.join-hint.ensures c.from_vec-given.ensures)); mail_is = (ap (λ (s : LookUps). s.mail) (gave c.join-hint.new.self c.self.inside.matches c.key-key.result c.member-member.result c.from_vec-given.result c.args.offer.bytes.items c.join-hint.ensures c.from_vec-given.ensures)); then_members = (ap (λ (s : LookUps). s.members) c.seat.ensures); then_given = (ap (λ (s : LookUps). s.given) c.seat.ensures); then_seats = (ap (λ (s : LookUps). s.seats) c.seat.ensures); then_mail = (ap (λ (s : LookUps). s.mail) c.seat.ensures) };
+      puts = c.in-Ok.ensures.puts;
+      weight_is = c.lent-weight.ensures ∙ lent_moved c.sig.result.now plan.sig c.n.result plan.n c.member-member.result plan.member c.sig.ensures.sig c.n.ensures.n c.member-member.ensures.member;
+      made_is = refl;
+      over = c.pass_ends.ensures;
+      buf = c.requires.buffer;
+      stands = c.list-list.ensures.stands;
+      taken_is = ap (λ (a : Slots Request). a.lists) c.in-Ok.ensures.taken;
+      apart = λ e. list_low c.pass_ends.new.self.comm c.list-list.result c.list-list.ensures.list (sym e);
+    } in
+    subst (λ (v : Parts). BeginsSchedule v (parts_of p c.take.new.self c.offer-place.new.self c.seat.new.self) c.in-Ok.ticket.slot (family plan.sig plan.n plan.member)) c.self.view_is
+    (post_begins p c.take.new.self c.offer-place.new.self c.join-hint.new.self c.seat.new.self c.in-Ok.ticket c.args.rank c.args.comm plan bytes (arc_value c.args.sig) c.key-key.result c.offer-place.result c.member-member.result c.lent-weight.result (number_of c.list-list.result) x c.pass_ends.new.self c.post_core.ensures c.self.invariant c.is_sound.ensures calls)

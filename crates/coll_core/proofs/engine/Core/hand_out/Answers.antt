@@ -1,5 +1,5 @@
 use Rattle.std.proofs.Common.{◌∙◌, ap, sym, subst}
-use Rattle.coll_arena.specs.Changes.{rewritten}
+use Rattle.coll_arena.specs.Changes.{rewritten, shifted}
 use Rattle.coll_arena.specs.Lookups.{IsFirst, PutsSlot}
 use Rattle.coll_arena.specs.Slots.{Slots, record_in, weight_of}
 use Rattle.coll_core.specs.declared.request.Request.{Request}
@@ -33,7 +33,7 @@ invariant_of-self-2 c =
     let same = ap (λ (r : Request). rewritten c.self.inside.arena c.args.ticket.slot r) c.work.ensures.same ∙ same_arena c.self.inside.arena c.args.ticket.slot c.in-Ok.request.now c.in-Ok.ensures.found in
     (hands_out c.self.inside.ranks c.self.inside.starts c.self.inside.trace c.self.inside.arena c.shift.new.self c.self.inside.queues c.self.inside.matches c.args.ticket c.in-Ok.request.now c.in_ok-work.work
     c.in_ok-work.ensures.ticket c.self.invariant (subst (λ (p : Parts). IsFirst p.arena 2 c.args.ticket) (sym c.self.view_is) c.requires.first) c.in-Ok.ensures.found c.in_ok-work.ensures.work
-    (subst (λ (a : Slots Request). PutsSlot a c.shift.new.self c.args.ticket.slot c.args.ticket.generation (weight_of a c.args.ticket.slot) (record_in a c.args.ticket.slot) 3) same c.in-Ok-shift.ensures.puts)).0
+    (subst (λ (a : Slots Request). PutsSlot a c.shift.new.self c.args.ticket.slot c.args.ticket.generation (weight_of a c.args.ticket.slot) (record_in a c.args.ticket.slot) 3) same c.in-Ok-shift.ensures.puts) (c.in-Ok-shift.ensures.shifted ∙ ap (λ (a : Slots Request). shifted a c.args.ticket.slot 3) same)).0
 
 pub returns-clause-out : goal.returns-clause-out
 returns-clause-out c =
@@ -41,4 +41,4 @@ returns-clause-out c =
     subst (λ (p : Parts). HandsOut p (parts c.self.inside.ranks c.self.inside.starts c.self.inside.trace c.shift.new.self c.self.inside.queues c.self.inside.matches) c.in_ok-work.work) c.self.view_is
     (hands_out c.self.inside.ranks c.self.inside.starts c.self.inside.trace c.self.inside.arena c.shift.new.self c.self.inside.queues c.self.inside.matches c.args.ticket c.in-Ok.request.now c.in_ok-work.work
     c.in_ok-work.ensures.ticket c.self.invariant (subst (λ (p : Parts). IsFirst p.arena 2 c.args.ticket) (sym c.self.view_is) c.requires.first) c.in-Ok.ensures.found c.in_ok-work.ensures.work
-    (subst (λ (a : Slots Request). PutsSlot a c.shift.new.self c.args.ticket.slot c.args.ticket.generation (weight_of a c.args.ticket.slot) (record_in a c.args.ticket.slot) 3) same c.in-Ok-shift.ensures.puts)).1
+    (subst (λ (a : Slots Request). PutsSlot a c.shift.new.self c.args.ticket.slot c.args.ticket.generation (weight_of a c.args.ticket.slot) (record_in a c.args.ticket.slot) 3) same c.in-Ok-shift.ensures.puts) (c.in-Ok-shift.ensures.shifted ∙ ap (λ (a : Slots Request). shifted a c.args.ticket.slot 3) same)).1

@@ -1,6 +1,7 @@
 use Rattle.std.proofs.Common.{refl, sym}
 use Rattle.coll_core.specs.Posts.{init_of}
 use Rattle.coll_core.proofs.Posting.{refused_so, short_of, still_accepted}
+use Rattle.coll_core.proofs.Progressing.{keeps_since}
 use Rattle.coll_core.proofs.engine.Core.init.Goals as goal
 
 pub returns-in-Err-clause-refused : goal.returns-in-Err-clause-refused
@@ -14,3 +15,7 @@ returns-in-Err-make_idle_room-clause-refused c =
 pub lay_down-requires-clause-accepted : goal.lay_down-requires-clause-accepted
 lay_down-requires-clause-accepted c =
     still_accepted c.args.self.now c.make_idle_room.new.self (init_of c.args.rank c.args.comm c.args.plan) c.make_idle_room.ensures.unchanged (sym c.in_default.ensures)
+
+pub returns-clause-progress : goal.returns-clause-progress
+returns-clause-progress c =
+    keeps_since c.args.self.now c.make_idle_room.new.self c.lay_down.new.self c.lay_down.result.slot c.make_idle_room.ensures.unchanged c.lay_down.ensures.progress

@@ -1,6 +1,6 @@
 use Rattle.std.proofs.Common.{◌+◌, ◌*◌, refl, arith, ap}
 use Rattle.coll_core.proofs.Standings.{list_in}
-use Rattle.coll_core.proofs.Retiring.{completes, gives_up, kept, on_done, owned, seated, waits}
+use Rattle.coll_core.proofs.Retiring.{completes, gives_up, kept, on_done, owned, retires_alone, seated, waits}
 use Rattle.coll_match.specs.Instances.{LookUps}
 use Rattle.coll_core.proofs.engine.Core.retire.Goals as goal
 
@@ -57,3 +57,19 @@ returns-clause-completes c =
       mail = (ap (λ (s : LookUps). s.mail) c.leave.ensures.left);
     })
     c.args.self.now c.self.view_is
+
+pub returns-clause-progress : goal.returns-clause-progress
+returns-clause-progress c =
+    let owns = owned _ c.args.self.now c.args.rank c.args.ticket c.in_ok-request.request.now c.self.view_is c.in_ok-request.ensures.refused c.in_ok-request.ensures.named c.in_ok-request.ensures.found in
+    let on = on_done c.self.inside.arena c.args.ticket (6 + 3 * c.in_ok-request.request.now.comm) c.if-not-is_on.ensures in
+    retires_alone _ c.give_up-bytes.new.arena c.leave.new.self c.args.ticket c.args.rank c.in_ok-request.request.now c.give_up-bytes.result.items c.leave.result
+    c.key-key.result c.member-member.result c.retire_core.ensures c.self.invariant owns on
+    c.give_up-bytes.ensures.bytes c.give_up-bytes.ensures.rests c.key-key.ensures c.member-member.ensures.member
+    (record {
+      last_is = c.leave.ensures.last;
+      members = (ap (λ (s : LookUps). s.members) c.leave.ensures.left);
+      given = (ap (λ (s : LookUps). s.given) c.leave.ensures.left);
+      seats = (ap (λ (s : LookUps). s.seats) c.leave.ensures.left);
+      mail = (ap (λ (s : LookUps). s.mail) c.leave.ensures.left);
+    })
+    c.args.self.now c.self.view_is c.is_sound.ensures c.give_up-bytes.ensures.lists

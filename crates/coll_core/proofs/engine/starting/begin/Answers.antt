@@ -20,4 +20,4 @@ returns c =
     (joined c.args.matches.now c.join-request.new.self c.seat.new.self c.key-key.result c.member-member.result c.args.ticket.slot c.args.bytes
     (ap (λ (s : LookUps). s.members) c.join-request.ensures) (ap (λ (s : LookUps). s.given) c.join-request.ensures) (ap (λ (s : LookUps). s.seats) c.join-request.ensures) (ap (λ (s : LookUps). s.mail) c.join-request.ensures)
     (ap (λ (s : LookUps). s.members) c.seat.ensures) (ap (λ (s : LookUps). s.given) c.seat.ensures) (ap (λ (s : LookUps). s.seats) c.seat.ensures) (ap (λ (s : LookUps). s.mail) c.seat.ensures))
-    c.list-list.ensures.stands
+    c.list-list.ensures.stands c.list-list.ensures.list c.in-Ok-reweigh.ensures.reweighed c.in-Ok-shift.ensures.shifted

@@ -1,7 +1,7 @@
 use Rattle.std.proofs.Common.{subst}
 use Rattle.std.specs.Prelude.{IfSome, IsNone}
 use Rattle.coll_core.specs.Cores.{seen}
-use Rattle.coll_trace.specs.Told.{IsIdle}
+use Rattle.coll_report.specs.Told.{IsIdle}
 use Rattle.coll_shared.specs.Closings.{IsFirstBusy}
 use Rattle.coll_shared.specs.Halls.{Hall}
 use Rattle.coll_shared.proofs.Closings.{busy_if, idle_if}

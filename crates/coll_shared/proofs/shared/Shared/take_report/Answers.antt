@@ -1,7 +1,7 @@
 use Rattle.std.proofs.Common.{ap, subst, sym}
 use Rattle.coll_core.specs.Configs.{setting_by}
 use Rattle.coll_core.specs.Cores.{seen}
-use Rattle.coll_trace.specs.Told.{IsIdle}
+use Rattle.coll_report.specs.Told.{IsIdle}
 use Rattle.coll_shared.specs.Halls.{Hall}
 use Rattle.coll_shared.proofs.Closings.{closed}
 use Rattle.coll_shared.proofs.shared.Shared.take_report.Goals as goal

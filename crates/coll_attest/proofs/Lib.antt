@@ -1,7 +1,0 @@
-pub mod Asking
-pub mod Telling
-pub mod Meant
-mod Indexing
-mod Printed
-mod Ending
-mod Rows

@@ -1,0 +1,42 @@
+//! From a reader to a writer by a run.
+
+ghost use Rattle.std.specs.Prelude.{◌≡◌, ◌≢◌, ◌≤◌, ◌+◌, IfErr, IfSome, OnOk};
+ghost use Rattle.std.specs.Io.KnownBytes.{Keeps};
+ghost use Rattle.coll_kinds.specs.Limits.{max_text};
+ghost use Rattle.coll_script.specs.Plain.{WritesMeaning};
+ghost use Rattle.coll_job.specs.Faults.{IsThreadedFault};
+
+use crate::running::run_job;
+use coll_script::{Counted, JobFault, read_text, write_lines};
+use coll_shared::NoGate;
+use std::alloc::Global;
+use std::io::{Read, Write};
+use std::sync::Wait;
+use std::thread::Threads;
+
+/// Reads a job text, has it carried out by threads, so many progress threads among them, and writes its output lines. At
+/// a fault nothing is written, but at a write fault.
+///
+/// # Errors
+///
+/// Read, then those of [`run_job`], then Write.
+pub fn threaded_job<T: Threads + Wait + Sync, R: Read, W: Write>(
+    rt: &T,
+    alloc: Global,
+    workers: u8,
+    reader: &mut Counted<'_, R>,
+    writer: &mut W,
+) -> Result<(), JobFault>
+    requires unread { reader.old.reads ≡ 0 }
+    requires workers { workers ≤ 8 }
+    // What was written is the meaning of what was read, and nothing else.
+    ensures ok { OnOk result (IfSome (R.remaining reader.old.reader.now) (λ input. WritesMeaning input (W.contents writer.old) (W.contents writer.new))) }
+    // The fault of a text is the one that its definition gives.
+    ensures faults { IfErr result (IsThreadedFault (R.remaining reader.old.reader.now)) }
+    ensures unwritten { IfErr result (λ fault. fault ≢ JobFault.Write → Keeps (W.contents writer.old) (W.contents writer.new)) }
+    ensures reads { reader.new.reads ≤ max_text + 1 }
+{
+    let text = read_text(alloc, reader)?;
+    let told = run_job(rt, alloc, &text, workers, &NoGate)?;
+    write_lines(writer, &told.0)
+}

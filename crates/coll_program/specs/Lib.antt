@@ -1,2 +1,0 @@
--- what the words of a command line ask for
-pub mod Tasks

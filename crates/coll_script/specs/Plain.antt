@@ -1,0 +1,33 @@
+-- What reading a text and answering it may end in.
+use Rattle.std.specs.Prelude.{◌≡◌, List, ℕ, Option, IfSome, Ok, Err}
+use Rattle.std.specs.Io.KnownBytes.{Appends}
+use Rattle.coll_script.specs.Meaning.{meaning}
+use Rattle.coll_script.specs.declared.fault.JobFault.{JobFault}
+use Rattle.coll_script.specs.declared.fault.JobFault.TheVariants.{Read, Write, Text, Memory}
+
+-- the faults of reading
+abbrev pub IsReadFault : JobFault → Type 0
+IsReadFault Read = Unit {0}
+IsReadFault Memory = Unit {0}
+IsReadFault fault = ⊥
+
+-- the faults of a plain job; a fault of the text is the one that its definition gives, where the text is known
+abbrev pub IsPlainFault : Option (List ℕ) → JobFault → Type 0
+IsPlainFault input Read = Unit {0}
+IsPlainFault input Write = Unit {0}
+IsPlainFault input (Text fault) = IfSome input (λ text. meaning text ≡ Err fault)
+IsPlainFault input Memory = Unit {0}
+IsPlainFault input fault = ⊥
+
+-- the writer, which held old, holds the lines of the text's meaning behind it, where the bytes are known
+abbrev pub WritesMeaning : List ℕ → Option (List ℕ) → Option (List ℕ) → Type 0
+WritesMeaning text old new =
+    (lines : List ℕ)
+    × (meaning text ≡ Ok lines)
+    × Appends old new lines
+
+-- the faults of an answer to a text
+abbrev pub IsAnswerFault : List ℕ → JobFault → Type 0
+IsAnswerFault text (Text fault) = meaning text ≡ Err fault
+IsAnswerFault text Memory = Unit {0}
+IsAnswerFault text fault = ⊥

@@ -1,0 +1,121 @@
+//! A job text's answer without an engine: read, computed and written.
+
+ghost use Rattle.std.specs.Prelude.{◌≡◌, ◌≢◌, ◌<◌, ◌≤◌, ◌+◌, ◌++◌, length, take, vec_len, IfOk, IfErr, OnOk, IsOkUnless, IfSome, Ok};
+ghost use Rattle.std.specs.Io.KnownBytes.{Appends, Consumes, Keeps, IsAtEnd};
+ghost use Rattle.coll_kinds.specs.Limits.{max_text};
+ghost use Rattle.coll_script.specs.Plain.{IsReadFault, IsPlainFault, WritesMeaning, IsAnswerFault};
+ghost use Rattle.coll_script.specs.Meaning.{meaning};
+
+use crate::counted::Counted;
+use crate::fault::JobFault;
+use crate::script::Script;
+use coll_kinds::MAX_TEXT;
+use std::alloc::Global;
+use std::io::{Read, Write};
+
+/// The most bytes that are read of a text: one more than it may have.
+const READ_LIMIT: usize = MAX_TEXT + 1;
+
+/// The most bytes of one read.
+const PIECE: usize = 8192;
+
+/// Reads a text up to its end, or up to and including the first byte past what a text may have. Any error
+/// of the reader is [`JobFault::Read`], also one that might pass if the read were made again; want of memory
+/// is [`JobFault::Memory`].
+pub fn read_text<R: Read>(alloc: Global, reader: &mut Counted<'_, R>) -> Result<Vec<u8>, JobFault>
+    requires unread { reader.old.reads ≡ 0 }
+    ensures text { IfOk result (λ text. IfSome (R.remaining reader.old.reader.now) (λ input. text.items ≡ take (max_text + 1) input)) }
+    ensures left { IfOk result (λ text. Consumes (R.remaining reader.old.reader.now) (R.remaining reader.new.reader.now) text.items) }
+    ensures faults { IfErr result IsReadFault }
+    ensures reads { reader.new.reads ≤ max_text + 1 }
+    // Each read but the last gave a byte.
+    ensures few { IfOk result (λ text. reader.new.reads ≤ length text.items + 1) }
+    ensures same_reference { reader.new.reader.ghost_name ≡ reader.old.reader.ghost_name }
+{
+    let mut text = Vec::new(alloc);
+    let mut piece = [0u8; PIECE];
+    for _ in 0..READ_LIMIT {
+        let n = read_piece(reader, READ_LIMIT - text.len(), &mut piece, &mut text)?;
+        if n == 0 || text.len() == READ_LIMIT {
+            return Ok(text);
+        }
+    }
+    Ok(text)
+}
+
+/// Appends the bytes of one read, at most `room` and at most a piece. Answers how many there are; 0 is
+/// the end.
+fn read_piece<R: Read>(
+    reader: &mut Counted<'_, R>,
+    room: usize,
+    piece: &mut [u8],
+    text: &mut Vec<u8>,
+) -> Result<usize, JobFault>
+    requires some { 0 < room }
+    requires buffer { 0 < length piece.old }
+    requires few { reader.old.reads < max_text + 1 }
+    ensures bound { IfOk result (λ n. n ≤ room) }
+    ensures text { IfOk result (λ n. text.new.items ≡ text.old.items ++ take n piece.new) }
+    ensures len { IfOk result (λ n. vec_len text.new ≡ vec_len text.old + n) }
+    ensures consumed { IfOk result (λ n. Consumes (R.remaining reader.old.reader.now) (R.remaining reader.new.reader.now) (take n piece.new)) }
+    ensures end { IfOk result (λ n. n ≡ 0 → IsAtEnd (R.remaining reader.new.reader.now)) }
+    ensures reads { reader.new.reads ≡ reader.old.reads + 1 }
+    ensures same_reference { reader.new.reader.ghost_name ≡ reader.old.reader.ghost_name }
+    ensures faults { IfErr result IsReadFault }
+{
+    let room = room.min(piece.len());
+    let Ok(n) = reader.read(&mut piece[..room]) else {
+        return Err(JobFault::Read);
+    };
+    match text.extend_from_slice(&piece[..n]) {
+        Ok(()) => Ok(n),
+        Err(_) => Err(JobFault::Memory),
+    }
+}
+
+/// Reads a job text and writes its output lines, the value of every post and start. At a fault nothing is
+/// written, but at a write fault.
+pub fn plain_job<R: Read, W: Write>(
+    alloc: Global,
+    reader: &mut Counted<'_, R>,
+    writer: &mut W,
+) -> Result<(), JobFault>
+    requires unread { reader.old.reads ≡ 0 }
+    // What was written is the meaning of what was read, and nothing else.
+    ensures ok { OnOk result (IfSome (R.remaining reader.old.reader.now) (λ input. WritesMeaning input (W.contents writer.old) (W.contents writer.new))) }
+    // The fault of a text is the one that its definition gives.
+    ensures faults { IfErr result (IsPlainFault (R.remaining reader.old.reader.now)) }
+    ensures unwritten { IfErr result (λ fault. fault ≢ JobFault.Write → Keeps (W.contents writer.old) (W.contents writer.new)) }
+    ensures reads { reader.new.reads ≤ max_text + 1 }
+    // What was read, and no byte more, is taken from the reader.
+    ensures left { OnOk result (IfSome (R.remaining reader.old.reader.now) (λ input.
+        Consumes (R.remaining reader.old.reader.now) (R.remaining reader.new.reader.now) (take (max_text + 1) input))) }
+    ensures same_reference { reader.new.reader.ghost_name ≡ reader.old.reader.ghost_name }
+{
+    let text = read_text(alloc, reader)?;
+    let lines = answer(alloc, &text)?;
+    write_lines(writer, &lines)
+}
+
+/// Writes all lines, and flushes them. Any error of the writer is [`JobFault::Write`].
+pub fn write_lines<W: Write>(writer: &mut W, lines: &[u8]) -> Result<(), JobFault>
+    ensures ok { OnOk result (Appends (W.contents writer.old) (W.contents writer.new) lines.now) }
+    ensures fault { IsOkUnless result JobFault.Write }
+{
+    let Ok(()) = writer.write_all(lines) else {
+        return Err(JobFault::Write);
+    };
+    let Ok(()) = writer.flush() else {
+        return Err(JobFault::Write);
+    };
+    Ok(())
+}
+
+/// The output lines of a text.
+fn answer(alloc: Global, text: &[u8]) -> Result<Vec<u8>, JobFault>
+    ensures ok { IfOk result (λ lines. meaning text.now ≡ Ok lines.items) }
+    ensures faults { IfErr result (IsAnswerFault text.now) }
+{
+    let script = Script::read(alloc, text)?;
+    Ok(script.plain_lines(alloc)?)
+}

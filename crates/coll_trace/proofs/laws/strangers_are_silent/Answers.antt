@@ -1,5 +1,0 @@
-use Rattle.coll_trace.proofs.Strangers.{strangers_are_silent}
-use Rattle.coll_trace.proofs.laws.strangers_are_silent.Goals as goal
-
-pub returns : goal.returns
-returns c = strangers_are_silent
