@@ -1,4 +1,4 @@
-use Rattle.std.proofs.Common.{List, subst}
+use Rattle.std.proofs.Common.{ℕ, List, subst}
 use Rattle.std.specs.Prelude.{IfSome}
 use Rattle.coll_arena.specs.Slots.{record_in}
 use Rattle.coll_core.specs.Starts.{Begun}
