@@ -3,7 +3,7 @@ use Rattle.coll_sched.specs.declared.action.Action.TheVariants.{Send}
 use Rattle.coll_sched.specs.Actions.{Fits}
 use Rattle.coll_arena.specs.Slots.{Slots}
 use Rattle.coll_core.specs.declared.request.Request.{Request}
-use Rattle.coll_core.specs.Advancing.{HaveLists}
+use Rattle.coll_core.specs.Advancing.{Brings, HaveLists}
 use Rattle.coll_core.specs.Cores.{IsCore, Parts}
 use Rattle.coll_core.specs.Requests.{shown}
 use Rattle.coll_core.specs.Steps.{Acts}
@@ -61,7 +61,7 @@ invariant_of-self-2 c =
     c.args.ticket x c.args.to c.args.from c.key-key.result c.member-member.result c.in_ok-message.message c.advance.result c.self.invariant at c.key-key.ensures c.member-member.ensures.member
     c.in_ok-message.ensures.ok
     (record { members = (ap (λ (s : LookUps). s.members) c.in-Ok-put.ensures.kept); given = (ap (λ (s : LookUps). s.given) c.in-Ok-put.ensures.kept); seats = (ap (λ (s : LookUps). s.seats) c.in-Ok-put.ensures.kept) })
-    (ap (λ (s : LookUps). s.mail) c.in-Ok-put.ensures.kept) (subst (λ (a : Slots Request). Delivers shown a c.deliver.new.arena c.put.new.self c.key-key.result c.args.to) (same_written c.self.inside.arena c.args.ticket.slot c.in-Ok.request.now c.part.new.self c.in-Ok.ensures.found c.part.ensures.same) c.deliver.ensures.delivers) c.deliver.ensures.others c.deliver.ensures.running c.deliver.ensures.first c.advance.ensures).0
+    (ap (λ (s : LookUps). s.mail) c.in-Ok-put.ensures.kept) (subst (λ (a : Slots Request). Delivers shown a c.deliver.new.arena c.put.new.self c.key-key.result c.args.to) (same_written c.self.inside.arena c.args.ticket.slot c.in-Ok.request.now c.part.new.self c.in-Ok.ensures.found c.part.ensures.same) c.deliver.ensures.delivers) (subst (λ (a : Slots Request). Brings a c.deliver.new.arena c.put.new.self c.key-key.result c.args.to) (same_written c.self.inside.arena c.args.ticket.slot c.in-Ok.request.now c.part.new.self c.in-Ok.ensures.found c.part.ensures.same) c.deliver.ensures.others) c.deliver.ensures.running c.deliver.ensures.first c.advance.ensures).0
 
 pub returns-clause-acts : goal.returns-clause-acts
 returns-clause-acts c =
@@ -72,4 +72,4 @@ returns-clause-acts c =
     c.args.ticket x c.args.to c.args.from c.key-key.result c.member-member.result c.in_ok-message.message c.advance.result c.self.invariant at c.key-key.ensures c.member-member.ensures.member
     c.in_ok-message.ensures.ok
     (record { members = (ap (λ (s : LookUps). s.members) c.in-Ok-put.ensures.kept); given = (ap (λ (s : LookUps). s.given) c.in-Ok-put.ensures.kept); seats = (ap (λ (s : LookUps). s.seats) c.in-Ok-put.ensures.kept) })
-    (ap (λ (s : LookUps). s.mail) c.in-Ok-put.ensures.kept) (subst (λ (a : Slots Request). Delivers shown a c.deliver.new.arena c.put.new.self c.key-key.result c.args.to) (same_written c.self.inside.arena c.args.ticket.slot c.in-Ok.request.now c.part.new.self c.in-Ok.ensures.found c.part.ensures.same) c.deliver.ensures.delivers) c.deliver.ensures.others c.deliver.ensures.running c.deliver.ensures.first c.advance.ensures).1
+    (ap (λ (s : LookUps). s.mail) c.in-Ok-put.ensures.kept) (subst (λ (a : Slots Request). Delivers shown a c.deliver.new.arena c.put.new.self c.key-key.result c.args.to) (same_written c.self.inside.arena c.args.ticket.slot c.in-Ok.request.now c.part.new.self c.in-Ok.ensures.found c.part.ensures.same) c.deliver.ensures.delivers) (subst (λ (a : Slots Request). Brings a c.deliver.new.arena c.put.new.self c.key-key.result c.args.to) (same_written c.self.inside.arena c.args.ticket.slot c.in-Ok.request.now c.part.new.self c.in-Ok.ensures.found c.part.ensures.same) c.deliver.ensures.others) c.deliver.ensures.running c.deliver.ensures.first c.advance.ensures).1
