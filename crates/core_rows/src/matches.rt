@@ -12,12 +12,7 @@ use std::test::Fail;
 const HINT: usize = 0;
 
 /// A member of three joins, and its request has that slot.
-fn enter(
-    matches: &mut Matches,
-    key: Key,
-    member: u8,
-    byte: u8,
-) -> Result<(), Refusal>
+fn enter(matches: &mut Matches, key: Key, member: u8, byte: u8) -> Result<(), Refusal>
     requires { HaveSize matches.old 3 }
     ensures { HaveSize matches.new 3 }
 {
