@@ -1,8 +1,9 @@
 -- segments laid one over the other
-use Rattle.std.proofs.Common.{◌≡◌, ℕ, ◌+◌, ◌<◌, ◌≤◌, ◌⊎◌, inl, inr, refl, List, [], ◌∷◌, ◌++◌, fold, take, drop, length, get_or, replicate, remove, zero, suc, sym, ap, subst, ◌∙◌, arith}
+use Rattle.std.proofs.Common.{◌≡◌, ℕ, ◌+◌, ◌<◌, ◌⊎◌, inl, inr, refl, List, [], ◌∷◌, ◌++◌, fold, take, drop, length, get_or, replicate, remove, zero, suc, sym, ap, subst, ◌∙◌, arith}
 use Rattle.std.proofs.lemmas.List.{length-replicate, same_lists, take_more, get_or_default}
 use Rattle.std.proofs.lemmas.List.Elements.{All-append, All-drop, All-take}
 use Rattle.std.proofs.lemmas.List.Sums.{fold-append}
+use Rattle.std.proofs.Math.Seq.{take-length}
 use Rattle.coll_sched.specs.declared.region.Region.{Region}
 use Rattle.coll_sched.specs.Regions.{Apart, Inside, read_of, written}
 use Rattle.coll_sched.proofs.Buffers.{length_written, read_apart}
@@ -32,6 +33,10 @@ length_over size buf (x ∷ xs) e h =
 
 pub length_laid : (size : ℕ) (xs : List Segment) → AllInside size xs → length (laid size xs) ≡ size
 length_laid size xs h = length_over size (replicate size 0) xs (length-replicate size 0) h
+
+-- the whole buffer as a region
+pub read_all : (size : ℕ) (xs : List Segment) → AllInside size xs → read_of (laid size xs) (record { at = 0; len = size }) ≡ laid size xs
+read_all size xs h = ap (λ n. take n (laid size xs)) (sym (length_laid size xs h)) ∙ take-length (laid size xs)
 
 -- a region of the buffer is one of its size
 pub inside_of : (size : ℕ) (xs : List Segment) (now : List ℕ) (g : Region) → laid size xs ≡ now → AllInside size xs → Inside (length now) g → Inside size g

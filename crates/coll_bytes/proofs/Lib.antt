@@ -1,3 +1,4 @@
 pub mod Parts
 pub mod Writes
 pub mod Laying
+pub mod Comparing

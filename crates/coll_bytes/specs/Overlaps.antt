@@ -1,5 +1,5 @@
 -- Regions beside one another
-use Rattle.std.specs.Prelude.{◌≡◌, ℕ, ◌+◌, ◌-◌, ◌<◌, ◌≤◌, max, min}
+use Rattle.std.specs.Prelude.{◌≡◌, ◌+◌, ◌-◌, ◌<◌, ◌≤◌, max, min}
 use Rattle.coll_sched.specs.declared.region.Region.{Region}
 
 -- the outer region has all bytes of the inner one

@@ -9,8 +9,6 @@
 
 mod bytes;
 mod segments;
-#[cfg(test)]
-mod tests;
 
 pub use bytes::{Bytes, FEW};
 pub use segments::{Segments, WRITES_IN_PLACE};

@@ -1,17 +1,18 @@
-ghost use Rattle.std.specs.Prelude.{◌≡◌, ℕ, ◌+◌, ◌<◌, ◌≤◌, ◌↔◌, List, [], length, remove, replicate, IfNone, IfOk, IfSome, IsOk, IsTrue, OnErr, OnOk, vec_capacity, vec_len};
+ghost use Rattle.std.specs.Prelude.{◌≡◌, ℕ, ◌+◌, ◌-◌, ◌<◌, ◌≤◌, ◌^◌, ◌↔◌, List, [], length, min, remove, replicate, IfNone, IfOk, IfSome, IsOk, IsTrue, OnErr, OnOk, vec_capacity, vec_len};
 ghost use Rattle.smallvec.specs.SmallVec.{HasRoomFor, small_vec_len};
 ghost use Rattle.coll_sched.specs.Regions.{Apart, Inside, read_of, written};
 ghost use Rattle.coll_bytes.specs.Laid.{AllInside, Shows, place_of, laid};
 ghost use Rattle.coll_bytes.specs.Overlaps.{IsCommon, Within, seen_from};
 
 use crate::bytes::{Bytes, FEW};
+use coll_ops::are_same;
 use coll_sched::Region;
 use smallvec::SmallVec;
 use std::alloc::{AllocError, Global};
 use std::marker::Model;
 
 /// So many writes need no memory, before any room is made.
-pub const WRITES_IN_PLACE: usize = 4;
+pub const WRITES_IN_PLACE: usize = 1;
 
 // Bytes at their place in a buffer.
 #[derive(Debug, Default, Drop)]
@@ -165,6 +166,21 @@ fn composed_few(segments: &[Segment], size: u32, from: Region) -> Bytes
     Bytes::few(out)
 }
 
+// A region, put together in an empty vector that has room for it.
+fn compose_in(segments: &[Segment], size: u32, from: Region, out: &mut Vec<u8>)
+    requires all { AllInside size segments.now }
+    requires inside { Inside size from }
+    requires empty { out.old.items ≡ [] }
+    requires none { vec_len out.old ≡ 0 }
+    requires room { from.len ≤ vec_capacity out.old }
+    ensures { out.new.items ≡ read_of (laid size segments.now) from }
+{
+    let Ok(()) = out.resize(from.len as usize, 0) else {
+        unreachable!()
+    };
+    compose(segments, size, from, out);
+}
+
 // A region, put together in the room that is given.
 fn composed_in(segments: &[Segment], size: u32, from: Region, room: Vec<u8>) -> Bytes
     requires all { AllInside size segments.now }
@@ -175,11 +191,53 @@ fn composed_in(segments: &[Segment], size: u32, from: Region, room: Vec<u8>) -> 
     ensures { result ≡ read_of (laid size segments.now) from }
 {
     let mut out = room;
-    let Ok(()) = out.resize(from.len as usize, 0) else {
-        unreachable!()
-    };
-    compose(segments, size, from, &mut out);
+    compose_in(segments, size, from, &mut out);
     Bytes::from_vec(out)
+}
+
+// The part of a region of at most `FEW` bytes that begins behind so many of its bytes.
+fn few_behind(from: Region, done: u32) -> Region
+    requires low { done < from.len }
+    requires fits { from.at + from.len < 2 ^ 32 }
+    ensures { result ≡ record { at = from.at + done; len = min (from.len - done) FEW } }
+{
+    Region {
+        at: from.at + done,
+        len: (from.len - done).min(FEW as u32),
+    }
+}
+
+// Whether a region of a few bytes has these.
+fn shows_few(segments: &[Segment], size: u32, from: Region, bytes: &[u8]) -> bool
+    requires all { AllInside size segments.now }
+    requires inside { Inside size from }
+    requires few { from.len ≤ FEW }
+    ensures { IsTrue result ↔ (read_of (laid size segments.now) from ≡ bytes.now) }
+{
+    let few = composed_few(segments, size, from);
+    are_same(few.as_slice(), bytes)
+}
+
+// Whether a region has these bytes.
+fn shows_bytes(segments: &[Segment], size: u32, from: Region, bytes: &[u8]) -> bool
+    requires all { AllInside size segments.now }
+    requires inside { Inside size from }
+    requires same { length bytes.now ≡ from.len }
+    ensures { IsTrue result ↔ (read_of (laid size segments.now) from ≡ bytes.now) }
+{
+    let mut done = 0;
+    while done < from.len {
+        let part = few_behind(from, done);
+        let wanted = Region {
+            at: done,
+            len: part.len,
+        };
+        if !shows_few(segments, size, part, wanted.read(bytes)) {
+            return false;
+        }
+        done += part.len;
+    }
+    true
 }
 
 // A region, put together.
@@ -319,6 +377,13 @@ impl Segments {
         self.size
     }
 
+    /// Whether one more write needs no memory.
+    pub fn has_room(&self) -> bool
+        ensures { IsTrue result ↔ (0 < self.now.room) }
+    {
+        self.segments.len() < self.segments.capacity()
+    }
+
     /// Makes room for so many writes.
     pub fn reserve(&mut self, writes: usize) -> Result<(), AllocError>
         ensures ok { OnOk result (writes ≤ self.new.room) }
@@ -364,6 +429,50 @@ impl Segments {
         let segments = self.segments.as_slice();
         let i = holder(segments, self.size, from)?;
         Some(slice_at(segments, self.size, i, from))
+    }
+
+    /// Whether a region has these bytes. It takes no memory; where no one segment has the region, it is put together a few bytes at a
+    /// time.
+    pub fn has(&self, from: Region, bytes: &[u8]) -> bool
+        requires { Inside (length self.now.bytes) from }
+        ensures { IsTrue result ↔ (read_of self.now.bytes from ≡ bytes.now) }
+    {
+        if let Some(own) = self.slice_of(from) {
+            return are_same(own, bytes);
+        }
+        bytes.len() == from.len as usize
+            && shows_bytes(self.segments.as_slice(), self.size, from, bytes)
+    }
+
+    /// Copies the buffer's bytes into an empty vector that has room for them. It takes no memory.
+    pub fn copy_to(&self, out: &mut Vec<u8>)
+        requires empty { out.old.items ≡ [] }
+        requires none { vec_len out.old ≡ 0 }
+        requires room { length self.now.bytes ≤ vec_capacity out.old }
+        ensures { out.new.items ≡ self.now.bytes }
+    {
+        let all = Region::front(self.size);
+        compose_in(self.segments.as_slice(), self.size, all, out);
+    }
+
+    /// The bytes of a region in a vector, while the buffer goes: a block's own, as by `Bytes::into_vec`, where one segment has them, else
+    /// put together in the room that is given. It takes no memory.
+    pub fn into_vec(self, from: Region, room: Vec<u8>) -> Vec<u8>
+        requires inside { Inside (length self.bytes) from }
+        requires empty { room.items ≡ [] }
+        requires none { vec_len room ≡ 0 }
+        requires room { from.len ≤ vec_capacity room }
+        ensures { result.items ≡ read_of self.bytes from }
+    {
+        let Segments { size, segments } = self;
+        match holder(segments.as_slice(), size, from) {
+            Some(i) => part_of(segments, size, i, from).into_vec(room),
+            None => {
+                let mut out = room;
+                compose_in(segments.as_slice(), size, from, &mut out);
+                out
+            }
+        }
     }
 
     /// The bytes of a region, while the buffer goes: of the one segment that has them, else put together in the room that is given. It

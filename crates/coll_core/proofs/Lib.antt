@@ -1,4 +1,5 @@
 pub mod Below
+pub mod Buffers
 pub mod Options
 pub mod Works
 pub mod Advancing

@@ -13,7 +13,6 @@ pub mod BetweenCalls
 pub mod LockSteps
 -- what functions promise one another on the way to a call's effect
 pub mod Buffers
-pub mod Operands
 pub mod Requests
 pub mod Advancing
 pub mod Completions

@@ -1,106 +1,150 @@
-ghost use Rattle.std.specs.Prelude.{◌≡◌, ◌≤◌, [], length, IfOk, IsOkUnless, OnErr, OnOk, vec_capacity, vec_len};
-ghost use Rattle.std.specs.Arc.{arc_value};
-ghost use Rattle.std.specs.Option.{ForSome};
+ghost use Rattle.std.specs.Prelude.{◌≡◌, ◌↔◌, [], length, IfOk, IsOkUnless, IsTrue, OnErr, OnOk};
 ghost use Rattle.coll_sched.specs.Actions.{Fits, IsLocal, wrote};
-ghost use Rattle.coll_sched.specs.Regions.{Inside, written};
+ghost use Rattle.coll_sched.specs.Families.{laid_in};
+ghost use Rattle.coll_sched.specs.Regions.{Inside, read_of, written};
 
+use crate::combined::combined;
+use coll_bytes::{Bytes, Segments};
 use coll_kinds::Refusal;
-use coll_sched::{Action, Region};
+use coll_ops::are_same;
+use coll_sched::{Action, Region, Round, Schedule};
 use std::alloc::Global;
 use std::marker::Model;
-use std::sync::Arc;
 
-/// A schedule's buffer. A combination of long rows reads them here, so that they need not be copied: it borrows the bytes. Who
-/// writes has them back first, without memory.
+/// Buffers of up to so many bytes lie together from the beginning: to share them costs more than to copy them.
+const SHORT: u32 = 1_024;
+
+/// A schedule's buffer. What was written to a long one lies in segments, which messages, operands and contributions share with it, as
+/// long as there is room for one more of them. Then the bytes are put together, and from then on a write copies. So no write takes
+/// memory.
 #[derive(Debug, Drop)]
-pub(crate) struct Buffer {
-    /// The bytes; while they are borrowed, memory into which they can be copied.
+pub struct Buffer {
+    segments: Segments,
+    /// The bytes, once they lie together; before that, memory for them and for the outcome.
     own: Vec<u8>,
-    borrowed: Option<Arc<Vec<u8>>>,
-    ghost empty: { ForSome borrowed (λ bytes. own.items ≡ []) },
-    ghost none: { ForSome borrowed (λ bytes. vec_len own ≡ 0) },
-    ghost room: { ForSome borrowed (λ bytes. length (arc_value bytes).items ≤ vec_capacity own) },
+    is_flat: bool,
 }
 
 impl Model for Buffer {
-    ghost use Rattle.std.specs.Prelude.{List, ℕ, Vec, option_map};
-    ghost use Rattle.std.specs.Global.{Global};
-    ghost use Rattle.std.specs.Arc.{arc_value};
-    ghost use Rattle.coll_core.specs.Buffers.{bytes_of};
+    ghost use Rattle.std.specs.Prelude.{List, ℕ, length};
+    ghost use Rattle.coll_core.specs.Buffers.{HasSpare, bytes_of};
 
     ghost Value = { List ℕ };
 
-    ghost view = { λ b. bytes_of b.own.items (option_map (λ borrowed. (arc_value {X = Vec ℕ Global} borrowed).items) b.borrowed) };
+    ghost view = { λ b. bytes_of b.is_flat b.own.items b.segments.bytes };
+
+    ghost invariant = { λ b. HasSpare b.is_flat b.own (length b.segments.bytes) };
 }
 
-/// Bytes that were borrowed: mostly nobody else has them any longer; else they are copied into the spare memory.
-fn regained(borrowed: Arc<Vec<u8>>, spare: Vec<u8>) -> Vec<u8>
-    requires empty { spare.items ≡ [] }
-    requires none { vec_len spare ≡ 0 }
-    requires room { length (arc_value borrowed).items ≤ vec_capacity spare }
-    ensures { result.items ≡ (arc_value borrowed).items }
+/// The bytes of a region, in the memory of the buffer. They are moved at most once, all at one time where they don't overlap the
+/// place where they go: bytes that may overlap are moved one by one.
+fn cut(buffer: Vec<u8>, region: Region) -> Vec<u8>
+    requires { Inside (length buffer.items) region }
+    ensures { result.items ≡ read_of buffer.items region }
 {
-    match Arc::try_unwrap(borrowed) {
-        Ok(own) => own,
-        Err(borrowed) => {
-            let mut own = spare;
-            let Ok(()) = own.extend_from_slice(&borrowed) else {
-                unreachable!()
-            };
-            own
-        }
+    let mut bytes = buffer;
+    if region.at > 0 {
+        region.copy(Region::front(region.len), &mut bytes);
     }
+    bytes.truncate(region.len as usize);
+    bytes
+}
+
+/// How many actions there are: no more writes than that.
+fn action_count(rounds: &[Round]) -> usize {
+    let mut count: usize = 0;
+    for round in rounds {
+        count = count.saturating_add(round.actions().len());
+    }
+    count
 }
 
 impl Buffer {
-    /// Of its own bytes.
-    pub(crate) fn new(bytes: Vec<u8>) -> Buffer
-        ensures { result ≡ bytes.items }
+    /// Without bytes. It takes no memory.
+    pub fn empty(alloc: Global) -> Buffer
+        ensures { result ≡ [] }
     {
         Buffer {
-            own: bytes,
-            borrowed: None,
+            segments: Segments::new(alloc, 0),
+            own: Vec::new(alloc),
+            is_flat: false,
         }
     }
 
-    /// The bytes.
-    pub(crate) fn bytes(&self) -> &[u8]
-        ensures { result.now ≡ self.now }
+    /// The schedule's buffer with the contribution laid in, and zeros elsewhere. Only NoMemory is refused.
+    pub(crate) fn lay_in(
+        alloc: Global,
+        schedule: &Schedule,
+        bytes: &[u8],
+    ) -> Result<Buffer, Refusal>
+        requires { length bytes.now ≡ schedule.now.input.len }
+        ensures ok { IfOk result (λ buffer. buffer ≡ laid_in schedule.now bytes.now) }
+        ensures refusal { IsOkUnless result Refusal.NoMemory }
     {
-        match &self.borrowed {
-            None => &self.own,
-            Some(borrowed) => borrowed,
+        let size = schedule.size();
+        if size <= SHORT {
+            return Ok(Buffer {
+                segments: Segments::new(alloc, 0),
+                own: schedule.lay_in(alloc, bytes)?,
+                is_flat: true,
+            });
         }
+        let writes = action_count(schedule.rounds());
+        let input = schedule.input();
+        let given = Bytes::copy(alloc, bytes)?;
+        let mut segments = Segments::lay_in(alloc, size, input, given);
+        segments.reserve(writes)?;
+        let own = Vec::with_capacity(alloc, size as usize)?;
+        Ok(Buffer {
+            segments,
+            own,
+            is_flat: false,
+        })
     }
 
-    /// Takes the bytes out, and leaves none.
-    pub(crate) fn take(&mut self, alloc: Global) -> Vec<u8>
-        ensures bytes { result.items ≡ self.old }
-        ensures none { self.new ≡ [] }
-    {
-        let Buffer { own, borrowed } = std::mem::replace(self, Buffer::new(Vec::new(alloc)));
-        match borrowed {
-            None => own,
-            Some(borrowed) => regained(borrowed, own),
-        }
-    }
-
-    /// Writes into a region.
-    pub(crate) fn write(&mut self, alloc: Global, into: Region, bytes: &[u8])
+    /// Puts bytes in place of a region's.
+    pub(crate) fn write(&mut self, into: Region, bytes: Bytes)
         requires inside { Inside (length self.old) into }
-        requires same { length bytes.now ≡ into.len }
-        ensures { self.new ≡ written self.old into bytes.now }
+        requires same { length bytes ≡ into.len }
+        ensures { self.new ≡ written self.old into bytes }
     {
-        if self.borrowed.is_none() {
-            into.write(bytes, &mut self.own);
-            return;
+        if !self.is_flat {
+            if self.segments.has_room() {
+                self.segments.put(into, bytes);
+                return;
+            }
+            self.segments.copy_to(&mut self.own);
+            self.is_flat = true;
         }
-        let mut own = self.take(alloc);
-        into.write(bytes, &mut own);
-        *self = Buffer::new(own);
+        into.write(bytes.as_slice(), &mut self.own);
     }
 
-    /// Copies or combines within the bytes. Only NoMemory is refused.
+    /// The bytes of a region, shared where one segment has them, else copied. Only NoMemory is refused.
+    pub(crate) fn part(&mut self, alloc: Global, from: Region) -> Result<Bytes, Refusal>
+        requires { Inside (length self.old) from }
+        ensures ok { IfOk result (λ part. part ≡ read_of self.old from) }
+        ensures same { self.new ≡ self.old }
+        ensures refusal { IsOkUnless result Refusal.NoMemory }
+    {
+        if self.is_flat {
+            return Ok(Bytes::copy(alloc, from.read(&self.own))?);
+        }
+        Ok(self.segments.part(alloc, from)?)
+    }
+
+    /// Whether a region has these bytes.
+    pub(crate) fn has(&self, from: Region, bytes: &[u8]) -> bool
+        requires { Inside (length self.now) from }
+        ensures { IsTrue result ↔ (read_of self.now from ≡ bytes.now) }
+    {
+        if self.is_flat {
+            are_same(from.read(&self.own), bytes)
+        } else {
+            self.segments.has(from, bytes)
+        }
+    }
+
+    /// Copies or combines within the buffer. Only NoMemory is refused.
     pub(crate) fn act(&mut self, alloc: Global, action: Action) -> Result<(), Refusal>
         requires fits { Fits (length self.old) action }
         requires local { IsLocal action }
@@ -108,35 +152,44 @@ impl Buffer {
         ensures err { OnErr result (self.new ≡ self.old) }
         ensures refusal { IsOkUnless result Refusal.NoMemory }
     {
-        let mut own = self.take(alloc);
-        let done = action.local(alloc, &mut own);
-        *self = Buffer::new(own);
-        done
+        match action {
+            Action::Copy { from, into } => {
+                let bytes = self.part(alloc, from)?;
+                self.write(into, bytes);
+                Ok(())
+            }
+            Action::Combine {
+                op,
+                ty,
+                left,
+                right,
+                into,
+            } => {
+                let first = self.part(alloc, left)?;
+                let second = self.part(alloc, right)?;
+                let bytes = combined(alloc, op, ty, &first, &second)?;
+                self.write(into, bytes);
+                Ok(())
+            }
+            Action::Send { .. } | Action::Recv { .. } => unreachable!(),
+        }
     }
 
-    /// The bytes, for a combination that reads them here. Only NoMemory is refused.
-    pub(crate) fn borrow(&mut self, alloc: Global) -> Result<Arc<Vec<u8>>, Refusal>
-        ensures bytes { IfOk result (λ borrowed. (arc_value borrowed).items ≡ self.old) }
-        ensures same { self.new ≡ self.old }
-        ensures refusal { IsOkUnless result Refusal.NoMemory }
+    /// Takes a region's bytes out, and leaves none. It takes no memory.
+    pub(crate) fn take(&mut self, alloc: Global, region: Region) -> Vec<u8>
+        requires { Inside (length self.old) region }
+        ensures bytes { result.items ≡ read_of self.old region }
+        ensures none { self.new ≡ [] }
     {
-        if let Some(borrowed) = &self.borrowed {
-            return Ok(Arc::try_clone(borrowed)?);
-        }
-        let spare = Vec::with_capacity(alloc, self.own.len())?;
-        match Arc::new(alloc, self.take(alloc)) {
-            Ok(bytes) => {
-                let borrowed = Arc::try_clone(&bytes);
-                *self = Buffer {
-                    own: spare,
-                    borrowed: Some(bytes),
-                };
-                Ok(borrowed?)
-            }
-            Err(failed) => {
-                *self = Buffer::new(failed.value);
-                Err(Refusal::NoMemory)
-            }
+        let Buffer {
+            segments,
+            own,
+            is_flat,
+        } = std::mem::replace(self, Buffer::empty(alloc));
+        if is_flat {
+            cut(own, region)
+        } else {
+            segments.into_vec(region, own)
         }
     }
 }

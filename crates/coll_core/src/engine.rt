@@ -27,7 +27,6 @@ use crate::about::About;
 use crate::config::Config;
 use crate::phase::Phase;
 use crate::request::Request;
-use crate::spares::Spares;
 use coll_arena::laws::is_sound;
 use coll_arena::{Arena, ListName, Ticket};
 use coll_kinds::Refusal;
@@ -47,7 +46,6 @@ pub struct Core {
     arena: Arena<Request>,
     queues: Queues,
     matches: Matches,
-    spares: Spares,
 }
 
 impl Model for Core {
@@ -76,7 +74,6 @@ impl Core {
         let comms = config.groups.len() as u32;
         let arena = Arena::open(alloc, config.slots, comms, config.wear)?;
         let queues = Queues::open(alloc, config.groups, config.places)?;
-        let spares = Spares::open(alloc)?;
         laws::open_core(&arena);
         Ok(Core {
             alloc,
@@ -86,7 +83,6 @@ impl Core {
             arena,
             queues,
             matches: Matches::new(alloc),
-            spares,
         })
     }
 

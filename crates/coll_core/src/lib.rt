@@ -10,8 +10,7 @@
 //! | `buffer` | `Buffer`, the bytes that a schedule's actions read and write |
 //! | `request` | `Request`, what the engine keeps of a live request |
 //! | `sent` | `Sent`, the way of a message |
-//! | `operands` | `Operands`, the rows that a combination reads |
-//! | `spares` | `Spares`, long rows whose memory serves again |
+//! | `combined` | the combination of two operands, as `Bytes` |
 //! | `work` | `Work` and `DoneWork`, a combination that is computed outside the engine |
 //! | `stepped` | `Stepped`, what a step did |
 //! | `engine` | `Core`, with its calls by what they do |
@@ -28,20 +27,20 @@
 
 mod about;
 mod buffer;
+mod combined;
 mod config;
 mod engine;
 pub mod laws;
 mod offer;
-mod operands;
 mod outcome;
 mod phase;
 mod request;
 mod sent;
-mod spares;
 mod stepped;
 mod work;
 
 pub use about::About;
+pub use buffer::Buffer;
 pub use config::Config;
 pub use engine::Core;
 pub use offer::Offer;

@@ -2,6 +2,7 @@ ghost use Rattle.std.specs.Prelude.{◌≡◌, IfErr, IfOk};
 ghost use Rattle.coll_core.specs.Posts.{IsLaid};
 ghost use Rattle.coll_core.specs.Numbers.{number_bytes};
 
+use crate::buffer::Buffer;
 use coll_kinds::Refusal;
 use coll_plans::Plan;
 use std::alloc::Global;
@@ -39,14 +40,14 @@ impl Offer {
     /// # Errors
     ///
     /// NoMemory.
-    pub fn lay_in(&self, alloc: Global) -> Result<Vec<u8>, Refusal>
-        ensures laid { IfOk result (λ buffer. IsLaid self.now buffer.items) }
+    pub fn lay_in(&self, alloc: Global) -> Result<Buffer, Refusal>
+        ensures laid { IfOk result (λ buffer. IsLaid self.now buffer) }
         ensures refused { IfErr result (λ why. why ≡ Refusal.NoMemory) }
     {
         let schedule = self.plan.schedule();
         if self.bytes.len() != schedule.input().len as usize {
-            return Ok(Vec::new(alloc));
+            return Ok(Buffer::empty(alloc));
         }
-        schedule.lay_in(alloc, &self.bytes)
+        Buffer::lay_in(alloc, schedule, &self.bytes)
     }
 }

@@ -11,16 +11,13 @@ ghost use Rattle.coll_core.specs.Advancing.{IsSent};
 ghost use Rattle.coll_core.specs.Works.{Combined, StandsAt};
 
 use crate::buffer::Buffer;
-use crate::operands::{Operands, Row};
 use crate::sent::Sent;
-use crate::spares::Spares;
 use crate::work::{DoneWork, Work};
 use coll_arena::{ListName, Ticket};
 use coll_kinds::{Datatype, Op, Refusal};
 use coll_match::{Key, Matches};
-use coll_ops::are_same;
 use coll_plans::Plan;
-use coll_sched::{Action, Region};
+use coll_sched::Action;
 use std::alloc::Global;
 
 /// What the engine keeps of a live request.
@@ -41,20 +38,6 @@ pub(crate) struct Request {
     pub(crate) index: usize,
     /// The schedule's buffer; empty where the request isn't active.
     pub(crate) buffer: Buffer,
-}
-
-/// The bytes of a region, in the memory of the buffer. They are moved at most once, all at one time where they don't overlap the
-/// place where they go: bytes that may overlap are moved one by one.
-fn cut(buffer: Vec<u8>, region: Region) -> Vec<u8>
-    requires { Inside (length buffer.items) region }
-    ensures { result.items ≡ read_of buffer.items region }
-{
-    let mut bytes = buffer;
-    if region.at > 0 {
-        region.copy(Region::front(region.len), &mut bytes);
-    }
-    bytes.truncate(region.len as usize);
-    bytes
 }
 
 impl Request {
@@ -140,12 +123,7 @@ impl Request {
     }
 
     /// The combination that comes next, with its operands. Only NoMemory is refused.
-    pub(crate) fn work(
-        &mut self,
-        alloc: Global,
-        spares: &mut Spares,
-        ticket: Ticket,
-    ) -> Result<Work, Refusal>
+    pub(crate) fn work(&mut self, alloc: Global, ticket: Ticket) -> Result<Work, Refusal>
         requires combine { IfSome (next_of (shown self.old)) IsCombine }
         requires some { next_of (shown self.old) ≢ None }
         requires sized { length self.old.buffer ≡ (schedule (shown self.old)).size }
@@ -166,8 +144,9 @@ impl Request {
         else {
             unreachable!()
         };
-        let operands = Operands::of(&mut self.buffer, alloc, spares, left, right)?;
-        Ok(Work::new(alloc, ticket, self.round, self.index, op, ty, operands))
+        let first = self.buffer.part(alloc, left)?;
+        let second = self.buffer.part(alloc, right)?;
+        Ok(Work::new(alloc, ticket, self.round, self.index, op, ty, first, second))
     }
 
     /// The next action is the work's combination, with the same operands.
@@ -193,12 +172,11 @@ impl Request {
         if !are_alike(op, ty, work) {
             return false;
         }
-        are_same(left.read(self.buffer.bytes()), work.left())
-            && are_same(right.read(self.buffer.bytes()), work.right())
+        self.buffer.has(left, work.left()) && self.buffer.has(right, work.right())
     }
 
-    /// Writes the result of the combination that comes next, and hands it back.
-    pub(crate) fn write(&mut self, alloc: Global, done: DoneWork) -> Row
+    /// Writes the result of the combination that comes next.
+    pub(crate) fn write(&mut self, done: DoneWork)
         requires stands { StandsAt (shown self.old) done.piece }
         requires sized { length self.old.buffer ≡ (schedule (shown self.old)).size }
         ensures { Combined (shown self.old) (shown self.new) done.bytes }
@@ -206,22 +184,19 @@ impl Request {
         let Some(Action::Combine { into, .. }) = self.next() else {
             unreachable!()
         };
-        let row = done.into_result();
-        self.buffer.write(alloc, into, &row);
-        row
+        self.buffer.write(into, done.into_result());
     }
 
-    /// Takes the buffer out, cut to the outcome, and goes back to the first round.
+    /// Takes the outcome out of the buffer, which is empty then, and goes back to the first round.
     pub(crate) fn take_outcome(&mut self, alloc: Global) -> Vec<u8>
         requires { Inside (length self.old.buffer) (schedule (shown self.old)).output }
         ensures bytes { result.items ≡ read_of self.old.buffer (schedule (shown self.old)).output }
         ensures left { shown self.new ≡ advanced (shown self.old) (record { round = 0; index = 0; buf = [] }) }
     {
         let output = self.plan.schedule().output();
-        let buffer = self.buffer.take(alloc);
         self.round = 0;
         self.index = 0;
-        cut(buffer, output)
+        self.buffer.take(alloc, output)
     }
 }
 

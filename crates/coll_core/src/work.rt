@@ -1,9 +1,9 @@
-ghost use Rattle.std.specs.Prelude.{◌≡◌, length, IfOk, IfErr};
+ghost use Rattle.std.specs.Prelude.{◌≡◌, IfOk, IfErr};
 ghost use Rattle.coll_core.specs.Works.{IsPiece, result_of};
 
-use crate::operands::{Operands, Row};
+use crate::combined::combined;
+use coll_bytes::Bytes;
 use coll_kinds::{Datatype, Op, Refusal, Refused, Ticket};
-use coll_ops::{combine, combine_into};
 use std::alloc::Global;
 use std::marker::Model;
 
@@ -17,7 +17,8 @@ pub struct Work {
     index: usize,
     op: Op,
     ty: Datatype,
-    operands: Operands,
+    left: Bytes,
+    right: Bytes,
 }
 
 impl Model for Work {
@@ -25,16 +26,16 @@ impl Model for Work {
 
     ghost Value = { Piece };
 
-    ghost view = { λ w. record { ticket = w.ticket; round = w.round; index = w.index; op = w.op; ty = w.ty; left = w.operands.left; right = w.operands.right } };
+    ghost view = { λ w. record { ticket = w.ticket; round = w.round; index = w.index; op = w.op; ty = w.ty; left = w.left; right = w.right } };
 
-    ghost invariant = { λ w. IsPiece (record { ticket = w.ticket; round = w.round; index = w.index; op = w.op; ty = w.ty; left = w.operands.left; right = w.operands.right }) };
+    ghost invariant = { λ w. IsPiece (record { ticket = w.ticket; round = w.round; index = w.index; op = w.op; ty = w.ty; left = w.left; right = w.right }) };
 }
 
 /// A combination with its result.
 #[derive(Debug, Drop)]
 pub struct DoneWork {
     work: Work,
-    result: Row,
+    result: Bytes,
 }
 
 impl Model for DoneWork {
@@ -43,9 +44,9 @@ impl Model for DoneWork {
 
     ghost Value = { Made };
 
-    ghost view = { λ d. record { piece = d.work; bytes = d.result.items } };
+    ghost view = { λ d. record { piece = d.work; bytes = d.result } };
 
-    ghost invariant = { λ d. d.result.items ≡ result_of d.work };
+    ghost invariant = { λ d. d.result ≡ result_of d.work };
 }
 
 impl Work {
@@ -57,10 +58,11 @@ impl Work {
         index: usize,
         op: Op,
         ty: Datatype,
-        operands: Operands,
+        left: Bytes,
+        right: Bytes,
     ) -> Work
-        requires { IsPiece (record { ticket = ticket; round = round; index = index; op = op; ty = ty; left = operands.left; right = operands.right }) }
-        ensures { result ≡ record { ticket = ticket; round = round; index = index; op = op; ty = ty; left = operands.left; right = operands.right } }
+        requires { IsPiece (record { ticket = ticket; round = round; index = index; op = op; ty = ty; left = left; right = right }) }
+        ensures { result ≡ record { ticket = ticket; round = round; index = index; op = op; ty = ty; left = left; right = right } }
     {
         Work {
             alloc,
@@ -69,7 +71,8 @@ impl Work {
             index,
             op,
             ty,
-            operands,
+            left,
+            right,
         }
     }
 
@@ -110,54 +113,23 @@ impl Work {
     pub fn left(&self) -> &[u8]
         ensures { result.now ≡ self.now.left }
     {
-        self.operands.left()
+        self.left.as_slice()
     }
 
     /// The second operand.
     pub fn right(&self) -> &[u8]
         ensures { result.now ≡ self.now.right }
     {
-        self.operands.right()
+        self.right.as_slice()
     }
 
-    /// Computes the combination. Only NoMemory is refused, and hands the work back; rows of up to 16 bytes take none.
+    /// Computes the combination. Only NoMemory is refused, and hands the work back; a few bytes take none.
     pub fn run(self) -> Result<DoneWork, Refused<Work>>
         ensures made { IfOk result (λ done. done.piece ≡ self) }
         ensures refused { IfErr result (λ refused. refused ≡ record { why = Refusal.NoMemory; back = self }) }
     {
-        let mut work = self;
-        match work.operands.take_spare() {
-            Some(row) => {
-                if row.len() == work.left().len() {
-                    Ok(work.run_in(row))
-                } else {
-                    work.run_anew()
-                }
-            }
-            None => work.run_anew(),
-        }
-    }
-
-    /// Computes the combination in a row of as many bytes.
-    fn run_in(self, row: Row) -> DoneWork
-        requires { length row.items ≡ length self.left }
-        ensures { result.piece ≡ self }
-    {
-        let mut result = row;
-        combine(self.op, self.ty, self.left(), self.right(), &mut result);
-        DoneWork { work: self, result }
-    }
-
-    /// Computes the combination in a row of its own.
-    fn run_anew(self) -> Result<DoneWork, Refused<Work>>
-        ensures made { IfOk result (λ done. done.piece ≡ self) }
-        ensures refused { IfErr result (λ refused. refused ≡ record { why = Refusal.NoMemory; back = self }) }
-    {
-        match Row::from_slice(self.alloc, self.operands.left()) {
-            Ok(mut result) => {
-                combine_into(self.op, self.ty, &mut result, self.operands.right());
-                Ok(DoneWork { work: self, result })
-            }
+        match combined(self.alloc, self.op, self.ty, &self.left, &self.right) {
+            Ok(result) => Ok(DoneWork { work: self, result }),
             Err(_) => Err(Refused {
                 why: Refusal::NoMemory,
                 back: self,
@@ -179,12 +151,12 @@ impl DoneWork {
         ensures is { result.now ≡ self.now.bytes }
         ensures combined { self.now.bytes ≡ result_of self.now.piece }
     {
-        &self.result
+        self.result.as_slice()
     }
 
     /// The result, while the operands go.
-    pub(crate) fn into_result(self) -> Row
-        ensures is { result.items ≡ self.bytes }
+    pub(crate) fn into_result(self) -> Bytes
+        ensures is { result ≡ self.bytes }
         ensures combined { self.bytes ≡ result_of self.piece }
     {
         self.result

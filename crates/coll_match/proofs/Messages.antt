@@ -40,7 +40,7 @@ module _ (w : Envelope) where
   -- a message is among the messages exactly where a look-up finds it
   pub list_any-is_it : (xs : List Unreceived) → list_any is_it xs ≡ is_some (lookup (same_envelope w) (messages_of xs))
   list_any-is_it [] = refl
-  list_any-is_it (x ∷ xs) = any_of (is_it x) (list_any is_it xs) x.bytes.items (lookup (same_envelope w) (messages_of xs)) (list_any-is_it xs)
+  list_any-is_it (x ∷ xs) = any_of (is_it x) (list_any is_it xs) x.bytes (lookup (same_envelope w) (messages_of xs)) (list_any-is_it xs)
 
   -- none is it
   pub lookup-none_is_it : (xs : List Unreceived) → list_any is_it xs ≡ false → lookup (same_envelope w) (messages_of xs) ≡ None
@@ -51,23 +51,23 @@ module _ (w : Envelope) where
       absent (Some x) e = absurd cc
 
   pub record FoundAt (xs : List Unreceived) (i : ℕ) (d : Unreceived) : Type 0 where
-    pub value : lookup (same_envelope w) (messages_of xs) ≡ Some (get_or xs i d).bytes.items
+    pub value : lookup (same_envelope w) (messages_of xs) ≡ Some (get_or xs i d).bytes
     pub rest : messages_of (remove xs i) ≡ remove_entry (same_envelope w) (messages_of xs)
 
   -- the first that is it, and what is left without it
   pub found_at : (xs : List Unreceived) (i : ℕ) (d : Unreceived) → i < length xs → is_it (get_or xs i d) ≡ true → ((k : ℕ) → k < i → is_it (get_or xs k d) ≡ false) → FoundAt xs i d
   found_at [] i d low here before = absurd (omega (arith, low))
   found_at (x ∷ xs) zero d low here before = record {
-    value = λ z. cond (here z) (Some x.bytes.items) (lookup (same_envelope w) (messages_of xs));
-    rest = sym (ap (λ b. cond b (messages_of xs) ((x.envelope, x.bytes.items) ∷ remove_entry (same_envelope w) (messages_of xs))) here);
+    value = λ z. cond (here z) (Some x.bytes) (lookup (same_envelope w) (messages_of xs));
+    rest = sym (ap (λ b. cond b (messages_of xs) ((x.envelope, x.bytes) ∷ remove_entry (same_envelope w) (messages_of xs))) here);
   }
   found_at (x ∷ xs) (suc i) d low here before =
       let later = found_at xs i d (omega (arith, low)) here (λ k lt. before (suc k) (omega (arith, lt))) in
       let away : is_it x ≡ false = before 0 (omega arith) in
       record {
-        value = ap (λ b. cond b (Some x.bytes.items) (lookup (same_envelope w) (messages_of xs))) away ∙ later.value;
-        rest = ap (λ es. (x.envelope, x.bytes.items) ∷ es) later.rest
-            ∙ sym (ap (λ b. cond b (messages_of xs) ((x.envelope, x.bytes.items) ∷ remove_entry (same_envelope w) (messages_of xs))) away);
+        value = ap (λ b. cond b (Some x.bytes) (lookup (same_envelope w) (messages_of xs))) away ∙ later.value;
+        rest = ap (λ es. (x.envelope, x.bytes) ∷ es) later.rest
+            ∙ sym (ap (λ b. cond b (messages_of xs) ((x.envelope, x.bytes) ∷ remove_entry (same_envelope w) (messages_of xs))) away);
       }
 
   -- where the first lies
@@ -111,7 +111,7 @@ lookup-push q w x (e ∷ es) absent =
     (λ same. same_envelopes.congr q w e.0 same ∙ both.0) (lookup-push q w x es both.1)
 
 abbrev entry_of : Unreceived → Envelope × List ℕ
-entry_of unreceived = (unreceived.envelope, unreceived.bytes.items)
+entry_of unreceived = (unreceived.envelope, unreceived.bytes)
 
 abbrev envelope_of : Envelope × List ℕ → Envelope
 envelope_of entry = entry.0
@@ -125,13 +125,13 @@ none_apart = tt
 
 pub pushed_apart : (xs : List Unreceived) (y : Unreceived) → Apart xs → lookup (same_envelope y.envelope) (messages_of xs) ≡ None → Apart (xs ++ y ∷ [])
 pushed_apart xs y apart absent = subst (λ es. IsDistinct same_envelope (keys_of es)) (sym (map-append entry_of xs (y ∷ [])))
-    (subst (IsDistinct same_envelope) (sym (map-append envelope_of (messages_of xs) ((y.envelope, y.bytes.items) ∷ [])))
+    (subst (IsDistinct same_envelope) (sym (map-append envelope_of (messages_of xs) ((y.envelope, y.bytes) ∷ [])))
     (IsDistinct-push same_envelopes (keys_of (messages_of xs)) y.envelope apart (sym (is_some-lookup (same_envelope y.envelope) (messages_of xs)) ∙ ap is_some absent)))
 
 pub sent_pushed : (xs : List Unreceived) (y : Unreceived) → lookup (same_envelope y.envelope) (messages_of xs) ≡ None
-    → sent_in (messages_of (xs ++ y ∷ [])) ≡ put_sent (sent_in (messages_of xs)) y.envelope.to y.envelope.round (Some y.bytes.items)
+    → sent_in (messages_of (xs ++ y ∷ [])) ≡ put_sent (sent_in (messages_of xs)) y.envelope.to y.envelope.round (Some y.bytes)
 sent_pushed xs y absent = λ z b c. (ap (lookup (same_envelope (record { to = b; round = c }))) (map-append entry_of xs (y ∷ []))
-    ∙ lookup-push (record { to = b; round = c }) y.envelope y.bytes.items (messages_of xs) absent) z
+    ∙ lookup-push (record { to = b; round = c }) y.envelope y.bytes (messages_of xs) absent) z
 
 all_left : (P : Envelope → Type 0) (test : Envelope → Bool) (es : List (Envelope × List ℕ)) → AllByRecursion P (keys_of es) → AllByRecursion P (keys_of (remove_entry test es))
 all_left P test [] h = h

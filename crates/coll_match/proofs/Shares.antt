@@ -1,8 +1,7 @@
 -- The shares of an instance's members, and a change of one of them.
 use Rattle.std.proofs.Common.{◌≡◌, ℕ, ◌<◌, ◌≢◌, ◌==◌, Bool, true, false, cond, eqb-true, List, [], ◌∷◌, length, map, set, get_or, refl, sym, ap, ◌∙◌, Option, Some, None, zero, suc, replicate, arith}
 use Rattle.std.proofs.lemmas.Bool.{and_from, and_parts}
-use Rattle.std.specs.Prelude.{slice_get, option_map, is_some, is_none, ◌&&◌, Vec}
-use Rattle.std.specs.Global.{Global}
+use Rattle.std.specs.Prelude.{slice_get, option_map, is_some, is_none, ◌&&◌}
 use Rattle.std.specs.List.{list_all}
 use Rattle.std.proofs.lemmas.List.{length-map}
 use Rattle.std.proofs.lemmas.Option.{slice_get-map, slice_get_read, none-some}
@@ -34,12 +33,12 @@ module _ {X : Type 0} (f : Option Part → X) (shares : List Share) (i : ℕ) (s
 abbrev pub has_left : Share → Bool
 has_left share = is_some share.given && is_none share.slot
 
-left_share : (given : Option (Vec ℕ Global)) (slot : Option ℕ) → (is_some given && is_none slot) ≡ true → (option_map (λ (bytes : Vec ℕ Global). bytes.items) given ≢ None) × (slot ≡ None)
+left_share : (given : Option (List ℕ)) (slot : Option ℕ) → (is_some given && is_none slot) ≡ true → (given ≢ None) × (slot ≡ None)
 left_share None slot e = absurd cc
-left_share (Some bytes) None e = (λ is. none-some bytes.items (sym is), refl)
+left_share (Some bytes) None e = (λ is. none-some bytes (sym is), refl)
 left_share (Some bytes) (Some slot) e = absurd cc
 
-share_left : (given : Option (Vec ℕ Global)) (slot : Option ℕ) → (option_map (λ (bytes : Vec ℕ Global). bytes.items) given ≢ None) × (slot ≡ None) → (is_some given && is_none slot) ≡ true
+share_left : (given : Option (List ℕ)) (slot : Option ℕ) → (given ≢ None) × (slot ≡ None) → (is_some given && is_none slot) ≡ true
 share_left None slot h = absurd (h.0 refl)
 share_left (Some bytes) None h = refl
 share_left (Some bytes) (Some slot) h = absurd (none-some slot (sym h.1))

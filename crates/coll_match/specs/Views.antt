@@ -1,12 +1,11 @@
 -- What the fields of an instance show.
-use Rattle.std.specs.Prelude.{ℕ, List, map, option_map, Vec}
-use Rattle.std.specs.Global.{Global}
+use Rattle.std.specs.Prelude.{List, map}
 use Rattle.coll_match.specs.Held.{Part, Held}
 use Rattle.coll_match.specs.declared.instance.Share.{Share}
 
 abbrev pub part_of : Share → Part
 part_of share =
-    record { contribution = option_map (λ (bytes : Vec ℕ Global). bytes.items) share.given; slot = share.slot; sent = share.mailbox }
+    record { contribution = share.given; slot = share.slot; sent = share.mailbox }
 
 abbrev pub held_of : List Share → Held
 held_of shares = record { shares = map part_of shares }

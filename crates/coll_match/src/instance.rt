@@ -1,4 +1,4 @@
-ghost use Rattle.std.specs.Prelude.{◌≡◌, ◌<◌, ◌&&◌, [], Some, None, length, option_map, is_some, is_none, IsTrue, ◌↔◌, IfOk, OnOk, IfErr, OnErr, replicate};
+ghost use Rattle.std.specs.Prelude.{◌≡◌, ◌<◌, ◌&&◌, [], Some, None, length, is_some, is_none, IsTrue, ◌↔◌, IfOk, OnOk, IfErr, OnErr, replicate};
 ghost use Rattle.std.specs.List.{list_all};
 ghost use Rattle.std.specs.Option.{option_copied};
 ghost use Rattle.coll_kinds.specs.declared.refusal.Refusal.TheVariants.{NoMemory};
@@ -8,6 +8,7 @@ ghost use Rattle.coll_match.specs.Held.{IsOver, given_in, mail_in, put_mail, sea
 
 use crate::envelope::Envelope;
 use crate::mailbox::{Mailbox, Message};
+use coll_bytes::Bytes;
 use coll_kinds::Refused;
 use std::alloc::{AllocError, Global};
 use std::marker::Model;
@@ -16,7 +17,7 @@ use std::marker::Model;
 /// and that weren't taken yet.
 #[derive(Debug, Drop)]
 struct Share {
-    given: Option<Vec<u8>>,
+    given: Option<Bytes>,
     slot: Option<u32>,
     mailbox: Mailbox,
 }
@@ -74,10 +75,10 @@ impl Instance {
     }
 
     /// Keeps what a member gives.
-    pub(crate) fn join(&mut self, member: u8, bytes: Vec<u8>)
+    pub(crate) fn join(&mut self, member: u8, bytes: Bytes)
         requires { member < length self.old.shares }
         ensures members { length self.new.shares ≡ length self.old.shares }
-        ensures given { given_in self.new ≡ put (given_in self.old) member (Some bytes.items) }
+        ensures given { given_in self.new ≡ put (given_in self.old) member (Some bytes) }
         ensures seats { seat_in self.new ≡ seat_in self.old }
         ensures mail { mail_in self.new ≡ mail_in self.old }
     {
@@ -89,7 +90,7 @@ impl Instance {
         ensures { option_copied result ≡ given_in self.now member }
     {
         let share = self.shares.get(usize::from(member))?;
-        share.given.as_deref()
+        share.given.as_ref().map(Bytes::as_slice)
     }
 
     /// Notes the slot of a member's active request.
@@ -139,7 +140,7 @@ impl Instance {
         ensures members { OnOk result (length self.new.shares ≡ length self.old.shares) }
         ensures given { OnOk result (given_in self.new ≡ given_in self.old) }
         ensures seats { OnOk result (seat_in self.new ≡ seat_in self.old) }
-        ensures mail { OnOk result (mail_in self.new ≡ put_mail (mail_in self.old) from envelope.to envelope.round (Some message.items)) }
+        ensures mail { OnOk result (mail_in self.new ≡ put_mail (mail_in self.old) from envelope.to envelope.round (Some message)) }
     {
         self.shares[usize::from(from)]
             .mailbox
@@ -159,7 +160,7 @@ impl Instance {
 
     /// Takes a message of a member out.
     pub(crate) fn take(&mut self, from: u8, envelope: Envelope) -> Option<Message>
-        ensures taken { option_map (λ message. message.items) result ≡ mail_in self.old from envelope.to envelope.round }
+        ensures taken { result ≡ mail_in self.old from envelope.to envelope.round }
         ensures members { length self.new.shares ≡ length self.old.shares }
         ensures given { given_in self.new ≡ given_in self.old }
         ensures seats { seat_in self.new ≡ seat_in self.old }

@@ -1,16 +1,16 @@
-ghost use Rattle.std.specs.Prelude.{◌≡◌, [], None, Some, option_map, is_some, position, IfErr, OnErr, OnOk};
+ghost use Rattle.std.specs.Prelude.{◌≡◌, [], None, Some, is_some, position, IfErr, OnErr, OnOk};
 ghost use Rattle.std.specs.List.{list_any};
 ghost use Rattle.coll_kinds.specs.declared.refusal.Refused.{Refused};
 ghost use Rattle.coll_match.specs.Held.{put_sent, same_envelope, sent_in};
 
 use crate::envelope::Envelope;
+use coll_bytes::Bytes;
 use coll_kinds::{Refusal, Refused};
-use smallvec::SmallVec;
 use std::alloc::Global;
 use std::marker::Model;
 
-/// The bytes of a message: a few elements need no memory of their own.
-pub type Message = SmallVec<u8, 16>;
+/// The bytes of a message, which the sender may go on to have.
+pub type Message = Bytes;
 
 /// A message that wasn't taken yet.
 #[derive(Debug, Drop)]
@@ -72,7 +72,7 @@ impl Mailbox {
     /// Keeps a message until it is taken. Only NoMemory is refused, and hands the message back.
     pub(crate) fn put(&mut self, envelope: Envelope, bytes: Message) -> Result<(), Refused<Message>>
         requires { sent_in self.old envelope.to envelope.round ≡ None }
-        ensures sent { OnOk result (sent_in self.new ≡ put_sent (sent_in self.old) envelope.to envelope.round (Some bytes.items)) }
+        ensures sent { OnOk result (sent_in self.new ≡ put_sent (sent_in self.old) envelope.to envelope.round (Some bytes)) }
         ensures refused { IfErr result (λ refused. refused ≡ record { why = Refusal.NoMemory; back = bytes }) }
         ensures err { OnErr result (self.new ≡ self.old) }
     {
@@ -95,7 +95,7 @@ impl Mailbox {
 
     /// Takes a message out.
     pub(crate) fn take(&mut self, envelope: Envelope) -> Option<Message>
-        ensures taken { option_map (λ message. message.items) result ≡ sent_in self.old envelope.to envelope.round }
+        ensures taken { result ≡ sent_in self.old envelope.to envelope.round }
         ensures sent { sent_in self.new ≡ put_sent (sent_in self.old) envelope.to envelope.round None }
     {
         let place = place_of(&self.messages, envelope)?;

@@ -1,4 +1,4 @@
-ghost use Rattle.std.specs.Prelude.{◌≡◌, ◌<◌, ◌≢◌, Some, None, option_map, slice_get, is_some, IsTrue, ◌↔◌, OnOk, IfOk, IfErr, OnErr};
+ghost use Rattle.std.specs.Prelude.{◌≡◌, ◌<◌, ◌≢◌, Some, None, slice_get, is_some, IsTrue, ◌↔◌, OnOk, IfOk, IfErr, OnErr};
 ghost use Rattle.std.specs.Option.{option_copied, option_copied_mut};
 ghost use Rattle.coll_kinds.specs.declared.refusal.Refused.{Refused};
 ghost use Rattle.coll_match.specs.Instances.{IsLast, dissolved, given, is_of, joined, left, look_ups, mail, mailed, nothing, roomed, seated, seats, size, standing};
@@ -6,6 +6,7 @@ ghost use Rattle.coll_match.specs.Instances.{IsLast, dissolved, given, is_of, jo
 use crate::envelope::Envelope;
 use crate::instance::Instance;
 use crate::mailbox::Message;
+use coll_bytes::Bytes;
 use coll_kinds::{Refusal, Refused};
 use coll_machine::Key;
 use indexmap::IndexMap;
@@ -63,10 +64,10 @@ impl Matches {
 
     /// Keeps the bytes that a member gives to an instance, for which room was made. It takes no memory. A member joins
     /// an instance once. The answer is a hint for the calls that follow.
-    pub fn join(&mut self, key: Key, member: u8, bytes: Vec<u8>) -> usize
+    pub fn join(&mut self, key: Key, member: u8, bytes: Bytes) -> usize
         requires room { member < size self.old key }
         requires new { given self.old key member ≡ None }
-        ensures { look_ups self.new ≡ joined (look_ups self.old) key member bytes.items }
+        ensures { look_ups self.new ≡ joined (look_ups self.old) key member bytes }
     {
         let hint = self.instances.get_index_of(&key).unwrap_or(0);
         match self.at_mut(key, hint) {
@@ -148,7 +149,7 @@ impl Matches {
         requires joined { given self.old key from ≢ None }
         requires new { mail self.old key from to round ≡ None }
         ensures receiver { IfOk result (λ slot. slot ≡ seats self.old key to) }
-        ensures kept { OnOk result (look_ups self.new ≡ mailed (look_ups self.old) key from to round (Some message.items)) }
+        ensures kept { OnOk result (look_ups self.new ≡ mailed (look_ups self.old) key from to round (Some message)) }
         ensures refused { IfErr result (λ refused. refused ≡ record { why = Refusal.NoMemory; back = message }) }
         ensures err { OnErr result (self.new ≡ self.old) }
     {
@@ -170,7 +171,7 @@ impl Matches {
 
     /// Takes a message out; none where none stands for that sender, receiver and round.
     pub fn take(&mut self, key: Key, hint: usize, from: u8, to: u8, round: usize) -> Option<Message>
-        ensures taken { option_map (λ message. message.items) result ≡ mail self.old key from to round }
+        ensures taken { result ≡ mail self.old key from to round }
         ensures gone { look_ups self.new ≡ mailed (look_ups self.old) key from to round None }
     {
         self.at_mut(key, hint)?.take(from, Envelope { to, round })

@@ -38,4 +38,4 @@ pub record KeepsFor (offer : Offer) (kept : Kept) : Type 0 where
   pub len_is : kept.space.len ≡ (family offer.plan.sig offer.plan.n offer.plan.member).output.len
   pub filled : length kept.space.bytes.items ≡ kept.space.len
   pub copied : kept.bytes ≡ offer.bytes.items
-  pub laid_in : IsLaid offer kept.laid.items
+  pub laid_in : IsLaid offer kept.laid

@@ -2,7 +2,7 @@ ghost use Rattle.std.specs.Prelude.{◌≡◌, length, IfErr, IfOk};
 ghost use Rattle.coll_shared.specs.Spaced.{KeepsFor};
 
 use crate::spaces::{Space, outcome_len};
-use coll_core::Offer;
+use coll_core::{Buffer, Offer};
 use coll_kinds::Refusal;
 use coll_report::Bytes;
 use std::alloc::Global;
@@ -13,7 +13,7 @@ use std::alloc::Global;
 pub struct Kept {
     pub(crate) space: Space,
     pub(crate) bytes: Bytes,
-    pub(crate) laid: Vec<u8>,
+    pub(crate) laid: Buffer,
 }
 
 impl Kept {
@@ -29,7 +29,7 @@ impl Kept {
         Ok(Kept {
             space,
             bytes,
-            laid: Vec::new(alloc),
+            laid: Buffer::empty(alloc),
         })
     }
 

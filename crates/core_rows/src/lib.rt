@@ -5,6 +5,7 @@
 //! |---|---|
 //! | `lists` | nodes moved between lists |
 //! | `queues` | random posts, each judged as by the calls before it |
+//! | `bytes` | bytes with several owners, and buffers that are made of them |
 //! | `matches` | contributions and messages, found by their keys |
 //! | `arena` | rows of calls of an arena |
 //! | `job` | `Job`, a random job on one engine |
@@ -21,6 +22,8 @@
 
 #[cfg(test)]
 mod arena;
+#[cfg(test)]
+mod bytes;
 #[cfg(test)]
 mod completions;
 #[cfg(test)]

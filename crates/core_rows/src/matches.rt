@@ -2,8 +2,9 @@
 
 ghost use Rattle.coll_match.specs.Instances.{HaveSize};
 
+use coll_bytes::Bytes;
 use coll_kinds::Refusal;
-use coll_match::{Key, Matches, Message};
+use coll_match::{Key, Matches};
 use std::alloc::Global;
 use std::test::Fail;
 
@@ -11,20 +12,13 @@ use std::test::Fail;
 const HINT: usize = 0;
 
 /// A member of three joins, and its request has that slot.
-fn enter(
-    matches: &mut Matches,
-    alloc: Global,
-    key: Key,
-    member: u8,
-    byte: u8,
-) -> Result<(), Refusal>
+fn enter(matches: &mut Matches, key: Key, member: u8, byte: u8) -> Result<(), Refusal>
     requires { HaveSize matches.old 3 }
     ensures { HaveSize matches.new 3 }
 {
-    let bytes = Vec::from_slice(alloc, &[byte])?;
     matches.room(key, 3)?;
     if member < 3 && matches.given(key, member).is_none() {
-        let hint = matches.join(key, member, bytes);
+        let hint = matches.join(key, member, Bytes::few(&[byte]));
         matches.seat(key, hint, member, u32::from(byte));
     }
     Ok(())
@@ -33,7 +27,6 @@ fn enter(
 /// A member that has joined sends a byte.
 fn send(
     matches: &mut Matches,
-    alloc: Global,
     key: Key,
     from: u8,
     to: u8,
@@ -43,7 +36,7 @@ fn send(
     requires { HaveSize matches.old 3 }
     ensures { HaveSize matches.new 3 }
 {
-    let message = Message::from_slice(alloc, &[byte])?;
+    let message = Bytes::few(&[byte]);
     if matches.given(key, from).is_some() && !matches.ready(key, HINT, from, to, round) {
         let seated = matches.seated(key, to);
         match matches.put(key, HINT, from, to, round, message) {
@@ -68,7 +61,8 @@ fn taken(matches: &mut Matches, key: Key, from: u8, to: u8, round: usize) -> Opt
     requires { HaveSize matches.old 3 }
     ensures { HaveSize matches.new 3 }
 {
-    matches.take(key, HINT, from, to, round)?.first().copied()
+    let message = matches.take(key, HINT, from, to, round)?;
+    message.as_slice().first().copied()
 }
 
 /// The byte that a member gave.
@@ -92,10 +86,10 @@ const SECOND: Key = Key {
 fn contributions_outlive_their_requests(rt: HostRuntime) -> Result<(), Fail> {
     let alloc = rt.alloc();
     let mut matches = Matches::new(alloc);
-    enter(&mut matches, alloc, FIRST, 0, 10)?;
-    enter(&mut matches, alloc, FIRST, 1, 11)?;
-    enter(&mut matches, alloc, FIRST, 2, 12)?;
-    enter(&mut matches, alloc, SECOND, 0, 20)?;
+    enter(&mut matches, FIRST, 0, 10)?;
+    enter(&mut matches, FIRST, 1, 11)?;
+    enter(&mut matches, FIRST, 2, 12)?;
+    enter(&mut matches, SECOND, 0, 20)?;
     assert_eq!(rt; matches.seated(FIRST, 0), Some(10));
     assert_eq!(rt; matches.seated(SECOND, 0), Some(20));
     assert_eq!(rt; matches.seated(SECOND, 1), None);
@@ -117,12 +111,12 @@ fn contributions_outlive_their_requests(rt: HostRuntime) -> Result<(), Fail> {
 fn a_message_is_what_was_put(rt: HostRuntime) -> Result<(), Fail> {
     let alloc = rt.alloc();
     let mut matches = Matches::new(alloc);
-    enter(&mut matches, alloc, FIRST, 0, 1)?;
-    enter(&mut matches, alloc, SECOND, 0, 2)?;
-    send(&mut matches, alloc, FIRST, 0, 1, 0, 30)?;
-    send(&mut matches, alloc, FIRST, 0, 1, 7, 31)?;
-    send(&mut matches, alloc, FIRST, 0, 2, 0, 32)?;
-    send(&mut matches, alloc, SECOND, 0, 1, 0, 33)?;
+    enter(&mut matches, FIRST, 0, 1)?;
+    enter(&mut matches, SECOND, 0, 2)?;
+    send(&mut matches, FIRST, 0, 1, 0, 30)?;
+    send(&mut matches, FIRST, 0, 1, 7, 31)?;
+    send(&mut matches, FIRST, 0, 2, 0, 32)?;
+    send(&mut matches, SECOND, 0, 1, 0, 33)?;
     assert!(rt; matches.ready(FIRST, HINT, 0, 1, 7));
     assert!(rt; !matches.ready(FIRST, HINT, 1, 0, 0));
 

@@ -27,6 +27,7 @@ use crate::offer::Offer;
 use crate::request::Request;
 use coll_arena::laws::is_sound;
 use coll_arena::{ListName, Ticket};
+use coll_bytes::Bytes;
 use coll_kinds::laws::lengths_are_small;
 use coll_kinds::{Mode, Refusal, Refused, Signature, SignatureFault};
 use coll_match::Key;
@@ -105,9 +106,9 @@ impl Core {
         rank: u8,
         comm: u32,
         offer: Offer,
-        laid: Result<Vec<u8>, Refusal>,
+        laid: Result<Buffer, Refusal>,
     ) -> Result<Ticket, Refused<Offer>>
-        requires laid { IfOk laid (λ buffer. IsLaid offer buffer.items) }
+        requires laid { IfOk laid (λ buffer. IsLaid offer buffer) }
         requires short { IfErr laid (λ why. why ≡ Refusal.NoMemory) }
         ensures setting { setting self.new ≡ setting self.old }
         ensures posted { IfOk result (λ ticket. StepsTo (setting self.old) (seen self.old) (post_of rank comm offer) (Ticketed ticket) (seen self.new)) }
@@ -222,15 +223,15 @@ impl Core {
         rank: u8,
         comm: u32,
         offer: &Offer,
-        laid: Result<Vec<u8>, Refusal>,
-    ) -> Result<(Arc<Signature>, Vec<u8>), Refusal>
+        laid: Result<Buffer, Refusal>,
+    ) -> Result<(Arc<Signature>, Buffer), Refusal>
         requires accepted { refused_in self.old (post_of rank comm offer.now) ≡ None }
-        requires laid { IfOk laid (λ buffer. IsLaid offer.now buffer.items) }
+        requires laid { IfOk laid (λ buffer. IsLaid offer.now buffer) }
         requires short { IfErr laid (λ why. why ≡ Refusal.NoMemory) }
         ensures unchanged { Unchanged self.old self.new }
         ensures room { OnOk result (IsRoomy self.new rank comm offer.now.plan) }
         ensures sig { IfOk result (λ r. arc_value r.0 ≡ offer.now.plan.sig) }
-        ensures buffer { IfOk result (λ r. r.1.items ≡ laid_in (family offer.now.plan.sig offer.now.plan.n offer.now.plan.member) offer.now.bytes.items) }
+        ensures buffer { IfOk result (λ r. r.1 ≡ laid_in (family offer.now.plan.sig offer.now.plan.n offer.now.plan.member) offer.now.bytes.items) }
         ensures refused { IfErr result (λ why. why ≡ Refusal.NoMemory) }
     {
         is_sound(&self.arena);
@@ -274,12 +275,12 @@ impl Core {
         comm: u32,
         offer: Offer,
         sig: Arc<Signature>,
-        buffer: Vec<u8>,
+        buffer: Buffer,
     ) -> Ticket
         requires accepted { refused_in self.old (post_of rank comm offer) ≡ None }
         requires room { IsRoomy self.old rank comm offer.plan }
         requires sig { arc_value sig ≡ offer.plan.sig }
-        requires buffer { buffer.items ≡ laid_in (family offer.plan.sig offer.plan.n offer.plan.member) offer.bytes.items }
+        requires buffer { buffer ≡ laid_in (family offer.plan.sig offer.plan.n offer.plan.member) offer.bytes.items }
         ensures setting { setting self.new ≡ setting self.old }
         ensures posted { StepsTo (setting self.old) (seen self.old) (post_of rank comm offer) (Ticketed result) (seen self.new) }
         ensures begins { BeginsSchedule self.old self.new result.slot (family offer.plan.sig offer.plan.n offer.plan.member) }
@@ -303,10 +304,11 @@ impl Core {
             starts: 1,
             round: 0,
             index: 0,
-            buffer: Buffer::new(buffer),
+            buffer,
         };
         let key = request.key();
-        let hint = self.matches.join(key, member, bytes);
+        let given = Bytes::from_vec(bytes);
+        let hint = self.matches.join(key, member, given);
         request.hint = hint;
         request.pass_ends();
         let list = request.list(&self.matches);
@@ -341,7 +343,7 @@ impl Core {
             starts: 0,
             round: 0,
             index: 0,
-            buffer: Buffer::new(Vec::new(self.alloc)),
+            buffer: Buffer::empty(self.alloc),
         };
         match self.arena.take(request, 0, ListName::Idle(comm)) {
             Ok(ticket) => ticket,

@@ -22,6 +22,7 @@ use crate::engine::Core;
 use crate::request::Request;
 use coll_arena::laws::is_sound;
 use coll_arena::{Arena, ListName, Ticket};
+use coll_bytes::Bytes;
 use coll_kinds::laws::lengths_are_small;
 use coll_kinds::{Mode, Refusal, Refused};
 use coll_match::{Key, Matches};
@@ -57,7 +58,8 @@ impl Core {
         is_sound(&self.arena);
         laws::start_core(&self.arena);
         laws::new_core(&self.arena);
-        begin(&mut self.arena, &mut self.matches, ticket, bytes, buffer);
+        let given = Bytes::from_vec(bytes);
+        begin(&mut self.arena, &mut self.matches, ticket, given, buffer);
         Ok(())
     }
 
@@ -103,6 +105,7 @@ impl Core {
         ensures refused { result_err result ≡ refusal (setting self.now) (seen self.now).state (Start rank ticket bytes.now) }
         ensures named { OnOk result (names self.now.arena ticket ≡ true) }
         ensures bytes { OnOk result (AreBytes bytes.now) }
+        ensures short { OnOk result (length bytes.now < 2 ^ 32) }
         ensures found { OnOk result (is_some (record_in self.now.arena ticket.slot) ≡ true) }
         ensures long { OnOk result (IfSome (record_in self.now.arena ticket.slot) (λ x. length bytes.now ≡ given_len x.plan.sig x.plan.n x.plan.member)) }
         ensures low { OnOk result (IfSome (record_in self.now.arena ticket.slot) (λ x. suc x.starts < 2 ^ 32)) }
@@ -127,19 +130,19 @@ impl Core {
     }
 
     /// Makes room for all that a start takes, and the schedule's buffer with the contribution laid in.
-    fn make_start_room(&mut self, ticket: Ticket, bytes: &[u8]) -> Result<Vec<u8>, Refusal>
+    fn make_start_room(&mut self, ticket: Ticket, bytes: &[u8]) -> Result<Buffer, Refusal>
         requires named { names self.old.arena ticket ≡ true }
         requires long { IfSome (record_in self.old.arena ticket.slot) (λ x. length bytes.now ≡ given_len x.plan.sig x.plan.n x.plan.member) }
         ensures same { Unchanged self.old self.new }
         ensures arena { self.new.arena ≡ self.old.arena }
         ensures room { OnOk result (IfSome (record_in self.old.arena ticket.slot) (λ x. x.plan.member < size self.new.matches (next_instance x))) }
-        ensures buffer { IfOk result (λ buf. IfSome (record_in self.old.arena ticket.slot) (λ x. buf.items ≡ laid_in (schedule (shown x)) bytes.now)) }
+        ensures buffer { IfOk result (λ buf. IfSome (record_in self.old.arena ticket.slot) (λ x. buf ≡ laid_in (schedule (shown x)) bytes.now)) }
         ensures refused { IfErr result (λ why. why ≡ Refusal.NoMemory) }
     {
         let Ok(request) = self.arena.get(ticket) else {
             unreachable!()
         };
-        let buffer = request.plan.schedule().lay_in(self.alloc, bytes)?;
+        let buffer = Buffer::lay_in(self.alloc, request.plan.schedule(), bytes)?;
         let key = Key {
             comm: request.comm,
             place: request.place,
@@ -156,12 +159,12 @@ fn begin(
     arena: &mut Arena<Request>,
     matches: &mut Matches,
     ticket: Ticket,
-    bytes: Vec<u8>,
-    buffer: Vec<u8>,
+    bytes: Bytes,
+    buffer: Buffer,
 )
     requires named { names arena.old ticket ≡ true }
     requires can { IfSome (record_in arena.old ticket.slot) (CanBegin arena.old matches.old) }
-    ensures { IfSome (record_in arena.old ticket.slot) (λ x. Begun arena.old arena.new matches.old matches.new ticket x bytes.items buffer.items) }
+    ensures { IfSome (record_in arena.old ticket.slot) (λ x. Begun arena.old arena.new matches.old matches.new ticket x bytes buffer) }
 {
     is_sound(arena);
     lengths_are_small();
@@ -184,12 +187,12 @@ fn begin(
 }
 
 /// Takes a request to the first action of its next start.
-fn once_more(request: &mut Request, buffer: Vec<u8>)
+fn once_more(request: &mut Request, buffer: Buffer)
     requires { suc request.old.starts < 2 ^ 32 }
-    ensures { Begins (shown request.old) (shown request.new) buffer.items }
+    ensures { Begins (shown request.old) (shown request.new) buffer }
 {
     request.starts += 1;
-    request.buffer = Buffer::new(buffer);
+    request.buffer = buffer;
     request.round = 0;
     request.index = 0;
     request.pass_ends();

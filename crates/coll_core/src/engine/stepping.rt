@@ -132,12 +132,10 @@ impl Core {
         ensures err { OnErr result (self.new ≡ self.old) }
         ensures refusal { IsOkUnless result Refusal.NoMemory }
     {
-        let Ok(request) = self.arena.get(ticket) else {
+        let Ok(request) = self.arena.get_mut(ticket) else {
             unreachable!()
         };
-        let message = self
-            .spares
-            .copy(self.alloc, from.read(request.buffer.bytes()))?;
+        let message = request.buffer.part(self.alloc, from)?;
         let key = request.key();
         let hint = request.hint;
         let member = request.plan.member();
@@ -170,8 +168,7 @@ impl Core {
         let Some(message) = self.matches.take(key, hint, of, member, round) else {
             unreachable!()
         };
-        request.buffer.write(self.alloc, into, &message);
-        self.spares.keep(message);
+        request.buffer.write(into, message);
         advance(&mut self.arena, &self.matches, ticket)
     }
 
@@ -202,7 +199,7 @@ impl Core {
         let Ok(request) = self.arena.get_mut(ticket) else {
             unreachable!()
         };
-        let work = request.work(self.alloc, &mut self.spares, ticket)?;
+        let work = request.work(self.alloc, ticket)?;
         let Ok(()) = self.arena.shift(ticket, ListName::Running) else {
             unreachable!()
         };

@@ -35,8 +35,7 @@ impl Core {
         let Ok(request) = self.arena.get_mut(ticket) else {
             unreachable!()
         };
-        let row = request.write(self.alloc, done);
-        self.spares.keep(row);
+        request.write(done);
         Ok(Stepped::by(advance(&mut self.arena, &self.matches, ticket)))
     }
 

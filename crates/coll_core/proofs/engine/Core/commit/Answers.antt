@@ -7,8 +7,8 @@ use Rattle.coll_core.proofs.Committing.{commit_can_go, commit_steps, committed, 
 use Rattle.coll_core.proofs.Reading.{running_acting}
 use Rattle.coll_core.proofs.engine.Core.commit.Goals as goal
 
-pub write-row-requires-clause-sized : goal.write-row-requires-clause-sized
-write-row-requires-clause-sized c =
+pub write-requires-clause-sized : goal.write-requires-clause-sized
+write-requires-clause-sized c =
     let x = c.in-Ok.request.now in
     let t_is = c.ticket-ticket.ensures ∙ ap (λ (w : Piece). w.ticket) c.work-2.ensures in
     let out = out_at _ c.args.self.now c.self.view_is c.args.done.piece c.work.result.now c.work.ensures c.ticket-ticket.result t_is x (c.is_out.ensures.0 c.if-not-is_out.false) c.in-Ok.ensures.found in
@@ -20,7 +20,7 @@ advance-requires c =
     let t_is = c.ticket-ticket.ensures ∙ ap (λ (w : Piece). w.ticket) c.work-2.ensures in
     let out = out_at _ c.args.self.now c.self.view_is c.args.done.piece c.work.result.now c.work.ensures c.ticket-ticket.result t_is x (c.is_out.ensures.0 c.if-not-is_out.false) c.in-Ok.ensures.found in
     commit_can_go c.self.inside.ranks c.self.inside.starts c.self.inside.trace c.self.inside.arena c.self.inside.arena c.self.inside.queues c.self.inside.matches
-    c.ticket-ticket.result x c.write-row.new.self c.args.done c.is_sound.ensures c.self.invariant out c.write-row.ensures
+    c.ticket-ticket.result x c.write.new.self c.args.done c.is_sound.ensures c.self.invariant out c.write.ensures
 
 pub invariant_of-self : goal.invariant_of-self
 invariant_of-self c =
@@ -28,7 +28,7 @@ invariant_of-self c =
     let t_is = c.ticket-ticket.ensures ∙ ap (λ (w : Piece). w.ticket) c.work-2.ensures in
     let out = out_at _ c.args.self.now c.self.view_is c.args.done.piece c.work.result.now c.work.ensures c.ticket-ticket.result t_is x (c.is_out.ensures.0 c.if-not-is_out.false) c.in-Ok.ensures.found in
     (committed c.self.inside.ranks c.self.inside.starts c.self.inside.trace c.self.inside.arena c.advance.new.arena c.self.inside.queues c.self.inside.matches
-    c.ticket-ticket.result x c.write-row.new.self c.args.done c.is_sound.ensures c.self.invariant out c.write-row.ensures c.advance.result
+    c.ticket-ticket.result x c.write.new.self c.args.done c.is_sound.ensures c.self.invariant out c.write.ensures c.advance.result
     (subst (λ (d : Made). d.bytes ≡ result_of d.piece) c.done.view_is c.done.invariant) t_is c.advance.ensures).0
 
 pub returns-clause-out : goal.returns-clause-out
@@ -42,5 +42,5 @@ returns-clause-steps c =
     commit_steps c.args.self.now (parts c.self.inside.ranks c.self.inside.starts c.self.inside.trace c.advance.new.arena c.self.inside.queues c.self.inside.matches) c.args.done c.advance.result c.by.result c.by.ensures
     (subst (λ (p : Parts). Commits p (parts c.self.inside.ranks c.self.inside.starts c.self.inside.trace c.advance.new.arena c.self.inside.queues c.self.inside.matches) c.args.done c.advance.result) c.self.view_is
     (committed c.self.inside.ranks c.self.inside.starts c.self.inside.trace c.self.inside.arena c.advance.new.arena c.self.inside.queues c.self.inside.matches
-    c.ticket-ticket.result x c.write-row.new.self c.args.done c.is_sound.ensures c.self.invariant out c.write-row.ensures c.advance.result
+    c.ticket-ticket.result x c.write.new.self c.args.done c.is_sound.ensures c.self.invariant out c.write.ensures c.advance.result
     (subst (λ (d : Made). d.bytes ≡ result_of d.piece) c.done.view_is c.done.invariant) t_is c.advance.ensures).1)

@@ -1,4 +1,4 @@
-use Rattle.std.proofs.Common.{◌≡◌, ◌∙◌, None, length, ap, refl, subst, sym}
+use Rattle.std.proofs.Common.{◌≡◌, ◌∙◌, ◌<◌, ◌≤◌, ◌^◌, ℕ, List, None, length, ap, refl, subst, sym, arith}
 use Rattle.std.specs.Arc.{arc_value}
 use Rattle.coll_arena.specs.ListNames.{number_of}
 use Rattle.coll_lists.specs.Layouts.{sequence}
@@ -18,8 +18,15 @@ use Rattle.coll_core.specs.Requests.{shown}
 use Rattle.coll_core.specs.Cores.{Parts, seen, setting}
 use Rattle.coll_core.specs.Posts.{planned, refused_in, next_instance}
 use Rattle.coll_core.proofs.Posting.{Calls, accepted_from, emptied, given_now, lent_moved, not_given, parts_of, post_begins, post_kept, post_steps}
-use Rattle.coll_match.specs.Instances.{LookUps}
+use Rattle.coll_match.specs.Instances.{LookUps, joined, look_ups}
+use Rattle.coll_kinds.specs.Lengths.{given_len}
+use Rattle.coll_kinds.specs.Limits.{max_len}
+use Rattle.coll_machine.specs.declared.key.Key.{Key}
+use Rattle.coll_tables.specs.Shown.{Instances}
 use Rattle.coll_core.proofs.engine.Core.enter.Goals as goal
+
+short : (len given : ℕ) → len ≡ given → given ≤ max_len → len < 2 ^ 32
+short len given is small = omega (arith, is, small)
 
 pub offer-place-requires-clause-judged : goal.offer-place-requires-clause-judged
 offer-place-requires-clause-judged c =
@@ -29,6 +36,15 @@ offer-place-requires-clause-judged c =
     let accepted : refused_in p (Post c.args.rank c.args.comm plan bytes) ≡ None = accepted_from p c.args.self.now (Post c.args.rank c.args.comm plan bytes) c.self.view_is c.requires.accepted in
     let tested : MayEnter (setting p) p.arena p.queues c.args.rank c.args.comm Once plan = ((c.entry_core.ensures shown (setting p) p.arena p.queues p.matches c.args.rank c.args.comm plan c.self.invariant c.is_sound.ensures).0 bytes accepted).0 in
     ap (λ (s : Signature). judge_refusal c.self.inside.queues c.args.comm c.args.rank s) c.requires.sig ∙ tested.judged
+
+pub from_vec-given-requires : goal.from_vec-given-requires
+from_vec-given-requires c =
+    let p : Parts = record { ranks = c.self.inside.ranks; starts = c.self.inside.starts; trace = c.self.inside.trace; arena = c.self.inside.arena; queues = c.self.inside.queues; matches = c.self.inside.matches } in
+    let plan = planned c.args.offer.plan in
+    let bytes = c.args.offer.bytes.items in
+    let accepted : refused_in p (Post c.args.rank c.args.comm plan bytes) ≡ None = accepted_from p c.args.self.now (Post c.args.rank c.args.comm plan bytes) c.self.view_is c.requires.accepted in
+    let tested : MayEnter (setting p) p.arena p.queues c.args.rank c.args.comm Once plan × (length bytes ≡ given_len plan.sig plan.n plan.member) = (c.entry_core.ensures shown (setting p) p.arena p.queues p.matches c.args.rank c.args.comm plan c.self.invariant c.is_sound.ensures).0 bytes accepted in
+    short (length bytes) (given_len plan.sig plan.n plan.member) tested.1 (c.lengths_are_small.ensures plan.sig plan.n plan.member tested.0.checked tested.0.low).0
 
 pub join-hint-requires-clause-new : goal.join-hint-requires-clause-new
 join-hint-requires-clause-new c =
@@ -41,8 +57,11 @@ join-hint-requires-clause-new c =
     not_given p.matches c.key-key.result (next_instance p.queues c.args.rank c.args.comm) c.member-member.result plan.member instance_is c.member-member.ensures.member
     ((c.new_core.ensures shown (setting p) p.arena p.queues p.matches c.self.invariant).0 c.args.rank c.args.comm plan bytes accepted)
 
+gave : (n m : Instances) (k : Key) (member : ℕ) (given bytes : List ℕ) → look_ups n ≡ joined (look_ups m) k member given → given ≡ bytes → look_ups n ≡ joined (look_ups m) k member bytes
+gave n m k member given bytes e same = e ∙ ap (λ (b : List ℕ). joined (look_ups m) k member b) same
+
 pub seat-requires : goal.seat-requires
-seat-requires c = given_now c.self.inside.matches c.join-hint.new.self c.key-key.result c.member-member.result c.args.offer.bytes.items (ap (λ (s : LookUps). s.given) c.join-hint.ensures)
+seat-requires c = given_now c.self.inside.matches c.join-hint.new.self c.key-key.result c.member-member.result c.args.offer.bytes.items (ap (λ (s : LookUps). s.given) (gave c.join-hint.new.self c.self.inside.matches c.key-key.result c.member-member.result c.from_vec-given.result c.args.offer.bytes.items c.join-hint.ensures c.from_vec-given.ensures))
 
 pub invariant_of-self : goal.invariant_of-self
 invariant_of-self c =
@@ -51,7 +70,7 @@ invariant_of-self c =
     let bytes = c.args.offer.bytes.items in
     let accepted : refused_in p (Post c.args.rank c.args.comm plan bytes) ≡ None = accepted_from p c.args.self.now (Post c.args.rank c.args.comm plan bytes) c.self.view_is c.requires.accepted in
     let key_is : c.key-key.result ≡ record { comm = c.args.comm; place = c.offer-place.result; start = 0 } = c.key-key.ensures in
-    let x : Request = record { rank = c.args.rank; comm = c.args.comm; place = c.offer-place.result; hint = c.join-hint.result; plan = c.args.offer.plan; starts = 1; round = 0; index = 0; buffer = c.new.result } in
+    let x : Request = record { rank = c.args.rank; comm = c.args.comm; place = c.offer-place.result; hint = c.join-hint.result; plan = c.args.offer.plan; starts = 1; round = 0; index = 0; buffer = c.args.buffer } in
     let calls : Calls p c.take.new.self c.offer-place.new.self c.join-hint.new.self c.seat.new.self c.in-Ok.ticket c.args.rank c.args.comm plan bytes (arc_value c.args.sig) c.key-key.result c.offer-place.result c.member-member.result c.lent-weight.result (number_of c.list-list.result) x c.pass_ends.new.self = record {
       accepted = accepted;
       are = subst AreBytes c.deref.ensures.value c.are_bytes.ensures;
@@ -61,12 +80,12 @@ invariant_of-self c =
       place_is = c.offer-place.ensures.place;
       key_is = key_is;
       member_is = c.member-member.ensures.member;
-      joins = record { members_is = (ap (λ (s : LookUps). s.members) c.join-hint.ensures); given_is = (ap (λ (s : LookUps). s.given) c.join-hint.ensures); seats_is = (ap (λ (s : LookUps). s.seats) c.join-hint.ensures); mail_is = (ap (λ (s : LookUps). s.mail) c.join-hint.ensures); then_members = (ap (λ (s : LookUps). s.members) c.seat.ensures); then_given = (ap (λ (s : LookUps). s.given) c.seat.ensures); then_seats = (ap (λ (s : LookUps). s.seats) c.seat.ensures); then_mail = (ap (λ (s : LookUps). s.mail) c.seat.ensures) };
+      joins = record { members_is = (ap (λ (s : LookUps). s.members) (gave c.join-hint.new.self c.self.inside.matches c.key-key.result c.member-member.result c.from_vec-given.result c.args.offer.bytes.items c.join-hint.ensures c.from_vec-given.ensures)); given_is = (ap (λ (s : LookUps). s.given) (gave c.join-hint.new.self c.self.inside.matches c.key-key.result c.member-member.result c.from_vec-given.result c.args.offer.bytes.items c.join-hint.ensures c.from_vec-given.ensures)); seats_is = (ap (λ (s : LookUps). s.seats) (gave c.join-hint.new.self c.self.inside.matches c.key-key.result c.member-member.result c.from_vec-given.result c.args.offer.bytes.items c.join-hint.ensures c.from_vec-given.ensures)); mail_is = (ap (λ (s : LookUps). s.mail) (gave c.join-hint.new.self c.self.inside.matches c.key-key.result c.member-member.result c.from_vec-given.result c.args.offer.bytes.items c.join-hint.ensures c.from_vec-given.ensures)); then_members = (ap (λ (s : LookUps). s.members) c.seat.ensures); then_given = (ap (λ (s : LookUps). s.given) c.seat.ensures); then_seats = (ap (λ (s : LookUps). s.seats) c.seat.ensures); then_mail = (ap (λ (s : LookUps). s.mail) c.seat.ensures) };
       puts = c.in-Ok.ensures.puts;
       weight_is = c.lent-weight.ensures ∙ lent_moved c.sig.result.now plan.sig c.n.result plan.n c.member-member.result plan.member c.sig.ensures.sig c.n.ensures.n c.member-member.ensures.member;
       made_is = refl;
       over = c.pass_ends.ensures;
-      buf = c.new.ensures ∙ c.requires.buffer;
+      buf = c.requires.buffer;
       stands = c.list-list.ensures.stands;
       taken_is = ap (λ (a : Slots Request). a.lists) c.in-Ok.ensures.taken;
       apart = λ e. list_low c.pass_ends.new.self.comm c.list-list.result c.list-list.ensures.list (sym e);
@@ -89,7 +108,7 @@ returns-clause-posted c =
     let bytes = c.args.offer.bytes.items in
     let accepted : refused_in p (Post c.args.rank c.args.comm plan bytes) ≡ None = accepted_from p c.args.self.now (Post c.args.rank c.args.comm plan bytes) c.self.view_is c.requires.accepted in
     let key_is : c.key-key.result ≡ record { comm = c.args.comm; place = c.offer-place.result; start = 0 } = c.key-key.ensures in
-    let x : Request = record { rank = c.args.rank; comm = c.args.comm; place = c.offer-place.result; hint = c.join-hint.result; plan = c.args.offer.plan; starts = 1; round = 0; index = 0; buffer = c.new.result } in
+    let x : Request = record { rank = c.args.rank; comm = c.args.comm; place = c.offer-place.result; hint = c.join-hint.result; plan = c.args.offer.plan; starts = 1; round = 0; index = 0; buffer = c.args.buffer } in
     let calls : Calls p c.take.new.self c.offer-place.new.self c.join-hint.new.self c.seat.new.self c.in-Ok.ticket c.args.rank c.args.comm plan bytes (arc_value c.args.sig) c.key-key.result c.offer-place.result c.member-member.result c.lent-weight.result (number_of c.list-list.result) x c.pass_ends.new.self = record {
       accepted = accepted;
       are = subst AreBytes c.deref.ensures.value c.are_bytes.ensures;
@@ -99,12 +118,12 @@ returns-clause-posted c =
       place_is = c.offer-place.ensures.place;
       key_is = key_is;
       member_is = c.member-member.ensures.member;
-      joins = record { members_is = (ap (λ (s : LookUps). s.members) c.join-hint.ensures); given_is = (ap (λ (s : LookUps). s.given) c.join-hint.ensures); seats_is = (ap (λ (s : LookUps). s.seats) c.join-hint.ensures); mail_is = (ap (λ (s : LookUps). s.mail) c.join-hint.ensures); then_members = (ap (λ (s : LookUps). s.members) c.seat.ensures); then_given = (ap (λ (s : LookUps). s.given) c.seat.ensures); then_seats = (ap (λ (s : LookUps). s.seats) c.seat.ensures); then_mail = (ap (λ (s : LookUps). s.mail) c.seat.ensures) };
+      joins = record { members_is = (ap (λ (s : LookUps). s.members) (gave c.join-hint.new.self c.self.inside.matches c.key-key.result c.member-member.result c.from_vec-given.result c.args.offer.bytes.items c.join-hint.ensures c.from_vec-given.ensures)); given_is = (ap (λ (s : LookUps). s.given) (gave c.join-hint.new.self c.self.inside.matches c.key-key.result c.member-member.result c.from_vec-given.result c.args.offer.bytes.items c.join-hint.ensures c.from_vec-given.ensures)); seats_is = (ap (λ (s : LookUps). s.seats) (gave c.join-hint.new.self c.self.inside.matches c.key-key.result c.member-member.result c.from_vec-given.result c.args.offer.bytes.items c.join-hint.ensures c.from_vec-given.ensures)); mail_is = (ap (λ (s : LookUps). s.mail) (gave c.join-hint.new.self c.self.inside.matches c.key-key.result c.member-member.result c.from_vec-given.result c.args.offer.bytes.items c.join-hint.ensures c.from_vec-given.ensures)); then_members = (ap (λ (s : LookUps). s.members) c.seat.ensures); then_given = (ap (λ (s : LookUps). s.given) c.seat.ensures); then_seats = (ap (λ (s : LookUps). s.seats) c.seat.ensures); then_mail = (ap (λ (s : LookUps). s.mail) c.seat.ensures) };
       puts = c.in-Ok.ensures.puts;
       weight_is = c.lent-weight.ensures ∙ lent_moved c.sig.result.now plan.sig c.n.result plan.n c.member-member.result plan.member c.sig.ensures.sig c.n.ensures.n c.member-member.ensures.member;
       made_is = refl;
       over = c.pass_ends.ensures;
-      buf = c.new.ensures ∙ c.requires.buffer;
+      buf = c.requires.buffer;
       stands = c.list-list.ensures.stands;
       taken_is = ap (λ (a : Slots Request). a.lists) c.in-Ok.ensures.taken;
       apart = λ e. list_low c.pass_ends.new.self.comm c.list-list.result c.list-list.ensures.list (sym e);
@@ -119,7 +138,7 @@ returns-clause-begins c =
     let bytes = c.args.offer.bytes.items in
     let accepted : refused_in p (Post c.args.rank c.args.comm plan bytes) ≡ None = accepted_from p c.args.self.now (Post c.args.rank c.args.comm plan bytes) c.self.view_is c.requires.accepted in
     let key_is : c.key-key.result ≡ record { comm = c.args.comm; place = c.offer-place.result; start = 0 } = c.key-key.ensures in
-    let x : Request = record { rank = c.args.rank; comm = c.args.comm; place = c.offer-place.result; hint = c.join-hint.result; plan = c.args.offer.plan; starts = 1; round = 0; index = 0; buffer = c.new.result } in
+    let x : Request = record { rank = c.args.rank; comm = c.args.comm; place = c.offer-place.result; hint = c.join-hint.result; plan = c.args.offer.plan; starts = 1; round = 0; index = 0; buffer = c.args.buffer } in
     let calls : Calls p c.take.new.self c.offer-place.new.self c.join-hint.new.self c.seat.new.self c.in-Ok.ticket c.args.rank c.args.comm plan bytes (arc_value c.args.sig) c.key-key.result c.offer-place.result c.member-member.result c.lent-weight.result (number_of c.list-list.result) x c.pass_ends.new.self = record {
       accepted = accepted;
       are = subst AreBytes c.deref.ensures.value c.are_bytes.ensures;
@@ -129,12 +148,12 @@ returns-clause-begins c =
       place_is = c.offer-place.ensures.place;
       key_is = key_is;
       member_is = c.member-member.ensures.member;
-      joins = record { members_is = (ap (λ (s : LookUps). s.members) c.join-hint.ensures); given_is = (ap (λ (s : LookUps). s.given) c.join-hint.ensures); seats_is = (ap (λ (s : LookUps). s.seats) c.join-hint.ensures); mail_is = (ap (λ (s : LookUps). s.mail) c.join-hint.ensures); then_members = (ap (λ (s : LookUps). s.members) c.seat.ensures); then_given = (ap (λ (s : LookUps). s.given) c.seat.ensures); then_seats = (ap (λ (s : LookUps). s.seats) c.seat.ensures); then_mail = (ap (λ (s : LookUps). s.mail) c.seat.ensures) };
+      joins = record { members_is = (ap (λ (s : LookUps). s.members) (gave c.join-hint.new.self c.self.inside.matches c.key-key.result c.member-member.result c.from_vec-given.result c.args.offer.bytes.items c.join-hint.ensures c.from_vec-given.ensures)); given_is = (ap (λ (s : LookUps). s.given) (gave c.join-hint.new.self c.self.inside.matches c.key-key.result c.member-member.result c.from_vec-given.result c.args.offer.bytes.items c.join-hint.ensures c.from_vec-given.ensures)); seats_is = (ap (λ (s : LookUps). s.seats) (gave c.join-hint.new.self c.self.inside.matches c.key-key.result c.member-member.result c.from_vec-given.result c.args.offer.bytes.items c.join-hint.ensures c.from_vec-given.ensures)); mail_is = (ap (λ (s : LookUps). s.mail) (gave c.join-hint.new.self c.self.inside.matches c.key-key.result c.member-member.result c.from_vec-given.result c.args.offer.bytes.items c.join-hint.ensures c.from_vec-given.ensures)); then_members = (ap (λ (s : LookUps). s.members) c.seat.ensures); then_given = (ap (λ (s : LookUps). s.given) c.seat.ensures); then_seats = (ap (λ (s : LookUps). s.seats) c.seat.ensures); then_mail = (ap (λ (s : LookUps). s.mail) c.seat.ensures) };
       puts = c.in-Ok.ensures.puts;
       weight_is = c.lent-weight.ensures ∙ lent_moved c.sig.result.now plan.sig c.n.result plan.n c.member-member.result plan.member c.sig.ensures.sig c.n.ensures.n c.member-member.ensures.member;
       made_is = refl;
       over = c.pass_ends.ensures;
-      buf = c.new.ensures ∙ c.requires.buffer;
+      buf = c.requires.buffer;
       stands = c.list-list.ensures.stands;
       taken_is = ap (λ (a : Slots Request). a.lists) c.in-Ok.ensures.taken;
       apart = λ e. list_low c.pass_ends.new.self.comm c.list-list.result c.list-list.ensures.list (sym e);

@@ -1,4 +1,4 @@
-use Rattle.std.proofs.Common.{IfOk, Ok, Result, Vec, ◌≡◌, ◌∙◌, ◌<◌, ℕ, None, length, ap, sym, subst, arith}
+use Rattle.std.proofs.Common.{IfOk, Ok, Result, List, ◌≡◌, ◌∙◌, ◌<◌, ℕ, None, length, ap, sym, subst, arith}
 use Rattle.coll_kinds.specs.declared.kind.Mode.TheVariants.{Once}
 use Rattle.coll_kinds.specs.Lengths.{given_len}
 use Rattle.coll_machine.specs.Calls.{Post}
@@ -11,12 +11,11 @@ use Rattle.coll_core.specs.Cores.{Parts, setting}
 use Rattle.coll_core.specs.declared.offer.Offer.{Offer}
 use Rattle.coll_core.specs.Posts.{planned, refused_in, IsLaid}
 use Rattle.coll_kinds.specs.declared.refusal.Refusal.{Refusal}
-use Rattle.std.specs.Global.{Global}
 use Rattle.coll_core.proofs.Posting.{accepted_from}
 use Rattle.coll_core.proofs.engine.Core.make_room.Goals as goal
 
-laid_for : (r : Result (Vec ℕ Global) Refusal) (offer : Offer) (buffer : Vec ℕ Global) → IfOk r (λ b. IsLaid offer b.items) → r ≡ Ok buffer → IsLaid offer buffer.items
-laid_for r offer buffer all is = subst (λ x. IfOk x (λ b. IsLaid offer b.items)) is all
+laid_for : (r : Result (List ℕ) Refusal) (offer : Offer) (buffer : List ℕ) → IfOk r (λ b. IsLaid offer b) → r ≡ Ok buffer → IsLaid offer buffer
+laid_for r offer buffer all is = subst (λ x. IfOk x (λ b. IsLaid offer b)) is all
 
 pub returns-clause-buffer : goal.returns-clause-buffer
 returns-clause-buffer c =

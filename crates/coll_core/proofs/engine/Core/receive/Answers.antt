@@ -1,6 +1,5 @@
-use Rattle.std.proofs.Common.{◌∙◌, length, ap, refl, subst}
+use Rattle.std.proofs.Common.{ap, refl, subst}
 use Rattle.coll_sched.specs.declared.action.Action.TheVariants.{Recv}
-use Rattle.coll_sched.specs.Regions.{written}
 use Rattle.coll_core.specs.Cores.{Parts}
 use Rattle.coll_core.specs.Steps.{Acts}
 use Rattle.coll_core.proofs.Acting.{can_go_on, parts}
@@ -13,9 +12,8 @@ pub write-requires-clause-same : goal.write-requires-clause-same
 write-requires-clause-same c =
     let x = c.in-Ok.request.now in
     let at = acts_at _ c.args.self.now c.args.ticket x (Recv c.args.of c.args.into) c.self.view_is c.requires c.in-Ok.ensures.found in
-    ap length c.deref.ensures
-    ∙ message_long _ c.args.ticket x c.args.of c.args.into c.in-Some.message.items c.self.invariant at
-    (message_came c.self.inside.matches x c.args.of c.key-key.result c.member-member.result c.key-key.ensures c.member-member.ensures.member c.in-Some.message.items c.in-Some.ensures.taken)
+    message_long _ c.args.ticket x c.args.of c.args.into c.in-Some.message c.self.invariant at
+    (message_came c.self.inside.matches x c.args.of c.key-key.result c.member-member.result c.key-key.ensures c.member-member.ensures.member c.in-Some.message c.in-Some.ensures.taken)
 
 pub advance-requires : goal.advance-requires
 advance-requires c =
@@ -29,11 +27,11 @@ invariant_of-self c =
     let x = c.in-Ok.request.now in
     let at = acts_at _ c.args.self.now c.args.ticket x (Recv c.args.of c.args.into) c.self.view_is c.requires c.in-Ok.ensures.found in
     (received c.self.inside.ranks c.self.inside.starts c.self.inside.trace c.self.inside.arena c.advance.new.arena c.self.inside.queues c.self.inside.matches c.take.new.self
-    c.args.ticket x _ c.args.of c.args.into c.in-Some.message.items c.write.new.self c.advance.result c.is_sound.ensures c.self.invariant at
+    c.args.ticket x _ c.args.of c.args.into c.in-Some.message c.write.new.self c.advance.result c.is_sound.ensures c.self.invariant at
     (record { members = (ap (λ (s : LookUps). s.members) c.take.ensures.gone); given = (ap (λ (s : LookUps). s.given) c.take.ensures.gone); seats = (ap (λ (s : LookUps). s.seats) c.take.ensures.gone) })
-    (message_came c.self.inside.matches x c.args.of c.key-key.result c.member-member.result c.key-key.ensures c.member-member.ensures.member c.in-Some.message.items c.in-Some.ensures.taken)
+    (message_came c.self.inside.matches x c.args.of c.key-key.result c.member-member.result c.key-key.ensures c.member-member.ensures.member c.in-Some.message c.in-Some.ensures.taken)
     (message_taken c.self.inside.matches x c.args.of c.key-key.result c.member-member.result c.key-key.ensures c.member-member.ensures.member c.take.new.self (ap (λ (s : LookUps). s.mail) c.take.ensures.gone))
-    (c.write.ensures ∙ (λ z. written x.buffer c.args.into (c.deref.ensures z)))
+    c.write.ensures
     (record { is = refl; round_is = refl; index_is = refl; buf = refl }) c.advance.ensures).0
 
 pub returns : goal.returns
@@ -42,9 +40,9 @@ returns c =
     let at = acts_at _ c.args.self.now c.args.ticket x (Recv c.args.of c.args.into) c.self.view_is c.requires c.in-Ok.ensures.found in
     subst (λ (p : Parts). Acts p (parts c.self.inside.ranks c.self.inside.starts c.self.inside.trace c.advance.new.arena c.self.inside.queues c.take.new.self) c.advance.result) c.self.view_is
     (received c.self.inside.ranks c.self.inside.starts c.self.inside.trace c.self.inside.arena c.advance.new.arena c.self.inside.queues c.self.inside.matches c.take.new.self
-    c.args.ticket x _ c.args.of c.args.into c.in-Some.message.items c.write.new.self c.advance.result c.is_sound.ensures c.self.invariant at
+    c.args.ticket x _ c.args.of c.args.into c.in-Some.message c.write.new.self c.advance.result c.is_sound.ensures c.self.invariant at
     (record { members = (ap (λ (s : LookUps). s.members) c.take.ensures.gone); given = (ap (λ (s : LookUps). s.given) c.take.ensures.gone); seats = (ap (λ (s : LookUps). s.seats) c.take.ensures.gone) })
-    (message_came c.self.inside.matches x c.args.of c.key-key.result c.member-member.result c.key-key.ensures c.member-member.ensures.member c.in-Some.message.items c.in-Some.ensures.taken)
+    (message_came c.self.inside.matches x c.args.of c.key-key.result c.member-member.result c.key-key.ensures c.member-member.ensures.member c.in-Some.message c.in-Some.ensures.taken)
     (message_taken c.self.inside.matches x c.args.of c.key-key.result c.member-member.result c.key-key.ensures c.member-member.ensures.member c.take.new.self (ap (λ (s : LookUps). s.mail) c.take.ensures.gone))
-    (c.write.ensures ∙ (λ z. written x.buffer c.args.into (c.deref.ensures z)))
+    c.write.ensures
     (record { is = refl; round_is = refl; index_is = refl; buf = refl }) c.advance.ensures).1

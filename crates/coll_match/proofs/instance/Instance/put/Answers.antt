@@ -26,5 +26,5 @@ returns-clause-receiver c = c.seated.ensures ∙ ap (λ f. f c.args.envelope.to)
 pub returns-clause-mail : goal.returns-clause-mail
 returns-clause-mail c =
     mail_sent c.self.inside.shares.items c.from.result (after c) c.index_mut.result.now (low c) c.index_mut.ensures.value
-    c.args.envelope.to c.args.envelope.round (Some c.args.message.items) c.in_ok-put.ensures.sent
-    ∙ (λ z. put_mail (mail_in (c.self.view_is z)) (c.from.ensures z) c.args.envelope.to c.args.envelope.round (Some c.args.message.items))
+    c.args.envelope.to c.args.envelope.round (Some c.args.message) c.in_ok-put.ensures.sent
+    ∙ (λ z. put_mail (mail_in (c.self.view_is z)) (c.from.ensures z) c.args.envelope.to c.args.envelope.round (Some c.args.message))

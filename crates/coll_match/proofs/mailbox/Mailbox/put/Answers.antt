@@ -18,4 +18,4 @@ returns-clause-sent c =
     subst (λ messages. lookup (same_envelope c.args.envelope) messages ≡ None) (sym c.self.view_is) c.requires in
     ap (λ (messages : List Unreceived). sent_in (messages_of messages)) c.in_default.ensures.items
     ∙ sent_pushed c.self.inside.messages.items (record { envelope = c.args.envelope; bytes = c.args.bytes }) absent
-    ∙ ap (λ messages. put_sent (sent_in messages) c.args.envelope.to c.args.envelope.round (Some c.args.bytes.items)) c.self.view_is
+    ∙ ap (λ messages. put_sent (sent_in messages) c.args.envelope.to c.args.envelope.round (Some c.args.bytes)) c.self.view_is

@@ -5,7 +5,7 @@ use Rattle.coll_match.proofs.matches.Matches.put.Goals as goal
 
 pub returns-clause-kept : goal.returns-clause-kept
 returns-clause-kept c =
-    put_kept c.put.result c.args.self.now c.args.key c.in-Some.instance.now c.put.new.self c.in-Some.ensures.value c.args.from c.args.to c.args.round (Some c.args.message.items)
+    put_kept c.put.result c.args.self.now c.args.key c.in-Some.instance.now c.put.new.self c.in-Some.ensures.value c.args.from c.args.to c.args.round (Some c.args.message)
     c.put.ensures.members c.put.ensures.given c.put.ensures.seats c.put.ensures.mail
 
 pub returns-clause-err : goal.returns-clause-err

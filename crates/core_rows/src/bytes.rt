@@ -1,8 +1,8 @@
-//! Each public call once, and what no clause says: which calls copy nothing. A vector's capacity tells where it came from.
+//! Each call of `coll_bytes` once, and what no clause says: which calls copy nothing. A vector's capacity tells where it came from.
 
 ghost use Rattle.std.specs.Prelude.{◌≡◌, length, IfOk};
 
-use crate::{Bytes, Segments};
+use coll_bytes::{Bytes, Segments};
 use coll_sched::Region;
 use std::alloc::{AllocError, Global};
 use std::mem::size_of;
