@@ -2,9 +2,12 @@ use Rattle.std.proofs.Common.{◌≡◌, ◌<◌, ◌≤◌, ◌+◌, ◌++◌, 
 use Rattle.std.proofs.Common.{slice_index_or, arith, ap, subst, sym, ◌∙◌}
 use Rattle.std.specs.Prelude.{IfSome}
 use Rattle.std.specs.Global.{Global}
+use Rattle.coll_machine.specs.Runs.{Runs}
 use Rattle.coll_machine.specs.Settings.{Setting}
 use Rattle.coll_core.specs.declared.outcome.Outcome.{Outcome}
 use Rattle.coll_core.specs.Cores.{seen, setting}
+use Rattle.coll_complete.specs.Completing.{completion_if}
+use Rattle.coll_complete.specs.Doing.{runs-append}
 use Rattle.coll_complete.specs.Requests.{refusal_at}
 use Rattle.coll_complete.proofs.Sweeps.{noted, noted-none, swept-at, swept-fits, swept-left, swept_list-set}
 use Rattle.coll_complete.proofs.Sweeps.{swept_pushed}
@@ -32,7 +35,7 @@ complete_if_done-requires g c =
     record {
       accepted =
           ap (λ (s : Setting). refusal_at s n.state c.args.rank x) c.loop-position.invariant.set
-          ∙ swept-fits (setting c.args.self.now.core) c.args.rank list m n i p.0 x p.2 c.requires.accepted at;
+          ∙ swept-fits (setting c.args.self.now.core) c.args.rank list m n i _ p.0 x p.2 c.requires.accepted at;
     }
 
 pub loop-position-preserved : goal.loop-position-preserved
@@ -94,15 +97,21 @@ loop-position-preserved g c =
       requests =
           swept_list-set m n list c.loop-position.requests i x c.complete_if_done.new.request
           c.loop-position.invariant.requests at c.complete_if_done.ensures.request
-          (swept-left (setting c.args.self.now.core) c.args.rank list m n i p.0 x p.2 at);
+          (swept-left c.args.rank list m n i _ p.0 x p.2 at);
       room = omega arith;
       capacity = capacity ∙ c.loop-position.invariant.capacity;
       counted = counted;
       pushes =
           swept_pushed (setting c.args.self.now.core) (setting c.loop-position.self.core) c.args.rank list m n
-          (seen c.complete_if_done.new.self.core) i c.args.out.now.items was.items out.items x r
-          c.loop-position.invariant.set c.requires.distinct c.requires.accepted p at
-          c.complete_if_done.ensures.outcome c.complete_if_done.ensures.completes pushed;
+          (seen c.complete_if_done.new.self.core) i _ _ c.args.out.now.items was.items out.items x r
+          c.requires.distinct c.requires.accepted p at c.complete_if_done.ensures.outcome
+          c.complete_if_done.ensures.completes
+          (λ es before.
+          runs-append (setting c.args.self.now.core) es (completion_if c.args.rank x r) m n
+          (seen c.complete_if_done.new.self.core) before
+          (subst (λ (g : Setting). Runs g n (completion_if c.args.rank x r) (seen c.complete_if_done.new.self.core))
+          c.loop-position.invariant.set c.complete_if_done.ensures.completes))
+          pushed;
       enters =
           enters_pushed c.args.rank list c.args.self.now.entries c.loop-position.self.entries
           c.complete_if_done.new.self.entries i c.args.out.now.items was.items out.items x r

@@ -1,6 +1,7 @@
 use Rattle.std.proofs.Common.{◌≡◌, ◌+◌, ◌≤◌, vec_capacity, vec_len}
 use Rattle.coll_core.specs.Cores.{seen, setting}
 use Rattle.coll_complete.specs.Completing.{Pushes}
+use Rattle.coll_machine.specs.Runs.{Runs}
 use Rattle.coll_complete.proofs.Sweeps.{Swept, swept_list}
 use Rattle.coll_shared.proofs.Retirements.{Enters}
 use Rattle.coll_shared.proofs.shared.Shared.complete_all.Given as goal
@@ -18,7 +19,7 @@ invariant-loop-position g l =
       counted : l.mine + vec_len l.initial.out ≡ l.initial.mine + vec_len l.out;
       pushes :
           Pushes l.initial.out.items l.out.items
-          (Swept (setting p) l.rank list (seen p) (seen l.self.core) l.position);
+          (Swept l.rank list (seen p) (seen l.self.core) l.position (λ es. Runs (setting p) (seen p) es (seen l.self.core)));
       enters :
           Pushes l.initial.out.items l.out.items
           (Enters l.rank list l.initial.self.entries l.self.entries);
