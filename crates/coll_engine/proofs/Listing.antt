@@ -10,13 +10,14 @@ use Rattle.coll_kinds.specs.declared.ticket.Ticket.{Ticket}
 use Rattle.coll_machine.specs.Calls as calls
 use Rattle.coll_machine.specs.Changes.{holding, rested}
 use Rattle.coll_machine.specs.Machines.{MachineStep, retire}
-use Rattle.coll_machine.specs.Runs.{Runs}
+use Rattle.coll_machine.specs.Runs.{Event, Runs}
 use Rattle.coll_machine.specs.Settings.{Setting}
 use Rattle.coll_machine.specs.States.{Machine, Request, State, found, key_of}
 use Rattle.coll_machine.specs.Steps.{Clears}
 use Rattle.coll_core.specs.declared.outcome.Outcome.{Outcome}
 use Rattle.coll_core.specs.Phases.{phase_by, phase_of}
 use Rattle.coll_complete.specs.Completing.{completion_if, done_positions}
+use Rattle.coll_complete.specs.Doing.{runs-append}
 use Rattle.coll_complete.specs.Requests.{AreDistinct, done_by, is_done, list_refusal, refusal_at}
 use Rattle.coll_complete.proofs.Retiring.{Same}
 use Rattle.coll_complete.proofs.Sweeps.{Swept, noted, swept-fits, swept-left, swept_list, swept_list-all, swept_list-set, swept_more, swept_none}
@@ -118,7 +119,7 @@ length-noted i (Some o) b e = ap (λ b. cond b 1 0) (sym e)
 
 pub record Going (g : Setting) (rank : ℕ) (m n : Machine) (was now : List Part) (old new : List ℕ) (i many : ℕ) : Type 0 where
   pub outcomes : List (ℕ × Outcome)
-  pub swept : Swept g rank (tickets_of was) m n i outcomes
+  pub swept : Swept rank (tickets_of was) m n i (λ es. Runs g m es n) outcomes
   pub posts : n.state.posts ≡ m.state.posts
   pub memory : new ≡ laid was outcomes old
   pub told : completed_from 0 (take i now) ≡ counts_of outcomes
@@ -132,7 +133,7 @@ pub going_none : (g : Setting) (rank : ℕ) (m : Machine) (was : List Part) (old
     → Going g rank m m was was old old 0 0
 going_none g rank m was old = record {
   outcomes = [];
-  swept = swept_none g rank (tickets_of was) m;
+  swept = swept_none rank (tickets_of was) m (λ es. Runs g m es m) refl;
   posts = refl;
   memory = refl;
   told = refl;
@@ -152,10 +153,10 @@ listed : (parts : List Part) (i : ℕ) (p : Part) → slice_get parts i ≡ Some
     → slice_get (tickets_of parts) i ≡ Some (ticket_of p)
 listed parts i p is = slice_get-map ticket_of parts i ∙ ap (option_map ticket_of) is
 
-same_there : (g : Setting) (rank : ℕ) (list : List (Option Ticket)) (m n : Machine) (i : ℕ) (outs : List (ℕ × Outcome))
-    (x : Option Ticket) → Swept g rank list m n i outs → slice_get list i ≡ Some x
+same_there : (rank : ℕ) (list : List (Option Ticket)) (m n : Machine) (i : ℕ) (Did : List Event → Type 0)
+    (outs : List (ℕ × Outcome)) (x : Option Ticket) → Swept rank list m n i Did outs → slice_get list i ≡ Some x
     → (t : Ticket) → x ≡ Some t → Same m n t
-same_there g rank list m n i outs x h is t e = h.rest i t (omega arith) (is ∙ ap (λ (x : Option Ticket). Some x) e)
+same_there rank list m n i Did outs x h is t e = h.rest i t (omega arith) (is ∙ ap (λ (x : Option Ticket). Some x) e)
 
 -- it may be completed
 pub going-accepted : (g h : Setting) (rank : ℕ) (m n : Machine) (was now : List Part) (old new : List ℕ) (i many : ℕ) (p : Part)
@@ -163,7 +164,7 @@ pub going-accepted : (g h : Setting) (rank : ℕ) (m n : Machine) (was now : Lis
     → list_refusal g m.state rank (tickets_of was) ≡ None → refusal_at h n.state rank (ticket_of p) ≡ None
 going-accepted g h rank m n was now old new i many p set k at fits =
     ap (λ (g : Setting). refusal_at g n.state rank (ticket_of p)) set
-    ∙ swept-fits g rank (tickets_of was) m n i k.outcomes (ticket_of p) k.swept fits
+    ∙ swept-fits g rank (tickets_of was) m n i (λ es. Runs g m es n) k.outcomes (ticket_of p) k.swept fits
     (listed was i p (there g rank m n was now old new i many p k at))
 
 -- and its outcome fits
@@ -172,7 +173,7 @@ pub going-fits : (g h : Setting) (rank : ℕ) (m n : Machine) (was now : List Pa
     → DoFit g m was (length old) → is_done n (ticket_of p) ≡ true → Fits h n.state p len
 going-fits g h rank m n was now old new i many p len set long k at fits done want is =
     let here : slice_get was i ≡ Some p = there g rank m n was now old new i many p k at in
-    let same = same_there g rank (tickets_of was) m n i k.outcomes (ticket_of p) k.swept (listed was i p here) in
+    let same = same_there rank (tickets_of was) m n i (λ es. Runs g m es n) k.outcomes (ticket_of p) k.swept (listed was i p here) in
     let was_done : is_done m (ticket_of p) ≡ true = sym (done_same m n (ticket_of p) same) ∙ done in
     subst (λ k. want ≤ span_len p k) (sym long)
     (fits i p here was_done want
@@ -203,7 +204,9 @@ going_more g h rank m n k was now old new next i many more p q set distinct fits
     let runs : Runs g n (completion_if rank x o) k = subst (λ (g : Setting). Runs g n (completion_if rank x o) k) set c.runs in
     record {
       outcomes = go.outcomes ++ noted i o;
-      swept = swept_more g rank list m n k i go.outcomes x o distinct fits go.swept in_list c.done runs;
+      swept =
+          swept_more g g rank list m n k i (λ es. Runs g m es n) (λ es. Runs g m es k) go.outcomes x o distinct fits go.swept
+          in_list c.done runs (λ es before. runs-append g es (completion_if rank x o) m n k before runs);
       posts = posts_completed g rank x o n k runs ∙ go.posts;
       memory =
           c.memory ∙ (sym (laid-noted was i p o new here_is)
@@ -215,7 +218,7 @@ going_more g h rank m n k was now old new next i many more p q set distinct fits
       requests =
           map-set ticket_of now i q
           ∙ swept_list-set m n list (tickets_of now) i x (ticket_of q) go.requests in_list c.request
-          (swept-left g rank list m n i go.outcomes x go.swept in_list);
+          (swept-left rank list m n i (λ es. Runs g m es n) go.outcomes x go.swept in_list);
       spans = spans-set now i p q at c.at_is c.room_is ∙ go.spans;
       many_is =
           let l = length-append go.outcomes (noted i o) in
@@ -245,7 +248,7 @@ going_done g rank m n was now old new i many end go =
       outcomes = go.outcomes;
       completes = record {
         positions = go.swept.positions ∙ ap (λ k. filter (λ j. is_done m (slice_index_or (tickets_of was) j None)) (range_with_len 0 k)) tickets;
-        runs = go.swept.runs;
+        runs = go.swept.did;
       };
       memory = go.memory;
       told = ap (completed_from 0) (sym (take_all i now all)) ∙ go.told;
