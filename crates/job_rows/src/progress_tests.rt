@@ -1,6 +1,7 @@
 //! What a run shows on a terminal while it goes on.
 
 use coll_job::{Progress, Screen, Watch};
+use std::alloc::Global;
 use std::io;
 use std::sync::atomic::{AtomicU64, Ordering};
 use std::sync::{Mutex, Wait};
@@ -56,6 +57,17 @@ const SHOWN: &str = "\r1 of 2 ranks done, 3 of 5 collective calls completed, 1.2
     \r1 of 2 ranks done, 5 of 5 collective calls completed, 1.6 s\
     \r                                                           \r";
 
+/// A run of two ranks and five collective calls, as far as its end.
+fn show_run<'a, 'r, R: Wait>(clock: &'a Ticking<'r, R>, alloc: Global, paper: &'a Paper<'r, R>) {
+    let progress = Progress::new(clock, alloc, paper);
+    progress.begin(2, 5);
+    progress.completed(1);
+    progress.completed(2);
+    progress.ended();
+    progress.completed(2);
+    progress.clear();
+}
+
 #[test]
 fn progress(rt: HostRuntime) -> Result<(), Fail> {
     let paper = Paper {
@@ -66,13 +78,7 @@ fn progress(rt: HostRuntime) -> Result<(), Fail> {
         _rt: &rt,
         looks: AtomicU64::new(0),
     };
-    let progress = Progress::new(&clock, rt.alloc(), &paper);
-    progress.begin(2, 5);
-    progress.completed(1);
-    progress.completed(2);
-    progress.ended();
-    progress.completed(2);
-    progress.clear();
+    show_run(&clock, rt.alloc(), &paper);
     let shown = String::from_utf8(paper.shown.into_inner())
         .ok()
         .ok_or("text")?;
