@@ -4,7 +4,7 @@
     models/check.py [WORD ..]    (only configurations whose names have one of the words)
 
 It needs `spin` 6.5 and `gcc` (Debian: apt-get install spin gcc). --quick leaves out what takes longer than ten seconds, --jobs N
-searches N at a time. What --quick leaves takes some six minutes on one processor, mostly for the compiler; the whole half an hour, and at most 3 GiB for each search.
+searches N at a time. What --quick leaves takes some six minutes on one processor, mostly for the compiler; the whole half an hour, and at most 5 GiB for each search.
 """
 
 import argparse
@@ -18,7 +18,7 @@ import tempfile
 import time
 
 HERE = os.path.dirname(os.path.abspath(__file__))
-MEBIBYTES = 3000
+MEBIBYTES = 5000
 SECONDS = 1200
 HOLDS, FAILS = "holds", "fails"
 # a search for ends that aren't proper and for failed assertions, or for runs in which a rank never ends
