@@ -1,4 +1,4 @@
-ghost use Rattle.std.specs.Prelude.{◌≡◌, ◌+◌, ◌<◌, ◌≤◌, ◌^◌, ◌==◌, [], length, IfErr, IfOk, IsOk, vec_capacity, vec_len};
+ghost use Rattle.std.specs.Prelude.{◌≡◌, ◌+◌, ◌<◌, ◌≤◌, ◌^◌, ◌==◌, [], length, IfErr, IfOk, IfSome, IsOk, vec_capacity, vec_len};
 ghost use Rattle.std.specs.Arc.{arc_value};
 ghost use Rattle.coll_sched.specs.Regions.{Inside, read_of};
 
@@ -50,7 +50,7 @@ fn owned(block: Vec<u8>, place: Region) -> Bytes
 }
 
 // A part of a block that others may have parts of.
-fn shared(block: Arc<Vec<u8>>, place: Region) -> Bytes
+pub(crate) fn shared(block: Arc<Vec<u8>>, place: Region) -> Bytes
     requires inside { Inside (length (arc_value block).items) place }
     requires fits { place.at + place.len < 2 ^ 32 }
     ensures { result ≡ read_of (arc_value block).items place }
@@ -242,14 +242,24 @@ impl Bytes {
         done
     }
 
+    /// A second owner of the bytes where their block counts its owners; none else, also where they are a few. It takes no memory.
+    pub fn share_counted(&self) -> Option<Bytes>
+        ensures { IfSome result (λ other. other ≡ self.now) }
+    {
+        self.counted_part(Region::front(self.len())).ok()
+    }
+
     /// A second owner of the bytes where their block counts its owners or they are a few, else a copy in the room that is given. It
     /// takes no memory.
     pub fn share_in(&self, room: Vec<u8>) -> Bytes
         requires empty { room.items ≡ [] }
         requires none { vec_len room ≡ 0 }
-        requires room { length self.now ≤ vec_capacity room }
+        requires room { FEW < length self.now → length self.now ≤ vec_capacity room }
         ensures { result ≡ self.now }
     {
+        if self.len() as usize <= FEW {
+            return Bytes::few(self.as_slice());
+        }
         let all = Region::front(self.len());
         match self.counted_part(all) {
             Ok(other) => other,

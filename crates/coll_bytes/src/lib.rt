@@ -4,11 +4,14 @@
 //! | Module | Has |
 //! |---|---|
 //! | `bytes` | `Bytes`, a few in place or a part of a block |
+//! | `shell` | `Shell`, in which bytes that are put together later count their owners |
 //! | `segments` | `Segments`, a schedule's buffer |
 #![tactic(auto)]
 
 mod bytes;
 mod segments;
+mod shell;
 
 pub use bytes::{Bytes, FEW};
 pub use segments::{Segments, WRITES_IN_PLACE};
+pub use shell::Shell;

@@ -5,6 +5,7 @@ ghost use Rattle.coll_bytes.specs.Laid.{AllInside, Shows, place_of, laid};
 ghost use Rattle.coll_bytes.specs.Overlaps.{IsCommon, Within, seen_from};
 
 use crate::bytes::{Bytes, FEW};
+use crate::shell::Shell;
 use coll_ops::are_same;
 use coll_sched::Region;
 use smallvec::SmallVec;
@@ -455,29 +456,9 @@ impl Segments {
         compose_in(self.segments.as_slice(), self.size, all, out);
     }
 
-    /// The bytes of a region in a vector, while the buffer goes: a block's own, as by `Bytes::into_vec`, where one segment has them, else
-    /// put together in the room that is given. It takes no memory.
-    pub fn into_vec(self, from: Region, room: Vec<u8>) -> Vec<u8>
-        requires inside { Inside (length self.bytes) from }
-        requires empty { room.items ≡ [] }
-        requires none { vec_len room ≡ 0 }
-        requires room { from.len ≤ vec_capacity room }
-        ensures { result.items ≡ read_of self.bytes from }
-    {
-        let Segments { size, segments } = self;
-        match holder(segments.as_slice(), size, from) {
-            Some(i) => part_of(segments, size, i, from).into_vec(room),
-            None => {
-                let mut out = room;
-                compose_in(segments.as_slice(), size, from, &mut out);
-                out
-            }
-        }
-    }
-
-    /// The bytes of a region, while the buffer goes: of the one segment that has them, else put together in the room that is given. It
-    /// takes no memory.
-    pub fn into_part(self, from: Region, room: Vec<u8>) -> Bytes
+    /// The bytes of a region, while the buffer goes: of the one segment that has them, else put together in the room and the shell that
+    /// are given. It takes no memory.
+    pub fn into_part(self, from: Region, room: Vec<u8>, shell: Shell) -> Bytes
         requires inside { Inside (length self.bytes) from }
         requires empty { room.items ≡ [] }
         requires none { vec_len room ≡ 0 }
@@ -487,7 +468,11 @@ impl Segments {
         let Segments { size, segments } = self;
         match holder(segments.as_slice(), size, from) {
             Some(i) => part_of(segments, size, i, from),
-            None => composed_in(segments.as_slice(), size, from, room),
+            None => {
+                let mut out = room;
+                compose_in(segments.as_slice(), size, from, &mut out);
+                shell.fill(out)
+            }
         }
     }
 }

@@ -5,5 +5,5 @@ use Rattle.coll_bytes.proofs.segments.Segments.into_part.Goals as goal
 pub holder-requires-clause-inside : goal.holder-requires-clause-inside
 holder-requires-clause-inside c = inside_of c.self.inside.size c.self.inside.segments.items c.args.self.bytes c.args.from (ap (λ v. v.bytes) c.self.view_is) c.self.invariant c.requires.inside
 
-pub composed_in-requires-clause-inside : goal.composed_in-requires-clause-inside
-composed_in-requires-clause-inside c = inside_of c.self.inside.size c.self.inside.segments.items c.args.self.bytes c.args.from (ap (λ v. v.bytes) c.self.view_is) c.self.invariant c.requires.inside
+pub compose_in-requires-clause-inside : goal.compose_in-requires-clause-inside
+compose_in-requires-clause-inside c = inside_of c.self.inside.size c.self.inside.segments.items c.args.self.bytes c.args.from (ap (λ v. v.bytes) c.self.view_is) c.self.invariant c.requires.inside
