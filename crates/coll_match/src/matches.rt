@@ -55,7 +55,7 @@ impl Matches {
         ensures refused { IfErr result (λ why. why ≡ Refusal.NoMemory) }
         ensures err { OnErr result (self.new ≡ self.old) }
     {
-        if !self.instances.contains_key(&key) {
+        if !self.stands(key) {
             let instance = Instance::new(self.alloc, n)?;
             self.instances.insert(key, instance)?;
         }
@@ -69,7 +69,7 @@ impl Matches {
         requires new { given self.old key member ≡ None }
         ensures { look_ups self.new ≡ joined (look_ups self.old) key member bytes }
     {
-        let hint = self.instances.get_index_of(&key).unwrap_or(0);
+        let hint = self.place_of(key);
         match self.at_mut(key, hint) {
             Some(instance) => instance.join(member, bytes),
             None => unreachable!(),
@@ -175,6 +175,27 @@ impl Matches {
         ensures gone { look_ups self.new ≡ mailed (look_ups self.old) key from to round None }
     {
         self.at_mut(key, hint)?.take(from, Envelope { to, round })
+    }
+
+    /// The index of the last instance, to which members mostly give: it was made last, unless another one went since.
+    fn last(&self) -> usize {
+        self.instances.len().saturating_sub(1)
+    }
+
+    /// Where an instance lies, if it stands.
+    fn place_of(&self, key: Key) -> usize {
+        let last = self.last();
+        if self.is_hinted(key, last) {
+            return last;
+        }
+        self.instances.get_index_of(&key).unwrap_or(0)
+    }
+
+    /// The instance stands.
+    fn stands(&self, key: Key) -> bool
+        ensures { result ≡ is_some (standing self.now key) }
+    {
+        self.at(key, self.last()).is_some()
     }
 
     /// The instance lies where the hint says.

@@ -1,5 +1,8 @@
 -- The calls that name a member, under the names of the fields: `v` is what clauses see.
-use Rattle.std.proofs.Common.{◌≡◌, ℕ, ◌<◌, List, [], ◌∷◌, ◌++◌, length, get_or, set, refl, sym, ap, subst, ◌∙◌, Some, None, arith, inl, inr}
+use Rattle.std.proofs.Common.{◌≡◌, ℕ, ◌<◌, List, [], ◌∷◌, ◌++◌, length, get_or, set, refl, sym, ap, subst, ◌∙◌, Option, Some, None, arith, inl, inr}
+use Rattle.std.proofs.lemmas.Bool.{cases_lt}
+use Rattle.std.proofs.lemmas.Option.{slice_get_past}
+use Rattle.coll_machine.specs.Settings.{group_in}
 use Rattle.std.specs.Prelude.{nat_lt, is_some, option_map, slice_get, unwrap_or}
 use Rattle.coll_kinds.specs.declared.signature.Signature.{Signature}
 use Rattle.coll_kinds.specs.declared.refusal.Refusal.TheVariants.{BadComm, NotMember, BadSignature, PlacesUsed}
@@ -10,10 +13,10 @@ use Rattle.coll_kinds.proofs.Puts.{put_at, put_cases}
 use Rattle.coll_machine.specs.Changes.{put2}
 use Rattle.coll_machine.specs.Refusals.{first_of, member_refusals}
 use Rattle.coll_queues.specs.Lists.{Lists, posts_in, signed_in}
-use Rattle.coll_queues.specs.Postings.{HasRoom, Postings, groups_of, lists_at, member_of, number_of, place_of, posts, signed}
+use Rattle.coll_queues.specs.Postings.{HasRoom, Postings, groups_of, lists_at, member_of, no_lists, number_of, place_of, posts, signed, size}
 use Rattle.coll_queues.specs.Refusing.{judge_refusal, member_refusal, place_refusals, refusal_in}
-use Rattle.coll_queues.proofs.Comms.{groups_set, lists_read, lists_set, posts_set, signed_at, signed_set}
-use Rattle.coll_queues.proofs.Judging.{judge_at, known_comm, member_low, place_at}
+use Rattle.coll_queues.proofs.Comms.{group_at, groups_set, lists_read, lists_set, posts_set, signed_at, signed_set}
+use Rattle.coll_queues.proofs.Judging.{judge_at, known_comm, member_known, member_low, place_at}
 
 put_own : {X : Type 0} (f : ℕ → X) (k : ℕ) (x : X) → x ≡ f k → put f k x ≡ f
 put_own f k x e = λ z i. at i z
@@ -24,6 +27,16 @@ put_own f k x e = λ z i. at i z
       | inr else_where ↦ else_where.1
     ]
 
+-- a member by its number
+pub low_comm : (q : Postings) (comm member : ℕ) → member < size q comm → comm < length q.comms
+low_comm q comm member low = elim (cases_lt comm (length q.comms)) [
+  | inl within ↦ within
+  | inr past ↦
+      let nothing : lists_at q.comms comm ≡ no_lists = ap (λ (o : Option Lists). unwrap_or o no_lists) (slice_get_past q.comms comm past) in
+      let nobody : length (group_in (groups_of q) comm) ≡ 0 = ap length (group_at q comm ∙ ap (λ (l : Lists). l.group) nothing) in
+      absurd (omega (arith, low, nobody))
+]
+
 -- what a posting meets depends on the groups, the lists and their greatest length
 pub refusals_kept : (p q : Postings) → groups_of p ≡ groups_of q → posts p ≡ posts q → p.places ≡ q.places → judge_refusal p ≡ judge_refusal q
 refusals_kept p q g f n = λ z comm rank sig.
@@ -32,6 +45,24 @@ refusals_kept p q g f n = λ z comm rank sig.
     first_of (
     member_refusals (g z) comm rank
     ++ place_refusals sig group (f z comm) place (n z))
+
+-- under the names of the fields, where only the member's number is known
+module _ (comms : List Lists) (places : ℕ) (v : Postings) (e : ◌≡◌ {A = Postings} (record { comms = comms; places = places }) v) (comm member : ℕ) (l : Lists)
+    (member_in : member < size v comm) (is : l ≡ get_or comms comm l) where
+  pub comm_in : comm < length comms
+  comm_in = subst (λ (q : Postings). comm < length q.comms) (sym e) (low_comm v comm member member_in)
+
+  pub same_group : group_in (groups_of v) comm ≡ l.group
+  same_group = group_at v comm ∙ ap (λ (l : Lists). l.group) (ap (λ (q : Postings). lists_at q.comms comm) (sym e) ∙ lists_read comms comm l comm_in is)
+
+  pub member_there : member < length l.group
+  member_there = omega (arith, member_in, ap length same_group)
+
+  pub unbroken : (sig : Signature) → broken sig (size v comm) ≡ None → broken sig (length l.group) ≡ None
+  unbroken sig none = ap (λ (group : List ℕ). broken sig (length group)) (sym same_group) ∙ none
+
+  pub known : (rank : ℕ) → member_of v comm rank ≡ Some member → member_refusal v comm rank ≡ None
+  known rank number_is = member_known v comm rank member (low_comm v comm member member_in) number_is
 
 module _ (comms : List Lists) (places : ℕ) (v : Postings) (e : ◌≡◌ {A = Postings} (record { comms = comms; places = places }) v) (comm rank member : ℕ) (l : Lists)
     (known : member_refusal v comm rank ≡ None) (number_is : member_of v comm rank ≡ Some member) (is : l ≡ get_or comms comm l) where

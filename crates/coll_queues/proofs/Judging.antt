@@ -1,5 +1,5 @@
 -- What a refusal that didn't come says.
-use Rattle.std.proofs.Common.{◌≡◌, ℕ, ◌<◌, ◌≤◌, List, [], ◌∷◌, Bool, true, false, length, refl, sym, ap, ◌∙◌, Option, Some, None, Result, Ok, Err, arith}
+use Rattle.std.proofs.Common.{◌≡◌, ℕ, ◌<◌, ◌≤◌, List, [], ◌∷◌, Bool, true, false, length, refl, sym, ap, subst, ◌∙◌, Option, Some, None, Result, Ok, Err, arith}
 use Rattle.std.specs.Prelude.{nat_lt, is_some, slice_index, unwrap_or, option_and_then, option_map, MatchOption, IsOk, IsErrOf}
 use Rattle.std.specs.Option.{ForSome}
 use Rattle.std.specs.Result.{result_err}
@@ -37,6 +37,12 @@ pub known_comm : (q : Postings) (comm rank : ℕ) → member_refusal q comm rank
 known_comm q comm rank e =
     let low : comm < length (groups_of q) = ltb-true comm _ (both (nat_lt comm (length (groups_of q))) (is_some (member_of q comm rank)) (BadComm comm) (NotMember rank) e).0 in
     omega (arith, low, length-map q.comms (λ (l : Lists). l.group))
+
+-- and what such a call may rely on
+pub member_known : (q : Postings) (comm rank member : ℕ) → comm < length q.comms → member_of q comm rank ≡ Some member → member_refusal q comm rank ≡ None
+member_known q comm rank member low number_is =
+    past_both (nat_lt comm (length (groups_of q))) (is_some (member_of q comm rank)) (BadComm comm) (NotMember rank) []
+    (lt-ltb comm (length (groups_of q)) (omega (arith, low, length-map q.comms (λ (l : Lists). l.group))), ap is_some number_is)
 
 pub judge_at : (q : Postings) (comm rank : ℕ) (sig : Signature) (l : Lists) (member : ℕ) → member_refusal q comm rank ≡ None → member_of q comm rank ≡ Some member → lists_at q.comms comm ≡ l
     → judge_refusal q comm rank sig ≡ refusal_in l member sig q.places
@@ -93,6 +99,18 @@ checked : {T : Type 0} (o : Option SignatureFault) (r : Result T Refusal) → Ma
 checked None (Ok u) h = refl
 checked None (Err why) h = absurd cc
 checked (Some cause) r h = ap result_err h
+
+no_fault : (o : Option SignatureFault) → option_map BadSignature o ≡ None → o ≡ None
+no_fault None e = refl
+no_fault (Some cause) e = absurd (none-some (BadSignature cause) (sym e))
+
+-- a signature whose check is passed breaks no rule
+pub faultless : {T : Type 0} (sig : Signature) (n m : ℕ) (r : Result T Refusal) (u : T) → n ≡ m → MatchOption (broken sig n) (IsOk r) (λ cause. IsErrOf r (BadSignature cause)) → r ≡ Ok u → broken sig m ≡ None
+faultless sig n m r u same h is = ap (broken sig) (sym same) ∙ no_fault (broken sig n) (sym (checked (broken sig n) r h) ∙ ap result_err is)
+
+-- and the other way round
+pub passed : (sig : Signature) (n : ℕ) → broken sig n ≡ None → MatchOption (broken sig n) (IsOk {T = ℕ} {E = Refusal} (Ok 0)) (λ cause. IsErrOf {T = ℕ} (Ok 0) (BadSignature cause))
+passed sig n e = subst (λ o. MatchOption o (IsOk {T = ℕ} {E = Refusal} (Ok 0)) (λ cause. IsErrOf {T = ℕ} (Ok 0) (BadSignature cause))) (sym e) refl
 
 first_is : (a : Option Refusal) (rest : List (Option Refusal)) (why : Refusal) → a ≡ Some why → first_of (a ∷ rest) ≡ Some why
 first_is a rest why e = ap (λ (o : Option Refusal). first_of (o ∷ rest)) e

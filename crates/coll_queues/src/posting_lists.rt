@@ -1,8 +1,9 @@
-ghost use Rattle.std.specs.Prelude.{◌≡◌, ◌+◌, ◌<◌, ◌≤◌, ◌^◌, ◌++◌, ◌∷◌, [], Some, length, nat_lt, replicate, slice_index, option_map, IsSome, IfOk, OnOk, OnErr};
+ghost use Rattle.std.specs.Prelude.{◌≡◌, ◌+◌, ◌<◌, ◌≤◌, ◌^◌, ◌++◌, ◌∷◌, [], None, Some, length, nat_lt, replicate, slice_index, option_map, IsSome, IfOk, OnOk, OnErr};
 ghost use Rattle.std.specs.Arc.{arc_value};
 ghost use Rattle.std.specs.List.{position};
 ghost use Rattle.std.specs.Option.{ForSome};
 ghost use Rattle.std.specs.Result.{result_err};
+ghost use Rattle.coll_kinds.specs.Checks.{broken};
 ghost use Rattle.coll_kinds.specs.Groups.{member_of};
 ghost use Rattle.coll_kinds.specs.Puts.{put};
 ghost use Rattle.coll_machine.specs.Refusals.{first_there, mismatch_in};
@@ -109,6 +110,21 @@ impl PostingLists {
         ensures place { IfOk result (λ place. place ≡ length (posts_in self.now member)) }
     {
         sig.check(self.size())?;
+        self.judge_checked(member, sig, places)
+    }
+
+    /// The same of a signature that breaks no rule among the members.
+    pub(crate) fn judge_checked(
+        &self,
+        member: u8,
+        sig: &Signature,
+        places: u32,
+    ) -> Result<u32, Refusal>
+        requires member_in { member < length self.now.group }
+        requires checked { broken sig.now (length self.now.group) ≡ None }
+        ensures refused { result_err result ≡ refusal_in self.now member sig.now places }
+        ensures place { IfOk result (λ place. place ≡ length (posts_in self.now member)) }
+    {
         let place = self.next_place(member);
         self.compare(place, sig)?;
         if place >= places {

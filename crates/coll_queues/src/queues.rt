@@ -1,6 +1,7 @@
-ghost use Rattle.std.specs.Prelude.{◌≡◌, ◌≤◌, ◌++◌, ◌∷◌, [], None, Some, All, length, map, option_map, IfOk, IfErr, OnOk, OnErr};
+ghost use Rattle.std.specs.Prelude.{◌≡◌, ℕ, ◌<◌, ◌≤◌, ◌++◌, ◌∷◌, [], None, Some, All, length, map, option_map, IfOk, IfErr, OnOk, OnErr};
 ghost use Rattle.std.specs.Arc.{arc_value};
 ghost use Rattle.std.specs.Result.{result_err};
+ghost use Rattle.coll_kinds.specs.Checks.{broken};
 ghost use Rattle.coll_machine.specs.Changes.{put2};
 ghost use Rattle.coll_queues.specs.Postings.{HasRoom, groups_of, member_of, number_of, place_of, posts, signed, size};
 ghost use Rattle.coll_queues.specs.Refusing.{judge_refusal, member_refusal};
@@ -111,6 +112,17 @@ impl Queues {
     {
         let member = self.member(comm, rank)?;
         self.comms[comm as usize].judge(member, sig, self.places)
+    }
+
+    /// `judge` for a member, by its number, of a signature that breaks no rule among the members. It takes constant time, except that a
+    /// Mismatch is linear in the group.
+    pub fn judge_checked(&self, comm: u32, member: u8, sig: &Signature) -> Result<u32, Refusal>
+        requires member_in { member < size self.now comm }
+        requires checked { broken sig.now (size self.now comm) ≡ None }
+        ensures refused { (rank : ℕ) → member_of self.now comm rank ≡ Some member → result_err result ≡ judge_refusal self.now comm rank sig.now }
+        ensures place { (rank : ℕ) → member_of self.now comm rank ≡ Some member → IfOk result (λ place. place ≡ place_of self.now comm rank) }
+    {
+        self.comms[comm as usize].judge_checked(member, sig, self.places)
     }
 
     /// Makes room for one more signature in the list of a rank that is a member. Only NoMemory is refused; nothing

@@ -5,16 +5,16 @@ use Rattle.coll_match.proofs.Standing.{given_new, kept_members, mail_new, member
 use Rattle.coll_match.proofs.matches.Matches.room.Goals as goal
 use Rattle.coll_match.proofs.matches.Matches.room.Goals.{in-Some-1, in-None-1}
 
-pub returns-else-not-contains_key-clause-room : goal.returns-else-not-contains_key-clause-room
-returns-else-not-contains_key-clause-room c =
+pub returns-else-not-stands-clause-room : goal.returns-else-not-stands-clause-room
+returns-else-not-stands-clause-room c =
     ap (λ m. record { members = m; given = given c.args.self.now; seats = seats c.args.self.now; mail = mail c.args.self.now })
-    (kept_members _ _ c.self.view_is c.args.key c.args.n (sym c.contains_key.ensures ∙ c.if-not-contains_key.false))
+    (kept_members _ _ c.self.view_is c.args.key c.args.n (ap (λ t. is_some (standing t c.args.key)) c.self.view_is ∙ sym c.stands.ensures ∙ c.if-not-stands.false))
 
 entered : (c : goal.Joined-branch-3) → c.match-branch-3.self ≡ c.insert.new.self.entries
 entered c = elim c.match-branch-3.branch [ in-Some-1 w ↦ w.self-is | in-None-1 w ↦ w.self-is ]
 
 absent : (c : goal.Joined-branch-3) → is_some (standing c.self.inside.instances.entries c.args.key) ≡ false
-absent c = sym c.contains_key.ensures ∙ c.if-not-contains_key.true
+absent c = ap (λ t. is_some (standing t c.args.key)) c.self.view_is ∙ sym c.stands.ensures ∙ c.if-not-stands.true
 
 pub returns-in_ok-insert-clause-room : goal.returns-in_ok-insert-clause-room
 returns-in_ok-insert-clause-room c = ap look_ups (entered c) ∙ (λ z. record {
