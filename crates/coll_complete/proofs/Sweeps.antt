@@ -129,7 +129,7 @@ other_same g rank x None t n k run off = subst (λ (k : Machine). Same n k t) ru
 other_same g rank None (Some o) t n k run off = subst (λ (k : Machine). Same n k t) run (same_self n t)
 other_same g rank (Some u) (Some o) t n k run off =
     subst (λ (k : Machine). Same n k t) run.2
-    (same_retired g rank u t o.rank o.comm o.place o.start o.bytes.items n run.0 run.1 (off u refl))
+    (same_retired g rank u t o.rank o.comm o.place o.start o.bytes n run.0 run.1 (off u refl))
 
 -- the request at position i is seen as at first
 pub same_at : (rank : ℕ) (list : List (Option Ticket)) (m n : Machine) (i : ℕ) (Did : List Event → Type 0)

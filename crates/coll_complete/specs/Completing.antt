@@ -13,7 +13,7 @@ use Rattle.coll_complete.specs.Requests.{is_done}
 abbrev pub completion : ℕ → Option Ticket → Outcome → List Event
 completion rank None o = []
 completion rank (Some t) o =
-    record { call = Retire rank t; reply = Completed o.rank o.comm o.place o.start o.bytes.items } ∷ []
+    record { call = Retire rank t; reply = Completed o.rank o.comm o.place o.start o.bytes } ∷ []
 
 -- the same where there is an outcome
 abbrev pub completion_if : ℕ → Option Ticket → Option Outcome → List Event

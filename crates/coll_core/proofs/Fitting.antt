@@ -1,8 +1,9 @@
 -- Which of a plan's conditions is met first.
-use Rattle.std.proofs.Common.{◌≡◌, ◌≢◌, ◌∙◌, ◌&&◌, ◌==◌, ℕ, Bool, true, false, not, [], ◌∷◌, Option, Some, None, option_map, Result, Ok, Err, ap, refl, sym, arith}
+use Rattle.std.proofs.Common.{◌≡◌, ◌≢◌, ◌∙◌, ◌&&◌, ◌==◌, ℕ, Bool, true, false, not, List, [], ◌∷◌, Option, Some, None, option_map, Result, Ok, Err, ap, refl, sym, arith}
 use Rattle.std.specs.Prelude.{MatchOption, IsOk, IsErrOf}
 use Rattle.std.specs.Result.{result_err}
 use Rattle.std.proofs.lemmas.Bool.Decides.{nat_tests}
+use Rattle.std.proofs.lemmas.Option.{none-some}
 use denote.Enum.Bare.{sameb}
 use Rattle.coll_kinds.specs.contracts.kind.Mode.{the_type}
 use Rattle.coll_kinds.specs.declared.kind.Mode.{Mode}
@@ -54,7 +55,20 @@ first_of-3 : (a b c : Option Refusal) (why : Refusal) → a ≡ None → b ≡ N
 first_of-3 a b c why e f g =
     ap (λ o. first_of (o ∷ b ∷ c ∷ [])) e ∙ (ap (λ o. first_of (o ∷ c ∷ [])) f ∙ ap (λ o. first_of (o ∷ [])) g)
 
+front_none : (a : Option Refusal) (rest : List (Option Refusal)) → first_of (a ∷ rest) ≡ None → a ≡ None
+front_none None rest e = refl
+front_none (Some why) rest e = absurd (none-some why (sym e))
+
+no_fault : (o : Option SignatureFault) → option_map BadSignature o ≡ None → o ≡ None
+no_fault None e = refl
+no_fault (Some cause) e = absurd (none-some (BadSignature cause) (sym e))
+
 module _ (plan : Planned) (size member : ℕ) (mode : Mode) where
+  -- a plan that fits has a signature that breaks no rule
+  pub unbroken : first_of (plan_refusals plan size member mode) ≡ None → broken plan.sig size ≡ None
+  unbroken e = no_fault (broken plan.sig size) (front_none (option_map BadSignature (broken plan.sig size))
+      (unless (right_mode plan mode) (BadSignature WrongMode) ∷ unless (right_group plan size member) (BadSignature WrongGroup) ∷ []) e)
+
   pub faulty : (why : Refusal) → option_map BadSignature (broken plan.sig size) ≡ Some why
       → first_of (plan_refusals plan size member mode) ≡ Some why
   faulty why e = first_of-1 (option_map BadSignature (broken plan.sig size))

@@ -1,8 +1,9 @@
-ghost use Rattle.std.specs.Prelude.{◌≡◌, IfErr, IfOk};
+ghost use Rattle.std.specs.Prelude.{◌≡◌, ◌<◌, ◌^◌, length, IfErr, IfOk};
 ghost use Rattle.coll_core.specs.Posts.{IsLaid};
 ghost use Rattle.coll_core.specs.Numbers.{number_bytes};
 
 use crate::buffer::Buffer;
+use coll_bytes::Bytes;
 use coll_kinds::Refusal;
 use coll_plans::Plan;
 use std::alloc::Global;
@@ -49,5 +50,23 @@ impl Offer {
             return Ok(Buffer::empty(alloc));
         }
         Buffer::lay_in(alloc, schedule, &self.bytes)
+    }
+
+    /// `lay_in` with a copy of the contribution that others have too, and that a long buffer shares.
+    ///
+    /// # Errors
+    ///
+    /// NoMemory.
+    pub fn lay_shared(&self, alloc: Global, given: &mut Bytes) -> Result<Buffer, Refusal>
+        requires { length self.now.bytes.items < 2 ^ 32 → given.old ≡ self.now.bytes.items }
+        ensures laid { IfOk result (λ buffer. IsLaid self.now buffer) }
+        ensures refused { IfErr result (λ why. why ≡ Refusal.NoMemory) }
+        ensures same { given.new ≡ given.old }
+    {
+        let schedule = self.plan.schedule();
+        if self.bytes.len() != schedule.input().len as usize {
+            return Ok(Buffer::empty(alloc));
+        }
+        Buffer::lay_shared(alloc, schedule, given)
     }
 }

@@ -1,6 +1,7 @@
 ghost use Rattle.std.specs.Prelude.{◌≡◌, ◌⊎◌, length, IfErr, IfOk};
 ghost use Rattle.coll_core.specs.Numbers.{number_bytes, IsUneven};
 
+use coll_bytes::Bytes;
 use coll_kinds::Refusal;
 use std::alloc::Global;
 
@@ -14,8 +15,8 @@ pub struct Outcome {
     pub place: u32,
     /// How many of its starts were completed before.
     pub start: u32,
-    /// The collective's value at the member.
-    pub bytes: Vec<u8>,
+    /// The collective's value at the member. They may be a part of memory that messages and other outcomes share.
+    pub bytes: Bytes,
 }
 
 impl Outcome {
@@ -26,9 +27,9 @@ impl Outcome {
     /// BadLength, where the length is no multiple of four, so that the bytes aren't numbers: the last number wants four bytes,
     /// and has got those that are left. NoMemory.
     pub fn i32s(&self, alloc: Global) -> Result<Vec<i32>, Refusal>
-        ensures numbers { IfOk result (λ numbers. number_bytes numbers.items ≡ self.now.bytes.items) }
+        ensures numbers { IfOk result (λ numbers. number_bytes numbers.items ≡ self.now.bytes) }
         ensures refused { IfErr result (λ why.
-            (why ≡ Refusal.NoMemory) ⊎ IsUneven (length self.now.bytes.items) why) }
+            (why ≡ Refusal.NoMemory) ⊎ IsUneven (length self.now.bytes) why) }
     {
         let mut numbers = Vec::new(alloc);
         let mut rest = self.bytes.as_slice();

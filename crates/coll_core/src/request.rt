@@ -6,6 +6,7 @@ ghost use Rattle.coll_sched.specs.Points.{IsPoint, actions_of};
 ghost use Rattle.coll_sched.specs.Regions.{Inside, read_of};
 ghost use Rattle.coll_tables.specs.Requests.{advanced, key};
 ghost use Rattle.coll_tables.specs.Sound.{Stands};
+ghost use Rattle.coll_core.specs.Buffers.{HasRoom};
 ghost use Rattle.coll_core.specs.Requests.{PassesEnds, CanReceive, IsListOf, next_of, schedule, shown};
 ghost use Rattle.coll_core.specs.Advancing.{IsSent};
 ghost use Rattle.coll_core.specs.Works.{Combined, StandsAt};
@@ -14,6 +15,7 @@ use crate::buffer::Buffer;
 use crate::sent::Sent;
 use crate::work::{DoneWork, Work};
 use coll_arena::{ListName, Ticket};
+use coll_bytes::Bytes;
 use coll_kinds::{Datatype, Op, Refusal};
 use coll_match::{Key, Matches};
 use coll_plans::Plan;
@@ -63,6 +65,7 @@ impl Request {
 
     /// The list where an active request belongs, by its next action and by whether the message that this one waits for
     /// is there.
+    #[inline(always)]
     pub(crate) fn list(&self, matches: &Matches) -> ListName
         requires { IsPoint (schedule (shown self.now)) self.now.round self.now.index }
         ensures stands { Stands self.now.plan.n (mail matches.now (key (shown self.now))) (number_of result) (shown self.now) }
@@ -123,6 +126,7 @@ impl Request {
     }
 
     /// The combination that comes next, with its operands. Only NoMemory is refused.
+    #[inline(always)]
     pub(crate) fn work(&mut self, alloc: Global, ticket: Ticket) -> Result<Work, Refusal>
         requires combine { IfSome (next_of (shown self.old)) IsCombine }
         requires some { next_of (shown self.old) ≢ None }
@@ -150,6 +154,7 @@ impl Request {
     }
 
     /// The next action is the work's combination, with the same operands.
+    #[inline(always)]
     pub(crate) fn stands_at(&self, work: &Work) -> bool
         requires { length self.now.buffer ≡ (schedule (shown self.now)).size }
         ensures { IsTrue result ↔ StandsAt (shown self.now) work.now }
@@ -187,10 +192,12 @@ impl Request {
         self.buffer.write(into, done.into_result());
     }
 
-    /// Takes the outcome out of the buffer, which is empty then, and goes back to the first round.
-    pub(crate) fn take_outcome(&mut self, alloc: Global) -> Vec<u8>
+    /// Takes the outcome out of the buffer, with room for a copy of it, and goes back to the first round. The buffer is empty then.
+    #[inline(always)]
+    pub(crate) fn take_outcome(&mut self, alloc: Global) -> (Bytes, Vec<u8>)
         requires { Inside (length self.old.buffer) (schedule (shown self.old)).output }
-        ensures bytes { result.items ≡ read_of self.old.buffer (schedule (shown self.old)).output }
+        ensures bytes { result.0 ≡ read_of self.old.buffer (schedule (shown self.old)).output }
+        ensures room { HasRoom result.1 (length result.0) }
         ensures left { shown self.new ≡ advanced (shown self.old) (record { round = 0; index = 0; buf = [] }) }
     {
         let output = self.plan.schedule().output();

@@ -124,6 +124,7 @@ impl Work {
     }
 
     /// Computes the combination. Only NoMemory is refused, and hands the work back; a few bytes take none.
+    #[inline(always)]
     pub fn run(self) -> Result<DoneWork, Refused<Work>>
         ensures made { IfOk result (λ done. done.piece ≡ self) }
         ensures refused { IfErr result (λ refused. refused ≡ record { why = Refusal.NoMemory; back = self }) }

@@ -1,8 +1,9 @@
 //! Posts and initialisations.
 
-ghost use Rattle.std.specs.Prelude.{◌≡◌, ◌<◌, None, OnOk, OnErr, IfOk, IfErr};
+ghost use Rattle.std.specs.Prelude.{◌≡◌, ◌<◌, ◌^◌, length, None, IsOk, IsErrOf, MatchOption, OnOk, OnErr, IfOk, IfErr};
 ghost use Rattle.std.specs.Arc.{arc_value};
 ghost use Rattle.std.specs.Result.{result_err};
+ghost use Rattle.coll_kinds.specs.Checks.{broken};
 ghost use Rattle.coll_kinds.specs.Elements.{AreBytes};
 ghost use Rattle.coll_kinds.specs.Lengths.{given_len};
 ghost use Rattle.coll_machine.specs.Calls.{Ticketed};
@@ -37,11 +38,22 @@ use coll_tables::laws::{
 };
 use std::sync::Arc;
 
+/// The signature breaks no rule among so many members. Among as many as the plan is for, it was tested when the plan was made.
+fn check(plan: &Plan, size: u8) -> Result<(), Refusal>
+    ensures { MatchOption (broken plan.now.sig size) (IsOk result) (λ cause. IsErrOf result (Refusal.BadSignature cause)) }
+{
+    let sig = plan.sig();
+    if plan.n() == size {
+        return Ok(());
+    }
+    sig.check(size)
+}
+
 /// The signature breaks no rule among so many members, and the plan is that mode's and that member's.
 fn fits(plan: &Plan, size: u8, member: u8, mode: Mode) -> Result<(), Refusal>
     ensures { result_err result ≡ first_of (plan_refusals (planned plan.now) size member mode) }
 {
-    plan.sig().check(size)?;
+    check(plan, size)?;
     if plan.sig().mode != mode {
         return Err(Refusal::BadSignature {
             cause: SignatureFault::Mode,
@@ -113,6 +125,7 @@ impl Core {
         ensures setting { setting self.new ≡ setting self.old }
         ensures posted { IfOk result (λ ticket. StepsTo (setting self.old) (seen self.old) (post_of rank comm offer) (Ticketed ticket) (seen self.new)) }
         ensures begins { IfOk result (λ ticket. BeginsSchedule self.old self.new ticket.slot (family offer.plan.sig offer.plan.n offer.plan.member)) }
+        ensures short { OnOk result (length offer.bytes.items < 2 ^ 32) }
         ensures back { IfErr result (λ refused. refused.back ≡ offer) }
         ensures refused { IfErr result (λ refused. Refuses (setting self.old) (seen self.old) (post_of rank comm offer) refused.why) }
         ensures unchanged { OnErr result (Unchanged self.old self.new) }
@@ -157,13 +170,14 @@ impl Core {
     {
         let member = self.queues.member(comm, rank)?;
         fits(plan, self.queues.size(comm), member, mode)?;
-        self.queues.judge(comm, rank, plan.sig())?;
+        self.queues.judge_checked(comm, member, plan.sig())?;
         Ok(())
     }
 
     /// A post isn't refused, but for want of memory.
     fn may_post(&self, rank: u8, comm: u32, offer: &Offer) -> Result<(), Refusal>
-        ensures { result_err result ≡ refused_in self.now (post_of rank comm offer.now) }
+        ensures refused { result_err result ≡ refused_in self.now (post_of rank comm offer.now) }
+        ensures short { OnOk result (length offer.now.bytes.items < 2 ^ 32) }
     {
         is_sound(&self.arena);
         post_refused(&self.arena);

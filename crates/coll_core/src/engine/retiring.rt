@@ -1,6 +1,6 @@
 //! Completions.
 
-ghost use Rattle.std.specs.Prelude.{◌≡◌, Some, true, IfOk, IfErr, IfSome, OnErr, IsNone};
+ghost use Rattle.std.specs.Prelude.{◌≡◌, Some, true, length, IfOk, IfErr, IfSome, OnErr, IsNone};
 ghost use Rattle.std.specs.Result.{result_err};
 ghost use Rattle.coll_lists.specs.Moves.{moved_back};
 ghost use Rattle.coll_arena.specs.Slots.{home, names, record_in};
@@ -9,6 +9,7 @@ ghost use Rattle.coll_machine.specs.Machines.{MachineStep};
 ghost use Rattle.coll_machine.specs.Refusals.{refusal};
 ghost use Rattle.coll_sched.specs.Regions.{Inside, read_of};
 ghost use Rattle.coll_tables.specs.Engines.{Rests};
+ghost use Rattle.coll_core.specs.Buffers.{HasRoom};
 ghost use Rattle.coll_core.specs.Completions.{GivesUp};
 ghost use Rattle.coll_core.specs.Cores.{seen, setting};
 ghost use Rattle.coll_core.specs.Progress.{KeepsProgress};
@@ -19,6 +20,7 @@ use crate::outcome::Outcome;
 use crate::request::Request;
 use coll_arena::laws::is_sound;
 use coll_arena::{Arena, ListName, Ticket};
+use coll_bytes::Bytes;
 use coll_kinds::{Mode, Refusal};
 use coll_tables::laws;
 use std::alloc::Global;
@@ -36,9 +38,59 @@ impl Core {
         ensures none { IfOk result (λ found. IsNone found → self.new ≡ self.old) }
         ensures setting { setting self.new ≡ setting self.old }
         ensures waits { IfOk result (λ found. IsNone found → MachineStep (setting self.old) (seen self.old) (Retire rank ticket) Nothing (seen self.new)) }
-        ensures completes { IfOk result (λ found. IfSome found (λ o. MachineStep (setting self.old) (seen self.old) (Retire rank ticket) (Completed o.rank o.comm o.place o.start o.bytes.items) (seen self.new))) }
+        ensures completes { IfOk result (λ found. IfSome found (λ o. MachineStep (setting self.old) (seen self.old) (Retire rank ticket) (Completed o.rank o.comm o.place o.start o.bytes) (seen self.new))) }
         ensures rank { IfOk result (λ found. IfSome found (λ o. o.rank ≡ rank)) }
         ensures progress { IfOk result (λ found. IfSome found (λ o. KeepsProgress self.old self.new ticket.slot)) }
+    {
+        match self.complete(rank, ticket) {
+            Ok(Some((outcome, _room))) => Ok(Some(outcome)),
+            Ok(None) => Ok(None),
+            Err(why) => Err(why),
+        }
+    }
+
+    /// `retire` that answers the outcome's bytes once more, for a trace: a second owner, so that nothing is copied.
+    ///
+    /// # Errors
+    ///
+    /// As `retire`.
+    pub fn retire_shared(
+        &mut self,
+        rank: u8,
+        ticket: Ticket,
+    ) -> Result<Option<(Outcome, Bytes)>, Refusal>
+        ensures refused { result_err result ≡ refusal (setting self.old) (seen self.old).state (Retire rank ticket) }
+        ensures err { OnErr result (self.new ≡ self.old) }
+        ensures none { IfOk result (λ found. IsNone found → self.new ≡ self.old) }
+        ensures setting { setting self.new ≡ setting self.old }
+        ensures waits { IfOk result (λ found. IsNone found → MachineStep (setting self.old) (seen self.old) (Retire rank ticket) Nothing (seen self.new)) }
+        ensures completes { IfOk result (λ found. IfSome found (λ r. MachineStep (setting self.old) (seen self.old) (Retire rank ticket) (Completed r.0.rank r.0.comm r.0.place r.0.start r.0.bytes) (seen self.new))) }
+        ensures rank { IfOk result (λ found. IfSome found (λ r. r.0.rank ≡ rank)) }
+        ensures same { IfOk result (λ found. IfSome found (λ r. r.1 ≡ r.0.bytes)) }
+        ensures progress { IfOk result (λ found. IfSome found (λ r. KeepsProgress self.old self.new ticket.slot)) }
+    {
+        match self.complete(rank, ticket) {
+            Ok(Some((outcome, room))) => {
+                let other = outcome.bytes.share_in(room);
+                Ok(Some((outcome, other)))
+            }
+            Ok(None) => Ok(None),
+            Err(why) => Err(why),
+        }
+    }
+
+    /// `retire` that answers room for a copy of the outcome.
+    #[inline(always)]
+    fn complete(&mut self, rank: u8, ticket: Ticket) -> Result<Option<(Outcome, Vec<u8>)>, Refusal>
+        ensures refused { result_err result ≡ refusal (setting self.old) (seen self.old).state (Retire rank ticket) }
+        ensures err { OnErr result (self.new ≡ self.old) }
+        ensures none { IfOk result (λ found. IsNone found → self.new ≡ self.old) }
+        ensures setting { setting self.new ≡ setting self.old }
+        ensures waits { IfOk result (λ found. IsNone found → MachineStep (setting self.old) (seen self.old) (Retire rank ticket) Nothing (seen self.new)) }
+        ensures completes { IfOk result (λ found. IfSome found (λ r. MachineStep (setting self.old) (seen self.old) (Retire rank ticket) (Completed r.0.rank r.0.comm r.0.place r.0.start r.0.bytes) (seen self.new))) }
+        ensures rank { IfOk result (λ found. IfSome found (λ r. r.0.rank ≡ rank)) }
+        ensures room { IfOk result (λ found. IfSome found (λ r. HasRoom r.1 (length r.0.bytes))) }
+        ensures progress { IfOk result (λ found. IfSome found (λ r. KeepsProgress self.old self.new ticket.slot)) }
     {
         is_sound(&self.arena);
         laws::retire_core(&self.arena);
@@ -50,23 +102,25 @@ impl Core {
         let key = request.key();
         let hint = request.hint;
         let member = request.plan.member();
-        let bytes = give_up(&mut self.arena, self.alloc, ticket);
+        let (bytes, room) = give_up(&mut self.arena, self.alloc, ticket);
         self.matches.leave(key, hint, member);
-        Ok(Some(Outcome {
+        let outcome = Outcome {
             rank,
             comm: key.comm,
             place: key.place,
             start: key.start,
             bytes,
-        }))
+        };
+        Ok(Some((outcome, room)))
     }
 }
 
-/// Takes the outcome of a request, which goes or is Idle then, by its mode.
-fn give_up(arena: &mut Arena<Request>, alloc: Global, ticket: Ticket) -> Vec<u8>
+/// Takes the outcome of a request with room for a copy of it. The request goes, or is Idle then, by its mode.
+fn give_up(arena: &mut Arena<Request>, alloc: Global, ticket: Ticket) -> (Bytes, Vec<u8>)
     requires named { names arena.old ticket ≡ true }
     requires can { IfSome (record_in arena.old ticket.slot) (GivesUp arena.old) }
-    ensures bytes { IfSome (record_in arena.old ticket.slot) (λ x. result.items ≡ read_of x.buffer (schedule (shown x)).output) }
+    ensures bytes { IfSome (record_in arena.old ticket.slot) (λ x. result.0 ≡ read_of x.buffer (schedule (shown x)).output) }
+    ensures room { HasRoom result.1 (length result.0) }
     ensures rests { IfSome (record_in arena.old ticket.slot) (λ x. Rests shown x.plan.sig.mode arena.old arena.new ticket x) }
     ensures lists { arena.new.lists ≡ moved_back ticket.slot (home arena.new ticket.slot) arena.old.lists }
 {
@@ -80,10 +134,11 @@ fn give_up(arena: &mut Arena<Request>, alloc: Global, ticket: Ticket) -> Vec<u8>
 }
 
 /// The outcome of a once request, which goes.
-fn end(arena: &mut Arena<Request>, alloc: Global, ticket: Ticket) -> Vec<u8>
+fn end(arena: &mut Arena<Request>, alloc: Global, ticket: Ticket) -> (Bytes, Vec<u8>)
     requires named { names arena.old ticket ≡ true }
     requires can { IfSome (record_in arena.old ticket.slot) (GivesUp arena.old) }
-    ensures bytes { IfSome (record_in arena.old ticket.slot) (λ x. result.items ≡ read_of x.buffer (schedule (shown x)).output) }
+    ensures bytes { IfSome (record_in arena.old ticket.slot) (λ x. result.0 ≡ read_of x.buffer (schedule (shown x)).output) }
+    ensures room { HasRoom result.1 (length result.0) }
     ensures rests { IfSome (record_in arena.old ticket.slot) (λ x. Rests shown Mode.Once arena.old arena.new ticket x) }
     ensures lists { arena.new.lists ≡ moved_back ticket.slot (home arena.new ticket.slot) arena.old.lists }
 {
@@ -94,10 +149,11 @@ fn end(arena: &mut Arena<Request>, alloc: Global, ticket: Ticket) -> Vec<u8>
 }
 
 /// The outcome of a persistent request, which is Idle then.
-fn rest(arena: &mut Arena<Request>, alloc: Global, ticket: Ticket) -> Vec<u8>
+fn rest(arena: &mut Arena<Request>, alloc: Global, ticket: Ticket) -> (Bytes, Vec<u8>)
     requires named { names arena.old ticket ≡ true }
     requires can { IfSome (record_in arena.old ticket.slot) (GivesUp arena.old) }
-    ensures bytes { IfSome (record_in arena.old ticket.slot) (λ x. result.items ≡ read_of x.buffer (schedule (shown x)).output) }
+    ensures bytes { IfSome (record_in arena.old ticket.slot) (λ x. result.0 ≡ read_of x.buffer (schedule (shown x)).output) }
+    ensures room { HasRoom result.1 (length result.0) }
     ensures rests { IfSome (record_in arena.old ticket.slot) (λ x. Rests shown Mode.Persistent arena.old arena.new ticket x) }
     ensures lists { arena.new.lists ≡ moved_back ticket.slot (home arena.new ticket.slot) arena.old.lists }
 {

@@ -44,6 +44,7 @@ impl Core {
         ensures setting { setting self.new ≡ setting self.old }
         ensures starts { OnOk result (StepsTo (setting self.old) (seen self.old) (Start rank ticket bytes.items) Nothing (seen self.new)) }
         ensures begins { OnOk result (IfSome (record_in self.old.arena ticket.slot) (λ x. BeginsSchedule self.old self.new ticket.slot (schedule (shown x)))) }
+        ensures short { OnOk result (length bytes.items < 2 ^ 32) }
         ensures back { IfErr result (λ refused. refused.back ≡ bytes) }
         ensures refused { IfErr result (λ refused. Refuses (setting self.old) (seen self.old) (Start rank ticket bytes.items) refused.why) }
         ensures unchanged { OnErr result (Unchanged self.old self.new) }

@@ -111,6 +111,7 @@ impl Core {
     }
 
     /// Carries out an action, which is the next one of a ready request. Answers whether that is Done.
+    #[inline(always)]
     fn act(&mut self, ticket: Ticket, action: Action) -> Result<bool, Refusal>
         requires { IsActing self.old ticket action }
         ensures acts { IfOk result (Acts self.old self.new) }
@@ -189,6 +190,7 @@ impl Core {
     }
 
     /// Hands out the combination of a ready request.
+    #[inline(always)]
     fn hand_out(&mut self, ticket: Ticket) -> Result<Work, Refusal>
         requires first { IsFirst self.old.arena (number_of Ready) ticket }
         requires combines { CombinesNext self.old ticket }
@@ -208,6 +210,7 @@ impl Core {
 }
 
 /// Takes a request one action on, to the list where it then belongs. Answers whether it is Done.
+#[inline(always)]
 pub(super) fn advance(arena: &mut Arena<Request>, matches: &Matches, ticket: Ticket) -> bool
     requires { CanAdvance arena.old ticket }
     ensures { HasAdvanced arena.old arena.new matches.now ticket result }

@@ -8,16 +8,16 @@ use Rattle.coll_core.specs.Posts.{planned}
 use Rattle.coll_core.proofs.Entering.{post_tested, stops_at_entry, enters, misses, right_length, at_free}
 use Rattle.coll_core.proofs.engine.Core.may_post.Goals as goal
 
-pub returns-in_err-may_enter : goal.returns-in_err-may_enter
-returns-in_err-may_enter c =
+pub returns-in_err-may_enter-clause-refused : goal.returns-in_err-may_enter-clause-refused
+returns-in_err-may_enter-clause-refused c =
     let plan = planned c.args.offer.now.plan in
     let bytes = c.args.offer.now.bytes.items in
     let answers : result_err c.from_residual.result ≡ Some c.in_err-may_enter.field-0.0 = grind (arith, common_steps) in
     answers ∙ sym (post_tested _ c.args.self.now c.args.rank c.args.comm plan bytes c.self.view_is c.post_refused.ensures c.self.invariant c.is_sound.ensures
     ∙ stops_at_entry (entry_refusals c.args.self.now.queues c.args.rank c.args.comm Once plan) (wrong_length plan.sig plan.n plan.member bytes ∷ full_refusal c.self.inside.arena ∷ []) c.in_err-may_enter.field-0.0 (sym c.in_err-may_enter.ensures))
 
-pub returns-then-got-want : goal.returns-then-got-want
-returns-then-got-want c =
+pub returns-then-got-want-clause-refused : goal.returns-then-got-want-clause-refused
+returns-then-got-want-clause-refused c =
     let plan = planned c.args.offer.now.plan in
     let bytes = c.args.offer.now.bytes.items in
     let long : c.len-got.result ≡ length c.args.offer.now.bytes.items = omega arith in
@@ -25,8 +25,8 @@ returns-then-got-want c =
     ∙ (enters (entry_refusals c.args.self.now.queues c.args.rank c.args.comm Once plan) (wrong_length plan.sig plan.n plan.member bytes ∷ full_refusal c.self.inside.arena ∷ []) (sym c.in_ok-may_enter.ensures)
     ∙ misses plan bytes c.want-want.result c.len-got.result c.want-want.ensures long (full_refusal c.self.inside.arena ∷ []) c.if-got-want.true))
 
-pub returns-then-not-has_free : goal.returns-then-not-has_free
-returns-then-not-has_free c =
+pub returns-then-not-has_free-clause-refused : goal.returns-then-not-has_free-clause-refused
+returns-then-not-has_free-clause-refused c =
     let plan = planned c.args.offer.now.plan in
     let bytes = c.args.offer.now.bytes.items in
     let long : c.len-got.result ≡ length c.args.offer.now.bytes.items = omega arith in
@@ -35,8 +35,8 @@ returns-then-not-has_free c =
     ∙ (right_length plan bytes c.want-want.result c.len-got.result c.want-want.ensures long (full_refusal c.self.inside.arena ∷ []) c.if-got-want.false
     ∙ at_free c.self.inside.arena c.has_free.result false c.has_free.ensures c.if-not-has_free.true)))
 
-pub returns : goal.returns
-returns c =
+pub returns-clause-refused : goal.returns-clause-refused
+returns-clause-refused c =
     let plan = planned c.args.offer.now.plan in
     let bytes = c.args.offer.now.bytes.items in
     let long : c.len-got.result ≡ length c.args.offer.now.bytes.items = omega arith in

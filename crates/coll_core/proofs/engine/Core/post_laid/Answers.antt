@@ -7,15 +7,15 @@ use Rattle.coll_core.proofs.engine.Core.post_laid.Goals as goal
 
 pub returns-in-Err-clause-refused : goal.returns-in-Err-clause-refused
 returns-in-Err-clause-refused c =
-    refused_so c.args.self.now (post_of c.args.rank c.args.comm c.args.offer) c.in-Err.why (sym c.in-Err.ensures)
+    refused_so c.args.self.now (post_of c.args.rank c.args.comm c.args.offer) c.in-Err.why (sym c.in-Err.ensures.refused)
 
 pub returns-in-Err-make_room-clause-refused : goal.returns-in-Err-make_room-clause-refused
 returns-in-Err-make_room-clause-refused c =
-    short_of c.args.self.now (post_of c.args.rank c.args.comm c.args.offer) c.in-Err-make_room.why refl (sym c.in_default.ensures) c.in-Err-make_room.ensures.refused
+    short_of c.args.self.now (post_of c.args.rank c.args.comm c.args.offer) c.in-Err-make_room.why refl (sym c.in_default.ensures.refused) c.in-Err-make_room.ensures.refused
 
 pub enter-requires-clause-accepted : goal.enter-requires-clause-accepted
 enter-requires-clause-accepted c =
-    still_accepted c.args.self.now c.make_room.new.self (post_of c.args.rank c.args.comm c.args.offer) c.make_room.ensures.unchanged (sym c.in_default.ensures)
+    still_accepted c.args.self.now c.make_room.new.self (post_of c.args.rank c.args.comm c.args.offer) c.make_room.ensures.unchanged (sym c.in_default.ensures.refused)
 
 pub returns-clause-begins : goal.returns-clause-begins
 returns-clause-begins c =

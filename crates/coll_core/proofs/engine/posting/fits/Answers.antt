@@ -1,4 +1,4 @@
-use Rattle.std.proofs.Common.{◌≡◌, ◌∙◌, ◌==◌, ◌&&◌, true, false, sym, Some, arith}
+use Rattle.std.proofs.Common.{◌≡◌, ◌∙◌, ◌==◌, ◌&&◌, true, false, refl, sym, Some, arith}
 use Rattle.std.specs.Result.{result_err}
 use Rattle.std.proofs.lemmas.Grind.{common_steps}
 use Rattle.coll_core.specs.Posts.{planned}
@@ -10,13 +10,13 @@ pub returns-in_err-check : goal.returns-in_err-check
 returns-in_err-check c =
     let same : result_err c.from_residual.result ≡ Some c.in_err-check.field-0.0 = grind (arith, common_steps) in
     same ∙ sym (faulty (planned c.args.plan.now) c.args.size c.args.member c.args.mode c.in_err-check.field-0.0
-    (fault_is c.sig.result.now c.args.plan.now.sig c.args.size c.check.result c.in_err-check.field-0.0 c.sig.ensures.sig c.check.ensures c.in_err-check.was))
+    (fault_is c.args.plan.now.sig c.args.plan.now.sig c.args.size c.check.result c.in_err-check.field-0.0 refl c.check.ensures c.in_err-check.was))
 
 pub returns-then-ne : goal.returns-then-ne
 returns-then-ne c =
     sym (wrong_mode (planned c.args.plan.now) c.args.size c.args.member c.args.mode
-    (faultless c.sig.result.now c.args.plan.now.sig c.args.size c.check.result c.in_ok-check.field-0 c.sig.ensures.sig c.check.ensures c.in_ok-check.was)
-    (mode_is c.sig-2.result.now c.args.plan.now.sig c.args.mode c.ne.result true c.sig-2.ensures.sig c.ne.ensures c.if-ne.true))
+    (faultless c.args.plan.now.sig c.args.plan.now.sig c.args.size c.check.result c.in_ok-check.field-0 refl c.check.ensures c.in_ok-check.was)
+    (mode_is c.sig.result.now c.args.plan.now.sig c.args.mode c.ne.result true c.sig.ensures.sig c.ne.ensures c.if-ne.true))
 
 pub returns-then-n-size : goal.returns-then-n-size
 returns-then-n-size c =
@@ -26,5 +26,5 @@ returns-then-n-size c =
       | then-n-size-via-else-n-size+then-member w ↦ another_member p.n c.args.size p.member c.args.member (λ e. w.if-member.true (w.member.ensures.member ∙ e))
     ] in
     sym (wrong_group (planned p) c.args.size c.args.member c.args.mode
-    (faultless c.sig.result.now p.sig c.args.size c.check.result c.in_ok-check.field-0 c.sig.ensures.sig c.check.ensures c.in_ok-check.was)
-    (mode_is c.sig-2.result.now p.sig c.args.mode c.ne.result false c.sig-2.ensures.sig c.ne.ensures c.if-ne.false) other)
+    (faultless p.sig p.sig c.args.size c.check.result c.in_ok-check.field-0 refl c.check.ensures c.in_ok-check.was)
+    (mode_is c.sig.result.now p.sig c.args.mode c.ne.result false c.sig.ensures.sig c.ne.ensures c.if-ne.false) other)

@@ -4,8 +4,8 @@ use Rattle.coll_core.proofs.outcome.Outcome.i32s.Given as goal
 
 abbrev pub invariant-loop-first : goal.invariant-loop-first
 invariant-loop-first l = record {
-  read : number_bytes l.numbers.items ++ l.rest ≡ l.fn.self.bytes.items;
-  left : length l.rest % 4 ≡ length l.fn.self.bytes.items % 4;
+  read : number_bytes l.numbers.items ++ l.rest ≡ l.fn.self.bytes;
+  left : length l.rest % 4 ≡ length l.fn.self.bytes % 4;
   bytes : (i : ℕ) → slice_index l.rest i < 256;
 }
 

@@ -2,7 +2,7 @@ use Rattle.std.proofs.Common.{◌+◌, ◌*◌, refl, arith, ap}
 use Rattle.coll_core.proofs.Standings.{list_in}
 use Rattle.coll_core.proofs.Retiring.{completes, gives_up, kept, on_done, owned, retires_alone, seated, waits}
 use Rattle.coll_match.specs.Instances.{LookUps}
-use Rattle.coll_core.proofs.engine.Core.retire.Goals as goal
+use Rattle.coll_core.proofs.engine.Core.complete.Goals as goal
 
 pub is_on-requires : goal.is_on-requires
 is_on-requires c =
@@ -31,7 +31,7 @@ pub invariant_of-self : goal.invariant_of-self
 invariant_of-self c =
     let owns = owned _ c.args.self.now c.args.rank c.args.ticket c.in_ok-request.request.now c.self.view_is c.in_ok-request.ensures.refused c.in_ok-request.ensures.named c.in_ok-request.ensures.found in
     let on = on_done c.self.inside.arena c.args.ticket (6 + 3 * c.in_ok-request.request.now.comm) c.if-not-is_on.ensures in
-    kept _ c.give_up-bytes.new.arena c.leave.new.self c.args.ticket c.args.rank c.in_ok-request.request.now c.give_up-bytes.result.items c.leave.result
+    kept _ c.give_up-bytes.new.arena c.leave.new.self c.args.ticket c.args.rank c.in_ok-request.request.now c.give_up-bytes.result.0 c.leave.result
     c.key-key.result c.member-member.result c.retire_core.ensures c.self.invariant owns on
     c.give_up-bytes.ensures.bytes c.give_up-bytes.ensures.rests c.key-key.ensures c.member-member.ensures.member
     (record {
@@ -46,7 +46,7 @@ pub returns-clause-completes : goal.returns-clause-completes
 returns-clause-completes c =
     let owns = owned _ c.args.self.now c.args.rank c.args.ticket c.in_ok-request.request.now c.self.view_is c.in_ok-request.ensures.refused c.in_ok-request.ensures.named c.in_ok-request.ensures.found in
     let on = on_done c.self.inside.arena c.args.ticket (6 + 3 * c.in_ok-request.request.now.comm) c.if-not-is_on.ensures in
-    completes _ c.give_up-bytes.new.arena c.leave.new.self c.args.ticket c.args.rank c.in_ok-request.request.now c.give_up-bytes.result.items c.leave.result
+    completes _ c.give_up-bytes.new.arena c.leave.new.self c.args.ticket c.args.rank c.in_ok-request.request.now c.give_up-bytes.result.0 c.leave.result
     c.key-key.result c.member-member.result c.retire_core.ensures c.self.invariant owns on
     c.give_up-bytes.ensures.bytes c.give_up-bytes.ensures.rests c.key-key.ensures c.member-member.ensures.member
     (record {
@@ -62,7 +62,7 @@ pub returns-clause-progress : goal.returns-clause-progress
 returns-clause-progress c =
     let owns = owned _ c.args.self.now c.args.rank c.args.ticket c.in_ok-request.request.now c.self.view_is c.in_ok-request.ensures.refused c.in_ok-request.ensures.named c.in_ok-request.ensures.found in
     let on = on_done c.self.inside.arena c.args.ticket (6 + 3 * c.in_ok-request.request.now.comm) c.if-not-is_on.ensures in
-    retires_alone _ c.give_up-bytes.new.arena c.leave.new.self c.args.ticket c.args.rank c.in_ok-request.request.now c.give_up-bytes.result.items c.leave.result
+    retires_alone _ c.give_up-bytes.new.arena c.leave.new.self c.args.ticket c.args.rank c.in_ok-request.request.now c.give_up-bytes.result.0 c.leave.result
     c.key-key.result c.member-member.result c.retire_core.ensures c.self.invariant owns on
     c.give_up-bytes.ensures.bytes c.give_up-bytes.ensures.rests c.key-key.ensures c.member-member.ensures.member
     (record {
