@@ -45,12 +45,12 @@ attests-Retired r t k b =
     ((bytes_eq-Decides b b).1 refl)
 
 pub attests-Decides : (e : Entry) (o : Outcome) (answer : Bool)
-    → answer ≡ attests o.rank (key_of o) o.bytes.items e → IsTrue answer ↔ HandsOut e o
+    → answer ≡ attests o.rank (key_of o) o.bytes e → IsTrue answer ↔ HandsOut e o
 attests-Decides e o answer is = (
-  λ at. attests-true e o.rank (key_of o) o.bytes.items (sym is ∙ at),
+  λ at. attests-true e o.rank (key_of o) o.bytes (sym is ∙ at),
   λ p. is
-      ∙ subst (λ (e : Entry). attests o.rank (key_of o) o.bytes.items e ≡ true) (sym p.1)
-      (attests-Retired o.rank p.0 (key_of o) o.bytes.items),
+      ∙ subst (λ (e : Entry). attests o.rank (key_of o) o.bytes e ≡ true) (sym p.1)
+      (attests-Retired o.rank p.0 (key_of o) o.bytes),
 )
 
 abbrev any_attests : ℕ → Key → List ℕ → List rust_entry.Entry → Bool

@@ -23,7 +23,7 @@ Contains-filter p (y ∷ xs) x c = go (p y) (Contains-filter p xs x) c
     go false rest c = there y xs x (rest c)
 
 abbrev IsAttestedIn : List Entry → Outcome → Type 0
-IsAttestedIn all o = IsAttested all o.rank (key_of o) o.bytes.items
+IsAttestedIn all o = IsAttested all o.rank (key_of o) o.bytes
 
 all_attested : (all es : List Entry) (os : List Outcome) → AllZip HandsOut es os
     → ((e : Entry) → Contains es e → Contains all e) → AllByRecursion (IsAttestedIn all) os
@@ -31,7 +31,7 @@ all_attested all [] [] h within = tt
 all_attested all [] (o ∷ os) h within = absurd h
 all_attested all (e ∷ es) [] h within = absurd h
 all_attested all (e ∷ es) (o ∷ os) h within = (
-  (h.0.0, within (Retired o.rank h.0.0 o.comm o.place o.start o.bytes.items) (0, omega arith, h.0.1)),
+  (h.0.0, within (Retired o.rank h.0.0 o.comm o.place o.start o.bytes) (0, omega arith, h.0.1)),
   all_attested all es os h.1 (λ x c. within x (there e es x c)),
 )
 

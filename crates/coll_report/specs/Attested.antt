@@ -18,7 +18,7 @@ key_of o = record { comm = o.comm; place = o.place; start = o.start }
 
 -- the entry is the completion that handed out the outcome
 abbrev pub HandsOut : Entry → Outcome → Type 0
-HandsOut e o = (t : Ticket) × (e ≡ Retired o.rank t o.comm o.place o.start o.bytes.items)
+HandsOut e o = (t : Ticket) × (e ≡ Retired o.rank t o.comm o.place o.start o.bytes)
 
 -- a rank's completions handed out these outcomes, in this order
 abbrev pub HandedOut : List Entry → ℕ → List Outcome → Type 0

@@ -1,5 +1,3 @@
--- the bytes that entries keep
-pub mod Bytes
 -- entries, and what a trace tells of a rank
 pub mod Views
 pub mod Traces

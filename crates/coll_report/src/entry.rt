@@ -1,6 +1,6 @@
 ghost use Rattle.std.specs.Prelude.{◌≡◌, ◌↔◌, IsTrue};
 
-use crate::bytes::Bytes;
+use coll_bytes::Bytes;
 use coll_core::Outcome;
 use coll_kinds::{Signature, Ticket};
 use std::sync::Arc;
@@ -123,7 +123,7 @@ impl Entry {
 
     /// The test of `hands_out`, field by field.
     pub(crate) fn attests(&self, outcome: &Outcome) -> bool
-        ensures { result ≡ attests outcome.now.rank (key_of outcome.now) outcome.now.bytes.items (seen self.now) }
+        ensures { result ≡ attests outcome.now.rank (key_of outcome.now) outcome.now.bytes (seen self.now) }
     {
         match self {
             Entry::Posted { .. } => false,

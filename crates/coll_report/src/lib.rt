@@ -2,29 +2,23 @@
 //!
 //! | Module | Has |
 //! |---|---|
-//! | `bytes` | `Bytes`, what an entry keeps of them |
 //! | `entry` | `Entry`, an accepted call |
 //! | `posts` | `Posts`, a walk along a rank's posts, initialisations and starts |
 //! | `command` | `Command`, what a rank is told to do |
 //! | `comparison` | `Comparison`, of a rank's entries with its commands |
 //! | `report` | `Report`, the trace of a closed engine |
-//! | `shell` | `Shell`, in which bytes can be shared |
 //! | `laws` | what holds of every legal trace of a script, and of every closed engine |
 #![tactic(auto)]
 
-mod bytes;
 mod command;
 mod comparison;
 mod entry;
 pub mod laws;
 mod posts;
 mod report;
-mod shell;
 
-pub use bytes::Bytes;
 pub use command::Command;
 pub use comparison::{Comparison, follows};
 pub use entry::Entry;
 pub use posts::Posts;
 pub use report::{Report, count_entries};
-pub use shell::Shell;

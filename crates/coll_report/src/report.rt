@@ -26,7 +26,7 @@ pub fn count_entries(trace: &[Entry], rank: u8) -> usize
 /// Whether some entry is the completion that handed out the outcome.
 pub(crate) fn any_attests(trace: &[Entry], outcome: &Outcome) -> bool
     ensures { result
-        ≡ list_any (λ e. attests outcome.now.rank (key_of outcome.now) outcome.now.bytes.items (seen e)) trace.now }
+        ≡ list_any (λ e. attests outcome.now.rank (key_of outcome.now) outcome.now.bytes (seen e)) trace.now }
 {
     trace.iter().any(|entry| entry.attests(outcome))
 }
@@ -128,7 +128,7 @@ impl Report {
     /// Whether the engine handed out this outcome. Linear in the trace; takes no memory.
     pub fn attests(&self, outcome: &Outcome) -> bool
         ensures { IsTrue result
-            ↔ IsAttested self.now.entries outcome.now.rank (key_of outcome.now) outcome.now.bytes.items }
+            ↔ IsAttested self.now.entries outcome.now.rank (key_of outcome.now) outcome.now.bytes }
     {
         any_attests(self.entries(), outcome)
     }
@@ -137,7 +137,7 @@ impl Report {
     pub fn attests_all(&self, rank: u8, outcomes: &[Outcome]) -> bool
         ensures exact { IsTrue result ↔ HandedOut self.now.entries rank outcomes.now }
         ensures attested { OnTrue result
-            (All (λ o. IsAttested self.now.entries o.rank (key_of o) o.bytes.items) outcomes.now) }
+            (All (λ o. IsAttested self.now.entries o.rank (key_of o) o.bytes) outcomes.now) }
     {
         hands_out(self.entries(), rank, outcomes)
     }
