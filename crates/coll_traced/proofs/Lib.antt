@@ -1,0 +1,10 @@
+pub mod Setting
+pub mod Entering
+pub mod Keepers
+pub mod Balances
+pub mod Closings
+pub mod Counting
+pub mod Telling
+pub mod Awaiting
+pub mod PortWaits
+pub mod Places

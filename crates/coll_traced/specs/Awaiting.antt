@@ -1,0 +1,56 @@
+-- What is noted for a port that waits, and what a wait may be given up for.
+use Rattle.std.specs.Prelude.{◌≡◌, ◌⊎◌, ℕ, List, Contains, filter_map, Option, None, Some, slice_set}
+use Rattle.coll_kinds.specs.declared.refusal.Refusal.{Refusal}
+use Rattle.coll_kinds.specs.declared.refusal.Refusal.TheVariants.{NoMemory, Stale, Stalled}
+use Rattle.coll_kinds.specs.declared.ticket.Ticket.{Ticket}
+use Rattle.coll_machine.specs.Settings.{Setting}
+use Rattle.coll_machine.specs.States.{Machine}
+use Rattle.coll_core.specs.declared.phase.Phase.TheVariants.{Pending}
+use Rattle.coll_core.specs.Phases.{phase_in}
+use Rattle.coll_traced.specs.Waits.{WaitFor, ForOne, ForAny}
+use Rattle.coll_traced.specs.Stalls.{WasStalled}
+use Rattle.coll_traced.specs.declared.awaited.Awaited.{Awaited}
+use Rattle.coll_traced.specs.declared.awaited.Awaited.TheVariants as awaited
+
+-- why a progress thread ends before it is stopped: a step or a combination was refused memory, or a result that it made
+-- isn't wanted any longer
+abbrev pub IsSetback : Refusal → Type 0
+IsSetback why = (why ≡ NoMemory) ⊎ (why ≡ Stale)
+
+-- why a wait is given up whose requests aren't refused: the engine was stalled; its list names a request twice, and memory to note
+-- that was refused; or as a progress thread
+abbrev pub IsHindrance : Setting → Refusal → Type 0
+IsHindrance g why = ((why ≡ Stalled) × WasStalled g) ⊎ IsSetback why
+
+-- the tickets of a list's requests that aren't null, in their order
+abbrev pub tickets_in : List (Option Ticket) → List Ticket
+tickets_in list = filter_map (λ request. request) list
+
+-- one of the requests has the ticket
+abbrev pub IsListed : List (Option Ticket) → Ticket → Type 0
+IsListed list t = Contains list (Some t)
+
+-- the port waits for one request of the list, which is Pending
+pub record IsForOneOf (m : Machine) (rank : ℕ) (list : List (Option Ticket)) (wait : WaitFor) : Type 0 where
+  pub ticket : Ticket
+  pub is_for : wait ≡ ForOne rank ticket
+  pub listed : IsListed list ticket
+  pub pending : phase_in m ticket ≡ Some Pending
+
+-- the port waits for what has to be before what it awaits is the case
+abbrev pub IsWaitFor : Machine → ℕ → Awaited → WaitFor → Type 0
+IsWaitFor m rank (awaited.One request) wait = (t : Ticket) × (request.now ≡ Some t) × (wait ≡ ForOne rank t)
+IsWaitFor m rank (awaited.Any requests) wait = wait ≡ ForAny rank (tickets_in requests.now)
+IsWaitFor m rank (awaited.All requests) wait = IsForOneOf m rank requests.now wait
+
+-- the port needn't wait, since there is no request; of all requests of a list this tells nothing
+abbrev pub NeedsNoWait : Awaited → Type 0
+NeedsNoWait (awaited.One request) = request.now ≡ None
+NeedsNoWait (awaited.Any requests) = ⊥
+NeedsNoWait (awaited.All requests) = Unit {0}
+
+-- of all waits only the port's is made anew, for what it awaits
+pub record WaitsFor (m : Machine) (rank : ℕ) (wanted : Awaited) (old new : List WaitFor) : Type 0 where
+  pub wait : WaitFor
+  pub is_for : IsWaitFor m rank wanted wait
+  pub waits_are : new ≡ slice_set old rank wait

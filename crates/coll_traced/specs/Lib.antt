@@ -1,0 +1,19 @@
+-- a core with its trace; what ports wait for, when nothing can go on, and what calls tell
+pub mod Traced
+pub mod Waits
+pub mod Stalls
+pub mod Calls
+pub mod Denials
+pub mod Endings
+pub mod Tests
+pub mod Awaiting
+pub mod Operations
+pub mod Closings
+-- what a core with its trace did, as the completion calls over it tell
+pub mod Doing
+-- what functions promise one another: what a post keeps, the entries of receipts, and the trace's room
+pub mod Outcomes
+pub mod Places
+pub mod Receipts
+pub mod Recorded
+pub mod Prepared

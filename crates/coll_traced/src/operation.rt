@@ -1,0 +1,62 @@
+ghost use Rattle.std.specs.Prelude.{◌≡◌, ◌+◌, [], ◌∷◌, ◌++◌, IfSome, IsNone};
+ghost use Rattle.coll_report.specs.Views.{seen};
+ghost use Rattle.coll_traced.specs.Operations.{IsMade, IsRefused};
+
+use crate::post_operation::PostOperation;
+use crate::start_operation::StartOperation;
+use crate::tally::{Entries, Tally};
+use crate::trace::Appended;
+use crate::traced_core::TracedCore;
+use coll_core::Offer;
+use coll_kinds::Ticket;
+use coll_report::Entry;
+use std::alloc::Global;
+
+/// How many bytes an operation gives at most: to copy more takes longer than to wait for the engine.
+const SHORT: usize = 64;
+
+/// A post or a start that one thread leaves to another, with all memory that it takes.
+#[derive(Drop)]
+pub enum Operation {
+    Post(PostOperation),
+    Start(StartOperation),
+}
+
+impl Operation {
+    /// A post of the offer; none where it gives many bytes, or memory is short.
+    pub fn post(alloc: Global, comm: u32, offer: &Offer) -> Option<Operation> {
+        if offer.bytes.len() > SHORT {
+            return None;
+        }
+        let operation = PostOperation::of(alloc, comm, offer)?;
+        Some(Operation::Post(operation))
+    }
+
+    /// A start with these bytes; none where they are many, or memory is short.
+    pub fn start(alloc: Global, ticket: Ticket, bytes: &[u8]) -> Option<Operation> {
+        if bytes.len() > SHORT {
+            return None;
+        }
+        let operation = StartOperation::of(alloc, ticket, bytes)?;
+        Some(Operation::Start(operation))
+    }
+
+    /// Makes it for the rank, unless that is refused. Answers the ticket, and the entry that was appended.
+    pub fn make<L: Entries>(
+        self,
+        traced: &mut TracedCore<L>,
+        mine: &mut Tally<L>,
+        rank: u8,
+    ) -> Option<(Ticket, Appended)>
+        ensures entry { IfSome result (λ r. traced.new.entries ≡ traced.old.entries ++ r.1 ∷ []) }
+        ensures made { IfSome result (λ r. IsMade self rank r.0 r.1) }
+        ensures refused { IsNone result → IsRefused L.setting self rank }
+        ensures counted { IfSome result (λ r. mine.new ≡ mine.old + 1) }
+        ensures none { IsNone result → (traced.new.entries ≡ traced.old.entries) × (mine.new ≡ mine.old) }
+    {
+        match self {
+            Operation::Post(operation) => operation.make(traced, mine, rank),
+            Operation::Start(operation) => operation.make(traced, mine, rank),
+        }
+    }
+}

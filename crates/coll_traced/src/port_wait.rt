@@ -1,0 +1,112 @@
+ghost use Rattle.std.specs.Prelude.{◌≡◌, [], ◌↔◌, ◌<◌, ◌≤◌, All, IfErr, IfOk, IsTrue, OnErr, OnOk, length, vec_capacity};
+ghost use Rattle.coll_traced.specs.Waits.{Awake, wait_in};
+ghost use Rattle.coll_traced.specs.Stalls.{IsDone, IsBlocked};
+ghost use Rattle.coll_traced.specs.Awaiting.{tickets_in};
+
+use crate::waiting::Waiting;
+use coll_complete::Request;
+use coll_core::{Core, Phase};
+use coll_kinds::{Refusal, Ticket};
+use std::alloc::Global;
+
+/// What a port waits for, with memory for the tickets of a list.
+#[derive(Drop)]
+pub(crate) struct PortWait {
+    how: Waiting,
+    tickets: Vec<Ticket>,
+}
+
+/// Whether the ticket names a request of the rank that can be completed.
+pub(crate) fn is_done(core: &Core, rank: u8, ticket: Ticket) -> bool
+    ensures { IsTrue result ↔ IsDone core.now rank ticket }
+{
+    match core.phase(rank, ticket) {
+        Ok(Phase::Idle) => false,
+        Ok(Phase::Pending) => false,
+        Ok(Phase::Done) => true,
+        Err(_) => false,
+    }
+}
+
+/// Whether none of the tickets names a request of the rank that can be completed.
+fn none_is_done(core: &Core, rank: u8, tickets: &[Ticket]) -> bool
+    ensures { IsTrue result ↔ All (λ t. IsDone core.now rank t → ⊥) tickets.now }
+{
+    tickets.iter().all(|ticket| !is_done(core, rank, *ticket))
+}
+
+/// Puts the tickets of the requests that aren't null in the place of the others, in their order. It takes memory only for
+/// more of them than fit.
+fn list(tickets: &mut Vec<Ticket>, requests: &[Request]) -> Result<(), Refusal>
+    ensures tickets { OnOk result (tickets.new.items ≡ tickets_in requests.now) }
+    ensures capacity { vec_capacity tickets.old ≤ vec_capacity tickets.new }
+    ensures refused { IfErr result (λ why. why ≡ Refusal.NoMemory) }
+    ensures full { OnErr result (vec_capacity tickets.old < length (tickets_in requests.now)) }
+{
+    tickets.clear();
+    for request in requests {
+        if let Some(ticket) = request.ticket() {
+            tickets.push(ticket)?;
+        }
+    }
+    Ok(())
+}
+
+impl PortWait {
+    /// Of a port that is awake, with memory for so many tickets.
+    pub(crate) fn new(alloc: Global, slots: u32) -> Result<Self, Refusal>
+        ensures waits { IfOk result (λ port. wait_in port ≡ Awake) }
+        ensures capacity { IfOk result (λ port. slots ≤ vec_capacity port.tickets) }
+        ensures refused { IfErr result (λ why. why ≡ Refusal.NoMemory) }
+    {
+        Ok(PortWait {
+            how: Waiting::Awake,
+            tickets: Vec::with_capacity(alloc, slots as usize)?,
+        })
+    }
+
+    /// Notes that the port waits so, and for none of a list.
+    pub(crate) fn put(&mut self, how: Waiting)
+        ensures how { self.new.how ≡ how }
+        ensures tickets { self.new.tickets.items ≡ [] }
+        ensures capacity { vec_capacity self.new.tickets ≡ vec_capacity self.old.tickets }
+    {
+        self.how = how;
+        self.tickets.clear();
+    }
+
+    /// Notes that the port of the rank waits until one of the requests is Done. Where that can't be noted the port is awake.
+    pub(crate) fn put_list(&mut self, rank: u8, requests: &[Request]) -> Result<(), Refusal>
+        ensures how { OnOk result (self.new.how ≡ Waiting.ForAny rank) }
+        ensures tickets { OnOk result (self.new.tickets.items ≡ tickets_in requests.now) }
+        ensures capacity { vec_capacity self.old.tickets ≤ vec_capacity self.new.tickets }
+        ensures refused { IfErr result (λ why. why ≡ Refusal.NoMemory) }
+        ensures full { OnErr result (vec_capacity self.old.tickets < length (tickets_in requests.now)) }
+        ensures err { OnErr result (self.new.how ≡ Waiting.Awake) }
+    {
+        self.how = Waiting::Awake;
+        list(&mut self.tickets, requests)?;
+        self.how = Waiting::ForAny { rank };
+        Ok(())
+    }
+
+    /// Whether the port waits for what isn't the case, or has ended.
+    pub(crate) fn is_blocked(&self, core: &Core) -> bool
+        ensures { IsTrue result ↔ IsBlocked core.now (wait_in self.now) }
+    {
+        match self.how {
+            Waiting::Awake => false,
+            Waiting::ForOne { rank, ticket } => !is_done(core, rank, ticket),
+            Waiting::ForAny { rank } => none_is_done(core, rank, &self.tickets),
+            Waiting::Ended => true,
+        }
+    }
+
+    /// The request that the port waits for, if it waits for just one.
+    pub(crate) fn one(&self) -> Option<Ticket> {
+        match self.how {
+            Waiting::ForOne { ticket, .. } => Some(ticket),
+            _ => None,
+        }
+    }
+}

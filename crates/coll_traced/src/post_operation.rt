@@ -1,0 +1,127 @@
+ghost use Rattle.std.specs.Prelude.{◌≡◌, ◌+◌, ◌<◌, ◌^◌, [], ◌∷◌, ◌++◌, length, IfSome, IsNone, Some};
+ghost use Rattle.std.specs.Arc.{arc_value};
+ghost use Rattle.coll_kinds.specs.declared.ticket.Ticket.{Ticket as Named};
+ghost use Rattle.coll_kinds.specs.declared.refusal.Refusal.{Refusal};
+ghost use Rattle.coll_core.specs.Posts.{post_of};
+ghost use Rattle.coll_report.specs.Views.{seen};
+ghost use Rattle.coll_traced.specs.Denials.{IsDenied};
+ghost use Rattle.coll_traced.specs.Calls.{IsPosted};
+ghost use Rattle.coll_traced.specs.Prepared.{IsPreparedFor};
+
+use crate::prepared::Prepared;
+use crate::tally::{Entries, Tally};
+use crate::trace::Appended;
+use crate::traced_core::TracedCore;
+use coll_bytes::Bytes;
+use coll_core::Offer;
+use coll_kinds::{Signature, Ticket};
+use coll_plans::Plan;
+use coll_report::Entry;
+use std::alloc::Global;
+use std::sync::Arc;
+
+/// A post that one thread leaves to another, with what it keeps.
+#[derive(Drop)]
+pub struct PostOperation {
+    comm: u32,
+    offer: Offer,
+    prepared: Prepared,
+    /// What is given once more, for the entry that comes back.
+    bytes: Bytes,
+    /// The plan's signature, for that entry.
+    sig: Arc<Signature>,
+    ghost keeps: { IsPreparedFor offer prepared },
+    ghost copied: { bytes ≡ offer.bytes.items },
+    ghost signed: { arc_value sig ≡ offer.plan.sig },
+}
+
+/// A plan once more, with its signature.
+fn shared(plan: &Plan) -> Option<(Plan, Arc<Signature>)>
+    ensures plan { IfSome result (λ r. r.0 ≡ plan.now) }
+    ensures sig { IfSome result (λ r. arc_value r.1 ≡ plan.now.sig) }
+{
+    let sig = plan.shared_sig().ok()?;
+    let plan = plan.share().ok()?;
+    Some((plan, sig))
+}
+
+impl PostOperation {
+    /// Of an offer, in copies; none where memory is short.
+    pub(crate) fn of(alloc: Global, comm: u32, offer: &Offer) -> Option<PostOperation>
+        requires { length offer.now.bytes.items < 2 ^ 32 }
+    {
+        let given = Vec::from_slice(alloc, &offer.bytes).ok()?;
+        let bytes = Bytes::copy(alloc, &given).ok()?;
+        let (plan, sig) = shared(&offer.plan)?;
+        let offer = Offer { plan, bytes: given };
+        let prepared = Prepared::of(alloc, &offer).ok()?;
+        Some(PostOperation {
+            comm,
+            offer,
+            prepared,
+            bytes,
+            sig,
+        })
+    }
+
+    /// Makes the post, unless that is refused. Answers its ticket and its entry.
+    pub(crate) fn make<L: Entries>(
+        self,
+        traced: &mut TracedCore<L>,
+        mine: &mut Tally<L>,
+        rank: u8,
+    ) -> Option<(Ticket, Appended)>
+        ensures entry { IfSome result (λ r. traced.new.entries ≡ traced.old.entries ++ r.1 ∷ []) }
+        ensures posted { IfSome result (λ r. IsPosted rank (Some r.0) self.comm self.offer.plan.sig self.offer.bytes.items r.1) }
+        ensures refused { IsNone result → (why : Refusal) × IsDenied L.setting (post_of rank self.comm self.offer) why }
+        ensures counted { IfSome result (λ r. mine.new ≡ mine.old + 1) }
+        ensures none { IsNone result → (traced.new.entries ≡ traced.old.entries) × (mine.new ≡ mine.old) }
+    {
+        let PostOperation {
+            comm,
+            offer,
+            prepared,
+            bytes,
+            sig,
+        } = self;
+        traced.keeps_setting();
+        match traced.post(mine, rank, comm, offer, Ok(prepared)) {
+            Ok((ticket, _receipt)) => {
+                let place = traced.last_place();
+                let entry = Entry::Posted {
+                    rank,
+                    ticket,
+                    comm,
+                    place,
+                    sig,
+                    bytes,
+                };
+                Some((ticket, traced.last(entry)))
+            }
+            Err(_) => None,
+        }
+    }
+}
+
+/// The ticket of the request that a post of just these made, where the entry is of that.
+pub fn posted_in(entry: &Entry, of: u8, on: u32, with: &Signature, given: &[u8]) -> Option<Ticket>
+    ensures found { IfSome result (λ ticket. IsPosted of (Some ticket) on with.now given.now (seen entry.now)) }
+    ensures none { IsNone result → (ticket : Named) → IsPosted of (Some ticket) on with.now given.now (seen entry.now) → ⊥ }
+{
+    match entry {
+        Entry::Posted {
+            rank,
+            ticket,
+            comm,
+            sig,
+            bytes,
+            ..
+        } => {
+            if *rank == of && *comm == on && sig.is_same(with) && bytes.as_slice() == given {
+                return Some(*ticket);
+            }
+            None
+        }
+        _ => None,
+    }
+}

@@ -1,0 +1,52 @@
+ghost use Rattle.std.specs.Prelude.{◌≡◌};
+
+use crate::tally::{Entries, Tally};
+use std::marker::Model;
+use std::sync::ledger::Share;
+
+/// What is left of a port that was finished. Contracts see its rank and how many entries it made.
+#[derive(Drop)]
+pub struct Spent<L: Entries> {
+    rank: u8,
+    tally: Tally<L>,
+}
+
+impl<L: Entries> Model for Spent<L> {
+    ghost use Rattle.std.specs.Prelude.{ℕ};
+
+    ghost Value = { ℕ × ℕ };
+
+    ghost view = { λ s. (s.rank, s.tally) };
+}
+
+impl<L: Entries> Spent<L> {
+    /// Of a port with that rank and tally.
+    pub fn new(rank: u8, tally: Tally<L>) -> Self
+        ensures { result ≡ (rank, tally) }
+    {
+        Spent { rank, tally }
+    }
+
+    /// The port's part of the ledger of entries.
+    pub fn into_share(self) -> Share<L>
+        ensures parts { result.parts ≡ 1 }
+        ensures amount { result.amount ≡ self.1 }
+    {
+        let Spent { tally, .. } = self;
+        tally.into_share()
+    }
+
+    /// The port's world rank.
+    pub fn rank(&self) -> u8
+        ensures { result ≡ self.now.0 }
+    {
+        self.rank
+    }
+
+    /// How many entries of the trace are the port's.
+    pub fn made(&self) -> u64
+        ensures { result ≡ self.now.1 }
+    {
+        self.tally.made()
+    }
+}

@@ -1,0 +1,89 @@
+ghost use Rattle.std.specs.Prelude.{◌≡◌, ◌↔◌, ◌+◌, ◌<◌, ◌^◌, [], ◌∷◌, ◌++◌, length, IfSome, IsNone, IsTrue, Some};
+ghost use Rattle.coll_kinds.specs.declared.refusal.Refusal.{Refusal};
+ghost use Rattle.coll_machine.specs.Calls.{Start};
+ghost use Rattle.coll_report.specs.Views.{seen};
+ghost use Rattle.coll_traced.specs.Denials.{IsDenied};
+ghost use Rattle.coll_traced.specs.Calls.{IsStarted};
+
+use crate::tally::{Entries, Tally};
+use crate::trace::Appended;
+use crate::traced_core::TracedCore;
+use coll_bytes::Bytes;
+use coll_kinds::Ticket;
+use coll_report::Entry;
+use std::alloc::Global;
+
+/// A start that one thread leaves to another.
+#[derive(Drop)]
+pub struct StartOperation {
+    ticket: Ticket,
+    given: Vec<u8>,
+    /// What is given once more, for the entry that comes back.
+    bytes: Bytes,
+    ghost copied: { bytes ≡ given.items },
+}
+
+impl StartOperation {
+    /// With these bytes, in copies; none where memory is short.
+    pub(crate) fn of(alloc: Global, ticket: Ticket, bytes: &[u8]) -> Option<StartOperation>
+        requires { length bytes.now < 2 ^ 32 }
+    {
+        let given = Vec::from_slice(alloc, bytes).ok()?;
+        let bytes = Bytes::copy(alloc, &given).ok()?;
+        Some(StartOperation {
+            ticket,
+            given,
+            bytes,
+        })
+    }
+
+    /// Makes the start, unless that is refused. Answers its ticket and its entry.
+    pub(crate) fn make<L: Entries>(
+        self,
+        traced: &mut TracedCore<L>,
+        mine: &mut Tally<L>,
+        rank: u8,
+    ) -> Option<(Ticket, Appended)>
+        ensures entry { IfSome result (λ r. traced.new.entries ≡ traced.old.entries ++ r.1 ∷ []) }
+        ensures started { IfSome result (λ r. IsStarted rank (Some self.ticket) self.given.items r.1) }
+        ensures ticket { IfSome result (λ r. r.0 ≡ self.ticket) }
+        ensures refused { IsNone result → (why : Refusal) × IsDenied L.setting (Start rank self.ticket self.given.items) why }
+        ensures counted { IfSome result (λ r. mine.new ≡ mine.old + 1) }
+        ensures none { IsNone result → (traced.new.entries ≡ traced.old.entries) × (mine.new ≡ mine.old) }
+    {
+        let StartOperation {
+            ticket,
+            given,
+            bytes,
+        } = self;
+        traced.keeps_setting();
+        match traced.start(mine, rank, ticket, given) {
+            Ok(_receipt) => {
+                let start = traced.last_place();
+                let entry = Entry::Started {
+                    rank,
+                    ticket,
+                    start,
+                    bytes,
+                };
+                Some((ticket, traced.last(entry)))
+            }
+            Err(_) => None,
+        }
+    }
+}
+
+/// Whether the entry is of a start of the request with just these bytes.
+pub fn started_in(entry: &Entry, of: u8, request: Ticket, given: &[u8]) -> bool
+    ensures { IsTrue result ↔ IsStarted of (Some request) given.now (seen entry.now) }
+{
+    match entry {
+        Entry::Started {
+            rank,
+            ticket,
+            bytes,
+            ..
+        } => *rank == of && *ticket == request && bytes.as_slice() == given,
+        _ => false,
+    }
+}

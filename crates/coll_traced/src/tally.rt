@@ -1,0 +1,80 @@
+//! The ledger of the trace's entries, and a rank's count of its own.
+
+ghost use Rattle.std.specs.Prelude.{◌≡◌, ◌+◌, ◌<◌, ◌^◌, ℕ};
+
+use std::marker::{Brand, Model};
+use std::sync::ledger::{Blank, Book, Ledger, Share};
+
+/// The ledger of an engine's entries, in one part for each rank. Its type names the engine: what the calls on it tell is of a state of
+/// an engine in just this setting.
+pub trait Entries: Ledger {
+    ghost use Rattle.coll_machine.specs.Settings.{Setting};
+
+    /// What the engine was opened with.
+    ghost setting: { Setting };
+}
+
+impl Entries for Brand {
+    ghost use Rattle.std.specs.Prelude.{[]};
+
+    ghost setting = { record { ranks = 0; groups = []; slots = 0; places = 0; wear = 0; starts = 0; trace = 0 } };
+}
+
+/// A new ledger for the entries of an engine of so many ranks.
+pub fn ledger_for(ranks: u8) -> Blank
+    ensures { result.parts ≡ ranks }
+{
+    Blank::new(u64::from(ranks))
+}
+
+/// How many entries of the trace are one rank's. Contracts see it as that number, and all tallies add up to the length of the trace.
+#[derive(Drop)]
+pub struct Tally<L: Entries> {
+    share: Share<L>,
+    made: u64,
+}
+
+impl<L: Entries> Model for Tally<L> {
+    ghost Value = { ℕ };
+
+    ghost view = { λ t. t.made };
+
+    ghost invariant = { λ t. (t.share.parts ≡ 1) × (t.share.amount ≡ t.made) };
+}
+
+impl<L: Entries> Tally<L> {
+    /// Of a rank that has none.
+    pub fn new(share: Share<L>) -> Self
+        requires { (share.parts ≡ 1) × (share.amount ≡ 0) }
+        ensures { result ≡ 0 }
+    {
+        Tally { share, made: 0 }
+    }
+
+    /// How many entries there are.
+    pub fn made(&self) -> u64
+        ensures { result ≡ self.now }
+    {
+        self.made
+    }
+
+    /// The rank's part of the ledger.
+    pub fn into_share(self) -> Share<L>
+        ensures parts { result.parts ≡ 1 }
+        ensures amount { result.amount ≡ self }
+    {
+        let Tally { share, .. } = self;
+        share
+    }
+
+    /// One entry more.
+    pub(crate) fn count(&mut self, book: &mut Book<L>)
+        requires { book.old.total + 1 < 2 ^ 64 }
+        ensures made { self.new ≡ self.old + 1 }
+        ensures total { book.new.total ≡ book.old.total + 1 }
+    {
+        book.audit(&mut self.share);
+        book.add(&mut self.share, 1);
+        self.made += 1;
+    }
+}

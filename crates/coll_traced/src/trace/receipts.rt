@@ -1,0 +1,66 @@
+ghost use Rattle.std.specs.Prelude.{◌≡◌, [], ◌∷◌, drop, length};
+ghost use Rattle.coll_report.specs.Views.{trace_seen};
+
+use crate::tally::Entries;
+use crate::traced_core::Completed;
+use coll_core::Outcome;
+use coll_kinds::Ticket;
+use coll_report::Entry;
+use std::marker::Model;
+use std::snapshot::Snapshot;
+
+/// Shows which entries a call appended to the trace. Contracts see it as the list of them; only the trace makes one, or a completion.
+#[derive(Drop)]
+pub struct Receipts {
+    shown: Shown,
+}
+
+/// What shows them.
+#[derive(Drop)]
+pub(crate) enum Shown {
+    /// Two moments of the trace: what was appended between.
+    Between {
+        before: Snapshot<Vec<Entry>>,
+        after: Snapshot<Vec<Entry>>,
+    },
+    /// A completion with this outcome.
+    Completion {
+        rank: u8,
+        ticket: Ticket,
+        outcome: Snapshot<Outcome>,
+    },
+}
+
+impl Model for Receipts {
+    ghost use Rattle.std.specs.Prelude.{List};
+    ghost use Rattle.coll_machine.specs.Entries.{Entry};
+    ghost use Rattle.coll_traced.specs.Receipts.{entries_shown};
+
+    ghost Value = { List Entry };
+
+    ghost view = { λ r. entries_shown r.shown };
+}
+
+impl Receipts {
+    /// Of what was appended between two moments of a trace.
+    pub(super) fn between(before: Snapshot<Vec<Entry>>, after: Snapshot<Vec<Entry>>) -> Self
+        ensures { result ≡ drop (length (trace_seen before.value.items)) (trace_seen after.value.items) }
+    {
+        Receipts {
+            shown: Shown::Between { before, after },
+        }
+    }
+
+    /// Of a request that was completed for its port.
+    pub(crate) fn of<L: Entries>(completed: &Completed<L>) -> Self
+        ensures { result ≡ completed.now.entry ∷ [] }
+    {
+        Receipts {
+            shown: Shown::Completion {
+                rank: completed.rank,
+                ticket: completed.ticket,
+                outcome: Snapshot::of(&completed.outcome),
+            },
+        }
+    }
+}

@@ -1,0 +1,106 @@
+//! A core with its trace, and the questions on both.
+
+mod closing;
+mod completed;
+mod completing;
+mod posting;
+mod requests;
+mod stalling;
+mod starting;
+mod testing;
+mod waiting;
+mod working;
+
+ghost use Rattle.std.specs.Prelude.{◌≡◌, [], Some, false, true, is_some, replicate, IfErr, IfOk};
+ghost use Rattle.coll_machine.specs.States.{found};
+ghost use Rattle.coll_core.specs.Configs.{idle, setting_by, IsUnopened};
+ghost use Rattle.coll_core.specs.Cores.{seen, setting};
+ghost use Rattle.coll_core.specs.Phases.{about_in};
+ghost use Rattle.coll_traced.specs.Waits.{Awake};
+
+use crate::groups::copied_config;
+use crate::recent::Recent;
+use crate::tally::Entries;
+use crate::trace::Trace;
+use crate::waits::Waits;
+use coll_core::{About, Config, Core};
+use coll_kinds::{Refusal, Ticket};
+pub use completed::Completed;
+use std::alloc::Global;
+use std::marker::Model;
+use std::sync::ledger::Book;
+
+/// A core, the trace of what it accepted, and what each rank's port waits for. Each call that the core accepts and that changes what
+/// callers see appends its entry, so the trace is legal and leads to the core's state. Its setting is that of its ledger's type.
+#[derive(Drop)]
+pub struct TracedCore<L: Entries> {
+    alloc: Global,
+    config: Config,
+    core: Core,
+    trace: Trace<L>,
+    recent: Recent,
+    waits: Waits,
+    stalled: bool,
+}
+
+impl<L: Entries> Model for TracedCore<L> {
+    ghost use Rattle.coll_traced.specs.Stalls.{IsTold};
+    ghost use Rattle.coll_traced.specs.Traced.{IsKept, Traced};
+
+    ghost Value = { Traced };
+
+    ghost view = { λ s. record { core = s.core; entries = s.trace.entries; waits = s.waits.waits; stalled = s.stalled } };
+
+    ghost invariant = { λ s. IsKept L.setting s.config s.core s.trace.entries s.trace.reserved × IsTold L.setting s.stalled };
+}
+
+/// What a ticket names that the core just accepted.
+fn live(core: &Core, ticket: Ticket) -> About
+    requires { is_some (found (seen core.now).state ticket) ≡ true }
+    ensures { about_in (seen core.now) ticket ≡ Some result }
+{
+    match core.about(ticket) {
+        Some(about) => about,
+        None => unreachable!(),
+    }
+}
+
+impl<L: Entries> TracedCore<L> {
+    /// An engine without requests, and an empty trace. All memory to note what ports wait for is taken here: eight bytes for each slot
+    /// at each rank.
+    ///
+    /// # Errors
+    ///
+    /// BadConfig with the first field that is out of its range, then NoMemory.
+    pub fn open(alloc: Global, config: Config, book: Book<L>) -> Result<Self, Refusal>
+        requires total { book.total ≡ 0 }
+        requires setting { L.setting ≡ setting_by config }
+        ensures setting { IfOk result (λ opened. setting opened.core ≡ setting_by config) }
+        ensures idle { IfOk result (λ opened. seen opened.core ≡ idle) }
+        ensures entries { IfOk result (λ opened. opened.entries ≡ []) }
+        ensures waits { IfOk result (λ opened. opened.waits ≡ replicate config.ranks Awake) }
+        ensures stalled { IfOk result (λ opened. opened.stalled ≡ false) }
+        ensures refused { IfErr result (IsUnopened config) }
+    {
+        config.check()?;
+        let copy = copied_config(alloc, &config)?;
+        let waits = Waits::open(alloc, config.ranks, config.slots)?;
+        let core = Core::open(alloc, config)?;
+        Ok(TracedCore {
+            alloc,
+            config: copy,
+            core,
+            trace: Trace::new(alloc, book),
+            recent: Recent::new(),
+            waits,
+            stalled: false,
+        })
+    }
+
+    /// Its setting is that of its ledger's type, for proofs of callers.
+    pub fn keeps_setting(&self)
+        ensures { setting self.now.core ≡ L.setting }
+    {
+        let _config = &self.config;
+    }
+}

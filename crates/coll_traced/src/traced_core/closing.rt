@@ -1,0 +1,68 @@
+//! Whether the engine can be closed, and what is taken out of it then.
+
+ghost use Rattle.std.specs.Prelude.{◌≡◌, IfSome, IsNone, length};
+ghost use Rattle.coll_core.specs.Cores.{seen, setting};
+ghost use Rattle.coll_traced.specs.Closings.{IsFirstBusy, Objects, ends_of};
+ghost use Rattle.coll_report.specs.Told.{IsIdle};
+
+use crate::replacement::Replacement;
+use crate::spent::Spent;
+use crate::tally::Entries;
+use crate::traced_core::TracedCore;
+use coll_kinds::Refusal;
+use coll_report::Report;
+use std::mem;
+use std::sync::ledger::Share;
+
+impl<L: Entries> TracedCore<L> {
+    /// How many ranks there are.
+    pub fn ranks(&self) -> u8
+        ensures ranks { result ≡ L.setting.ranks }
+        ensures setting { setting self.now.core ≡ L.setting }
+    {
+        self.config.ranks
+    }
+
+    /// The lowest rank that has an active request, which the trace tells.
+    fn first_busy(&self) -> Option<u8>
+        ensures none { IsNone result → IsIdle (seen self.now.core).state }
+        ensures some { IfSome result (IsFirstBusy (seen self.now.core).state) }
+    {
+        self.trace.first_unbalanced(self.config.ranks)
+    }
+
+    /// Why the engine can't be closed with these ends of ports: StillActive with the lowest rank that has an active
+    /// request, and else Torn, unless they are the ends of all ports, in the order of their ranks, and each made as many
+    /// entries as its rank has.
+    pub fn objection(&self, ends: &[Spent<L>]) -> Option<Refusal>
+        ensures idle { IsNone result → IsIdle (seen self.now.core).state }
+        ensures ends { IsNone result → ends.now ≡ ends_of (setting self.now.core).ranks self.now.entries }
+        ensures refused { IfSome result (Objects self.now ends.now) }
+        ensures setting { setting self.now.core ≡ L.setting }
+    {
+        let ranks = self.ranks();
+        if let Some(rank) = self.first_busy() {
+            return Some(Refusal::StillActive { rank });
+        }
+        if !self.trace.has_ends(ranks, ends) {
+            return Some(Refusal::Torn);
+        }
+        None
+    }
+
+    /// Takes the trace, where all shares came back, and leaves an engine that has none.
+    pub fn take_report(&mut self, replacement: Replacement, all: &mut Share<L>) -> Report
+        requires whole { all.old.parts ≡ L.parts }
+        requires setting { replacement ≡ L.setting }
+        requires idle { IsIdle (seen self.old.core).state }
+        ensures setting { result.setting ≡ setting self.old.core }
+        ensures entries { result.entries ≡ self.old.entries }
+        ensures total { all.old.amount ≡ length self.old.entries }
+    {
+        let Replacement { config, core } = replacement;
+        let entries = self.trace.take(self.alloc, all);
+        let config = mem::replace(&mut self.config, config);
+        self.core = core;
+        Report::new(config, entries)
+    }
+}

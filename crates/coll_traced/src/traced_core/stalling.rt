@@ -1,0 +1,76 @@
+//! Who waits, and whether nothing can go on.
+
+ghost use Rattle.std.specs.Prelude.{◌≡◌, [], ◌↔◌, IsTrue, false, slice_set, true};
+ghost use Rattle.std.specs.Bool.{OnFalse, OnTrue};
+ghost use Rattle.coll_traced.specs.Waits.{Awake, Ended};
+ghost use Rattle.coll_traced.specs.Stalls.{IsStalled, WasStalled};
+
+use crate::ranks::Ranks;
+use crate::tally::Entries;
+use crate::traced_core::TracedCore;
+use crate::waiting::Waiting;
+
+impl<L: Entries> TracedCore<L> {
+    /// Whether nothing can go on: no request is ready, no combination is handed out, and each port has ended or waits for a request that
+    /// isn't Done. Linear in the ports.
+    pub fn stall_now(&self) -> bool
+        ensures { IsTrue result ↔ IsStalled self.now }
+    {
+        self.core.quiet() && self.waits.all_are_blocked(&self.core)
+    }
+
+    /// Whether it was found that nothing can go on.
+    pub fn is_stalled(&self) -> bool
+        ensures mark { result ≡ self.now.stalled }
+        ensures told { IsTrue result → WasStalled L.setting }
+    {
+        self.stalled
+    }
+
+    /// Marks the engine as stalled for good where nothing can go on, unless it is marked already. Answers whether it did that. It is
+    /// a few instructions where a request is ready or a combination is out, else linear in the ports.
+    pub fn tell_stall(&mut self) -> bool
+        ensures core { self.new.core ≡ self.old.core }
+        ensures entries { self.new.entries ≡ self.old.entries }
+        ensures waits { self.new.waits ≡ self.old.waits }
+        ensures told { IsTrue result ↔ (IsStalled self.old × (self.old.stalled ≡ false)) }
+        ensures marked { OnTrue result (self.new.stalled ≡ true) }
+        ensures none { OnFalse result (self.new.stalled ≡ self.old.stalled) }
+    {
+        if self.stalled || !self.stall_now() {
+            return false;
+        }
+        self.stalled = true;
+        true
+    }
+
+    /// Notes that a port can make calls again.
+    pub fn wake(&mut self, rank: u8)
+        ensures core { self.new.core ≡ self.old.core }
+        ensures entries { self.new.entries ≡ self.old.entries }
+        ensures waits { self.new.waits ≡ slice_set self.old.waits rank Awake }
+        ensures stalled { self.new.stalled ≡ self.old.stalled }
+    {
+        self.waits.put(rank, Waiting::Awake);
+    }
+
+    /// Notes that a port makes no call any more.
+    pub fn end(&mut self, rank: u8)
+        ensures core { self.new.core ≡ self.old.core }
+        ensures entries { self.new.entries ≡ self.old.entries }
+        ensures waits { self.new.waits ≡ slice_set self.old.waits rank Ended }
+        ensures stalled { self.new.stalled ≡ self.old.stalled }
+    {
+        self.waits.put(rank, Waiting::Ended);
+    }
+
+    /// The ranks whose ports wait for what is the case now. Linear in the ports.
+    pub fn met(&self) -> Ranks {
+        self.waits.met(&self.core)
+    }
+
+    /// The ranks whose ports wait for requests.
+    pub fn waiting(&self) -> Ranks {
+        self.waits.waiting()
+    }
+}

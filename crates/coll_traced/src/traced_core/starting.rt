@@ -1,0 +1,98 @@
+//! Starts and frees of persistent requests.
+
+ghost use Rattle.std.specs.Prelude.{◌≡◌, ◌+◌, ℕ, [], ◌∷◌, ◌++◌, IfErr, IfOk, OnErr, OnOk};
+ghost use Rattle.std.specs.Result.{result_err};
+ghost use Rattle.coll_machine.specs.Calls.{Free, Nothing, Start};
+ghost use Rattle.coll_machine.specs.Entries.{Freed, Started};
+ghost use Rattle.coll_machine.specs.Machines.{MachineStep};
+ghost use Rattle.coll_machine.specs.Refusals.{refusal};
+ghost use Rattle.coll_tables.specs.Machines.{StepsTo};
+ghost use Rattle.coll_core.specs.Cores.{seen, setting};
+ghost use Rattle.coll_traced.specs.Traced.{Denies, Stays};
+
+use crate::prepared::copied;
+use crate::tally::{Entries, Tally};
+use crate::trace::Receipt;
+use crate::traced_core::{TracedCore, live};
+use coll_kinds::{Refusal, Refused, Ticket};
+use coll_report::Entry;
+
+impl<L: Entries> TracedCore<L> {
+    /// Starts a persistent request, as the core's `start` does, and appends its entry, with memory for the one of its
+    /// completion, its outcome's bytes among it.
+    ///
+    /// # Errors
+    ///
+    /// TraceFull where two entries more would pass the trace's limit; then NoMemory for them; then the errors of the
+    /// core's `start`, in its order. The bytes are handed back, and nothing changes.
+    pub fn start(
+        &mut self,
+        mine: &mut Tally<L>,
+        rank: u8,
+        ticket: Ticket,
+        bytes: Vec<u8>,
+    ) -> Result<Receipt, Refused<Vec<u8>>>
+        ensures setting { setting self.new.core ≡ setting self.old.core }
+        ensures waits { (self.new.waits ≡ self.old.waits) × (self.new.stalled ≡ self.old.stalled) }
+        ensures starts { OnOk result (StepsTo (setting self.old.core) (seen self.old.core) (Start rank ticket bytes.items) Nothing (seen self.new.core)) }
+        ensures entry { IfOk result (λ receipt. self.new.entries ≡ self.old.entries ++ receipt ∷ []) }
+        ensures receipt { IfOk result (λ receipt. (start : ℕ) × (receipt ≡ Started rank ticket start bytes.items)) }
+        ensures counted { OnOk result (mine.new ≡ mine.old + 1) }
+        ensures back { IfErr result (λ refused. refused.back ≡ bytes) }
+        ensures refused { IfErr result (λ refused. Denies self.old (Start rank ticket bytes.items) refused.why) }
+        ensures unchanged { OnErr result (Stays self.old self.new) }
+        ensures uncounted { OnErr result (mine.new ≡ mine.old) }
+    {
+        if let Err(why) = self.trace.make_room(self.config.trace) {
+            return Err(Refused { why, back: bytes });
+        }
+        let given = match copied(self.alloc, &bytes) {
+            Ok(given) => given,
+            Err(why) => return Err(Refused { why, back: bytes }),
+        };
+        if let Err(refused) = self.core.start(rank, ticket, bytes) {
+            return Err(refused);
+        }
+        let start = live(&self.core, ticket).starts - 1;
+        self.recent.remember(&given);
+        Ok(
+            self.trace.begin(
+                mine,
+                Entry::Started {
+                    rank,
+                    ticket,
+                    start,
+                    bytes: given,
+                },
+            ),
+        )
+    }
+
+    /// Gives up a persistent request that isn't active, as the core's `free` does, and appends its entry. It takes no
+    /// memory.
+    ///
+    /// # Errors
+    ///
+    /// Those of the core's `free`, in its order; nothing changes.
+    pub fn free(
+        &mut self,
+        mine: &mut Tally<L>,
+        rank: u8,
+        ticket: Ticket,
+    ) -> Result<Receipt, Refusal>
+        ensures setting { setting self.new.core ≡ setting self.old.core }
+        ensures waits { (self.new.waits ≡ self.old.waits) × (self.new.stalled ≡ self.old.stalled) }
+        ensures frees { OnOk result (MachineStep (setting self.old.core) (seen self.old.core) (Free rank ticket) Nothing (seen self.new.core)) }
+        ensures entry { IfOk result (λ receipt. self.new.entries ≡ self.old.entries ++ receipt ∷ []) }
+        ensures receipt { IfOk result (λ receipt. receipt ≡ Freed rank ticket) }
+        ensures counted { OnOk result (mine.new ≡ mine.old + 1) }
+        ensures refused { result_err result ≡ refusal (setting self.old.core) (seen self.old.core).state (Free rank ticket) }
+        ensures err { OnErr result (self.new ≡ self.old) }
+        ensures uncounted { OnErr result (mine.new ≡ mine.old) }
+    {
+        if let Err(why) = self.core.free(rank, ticket) {
+            return Err(why);
+        }
+        Ok(self.trace.end(mine, Entry::Freed { rank, ticket }))
+    }
+}

@@ -1,0 +1,138 @@
+//! What a waiting port asks: whether what it awaits is the case, and else for what it is to wait.
+
+ghost use Rattle.std.specs.Prelude.{◌≡◌, ◌+◌, ◌<◌, ◌≤◌, ◌∷◌, ◌++◌, [], IfErr, IfOk, IfSome, IsNone, None, OnErr, Some, false, length, slice_set, true, vec_capacity, vec_len};
+ghost use Rattle.coll_core.specs.Cores.{seen, setting};
+ghost use Rattle.coll_core.specs.Phases.{phase_in};
+ghost use Rattle.coll_core.specs.declared.phase.Phase.TheVariants.{Pending};
+ghost use Rattle.coll_complete.specs.Requests.{AreDistinct};
+ghost use Rattle.coll_traced.specs.Awaiting.{IsListed, NeedsNoWait, WaitsFor};
+ghost use Rattle.coll_traced.specs.Tests.{RefusesList, RefusesOne, TestsAll, TestsAny, TestsOne, TestsSome, any_of};
+ghost use Rattle.coll_traced.specs.Waits.{Awake, ForOne};
+
+use crate::awaited::Awaited;
+use crate::tally::{Entries, Tally};
+use crate::trace::Receipts;
+use crate::traced_core::{Completed, TracedCore};
+use crate::waiting::Waiting;
+use coll_complete::{Any, Request, Survey};
+use coll_core::{Outcome, Phase};
+use coll_kinds::{Refusal, Ticket};
+
+impl<L: Entries> TracedCore<L> {
+    /// `tested_some`, unless requests are active and none is Done: then None, and nothing changes.
+    pub fn waited_some(
+        &mut self,
+        mine: &mut Tally<L>,
+        rank: u8,
+        requests: &mut [Request],
+        out: &mut Vec<(usize, Outcome)>,
+    ) -> Result<Option<(Option<usize>, Receipts)>, Refusal>
+        requires distinct { AreDistinct requests.old }
+        requires room { vec_len out.old + length requests.old ≤ vec_capacity out.old }
+        ensures waits { (self.new.waits ≡ self.old.waits) × (self.new.stalled ≡ self.old.stalled) }
+        ensures told { IfOk result (λ found. IfSome found (λ r. TestsSome L.setting rank requests.old requests.new out.old.items out.new.items r.0 r.1)) }
+        ensures some { IfOk result (λ found. IfSome found (λ r. IfSome r.0 (λ n. 0 < n))) }
+        ensures counted { IfOk result (λ found. IfSome found (λ r. IfSome r.0 (λ n. mine.new ≡ mine.old + n))) }
+        ensures inactive { IfOk result (λ found. IfSome found (λ r. r.0 ≡ None → mine.new ≡ mine.old)) }
+        ensures pending { IfOk result (λ found. IsNone found → (requests.new ≡ requests.old) × (out.new ≡ out.old) × (mine.new ≡ mine.old)) }
+        ensures refused { IfErr result (λ why. RefusesList L.setting rank requests.old (Some why)) }
+        ensures err { OnErr result ((requests.new ≡ requests.old) × (out.new ≡ out.old) × (mine.new ≡ mine.old)) }
+    {
+        self.keeps_setting();
+        let survey = match Survey::of(self, rank, requests) {
+            Ok(survey) => survey,
+            Err(why) => return Err(why),
+        };
+        if survey.active && survey.done.is_none() {
+            return Ok(None);
+        }
+        match self.tested_some(mine, rank, requests, out) {
+            Ok(answer) => Ok(Some(answer)),
+            Err(why) => Err(why),
+        }
+    }
+
+    /// A request of the rank in the list that is Pending, if there is one: the last, since it is Done last most often, and a port that
+    /// waits for all is to be woken seldom.
+    fn last_pending(&self, rank: u8, requests: &[Request]) -> Option<Ticket>
+        ensures listed { IfSome result (IsListed requests.now) }
+        ensures pending { IfSome result (λ ticket. phase_in (seen self.now.core) ticket ≡ Some Pending) }
+    {
+        for request in requests.iter().rev() {
+            if let Some(ticket) = request.ticket() {
+                if let Ok(Phase::Pending) = self.core.phase(rank, ticket) {
+                    return Some(ticket);
+                }
+            }
+        }
+        None
+    }
+
+    /// Notes that a port waits until the request is Done, if there is one, and answers whether there is.
+    fn note_one(&mut self, rank: u8, ticket: Option<Ticket>) -> bool
+        ensures core { self.new.core ≡ self.old.core }
+        ensures entries { self.new.entries ≡ self.old.entries }
+        ensures some { IfSome ticket (λ t. (result ≡ true) × (self.new.waits ≡ slice_set self.old.waits rank (ForOne rank t))) }
+        ensures none { IsNone ticket → (result ≡ false) × (self.new.waits ≡ self.old.waits) }
+        ensures stalled { self.new.stalled ≡ self.old.stalled }
+    {
+        match ticket {
+            Some(ticket) => {
+                self.waits.put(rank, Waiting::ForOne { rank, ticket });
+                true
+            }
+            None => false,
+        }
+    }
+
+    /// Notes for what a port is to wait, as long as what it awaits isn't the case. Answers whether it needs to wait. Where it waits for
+    /// all requests of a list, its last Pending one is noted.
+    ///
+    /// # Errors
+    ///
+    /// NoMemory, for a list of more tickets than the engine has slots: one that names a request twice. The port is awake then.
+    pub fn register(&mut self, rank: u8, awaited: Awaited<'_>) -> Result<bool, Refusal>
+        ensures core { self.new.core ≡ self.old.core }
+        ensures entries { self.new.entries ≡ self.old.entries }
+        ensures waits { IfOk result (λ waits. waits ≡ true → WaitsFor (seen self.old.core) rank awaited.entry self.old.waits self.new.waits) }
+        ensures needless { IfOk result (λ waits. waits ≡ false → NeedsNoWait awaited.entry) }
+        ensures stalled { self.new.stalled ≡ self.old.stalled }
+        ensures refused { IfErr result (λ why. why ≡ Refusal.NoMemory) }
+        ensures err { OnErr result (self.new.waits ≡ slice_set self.old.waits rank Awake) }
+    {
+        match awaited {
+            Awaited::One(request) => Ok(self.note_one(rank, request.ticket())),
+            Awaited::All(requests) => {
+                let last = self.last_pending(rank, requests);
+                Ok(self.note_one(rank, last))
+            }
+            Awaited::Any(requests) => {
+                self.waits.put_list(rank, requests)?;
+                Ok(true)
+            }
+        }
+    }
+
+    /// Completes the request that a port waits for, if it waits for just one, and that is Done; the port is awake then. It takes no
+    /// memory.
+    pub fn complete_for(&mut self, mine: &mut Tally<L>, rank: u8) -> Option<Completed<L>>
+        ensures setting { setting self.new.core ≡ setting self.old.core }
+        ensures rank { IfSome result (λ completed. completed.rank ≡ rank) }
+        ensures entry { IfSome result (λ completed. self.new.entries ≡ self.old.entries ++ completed.entry ∷ []) }
+        ensures awake { IfSome result (λ completed. self.new.waits ≡ slice_set self.old.waits rank Awake) }
+        ensures counted { IfSome result (λ completed. mine.new ≡ mine.old + 1) }
+        ensures none { IsNone result → (self.new ≡ self.old) × (mine.new ≡ mine.old) }
+    {
+        let ticket = self.waits.one_of(rank)?;
+        let mut request = Request::of(ticket);
+        let (tested, _receipts) = match self.tested(mine, rank, &mut request) {
+            Ok(answer) => answer,
+            Err(_) => return None,
+        };
+        let Some(outcome) = tested.outcome else {
+            return None;
+        };
+        self.wake(rank);
+        Some(Completed::new(rank, ticket, request, outcome))
+    }
+}

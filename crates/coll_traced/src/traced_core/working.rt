@@ -1,0 +1,85 @@
+//! Steps, and combinations that were handed out. None of these adds an entry.
+
+ghost use Rattle.std.specs.Prelude.{◌≡◌, ◌<◌, ◌↔◌, [], length, IfErr, IfOk, IsOkUnless, IsTrue, Ok, OnErr, OnOk, is_ok};
+ghost use Rattle.coll_core.specs.declared.stepped.Stepped.TheVariants.{Quiet};
+ghost use Rattle.coll_core.specs.Steps.{AwaitsWork, CombinesFirst, CommitSteps, IsOut, IsWork, Returns, Steps, ready};
+
+use crate::tally::Entries;
+use crate::traced_core::TracedCore;
+use coll_core::{DoneWork, Stepped, Work};
+use coll_kinds::Refusal;
+
+impl<L: Entries> TracedCore<L> {
+    /// The core's `step`.
+    ///
+    /// # Errors
+    ///
+    /// NoMemory, with nothing changed.
+    pub fn step(&mut self) -> Result<Stepped, Refusal>
+        ensures quiet { (result ≡ Ok Quiet) ↔ (ready self.old.core ≡ []) }
+        ensures out { IfOk result (λ stepped. IsWork stepped ↔ CombinesFirst self.old.core) }
+        ensures steps { IfOk result (Steps self.old.core self.new.core) }
+        ensures entries { self.new.entries ≡ self.old.entries }
+        ensures waits { (self.new.waits ≡ self.old.waits) × (self.new.stalled ≡ self.old.stalled) }
+        ensures err { OnErr result (self.new ≡ self.old) }
+        ensures refusal { IsOkUnless result Refusal.NoMemory }
+    {
+        self.core.step()
+    }
+
+    /// The core's `move_on`.
+    ///
+    /// # Errors
+    ///
+    /// NoMemory, with nothing changed.
+    pub fn move_on(&mut self) -> Result<Stepped, Refusal>
+        ensures quiet { IfOk result (λ stepped. (stepped ≡ Quiet) ↔ AwaitsWork self.old.core) }
+        ensures inside { IfOk result (λ stepped. IsWork stepped → ⊥) }
+        ensures steps { IfOk result (Steps self.old.core self.new.core) }
+        ensures entries { self.new.entries ≡ self.old.entries }
+        ensures waits { (self.new.waits ≡ self.old.waits) × (self.new.stalled ≡ self.old.stalled) }
+        ensures err { OnErr result (self.new ≡ self.old) }
+        ensures refusal { IsOkUnless result Refusal.NoMemory }
+    {
+        self.core.move_on()
+    }
+
+    /// Whether a request is ready.
+    pub fn is_ready(&self) -> bool
+        ensures { IsTrue result ↔ (0 < length (ready self.now.core)) }
+    {
+        self.core.ready_count() > 0
+    }
+
+    /// The core's `commit`.
+    ///
+    /// # Errors
+    ///
+    /// Stale, with nothing changed, unless the work is out.
+    pub fn commit(&mut self, done: DoneWork) -> Result<Stepped, Refusal>
+        ensures out { IsTrue (is_ok result) ↔ IsOut self.old.core done.piece }
+        ensures steps { IfOk result (CommitSteps self.old.core self.new.core done) }
+        ensures entries { self.new.entries ≡ self.old.entries }
+        ensures waits { (self.new.waits ≡ self.old.waits) × (self.new.stalled ≡ self.old.stalled) }
+        ensures err { OnErr result (self.new ≡ self.old) }
+        ensures refused { IfErr result (λ why. why ≡ Refusal.Stale) }
+    {
+        self.core.commit(done)
+    }
+
+    /// The core's `abandon`.
+    ///
+    /// # Errors
+    ///
+    /// Stale, with nothing changed, unless the work is out.
+    pub fn abandon(&mut self, work: Work) -> Result<(), Refusal>
+        ensures out { IsTrue (is_ok result) ↔ IsOut self.old.core work }
+        ensures back { OnOk result (Returns self.old.core self.new.core work) }
+        ensures entries { self.new.entries ≡ self.old.entries }
+        ensures waits { (self.new.waits ≡ self.old.waits) × (self.new.stalled ≡ self.old.stalled) }
+        ensures err { OnErr result (self.new ≡ self.old) }
+        ensures refused { IfErr result (λ why. why ≡ Refusal.Stale) }
+    {
+        self.core.abandon(work)
+    }
+}

@@ -1,0 +1,122 @@
+//! What the ports wait for.
+
+ghost use Rattle.std.specs.Prelude.{◌≡◌, [], ◌↔◌, ◌<◌, All, IfErr, IfOk, IsTrue, OnErr, OnOk, length, replicate, slice_set};
+ghost use Rattle.coll_traced.specs.Waits.{Awake, ForAny, wait_in, wait_of};
+ghost use Rattle.coll_traced.specs.Stalls.{IsBlocked};
+ghost use Rattle.coll_traced.specs.Awaiting.{tickets_in};
+
+use crate::port_wait::PortWait;
+use crate::ranks::Ranks;
+use crate::waiting::Waiting;
+use coll_complete::Request;
+use coll_core::Core;
+use coll_kinds::{Refusal, Ticket};
+use std::alloc::Global;
+use std::marker::Model;
+
+/// What each port waits for, by rank. All memory is taken at `open`: a list of distinct requests has no more tickets than the
+/// engine has slots, so to note one takes none.
+#[derive(Drop)]
+pub(crate) struct Waits {
+    slots: u32,
+    ports: Vec<PortWait>,
+    /// The ranks whose ports wait for requests.
+    waiting: Ranks,
+}
+
+impl Model for Waits {
+    ghost use Rattle.coll_traced.specs.Waits.{IsRoomy, Waiters, wait_in};
+    ghost use Rattle.std.specs.Prelude.{All, map};
+
+    ghost Value = { Waiters };
+
+    ghost view = { λ n. record { waits = map wait_in n.ports.items; slots = n.slots } };
+
+    ghost invariant = { λ n. All (IsRoomy n.slots) n.ports.items };
+}
+
+/// Whether each of these ports waits for what isn't the case, or has ended.
+fn all_are_blocked(ports: &[PortWait], core: &Core) -> bool
+    ensures { IsTrue result ↔ All (λ port. IsBlocked core.now (wait_in port)) ports.now }
+{
+    ports.iter().all(|port| port.is_blocked(core))
+}
+
+impl Waits {
+    /// Of so many ports that are awake, on an engine of so many slots.
+    pub(crate) fn open(alloc: Global, ranks: u8, slots: u32) -> Result<Self, Refusal>
+        ensures waits { IfOk result (λ new. new.waits ≡ replicate ranks Awake) }
+        ensures slots { IfOk result (λ new. new.slots ≡ slots) }
+        ensures refused { IfErr result (λ why. why ≡ Refusal.NoMemory) }
+    {
+        let mut ports = Vec::with_capacity(alloc, usize::from(ranks))?;
+        for _rank in 0..ranks {
+            ports.push_reserved(PortWait::new(alloc, slots)?);
+        }
+        Ok(Waits {
+            slots,
+            ports,
+            waiting: Ranks::NONE,
+        })
+    }
+
+    /// Notes how a port waits that doesn't wait for a list. A number that is no rank is left out.
+    pub(crate) fn put(&mut self, rank: u8, how: Waiting)
+        ensures waits { self.new.waits ≡ slice_set self.old.waits rank (wait_of how []) }
+        ensures slots { self.new.slots ≡ self.old.slots }
+    {
+        self.waiting = self.waiting.set(rank, how.is_for_some());
+        if (rank as usize) < self.ports.len() {
+            self.ports[rank as usize].put(how);
+        }
+    }
+
+    /// Notes that a port waits until one of the requests is Done. Where that can't be noted the port is awake.
+    ///
+    /// # Errors
+    ///
+    /// NoMemory, for a list of more tickets than the engine has slots.
+    pub(crate) fn put_list(&mut self, rank: u8, requests: &[Request]) -> Result<(), Refusal>
+        ensures waits { OnOk result (self.new.waits ≡ slice_set self.old.waits rank (ForAny rank (tickets_in requests.now))) }
+        ensures slots { self.new.slots ≡ self.old.slots }
+        ensures refused { IfErr result (λ why. why ≡ Refusal.NoMemory) }
+        ensures longer { OnErr result (self.old.slots < length (tickets_in requests.now)) }
+        ensures err { OnErr result (self.new.waits ≡ slice_set self.old.waits rank Awake) }
+    {
+        if (rank as usize) < self.ports.len() {
+            let noted = self.ports[rank as usize].put_list(rank, requests);
+            self.waiting = self.waiting.set(rank, noted.is_ok());
+            return noted;
+        }
+        Ok(())
+    }
+
+    /// Whether each port waits for what isn't the case, or has ended. Linear in the ports up to the first that doesn't, and in what
+    /// they wait for.
+    pub(crate) fn all_are_blocked(&self, core: &Core) -> bool
+        ensures { IsTrue result ↔ All (IsBlocked core.now) self.now.waits }
+    {
+        all_are_blocked(&self.ports, core)
+    }
+
+    /// The ranks whose ports wait for what is the case now. Linear in the ports, and in what those wait for that do.
+    pub(crate) fn met(&self, core: &Core) -> Ranks {
+        let mut met = Ranks::NONE;
+        for (rank, port) in (0..64u8).zip(self.ports.iter()) {
+            if self.waiting.has(rank) && !port.is_blocked(core) {
+                met = met.with(rank);
+            }
+        }
+        met
+    }
+
+    /// The request that a port waits for, if it waits for just one.
+    pub(crate) fn one_of(&self, rank: u8) -> Option<Ticket> {
+        self.ports.get(usize::from(rank))?.one()
+    }
+
+    /// The ranks whose ports wait for requests.
+    pub(crate) fn waiting(&self) -> Ranks {
+        self.waiting
+    }
+}
