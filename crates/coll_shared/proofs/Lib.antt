@@ -1,15 +1,4 @@
-pub mod Setting
-pub mod Spacing
-pub mod Keeping
-pub mod Entering
-pub mod Fitting
-pub mod Halls
 pub mod Seats
-pub mod Retirements
-pub mod Balances
-pub mod Closings
-pub mod Counting
+pub mod Planning
+pub mod Starts
 pub mod Telling
-pub mod Wishes
-pub mod Noting
-pub mod Places

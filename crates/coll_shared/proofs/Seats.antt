@@ -9,7 +9,7 @@ use Rattle.coll_machine.specs.Refusals.{first_of, unless}
 use Rattle.coll_core.specs.declared.config.Config.{Config}
 use Rattle.coll_core.specs.Configs.{IsConfig, IsUnopened}
 use Rattle.coll_report.specs.Views.{groups_seen}
-use Rattle.coll_shared.proofs.Halls.{are_groups}
+use Rattle.coll_traced.proofs.Keepers.{are_groups}
 use Rattle.coll_shared.specs.Ports.{group_at, unseated}
 
 pub group_is : (groups : List (Vec ℕ Global)) (comm : ℕ) (group : Vec ℕ Global) → comm < length groups → group ≡ get_or groups comm group → group_at (groups_seen groups) comm ≡ group.items

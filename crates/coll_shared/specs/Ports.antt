@@ -1,13 +1,17 @@
--- What a caller sees of a port, why no plan is made for it, and what the entries of its calls are.
-use Rattle.std.specs.Prelude.{◌≡◌, ◌<◌, ◌≤◌, ℕ, nat_lt, List, [], ◌∷◌, length, slice_get}
-use Rattle.std.specs.Prelude.{Option, Some, is_some, unwrap_or}
+-- What a caller sees of a port, and why no plan or post is made for it.
+use Rattle.std.specs.Prelude.{◌≡◌, ◌<◌, ◌≤◌, ◌⊎◌, ℕ, nat_lt, List, [], ◌∷◌, length, slice_get}
+use Rattle.std.specs.Prelude.{Option, Some, None, is_some, unwrap_or}
 use Rattle.coll_kinds.specs.declared.refusal.Refusal.{Refusal}
-use Rattle.coll_kinds.specs.declared.refusal.Refusal.TheVariants.{BadComm, NotMember}
+use Rattle.coll_kinds.specs.declared.refusal.Refusal.TheVariants.{BadComm, BadSignature, NoMemory, NotMember}
 use Rattle.coll_kinds.specs.declared.signature.Signature.{Signature}
-use Rattle.coll_kinds.specs.declared.ticket.Ticket.{Ticket}
+use Rattle.coll_kinds.specs.declared.refusal.SignatureFault.{SignatureFault}
+use Rattle.coll_kinds.specs.Checks.{broken}
 use Rattle.coll_kinds.specs.Groups.{member_of}
-use Rattle.coll_machine.specs.Entries.{Entry, Posted, Inited, Started}
+use Rattle.coll_core.specs.declared.offer.Offer.{Offer}
+use Rattle.coll_core.specs.Posts.{post_of}
 use Rattle.coll_machine.specs.Refusals.{first_of, unless}
+use Rattle.coll_machine.specs.Settings.{Setting}
+use Rattle.coll_traced.specs.Denials.{IsDenied}
 
 pub record Holding : Type 0 where
   pub rank : ℕ
@@ -32,19 +36,26 @@ unseated groups rank comm =
     ∷ []
     )
 
+-- why a signature with this fault is planned by nobody; one without is refused for memory alone
+abbrev pub IsFault : Option SignatureFault → Refusal → Type 0
+IsFault None why = why ≡ NoMemory
+IsFault (Some cause) why = why ≡ BadSignature cause
+
+-- why a port has no plan of a collective: it has no place in the communicator, or else the signature is refused
+abbrev pub IsUnplanned : Holding → ℕ → Signature → Refusal → Type 0
+IsUnplanned p comm sig why =
+    (unseated p.groups p.rank comm ≡ Some why)
+    ⊎ ((unseated p.groups p.rank comm ≡ None) × IsFault (broken sig (length (group_at p.groups comm))) why)
+
+-- the post of these bytes by the port's plan of the signature was denied
+pub record DeniesBytes (g : Setting) (p : Holding) (comm : ℕ) (sig : Signature) (bytes : List ℕ) (why : Refusal) : Type 0 where
+  pub offer : Offer
+  pub sig_is : offer.plan.sig ≡ sig
+  pub n_is : offer.plan.n ≡ length (group_at p.groups comm)
+  pub member_is : member_of p.rank (group_at p.groups comm) ≡ Some offer.plan.member
+  pub bytes_are : offer.bytes.items ≡ bytes
+  pub denied : IsDenied g (post_of p.rank comm offer) why
+
 -- a port of an engine that was just opened
 abbrev pub opened : List (List ℕ) → ℕ → Holding
 opened groups rank = record { rank = rank; made = 0; groups = groups }
-
--- the entry is of the post that made this request,
-abbrev pub IsPosted : ℕ → Option Ticket → ℕ → Signature → List ℕ → Entry → Type 0
-IsPosted rank r comm sig bytes e =
-    (t : Ticket) × (place : ℕ) × (r ≡ Some t) × (e ≡ Posted rank t comm place sig bytes)
-
--- of the initialisation that made it,
-abbrev pub IsInited : ℕ → Option Ticket → ℕ → Signature → Entry → Type 0
-IsInited rank r comm sig e = (t : Ticket) × (place : ℕ) × (r ≡ Some t) × (e ≡ Inited rank t comm place sig)
-
--- of a start of it
-abbrev pub IsStarted : ℕ → Option Ticket → List ℕ → Entry → Type 0
-IsStarted rank r bytes e = (t : Ticket) × (start : ℕ) × (r ≡ Some t) × (e ≡ Started rank t start bytes)

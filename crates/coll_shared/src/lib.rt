@@ -1,42 +1,26 @@
-//! One engine for many threads: what lies under its one lock, and the trace that attests what happened.
+//! One engine for many threads, by flat combining: the thread that has the engine's lock does for all what they published, so that few
+//! threads wait for the lock itself.
 //!
 //! | Module | Has |
 //! |---|---|
-//! | `tally` | `Tally`, a port's count of the entries that it made, and `Entries`, their ledger |
-//! | `receipt` | `Receipt`, which shows the entry that a call made |
-//! | `receipts` | `Receipts`, which shows those of a completion call |
-//! | `trace` | `Trace`, the entries so far, with room for those that they speak for |
-//! | `groups` | what an engine is opened with, and copies of it |
-//! | `rank_threads` | `run_rank_threads`, which runs a task for each rank in a thread of its own |
-//! | `spaces` | `Spaces`, memory for the outcomes of live requests |
-//! | `recent` | `Recent`, long bytes that further entries can share |
-//! | `gate` | `Gate`, which may hold a thread up before and after a combination |
-//! | `ranks` | `Ranks`, some of an engine's ranks |
-//! | `door` | `Door`, where a thread waits to be called |
-//! | `inspect` | `Inspect`, what looks at an engine under its lock |
-//! | `doors` | `Doors`, those of all threads |
-//! | `hopes` | `Hopes`, which requests ports hope to find Done before they look |
-//! | `hope` | `Hope`, what a port that just posted may wait for without the lock |
-//! | `lock` | `Lock`, a lock that is taken by who may wait alone |
-//! | `held` | `Held`, the lock while a thread has it |
-//! | `hall` | `Hall`, the lock round it, and what is done while a thread has or wants it |
-//! | `kept` | `Kept`, what a post or a start keeps |
-//! | `plans` | `Plans`, those that a port made last |
+//! | `rank_programs` | `run_ranks`, which opens an engine, runs a `RankProgram` for each rank, and closes it |
+//! | `engine` | `Engine`; `open`, which makes one with its ports; `roomy`, a configuration with much room |
 //! | `port` | `Port`, a rank's way into the engine |
-//! | `engine` | `Engine`, and `open`, which makes one |
 //! | `closing` | `close`, which ends an engine and makes its report |
-//! | `vacant` | `Vacant`, what is left of an engine that was closed |
-//! | `balance` | what a trace tells of its ranks when the engine is to be closed |
-//! | `notes` | `Notes`, what each port waits for |
-//! | `bed` | `Bed`, what one port waits for, with memory for a list |
-//! | `rest` | `Rest`, how a port rests |
-//! | `parcel` | `Parcel`, a request that was completed for a port which waited for it |
-//! | `order` | `Order`, what a port leaves for the thread that has the lock: a `PostOrder` or a `StartOrder` |
-//! | `shelf` | `Shelf`, where both are left |
-//! | `shelves` | `Shelves`, those of all ports |
-//! | `wish` | `Wish`, what a waiting port wants |
-//! | `spent` | `Spent`, what is left of a port |
-//! | `shared` | `Shared`, the core with its trace, and the calls on both |
+//! | `rank_threads` | `run_rank_threads`, which runs a task for each rank in a thread of its own |
+//! | `gate` | `Gate`, which may hold a thread up before and after a combination |
+//! | `inspect` | `Inspect`, what looks at an engine under its lock |
+//! | `record` | `PublicationRecord`, a port's place to say what it wants |
+//! | `publication` | `Publication`, what lies there: an operation, a wait, or the answer |
+//! | `combiner` | `Combiner`, the lock and the records, and what the thread that has the lock does for all |
+//! | `combiner::held` | `Held`, a hold of the lock, which only `Combiner::release` can end |
+//! | `locked` | `Locked`, what the lock guards |
+//! | `publishing` | posts and starts, which the combiner makes where the lock isn't free |
+//! | `waiter` | waits: to look at the record, to take the lock, and to park |
+//! | `turn` | what a waiting port, a test and a progress thread do with the lock |
+//! | `tuning` | how long threads look, and how much they do in a row |
+//! | `plans` | `Plans`, those that a port made last |
+//! | `seating` | a rank's seat in a communicator |
 //!
 //! ```
 //! let sum = Signature::allreduce(Op::Sum, Datatype::I32, 1);
@@ -50,54 +34,28 @@
 //! ```
 #![tactic(auto)]
 
-mod balance;
-mod bed;
 mod closing;
-mod door;
-mod doors;
+mod combiner;
 mod engine;
 mod gate;
-mod groups;
-mod hall;
-mod held;
-mod hope;
-mod hopes;
 mod inspect;
-mod kept;
-mod lock;
-mod notes;
-mod order;
-mod parcel;
+mod locked;
 mod plans;
 mod port;
-mod post_order;
+mod publication;
+mod publishing;
+mod rank_programs;
 mod rank_threads;
-mod ranks;
-mod receipt;
-mod receipts;
-mod recent;
-mod rest;
-mod shared;
-mod shelf;
-mod shelves;
-mod spaces;
-mod spent;
-mod start_order;
-mod tally;
-mod trace;
-mod vacant;
-mod wish;
+mod record;
+mod seating;
+mod tuning;
+mod turn;
+mod waiter;
 
 pub use closing::close;
-pub use engine::{Engine, open};
+pub use engine::{Engine, open, roomy};
 pub use gate::{Gate, NoGate};
-pub use groups::{copied_groups, roomy};
 pub use inspect::Inspect;
-pub use kept::Kept;
 pub use port::Port;
+pub use rank_programs::{RankProgram, run_ranks};
 pub use rank_threads::{Ends, RankTask, run_rank_threads};
-pub use receipt::Receipt;
-pub use receipts::Receipts;
-pub use shared::Shared;
-pub use spent::Spent;
-pub use tally::{Entries, Tally, ledger_for};

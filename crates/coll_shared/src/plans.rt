@@ -7,15 +7,15 @@ use coll_kinds::{Refusal, Signature};
 use coll_plans::{Plan, plan};
 use std::alloc::Global;
 
-/// How many plans are kept.
+/// How many plans a port has at most.
 const MOST: usize = 8;
 
-/// The plans that a port made last, so that a collective which it posts again and again is planned once. To look one up is
-/// linear in those that are kept, which are eight at most.
+/// The plans that a port made last, so that a collective which it posts again and again is planned once. To look one up is linear in
+/// their number.
 #[derive(Drop)]
 pub(crate) struct Plans {
     alloc: Global,
-    kept: Vec<Plan>,
+    plans: Vec<Plan>,
 }
 
 /// Whether a plan is that member's of such a collective.
@@ -31,11 +31,11 @@ impl Plans {
     pub(crate) fn new(alloc: Global) -> Self {
         Plans {
             alloc,
-            kept: Vec::new(alloc),
+            plans: Vec::new(alloc),
         }
     }
 
-    /// The member's plan of a collective, as `plan` of `coll_plans` answers it: a copy of one that is kept, or a new one.
+    /// The member's plan of a collective, as `plan` of `coll_plans` answers it: a copy of one of these, or a new one.
     ///
     /// # Errors
     ///
@@ -55,16 +55,16 @@ impl Plans {
             Ok(made) => made,
             Err(why) => return Err(why),
         };
-        self.keep(&made);
+        self.add(&made);
         Ok(made)
     }
 
-    /// The kept plan of such a collective.
+    /// The plan of such a collective, if there is one.
     fn known(&self, sig: &Signature, n: u8, member: u8) -> Option<&Plan>
         ensures is { IfSome result (λ plan. plan.now ≡ record { sig = sig.now; n = n; member = member }) }
         ensures checked { IsSome result → broken sig.now n ≡ None }
     {
-        for plan in &self.kept {
+        for plan in &self.plans {
             if is_of(plan, sig, n, member) {
                 return Some(plan);
             }
@@ -72,13 +72,13 @@ impl Plans {
         None
     }
 
-    /// Keeps a plan; those before it go where they are enough. Without memory it isn't kept.
-    fn keep(&mut self, made: &Plan) {
-        if self.kept.len() >= MOST {
-            self.kept.clear();
+    /// Adds a plan; where there are enough, those before it go. Where memory is short it is left out.
+    fn add(&mut self, made: &Plan) {
+        if self.plans.len() >= MOST {
+            self.plans.clear();
         }
         if let Ok(copy) = made.share() {
-            let _ = self.kept.push(copy);
+            let _ = self.plans.push(copy);
         }
     }
 }

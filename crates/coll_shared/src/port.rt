@@ -1,8 +1,8 @@
 //! A rank's way into the engine.
 
+mod completing;
 mod posting;
-mod testing;
-mod waiting;
+mod starting;
 
 ghost use Rattle.std.specs.Prelude.{◌≡◌, ◌<◌, ◌≤◌, ℕ, Some, length, IfNone, IfOk, IfSome, IsErrOf, IsOkUnless, MatchOption};
 ghost use Rattle.coll_kinds.specs.Checks.{broken};
@@ -10,65 +10,60 @@ ghost use Rattle.coll_kinds.specs.Groups.{member_of};
 ghost use Rattle.coll_report.specs.Views.{groups_seen};
 ghost use Rattle.coll_shared.specs.Ports.{group_at, opened, unseated};
 
-use crate::groups::seat;
-use crate::hall::Hall;
-use crate::hope::Hope;
+use crate::combiner::Combiner;
 use crate::plans::Plans;
-use crate::rest::Rest;
-use crate::spent::Spent;
-use crate::tally::{Entries, Tally};
+use crate::seating::seat;
 use coll_kinds::{Refusal, Signature};
 use coll_plans::Plan;
+use coll_traced::{Entries, Spent, Tally};
 use std::alloc::Global;
 use std::marker::Model;
 use std::sync::{Arc, Wait};
 
-/// A rank's way into the engine. It may move to a thread of its own. Contracts see its rank, how many entries it made,
-/// and the communicators.
+/// A rank's way into the engine. It may move to a thread of its own.
 pub struct Port<L: Entries> {
     alloc: Global,
-    hall: Arc<Hall<L>>,
+    combiner: Arc<Combiner<L>>,
     rank: u8,
     groups: Vec<Vec<u8>>,
     plans: Plans,
-    /// What it may wait for before it looks: its last post or start.
-    hope: Option<Hope>,
-    tally: Tally<L>,
+    /// None while it lies in the rank's record.
+    tally: Option<Tally<L>>,
 }
 
 impl<L: Entries> Model for Port<L> {
+    ghost use Rattle.std.specs.Prelude.{IsSome, unwrap_or};
     ghost use Rattle.coll_report.specs.Views.{groups_seen};
     ghost use Rattle.coll_shared.specs.Ports.{Holding, IsPort};
 
     ghost Value = { Holding };
 
-    ghost view = { λ p. record { rank = p.rank; made = p.tally; groups = groups_seen p.groups.items } };
+    ghost view = { λ p. record { rank = p.rank; made = unwrap_or p.tally 0; groups = groups_seen p.groups.items } };
 
-    ghost invariant = { λ p. IsPort L.ranks (record { rank = p.rank; made = p.tally; groups = groups_seen p.groups.items }) };
+    ghost invariant = { λ p. IsPort L.setting.ranks (record { rank = p.rank; made = unwrap_or p.tally 0; groups = groups_seen p.groups.items }) × IsSome p.tally };
 }
 
 impl<L: Entries> Port<L> {
     /// Of a rank that made no entry yet.
     pub(crate) fn new(
         alloc: Global,
-        hall: Arc<Hall<L>>,
+        combiner: Arc<Combiner<L>>,
         rank: u8,
         groups: Vec<Vec<u8>>,
         tally: Tally<L>,
     ) -> Self
-        requires rank { rank < L.ranks }
+        requires rank { rank < L.setting.ranks }
         requires groups { (comm : ℕ) → length (group_at (groups_seen groups.items) comm) ≤ 64 }
         requires made { tally ≡ 0 }
         ensures { result ≡ opened (groups_seen groups.items) rank }
     {
         Port {
             alloc,
-            hall,
+            combiner,
             rank,
             groups,
             plans: Plans::new(alloc),
-            hope: None,
-            tally,
+            tally: Some(tally),
         }
     }
 
@@ -83,7 +78,10 @@ impl<L: Entries> Port<L> {
     pub fn made(&self) -> u64
         ensures { result ≡ self.now.made }
     {
-        self.tally.made()
+        match &self.tally {
+            Some(tally) => tally.made(),
+            None => unreachable!(),
+        }
     }
 
     /// The rank's plan of a collective, for a post or an initialisation. It takes no lock: plans are made while others
@@ -115,17 +113,17 @@ impl<L: Entries> Port<L> {
     {
         let Port {
             alloc: _,
-            hall,
+            combiner,
             rank,
             groups: _groups,
             plans: _plans,
-            hope: _,
             tally,
         } = self;
-        let hall: &Hall<L> = &*hall;
-        let mut held = hall.enter(rt);
-        held.shared.note(rank, Rest::Ended);
-        hall.release(held);
+        let Some(tally) = tally else { unreachable!() };
+        let combiner: &Combiner<L> = &*combiner;
+        let mut held = combiner.enter(rt);
+        held.locked.traced.end(rank);
+        combiner.release(held);
         Spent::new(rank, tally)
     }
 }
@@ -135,14 +133,13 @@ impl<L: Entries> Drop for Port<L> {
     fn drop(self) {
         let Port {
             alloc: _,
-            hall,
+            combiner,
             rank,
             groups: _groups,
             plans: _plans,
-            hope: _,
             tally: _tally,
         } = self;
-        let hall: &Hall<L> = &*hall;
-        hall.depart(rank);
+        let combiner: &Combiner<L> = &*combiner;
+        combiner.depart(rank);
     }
 }

@@ -8,8 +8,8 @@ mod task;
 
 use crate::engine::Engine;
 use crate::gate::Gate;
-use crate::tally::Entries;
 use coll_kinds::Refusal;
+use coll_traced::Entries;
 pub use ends::Ends;
 use start::Start;
 use std::alloc::{AllocError, Global};

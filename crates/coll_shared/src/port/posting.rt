@@ -1,22 +1,21 @@
-//! A port's posts, and the life of its persistent requests.
+//! A port's posts, and the making and freeing of its persistent requests.
 
 ghost use Rattle.std.specs.Result.{result_err};
-ghost use Rattle.std.specs.Prelude.{◌≡◌, ◌+◌, [], ◌∷◌, IfErr, IfOk, None, Some, OnErr, OnOk};
+ghost use Rattle.std.specs.Prelude.{◌≡◌, ◌+◌, [], ◌∷◌, ◌⊎◌, IfErr, IfOk, None, OnErr, OnOk};
 ghost use Rattle.coll_core.specs.Posts.{init_of, post_of};
-ghost use Rattle.coll_shared.specs.Denials.{DeniesStart, IsDenied};
-ghost use Rattle.coll_shared.specs.Ports.{IsInited, IsPosted, IsStarted};
-ghost use Rattle.coll_shared.specs.Retirements.{release};
-ghost use Rattle.coll_shared.specs.Tests.{RefusesFree};
+ghost use Rattle.coll_shared.specs.Ports.{DeniesBytes, IsUnplanned};
+ghost use Rattle.coll_traced.specs.Calls.{IsInited, IsPosted};
+ghost use Rattle.coll_traced.specs.Denials.{IsDenied};
+ghost use Rattle.coll_traced.specs.Outcomes.{release};
+ghost use Rattle.coll_traced.specs.Tests.{RefusesFree};
 
-use crate::hall::Hall;
-use crate::kept::Kept;
+use crate::combiner::Combiner;
 use crate::port::Port;
-use crate::receipt::Receipt;
-use crate::tally::Entries;
 use coll_complete::Request;
 use coll_core::Offer;
-use coll_kinds::{Refusal, Refused};
+use coll_kinds::{Refusal, Refused, Signature};
 use coll_plans::Plan;
+use coll_traced::{Entries, Receipt};
 use std::sync::Wait;
 
 impl<L: Entries> Port<L> {
@@ -25,7 +24,7 @@ impl<L: Entries> Port<L> {
     ///
     /// # Errors
     ///
-    /// Those of `Shared::post`, in its order, with the offer handed back.
+    /// Those of `TracedCore::post`, in its order, with the offer handed back.
     pub fn post<R: Wait>(
         &mut self,
         rt: &R,
@@ -37,41 +36,51 @@ impl<L: Entries> Port<L> {
         ensures made { OnOk result (self.new.made ≡ self.old.made + 1) }
         ensures receipt { IfOk result (λ r. IsPosted self.old.rank r.0 comm offer.plan.sig offer.bytes.items r.1) }
         ensures err { OnErr result (self.new.made ≡ self.old.made) }
-        ensures refused { IfErr result (λ refused. IsDenied (post_of self.old.rank comm offer) refused.why) }
+        ensures refused { IfErr result (λ refused. IsDenied L.setting (post_of self.old.rank comm offer) refused.why) }
         ensures back { IfErr result (λ refused. refused.back ≡ offer) }
     {
-        let kept = Kept::of(self.alloc, &offer);
-        let hall: &Hall<L> = &*self.hall;
-        let mut held = match hall.try_enter(rt) {
-            Some(held) => held,
-            None => {
-                let ordered = hall.post_by_order(
-                    rt,
-                    self.alloc,
-                    &mut self.tally,
-                    self.rank,
-                    comm,
-                    &offer,
-                );
-                if let Some((hope, receipt)) = ordered {
-                    self.hope = Some(hope);
-                    return Ok((Request::of(hope.ticket), receipt));
-                }
-                hall.enter(rt)
-            }
+        let Some(tally) = self.tally.take() else {
+            unreachable!()
         };
-        match held
-            .shared
-            .post(&mut self.tally, self.rank, comm, offer, kept)
-        {
-            Ok((ticket, receipt)) => {
-                self.hope = hall.go(held, self.rank, ticket);
-                Ok((Request::of(ticket), receipt))
-            }
-            Err(refused) => {
-                hall.release(held);
-                Err(refused)
-            }
+        let combiner: &Combiner<L> = &*self.combiner;
+        let (tally, posted) = combiner.post(rt, self.alloc, self.rank, comm, offer, tally);
+        self.tally = Some(tally);
+        match posted {
+            Ok((ticket, receipt)) => Ok((Request::of(ticket), receipt)),
+            Err(refused) => Err(refused),
+        }
+    }
+
+    /// Starts a collective with these bytes, by the rank's plan of it, as `ready_plan` and `post` do.
+    ///
+    /// # Errors
+    ///
+    /// Those of `ready_plan`, in its order; then those of `post`. The bytes are handed back.
+    pub fn post_bytes<R: Wait>(
+        &mut self,
+        rt: &R,
+        comm: u32,
+        sig: &Signature,
+        bytes: Vec<u8>,
+    ) -> Result<(Request, Receipt), Refused<Vec<u8>>>
+        ensures rank { self.new.rank ≡ self.old.rank }
+        ensures groups { self.new.groups ≡ self.old.groups }
+        ensures made { OnOk result (self.new.made ≡ self.old.made + 1) }
+        ensures receipt { IfOk result (λ r. IsPosted self.old.rank r.0 comm sig.now bytes.items r.1) }
+        ensures err { OnErr result (self.new.made ≡ self.old.made) }
+        ensures refused { IfErr result (λ refused. IsUnplanned self.old comm sig.now refused.why ⊎ DeniesBytes L.setting self.old comm sig.now bytes.items refused.why) }
+        ensures back { IfErr result (λ refused. refused.back ≡ bytes) }
+    {
+        let plan = match self.ready_plan(comm, sig) {
+            Ok(plan) => plan,
+            Err(why) => return Err(Refused { why, back: bytes }),
+        };
+        match self.post(rt, comm, Offer { plan, bytes }) {
+            Ok(posted) => Ok(posted),
+            Err(refused) => Err(Refused {
+                why: refused.why,
+                back: refused.back.bytes,
+            }),
         }
     }
 
@@ -79,7 +88,7 @@ impl<L: Entries> Port<L> {
     ///
     /// # Errors
     ///
-    /// Those of `Shared::init`, in its order, with the plan handed back.
+    /// Those of `TracedCore::init`, in its order, with the plan handed back.
     pub fn init<R: Wait>(
         &mut self,
         rt: &R,
@@ -91,76 +100,21 @@ impl<L: Entries> Port<L> {
         ensures made { OnOk result (self.new.made ≡ self.old.made + 1) }
         ensures receipt { IfOk result (λ r. IsInited self.old.rank r.0 comm plan.sig r.1) }
         ensures err { OnErr result (self.new.made ≡ self.old.made) }
-        ensures refused { IfErr result (λ refused. IsDenied (init_of self.old.rank comm plan) refused.why) }
+        ensures refused { IfErr result (λ refused. IsDenied L.setting (init_of self.old.rank comm plan) refused.why) }
         ensures back { IfErr result (λ refused. refused.back ≡ plan) }
     {
-        let hall: &Hall<L> = &*self.hall;
-        let mut held = hall.enter(rt);
-        match held.shared.init(&mut self.tally, self.rank, comm, plan) {
-            Ok((ticket, receipt)) => {
-                hall.release(held);
-                Ok((Request::of(ticket), receipt))
-            }
-            Err(refused) => {
-                hall.release(held);
-                Err(refused)
-            }
-        }
-    }
-
-    /// Starts a persistent request (`MPI_Start`; MPI 4.1, 3.9).
-    ///
-    /// # Errors
-    ///
-    /// Stale where the request is null; then those of `Shared::start`, in its order. The bytes are handed back.
-    pub fn start<R: Wait>(
-        &mut self,
-        rt: &R,
-        request: &Request,
-        bytes: Vec<u8>,
-    ) -> Result<Receipt, Refused<Vec<u8>>>
-        ensures rank { self.new.rank ≡ self.old.rank }
-        ensures groups { self.new.groups ≡ self.old.groups }
-        ensures made { OnOk result (self.new.made ≡ self.old.made + 1) }
-        ensures receipt { IfOk result (λ receipt. IsStarted self.old.rank request.now bytes.items receipt) }
-        ensures err { OnErr result (self.new.made ≡ self.old.made) }
-        ensures refused { IfErr result (λ refused. DeniesStart self.old.rank request.now bytes.items refused.why) }
-        ensures back { IfErr result (λ refused. refused.back ≡ bytes) }
-    {
-        let Some(ticket) = request.ticket() else {
-            return Err(Refused {
-                why: Refusal::Stale,
-                back: bytes,
-            });
+        let rank = self.rank;
+        let combiner: &Combiner<L> = &*self.combiner;
+        let Some(tally) = &mut self.tally else {
+            unreachable!()
         };
-        let hall: &Hall<L> = &*self.hall;
-        let mut held = match hall.try_enter(rt) {
-            Some(held) => held,
-            None => {
-                let ordered = hall.start_by_order(
-                    rt,
-                    self.alloc,
-                    &mut self.tally,
-                    self.rank,
-                    ticket,
-                    &bytes,
-                );
-                if let Some((hope, receipt)) = ordered {
-                    self.hope = Some(hope);
-                    return Ok(receipt);
-                }
-                hall.enter(rt)
-            }
-        };
-        match held.shared.start(&mut self.tally, self.rank, ticket, bytes) {
-            Ok(receipt) => {
-                self.hope = hall.go(held, self.rank, ticket);
-                Ok(receipt)
-            }
-            Err(refused) => {
-                hall.release(held);
-                Err(refused)
-            }
+        let mut held = combiner.enter(rt);
+        held.locked.traced.keeps_setting();
+        let made = held.locked.traced.init(tally, rank, comm, plan);
+        combiner.release(held);
+        match made {
+            Ok((ticket, receipt)) => Ok((Request::of(ticket), receipt)),
+            Err(refused) => Err(refused),
         }
     }
 
@@ -175,16 +129,18 @@ impl<L: Entries> Port<L> {
         ensures groups { self.new.groups ≡ self.old.groups }
         ensures made { OnOk result (self.new.made ≡ self.old.made + 1) }
         ensures receipt { IfOk result (λ receipt. receipt ∷ [] ≡ release self.old.rank request.old) }
-        ensures refused { RefusesFree self.old.rank request.old (result_err result) }
+        ensures refused { RefusesFree L.setting self.old.rank request.old (result_err result) }
         ensures null { OnOk result (request.new ≡ None) }
         ensures err { OnErr result ((self.new.made ≡ self.old.made) × (request.new ≡ request.old)) }
     {
-        let hall: &Hall<L> = &*self.hall;
-        let mut held = hall.enter(rt);
-        let freed = held
-            .shared
-            .request_free(&mut self.tally, self.rank, request);
-        hall.release(held);
+        let rank = self.rank;
+        let combiner: &Combiner<L> = &*self.combiner;
+        let Some(tally) = &mut self.tally else {
+            unreachable!()
+        };
+        let mut held = combiner.enter(rt);
+        let freed = held.locked.traced.freed(tally, rank, request);
+        combiner.release(held);
         freed
     }
 }

@@ -1,13 +1,20 @@
-use Rattle.std.proofs.Common.{◌∙◌, length, refl, sym, ap, subst, arith}
+use Rattle.std.proofs.Common.{◌≡◌, length, vec_len, refl, sym, ap, subst, ◌∙◌, arith}
+use Rattle.coll_machine.specs.Settings.{Setting}
 use Rattle.coll_core.specs.Cores.{seen}
 use Rattle.coll_report.specs.Told.{IsIdle}
-use Rattle.coll_shared.proofs.Closings.{ends_len}
+use Rattle.coll_traced.proofs.Closings.{ends_len}
 use Rattle.coll_shared.proofs.closing.settle.Goals as goal
+
+pub merged-all-requires : goal.merged-all-requires
+merged-all-requires g c =
+    let ports = c.args.spents.ok.0 ∙ (sym (ap length c.deref-2.ensures.value) ∙ (ends_len _ c.deref.result.now.traced.entries _ (c.in_default.ensures.ends refl) ∙ ap (λ (s : Setting). s.ranks) c.objection.ensures.setting)) in
+    omega (arith, ports, c.requires.ranks)
 
 pub take_report-report-requires-clause-whole : goal.take_report-report-requires-clause-whole
 take_report-report-requires-clause-whole g c =
-    let ports = c.merged.ensures.parts ∙ (c.args.spents.ok.0 ∙ (sym (ap length c.deref-2.ensures.value) ∙ (ends_len _ c.deref.result.now.entries _ (c.in_default.ensures.ends refl) ∙ c.objection.ensures.ranks))) in
-    omega (arith, c.merge.ensures.parts, c.in-Some-parts.ensures.0, ports, c.requires.parts)
+    let ports = c.args.spents.ok.0 ∙ (sym (ap length c.deref-2.ensures.value) ∙ (ends_len _ c.deref.result.now.traced.entries _ (c.in_default.ensures.ends refl) ∙ ap (λ (s : Setting). s.ranks) c.objection.ensures.setting)) in
+    c.merged-all.ensures.parts ∙ (ports ∙ sym c.requires.parts)
 
 pub take_report-report-requires-clause-idle : goal.take_report-report-requires-clause-idle
-take_report-report-requires-clause-idle g c = subst (λ s. IsIdle (seen s.core).state) (c.deref.ensures ∙ sym c.deref_mut.ensures.value) (c.in_default.ensures.idle refl)
+take_report-report-requires-clause-idle g c =
+    subst (λ s. IsIdle (seen s.traced.core).state) (c.deref.ensures ∙ sym c.deref_mut.ensures.value) (c.in_default.ensures.idle refl)

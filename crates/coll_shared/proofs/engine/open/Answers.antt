@@ -12,14 +12,14 @@ ports_of-requires-clause-groups g c = few_members c.args.config c.in_ok-check.en
 pub returns-clause-ports : goal.returns-clause-ports
 returns-clause-ports g c =
     let groups = ap groups_seen c.deref-2.ensures.value ∙ (c.in_ok-groups.ensures.groups ∙ ap groups_seen c.deref.ensures.value) in
-    c.in-Ok.ensures.ports ∙ ap (λ gs. map (opened gs) (range_with_len 0 c.args.config.ranks)) groups
+    c.in_ok-ports.ensures.ports ∙ ap (λ gs. map (opened gs) (range_with_len 0 c.args.config.ranks)) groups
 
-pub returns-in_err-shelves-clause-refused : goal.returns-in_err-shelves-clause-refused
-returns-in_err-shelves-clause-refused g c =
-    let p = err_from_is_err_and c.from_residual-in_err-shelves.result c.from_residual-in_err-shelves.ensures.1 in
-    rw p.1 (short_of_memory c.args.config p.0 c.in_ok-check.ensures.ok (p.2 ∙ c.in_err-shelves.ensures.refused))
+pub returns-in_err-combiner-clause-refused : goal.returns-in_err-combiner-clause-refused
+returns-in_err-combiner-clause-refused g c =
+    let p = err_from_is_err_and c.from_residual-in_err-combiner.result c.from_residual-in_err-combiner.ensures.1 in
+    rw p.1 (short_of_memory c.args.config p.0 c.in_ok-check.ensures.ok p.2)
 
-pub returns-in_err-doors-clause-refused : goal.returns-in_err-doors-clause-refused
-returns-in_err-doors-clause-refused g c =
-    let p = err_from_is_err_and c.from_residual-in_err-doors.result c.from_residual-in_err-doors.ensures.1 in
-    rw p.1 (short_of_memory c.args.config p.0 c.in_ok-check.ensures.ok (p.2 ∙ c.in_err-doors.ensures.refused))
+pub returns-in_err-ports-clause-refused : goal.returns-in_err-ports-clause-refused
+returns-in_err-ports-clause-refused g c =
+    let p = err_from_is_err_and c.from_residual-in_err-ports.result c.from_residual-in_err-ports.ensures.1 in
+    rw p.1 (short_of_memory c.args.config p.0 c.in_ok-check.ensures.ok (p.2 ∙ c.in_err-ports.ensures.refused))

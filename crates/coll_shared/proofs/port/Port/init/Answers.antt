@@ -1,16 +1,19 @@
-use Rattle.std.proofs.Common.{◌≡◌, subst, sym}
-use Rattle.std.specs.Result.{IfOk}
-use Rattle.coll_machine.specs.Entries.{Inited}
-use Rattle.coll_shared.specs.Ports.{IsInited}
-use Rattle.coll_shared.proofs.port.Port.init.Goals.{in-Ok, in-Err}
+use Rattle.std.proofs.Common.{Some, ap, subst}
+use Rattle.std.specs.Prelude.{IfOk}
+use Rattle.coll_traced.specs.Calls.{IsInited}
+use Rattle.coll_shared.specs.Ports.{Holding}
+use Rattle.coll_shared.proofs.Telling.{held_told, inited, none_told}
 use Rattle.coll_shared.proofs.port.Port.init.Goals as goal
+use Rattle.coll_shared.proofs.port.Port.init.Goals.{in-Ok, in-Err}
 
 pub returns-clause-receipt : goal.returns-clause-receipt
 returns-clause-receipt g c =
-    elim c.match-init.branch [
+    let plan = c.args.plan in
+    let rank = ap (λ (p : Holding). p.rank) c.self.view_is in
+    let made = subst (λ k. IfOk c.init-made.result (λ m. IsInited k (Some m.0) c.args.comm plan.sig m.1)) rank (inited _ _ _ c.init-made.result c.init-made.ensures.receipt) in
+    elim c.match-made.branch [
       | in-Ok w ↦
-          let found = w.in-Ok.ensures.receipt in
-          subst (λ m. IfOk m (λ r. IsInited c.args.self.now.rank r.0 c.args.comm c.args.plan.sig r.1)) (sym w.result-is)
-          (w.in-Ok.ticket, found.0, w.of.ensures, subst (λ p. w.in-Ok.receipt ≡ Inited p.rank w.in-Ok.ticket c.args.comm found.0 c.args.plan.sig) c.self.view_is found.1)
-      | in-Err w ↦ subst (λ m. IfOk m (λ r. IsInited c.args.self.now.rank r.0 c.args.comm c.args.plan.sig r.1)) (sym w.result-is) tt
+          held_told (λ q e. IsInited c.args.self.now.rank q c.args.comm plan.sig e) c.init-made.result c.match-made.result
+          w.in-Ok.ticket w.in-Ok.receipt w.of.result made w.in-Ok.is w.of.ensures w.result-is
+      | in-Err w ↦ none_told _ c.match-made.result _ w.result-is
     ]

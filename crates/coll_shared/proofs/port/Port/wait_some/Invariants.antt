@@ -1,0 +1,7 @@
+use Rattle.std.proofs.Common.{◌≡◌}
+use Rattle.coll_shared.proofs.port.Port.wait_some.Given as goal
+
+abbrev pub invariant-loop : goal.invariant-loop
+invariant-loop g l =
+    (goal.iterator-loop g).can_next l.iterator' × (goal.iterator-loop g).is_finite l.iterator'
+    × (l.requests ≡ l.initial.requests) × (l.out ≡ l.initial.out) × (l.tally ≡ l.initial.tally)

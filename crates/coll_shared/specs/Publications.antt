@@ -1,0 +1,58 @@
+-- What a port publishes, and what the combiner makes of it.
+use Rattle.std.specs.Prelude.{◌≡◌, ◌<◌, ◌+◌, ◌++◌, ◌⊎◌, ℕ, List, [], ◌∷◌, Some, length, slice_get, slice_set}
+use Rattle.coll_kinds.specs.declared.ticket.Ticket.{Ticket}
+use Rattle.coll_machine.specs.Entries.{Entry}
+use Rattle.coll_machine.specs.Settings.{Setting}
+use Rattle.coll_traced.specs.Calls.{IsPosted, IsStarted}
+use Rattle.coll_traced.specs.Operations.{IsMade, IsRefused}
+use Rattle.coll_traced.specs.Waits.{WaitFor, Awake, ForOne}
+use Rattle.coll_shared.specs.declared.publication.Content.{Content}
+use Rattle.coll_shared.specs.declared.publication.Content.TheVariants as content
+use Rattle.coll_shared.specs.declared.publication.Expected.{Expected}
+use Rattle.coll_shared.specs.declared.publication.Expected.TheVariants as expected
+
+-- the entry is of the post or start that the port expects, for this request
+abbrev pub IsExpected : ℕ → Expected → Ticket → Entry → Type 0
+IsExpected rank (expected.Post comm sig bytes) t e = IsPosted rank (Some t) comm sig.now bytes.now e
+IsExpected rank (expected.Start ticket bytes) t e = (t ≡ ticket) × IsStarted rank (Some ticket) bytes.now e
+
+-- no entry was appended
+pub record AddsNone (made now : ℕ) (es fs : List Entry) : Type 0 where
+  pub entries_are : fs ≡ es
+  pub counted : now ≡ made
+
+-- just this entry was appended, and counted
+pub record Adds (e : Entry) (made now : ℕ) (es fs : List Entry) : Type 0 where
+  pub entries_are : fs ≡ es ++ e ∷ []
+  pub counted : now ≡ made + 1
+
+-- what a wait became: it is still one, or the request was completed for the rank, or the port is to look
+abbrev pub IsSettled : {L : Type 0} → ℕ → Content L → ℕ → List Entry → Content L → ℕ → List Entry → Type 0
+IsSettled rank (content.Wait t) made es (content.Completed c) now fs = (c.rank ≡ rank) × Adds c.entry made now es fs
+IsSettled rank (content.Wait t) made es content.Look now fs = AddsNone made now es fs
+IsSettled rank old made es new now fs = (new ≡ old) × AddsNone made now es fs
+
+-- what an operation became: it was made, with just its entry, or it was denied; and of a wait what `IsSettled` says
+abbrev pub IsServed : {L : Type 0} → Setting → ℕ → Content L → ℕ → List Entry → Content L → ℕ → List Entry → Type 0
+IsServed g rank (content.Operation boxed) made es (content.Made t e) now fs = IsMade boxed.value rank t e × Adds e made now es fs
+IsServed g rank (content.Operation boxed) made es content.Look now fs = IsRefused g boxed.value rank × AddsNone made now es fs
+IsServed g rank (content.Operation boxed) made es new now fs = ⊥
+IsServed g rank old made es new now fs = IsSettled rank old made es new now fs
+
+-- the rank's port waits for nothing
+abbrev pub IsAwake : ℕ → List WaitFor → Type 0
+IsAwake rank waits = rank < length waits → slice_get waits rank ≡ Some Awake
+
+-- of all waits only the rank's is made anew, and is for the request that its port published
+abbrev pub IsRegistered : {L : Type 0} → ℕ → Content L → List WaitFor → List WaitFor → Type 0
+IsRegistered rank (content.Wait t) old new = new ≡ slice_set old rank (ForOne rank t)
+IsRegistered rank other old new = ⊥
+
+-- the port still waits for its request
+abbrev pub IsWait : {L : Type 0} → Content L → Type 0
+IsWait (content.Wait t) = Unit {0}
+IsWait other = ⊥
+
+-- a record without an answer changes no wait, or just registers one for its port
+abbrev pub IsUnanswered : ℕ → List WaitFor → List WaitFor → Type 0
+IsUnanswered rank old new = (new ≡ old) ⊎ ((t : Ticket) × (new ≡ slice_set old rank (ForOne rank t)))

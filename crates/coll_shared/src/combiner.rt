@@ -1,0 +1,287 @@
+//! The engine's lock, and what the thread that has it does for all.
+
+mod held;
+
+ghost use Rattle.std.specs.Prelude.{◌≡◌, IfErr};
+
+use crate::locked::{Locked, Successor};
+use crate::record::PublicationRecord;
+use crate::tuning::{LOOKS, QUICK, ROUNDS};
+use coll_kinds::Refusal;
+use coll_traced::{Entries, Ranks, TracedCore};
+use crossbeam_utils::CachePadded;
+use crossbeam_utils::sync::EventCount;
+pub(crate) use held::Held;
+use std::alloc::Global;
+use std::hint::spin_loop;
+use std::sync::atomic::{AtomicU64, Ordering};
+use std::sync::{Mutex, Wait};
+use std::thread::yield_now;
+
+/// The lock round an engine, and its ports' publication records. The thread that has the lock is the combiner: it serves the records of
+/// all ports.
+#[derive(Drop)]
+pub(crate) struct Combiner<L: Entries> {
+    locked: Mutex<Locked<L>>,
+    records: Vec<CachePadded<PublicationRecord<L>>>,
+    /// How many threads ask for the lock itself.
+    wanted: CachePadded<AtomicU64>,
+    /// Where progress threads sleep.
+    pub(crate) idlers: EventCount,
+    /// How many threads sleep.
+    sleepers: CachePadded<AtomicU64>,
+    /// The ranks whose ports were dropped unfinished, as bits, until a combiner notes that they have ended.
+    departed: CachePadded<AtomicU64>,
+}
+
+/// A pause before the next look, with a turn for other threads after the first ones.
+pub(crate) fn pause(look: u32) {
+    if look < QUICK {
+        spin_loop();
+    } else {
+        yield_now();
+    }
+}
+
+fn zero() -> CachePadded<AtomicU64> {
+    CachePadded::new(AtomicU64::new(0))
+}
+
+impl<L: Entries> Combiner<L> {
+    /// Round an engine with that many ranks.
+    pub(crate) fn open(alloc: Global, traced: TracedCore<L>, ranks: u8) -> Result<Self, Refusal>
+        ensures { IfErr result (λ why. why ≡ Refusal.NoMemory) }
+    {
+        let mut records = Vec::with_capacity(alloc, usize::from(ranks))?;
+        for _rank in 0..ranks {
+            records.push(CachePadded::new(PublicationRecord::new()))?;
+        }
+        Ok(Combiner {
+            locked: Mutex::new(Locked::new(traced)),
+            records,
+            wanted: zero(),
+            idlers: EventCount::new(),
+            sleepers: zero(),
+            departed: zero(),
+        })
+    }
+
+    /// The record of a rank.
+    pub(crate) fn record(&self, rank: u8) -> Option<&PublicationRecord<L>> {
+        let record = self.records.get(usize::from(rank))?;
+        Some(&**record)
+    }
+
+    /// Takes the lock, unless a thread has it. For code that isn't allowed to wait: the lock is given up again by `release`, which
+    /// doesn't wait either.
+    fn try_hold(&self) -> Option<Held<'_, L>> {
+        Some(Held::new(self.locked.try_lock()?))
+    }
+
+    /// Takes the lock, unless a thread has it.
+    pub(crate) fn try_enter<R: Wait>(&self, _rt: &R) -> Option<Held<'_, L>> {
+        self.try_hold()
+    }
+
+    /// Takes the lock for a call of the rank's port that leads, unless a thread has it.
+    pub(crate) fn try_lead<R: Wait>(&self, rt: &R, rank: u8) -> Option<Held<'_, L>> {
+        if self.record(rank)?.leads() {
+            self.try_enter(rt)
+        } else {
+            None
+        }
+    }
+
+    /// The port of the rank has served its call itself.
+    pub(crate) fn has_led(&self, rank: u8) {
+        if let Some(record) = self.record(rank) {
+            record.set_leads(true);
+        }
+    }
+
+    /// Takes the lock.
+    pub(crate) fn enter<R: Wait>(&self, rt: &R) -> Held<'_, L> {
+        if let Some(held) = self.try_hold() {
+            return held;
+        }
+        self.wanted.fetch_add(1, Ordering::SeqCst);
+        let held = self.await_lock(rt);
+        self.wanted.fetch_sub(1, Ordering::SeqCst);
+        held
+    }
+
+    fn await_lock<R: Wait>(&self, rt: &R) -> Held<'_, L> {
+        for look in 0..LOOKS {
+            if let Some(held) = self.try_hold() {
+                return held;
+            }
+            pause(look);
+        }
+        Held::new(self.locked.lock(rt))
+    }
+
+    /// Whether a thread asks for the lock.
+    pub(crate) fn is_wanted(&self) -> bool {
+        self.wanted.load(Ordering::SeqCst) != 0
+    }
+
+    /// Whether something was published that nobody has served yet.
+    fn is_published(&self) -> bool {
+        self.records.iter().any(|record| record.is_published())
+    }
+
+    /// How many ports published something that nobody has served yet.
+    pub(crate) fn published(&self) -> u64 {
+        self.records
+            .iter()
+            .filter(|record| record.is_published())
+            .count() as u64
+    }
+
+    /// How many threads sleep.
+    pub(crate) fn sleepers(&self) -> u64 {
+        self.sleepers.load(Ordering::SeqCst)
+    }
+
+    /// The calling thread is about to sleep.
+    pub(crate) fn falls_asleep(&self) {
+        self.sleepers.fetch_add(1, Ordering::SeqCst);
+    }
+
+    /// The calling thread sleeps no longer.
+    pub(crate) fn wakes_up(&self) {
+        self.sleepers.fetch_sub(1, Ordering::SeqCst);
+    }
+
+    /// Ends a rank whose port is dropped unfinished, without waiting for the lock.
+    ///
+    /// Nobody misses it: where the lock is free, this thread takes it and notes the departure itself. Else the departure was
+    /// published before another thread gave the lock up, and `release` looks for departures after each unlock, so that thread or the
+    /// one that has taken the lock since notes it. The hold that notes it tells a stall, and so wakes the ports that slept for this
+    /// rank.
+    pub(crate) fn depart(&self, rank: u8) {
+        self.departed
+            .fetch_or(Ranks::NONE.with(rank).bits(), Ordering::SeqCst);
+        if let Some(held) = self.try_hold() {
+            self.release(held);
+        }
+    }
+
+    fn has_departed(&self) -> bool {
+        self.departed.load(Ordering::SeqCst) != 0
+    }
+
+    /// Ends the ranks whose ports were dropped unfinished.
+    fn end_departed(&self, held: &mut Held<'_, L>) {
+        if !self.has_departed() {
+            return;
+        }
+        let departed = Ranks::of_bits(self.departed.swap(0, Ordering::SeqCst));
+        for rank in 0..64u8 {
+            if departed.has(rank) {
+                held.locked.traced.end(rank);
+            }
+        }
+    }
+
+    /// Does what ports published.
+    fn serve(&self, held: &mut Held<'_, L>) {
+        for (rank, record) in (0..=u8::MAX).zip(self.records.iter()) {
+            if record.is_published() && record.serve(&mut held.locked.traced, rank) {
+                held.answered(rank);
+            }
+        }
+    }
+
+    /// Answers the registered ports that wait for what is finished now.
+    fn settle(&self, held: &mut Held<'_, L>) {
+        if !held.locked.finished {
+            return;
+        }
+        held.locked.finished = false;
+        let met = held.locked.traced.met();
+        if met.is_empty() {
+            return;
+        }
+        for (rank, record) in (0..=u8::MAX).zip(self.records.iter()) {
+            if met.has(rank) && record.settle(&mut held.locked.traced, rank) {
+                held.answered(rank);
+            }
+        }
+    }
+
+    /// Answers a registered port that it is to look itself.
+    fn answer_look(&self, held: &mut Held<'_, L>, rank: u8) {
+        if let Some(record) = self.record(rank) {
+            if record.answer_look(&mut held.locked.traced, rank) {
+                held.answered(rank);
+            }
+        }
+    }
+
+    /// Tells all that wait, where nothing can go on.
+    fn tell_stall(&self, held: &mut Held<'_, L>) {
+        if !held.locked.traced.tell_stall() {
+            return;
+        }
+        let waiting = held.locked.traced.waiting();
+        for rank in 0..64u8 {
+            if waiting.has(rank) {
+                self.answer_look(held, rank);
+            }
+        }
+    }
+
+    /// What the combiner does for all: what was published, the steps that need no combination, and answers.
+    pub(crate) fn combine(&self, held: &mut Held<'_, L>) {
+        self.end_departed(held);
+        self.serve(held);
+        held.locked.advance();
+        self.settle(held);
+    }
+
+    /// The only way to give the lock up. It takes the lock again, without waiting, for what was published meanwhile, a few times; for
+    /// ports that were dropped, of which there are few, each time.
+    pub(crate) fn release<'a>(&'a self, held: Held<'a, L>) {
+        let mut held = held;
+        for round in 1..u32::MAX {
+            self.let_go(held);
+            let is_asked = round < ROUNDS && self.is_published();
+            if !is_asked && !self.has_departed() {
+                return;
+            }
+            match self.try_hold() {
+                Some(again) => held = again,
+                None => return,
+            }
+        }
+        self.let_go(held);
+    }
+
+    /// Does what is to be done for all, unlocks, and wakes the ports that were answered and the thread that goes on.
+    fn let_go(&self, held: Held<'_, L>) {
+        let mut held = held;
+        self.combine(&mut held);
+        self.tell_stall(&mut held);
+        let next = held.locked.successor();
+        if let Successor::Port(rank) = next {
+            self.answer_look(&mut held, rank);
+        }
+        let wake = held.unlock();
+        self.wake(wake);
+        if next == Successor::Worker {
+            self.idlers.notify_one();
+        }
+    }
+
+    fn wake(&self, wake: Ranks) {
+        if wake.is_empty() {
+            return;
+        }
+        for (rank, record) in (0..=u8::MAX).zip(self.records.iter()) {
+            if wake.has(rank) {
+                record.wake();
+            }
+        }
+    }
+}

@@ -1,0 +1,138 @@
+//! What the engine's lock guards.
+
+ghost use Rattle.std.specs.Prelude.{◌≡◌, IfErr};
+ghost use Rattle.coll_traced.specs.Awaiting.{IsSetback};
+
+use crate::tuning::STEPS;
+use coll_core::{DoneWork, Stepped, Work};
+use coll_kinds::{Refusal, Refused};
+use coll_traced::{Entries, Ranks, TracedCore};
+
+/// What the lock guards: the core with its trace, and what is known of threads.
+#[derive(Drop)]
+pub(crate) struct Locked<L: Entries> {
+    pub(crate) traced: TracedCore<L>,
+    /// The ranks whose ports sleep, or are about to.
+    pub(crate) parked: Ranks,
+    /// The ranks whose waiting ports compute a combination.
+    pub(crate) away: Ranks,
+    /// How many progress threads sleep, or are about to.
+    pub(crate) idle: u32,
+    /// A request was finished since the registered waits were looked at.
+    pub(crate) finished: bool,
+    /// Progress threads are to end.
+    pub(crate) stopped: bool,
+    pieces: u64,
+}
+
+/// Who goes on with what is ready once the lock is free.
+#[derive(Clone, Copy, Debug, PartialEq, Eq)]
+pub(crate) enum Successor {
+    /// Nobody has to: nothing is ready, or a waiting port takes the lock by itself.
+    NotNeeded,
+    /// A progress thread that sleeps.
+    Worker,
+    /// A port that sleeps.
+    Port(u8),
+    /// There is nobody.
+    Nobody,
+}
+
+impl<L: Entries> Locked<L> {
+    pub(crate) fn new(traced: TracedCore<L>) -> Self {
+        Locked {
+            traced,
+            parked: Ranks::NONE,
+            away: Ranks::NONE,
+            idle: 0,
+            finished: false,
+            stopped: false,
+            pieces: 0,
+        }
+    }
+
+    /// Makes the steps that need no combination, up to `STEPS` of them. A step that memory is refused for is left to who makes the
+    /// next one.
+    pub(crate) fn advance(&mut self) {
+        if !self.traced.is_ready() {
+            return;
+        }
+        for _step in 0..STEPS {
+            match self.traced.move_on() {
+                Ok(Stepped::Moved) => {}
+                Ok(Stepped::Finished) => self.finished = true,
+                _ => return,
+            }
+        }
+    }
+
+    /// The next step.
+    pub(crate) fn step(&mut self) -> Result<Stepped, Refusal>
+        ensures { IfErr result (λ why. why ≡ Refusal.NoMemory) }
+    {
+        let stepped = self.traced.step();
+        if let Ok(Stepped::Finished) = &stepped {
+            self.finished = true;
+        }
+        stepped
+    }
+
+    /// Writes the result of a combination, or takes back one that memory was refused for: another thread may compute it.
+    pub(crate) fn write(&mut self, computed: Result<DoneWork, Refused<Work>>) -> Result<(), Refusal>
+        requires { IfErr computed (λ refused. refused.why ≡ Refusal.NoMemory) }
+        ensures { IfErr result IsSetback }
+    {
+        match computed {
+            Ok(done) => {
+                if let Stepped::Finished = self.traced.commit(done)? {
+                    self.finished = true;
+                }
+                Ok(())
+            }
+            Err(refused) => {
+                self.traced.abandon(refused.back)?;
+                Err(refused.why)
+            }
+        }
+    }
+
+    /// The number of the next combination that is handed out. At the greatest number it stays there.
+    pub(crate) fn next_piece(&mut self) -> u64 {
+        let piece = self.pieces;
+        self.pieces = self.pieces.saturating_add(1);
+        piece
+    }
+
+    /// A waiting port begins to compute a combination, or has ended that.
+    pub(crate) fn set_away(&mut self, rank: Option<u8>, is_away: bool) {
+        if let Some(rank) = rank {
+            self.away = self.away.set(rank, is_away);
+        }
+    }
+
+    /// A waiting port gives its wait up.
+    pub(crate) fn give_up(&mut self, rank: Option<u8>) {
+        if let Some(rank) = rank {
+            self.traced.wake(rank);
+        }
+    }
+
+    /// The ranks whose waiting ports take the lock by themselves: they neither sleep nor compute.
+    fn spinning(&self) -> Ranks {
+        self.traced.waiting().but(self.parked).but(self.away)
+    }
+
+    /// Who goes on, where the thread that has the lock doesn't.
+    pub(crate) fn successor(&self) -> Successor {
+        if !self.traced.is_ready() || !self.spinning().is_empty() {
+            return Successor::NotNeeded;
+        }
+        if self.idle > 0 {
+            return Successor::Worker;
+        }
+        match self.parked.lowest() {
+            Some(rank) => Successor::Port(rank),
+            None => Successor::Nobody,
+        }
+    }
+}

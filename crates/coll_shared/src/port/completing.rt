@@ -1,0 +1,316 @@
+//! A port's tests and waits. What they tell was so while the port had the engine. A wait for a list looks with the lock, and registers what
+//! it waits for before it gives the lock up.
+
+ghost use Rattle.std.specs.Prelude.{◌≡◌, ◌+◌, ◌<◌, ◌≤◌, ◌⊎◌, IfErr, IfOk, IfSome, None, OnErr, Some, length, true, vec_capacity, vec_len};
+ghost use Rattle.std.specs.Result.{result_err};
+ghost use Rattle.coll_complete.specs.Anys.{position_of};
+ghost use Rattle.coll_complete.specs.Requests.{AreDistinct};
+ghost use Rattle.coll_traced.specs.Awaiting.{IsHindrance};
+ghost use Rattle.coll_traced.specs.Tests.{RefusesList, RefusesOne, TestsAll, TestsAny, TestsOne, TestsSome, any_of};
+
+use crate::combiner::Combiner;
+use crate::gate::Gate;
+use crate::port::Port;
+use coll_complete::{Any, Request, Tested};
+use coll_core::Outcome;
+use coll_kinds::Refusal;
+use coll_traced::{Awaited, Entries, Receipts};
+use std::sync::Wait;
+
+impl<L: Entries> Port<L> {
+    /// Completes a request if it is Done (`MPI_Test`; MPI 4.1, 3.7.3). At a null or Idle request the flag is true, and
+    /// there is no outcome.
+    ///
+    /// # Errors
+    ///
+    /// Stale where the ticket names no live request, then NotYours where it is another rank's; nothing changes.
+    pub fn test<R: Wait>(
+        &mut self,
+        rt: &R,
+        request: &mut Request,
+    ) -> Result<(Tested, Receipts), Refusal>
+        ensures rank { self.new.rank ≡ self.old.rank }
+        ensures groups { self.new.groups ≡ self.old.groups }
+        ensures told { IfOk result (λ r. TestsOne L.setting self.old.rank request.old request.new r.0.flag r.0.outcome r.1) }
+        ensures made { IfOk result (λ r. IfSome r.0.outcome (λ outcome. self.new.made ≡ self.old.made + 1)) }
+        ensures none { IfOk result (λ r. r.0.outcome ≡ None → self.new.made ≡ self.old.made) }
+        ensures refused { RefusesOne L.setting self.old.rank request.old (result_err result) }
+        ensures err { OnErr result ((self.new.made ≡ self.old.made) × (request.new ≡ request.old)) }
+    {
+        let rank = self.rank;
+        let combiner: &Combiner<L> = &*self.combiner;
+        let Some(tally) = &mut self.tally else {
+            unreachable!()
+        };
+        let mut held = combiner.enter_to_test(rt);
+        let tested = held.locked.traced.tested(tally, rank, request);
+        combiner.release(held);
+        tested
+    }
+
+    /// Completes the lowest request of a list that is Done (`MPI_Testany`; MPI 4.1, 3.7.5). Null and Idle requests are
+    /// inactive.
+    ///
+    /// # Errors
+    ///
+    /// Stale where a ticket names no live request, NotYours where it names another rank's: that of the first such request.
+    /// Nothing changes.
+    pub fn test_any<R: Wait>(
+        &mut self,
+        rt: &R,
+        requests: &mut [Request],
+    ) -> Result<(Any, Receipts), Refusal>
+        ensures rank { self.new.rank ≡ self.old.rank }
+        ensures groups { self.new.groups ≡ self.old.groups }
+        ensures told { IfOk result (λ r. TestsAny L.setting self.old.rank requests.old requests.new r.0 r.1) }
+        ensures made { IfOk result (λ r. IfSome (position_of r.0) (λ at. self.new.made ≡ self.old.made + 1)) }
+        ensures none { IfOk result (λ r. position_of r.0 ≡ None → self.new.made ≡ self.old.made) }
+        ensures refused { RefusesList L.setting self.old.rank requests.old (result_err result) }
+        ensures err { OnErr result ((self.new.made ≡ self.old.made) × (requests.new ≡ requests.old)) }
+    {
+        let rank = self.rank;
+        let combiner: &Combiner<L> = &*self.combiner;
+        let Some(tally) = &mut self.tally else {
+            unreachable!()
+        };
+        let mut held = combiner.enter_to_test(rt);
+        let tested = held.locked.traced.tested_any(tally, rank, requests);
+        combiner.release(held);
+        tested
+    }
+
+    /// Completes all requests of a list that are Done, if no request of it is Pending (`MPI_Testall`; MPI 4.1, 3.7.5),
+    /// and pushes each position with its outcome to `out`, in rising position; false where one is Pending.
+    ///
+    /// # Errors
+    ///
+    /// As `test_any`.
+    pub fn test_all<R: Wait>(
+        &mut self,
+        rt: &R,
+        requests: &mut [Request],
+        out: &mut Vec<(usize, Outcome)>,
+    ) -> Result<(bool, Receipts), Refusal>
+        requires distinct { AreDistinct requests.old }
+        requires room { vec_len out.old + length requests.old ≤ vec_capacity out.old }
+        ensures rank { self.new.rank ≡ self.old.rank }
+        ensures groups { self.new.groups ≡ self.old.groups }
+        ensures told { IfOk result (λ r. TestsAll L.setting self.old.rank requests.old requests.new out.old.items out.new.items r.0 r.1) }
+        ensures made { IfOk result (λ r. self.new.made + vec_len out.old ≡ self.old.made + vec_len out.new) }
+        ensures refused { RefusesList L.setting self.old.rank requests.old (result_err result) }
+        ensures err { OnErr result ((self.new.made ≡ self.old.made) × (requests.new ≡ requests.old) × (out.new ≡ out.old)) }
+    {
+        let rank = self.rank;
+        let combiner: &Combiner<L> = &*self.combiner;
+        let Some(tally) = &mut self.tally else {
+            unreachable!()
+        };
+        let mut held = combiner.enter_to_test(rt);
+        let tested = held.locked.traced.tested_all(tally, rank, requests, out);
+        combiner.release(held);
+        tested
+    }
+
+    /// Completes all requests of a list that are Done (`MPI_Testsome`; MPI 4.1, 3.7.5), pushes each position with its
+    /// outcome to `out`, in rising position, and answers how many there were; none where no request is active.
+    ///
+    /// # Errors
+    ///
+    /// As `test_any`.
+    pub fn test_some<R: Wait>(
+        &mut self,
+        rt: &R,
+        requests: &mut [Request],
+        out: &mut Vec<(usize, Outcome)>,
+    ) -> Result<(Option<usize>, Receipts), Refusal>
+        requires distinct { AreDistinct requests.old }
+        requires room { vec_len out.old + length requests.old ≤ vec_capacity out.old }
+        ensures rank { self.new.rank ≡ self.old.rank }
+        ensures groups { self.new.groups ≡ self.old.groups }
+        ensures told { IfOk result (λ r. TestsSome L.setting self.old.rank requests.old requests.new out.old.items out.new.items r.0 r.1) }
+        ensures made { IfOk result (λ r. IfSome r.0 (λ n. self.new.made ≡ self.old.made + n)) }
+        ensures inactive { IfOk result (λ r. r.0 ≡ None → self.new.made ≡ self.old.made) }
+        ensures refused { RefusesList L.setting self.old.rank requests.old (result_err result) }
+        ensures err { OnErr result ((self.new.made ≡ self.old.made) × (requests.new ≡ requests.old) × (out.new ≡ out.old)) }
+    {
+        let rank = self.rank;
+        let combiner: &Combiner<L> = &*self.combiner;
+        let Some(tally) = &mut self.tally else {
+            unreachable!()
+        };
+        let mut held = combiner.enter_to_test(rt);
+        let tested = held.locked.traced.tested_some(tally, rank, requests, out);
+        combiner.release(held);
+        tested
+    }
+
+    /// Waits until a request isn't Pending, and completes it if it is Done (`MPI_Wait`; MPI 4.1, 3.7.3); none where it is
+    /// null or Idle. Whoever finishes the request meanwhile may complete it for the port.
+    ///
+    /// # Errors
+    ///
+    /// Stale where the ticket names no live request, and NotYours where it is another rank's; Stalled where it would
+    /// sleep and nothing can go on any more; NoMemory of a step or of a combination; Stale where the result of a
+    /// combination that it made isn't wanted any longer. The request is as it was, and the steps that were made stay.
+    pub fn wait<R: Wait, G: Gate>(
+        &mut self,
+        rt: &R,
+        gate: &G,
+        request: &mut Request,
+    ) -> Result<(Option<Outcome>, Receipts), Refusal>
+        ensures rank { self.new.rank ≡ self.old.rank }
+        ensures groups { self.new.groups ≡ self.old.groups }
+        ensures told { IfOk result (λ r. TestsOne L.setting self.old.rank request.old request.new true r.0 r.1) }
+        ensures made { IfOk result (λ r. IfSome r.0 (λ outcome. self.new.made ≡ self.old.made + 1)) }
+        ensures none { IfOk result (λ r. r.0 ≡ None → self.new.made ≡ self.old.made) }
+        ensures refused { IfErr result (λ why. RefusesOne L.setting self.old.rank request.old (Some why) ⊎ IsHindrance L.setting why) }
+        ensures err { OnErr result ((self.new.made ≡ self.old.made) × (request.new ≡ request.old)) }
+    {
+        let rank = self.rank;
+        let combiner: &Combiner<L> = &*self.combiner;
+        let Some(first) = self.tally.take() else {
+            unreachable!()
+        };
+        let (tally, waited) = combiner.wait(rt, gate, rank, request, first);
+        self.tally = Some(tally);
+        waited
+    }
+
+    /// Waits until a request of a list is Done, and completes the lowest such one (`MPI_Waitany`; MPI 4.1, 3.7.5); none
+    /// where no request of it is active.
+    ///
+    /// # Errors
+    ///
+    /// Stale where a ticket names no live request, NotYours where it names another rank's: that of the first such request;
+    /// then as `wait`; and where the list names a request more than once, NoMemory also of what it notes before it sleeps.
+    pub fn wait_any<R: Wait, G: Gate>(
+        &mut self,
+        rt: &R,
+        gate: &G,
+        requests: &mut [Request],
+    ) -> Result<(Option<(usize, Outcome)>, Receipts), Refusal>
+        ensures rank { self.new.rank ≡ self.old.rank }
+        ensures groups { self.new.groups ≡ self.old.groups }
+        ensures told { IfOk result (λ r. TestsAny L.setting self.old.rank requests.old requests.new (any_of r.0) r.1) }
+        ensures made { IfOk result (λ r. IfSome r.0 (λ at. self.new.made ≡ self.old.made + 1)) }
+        ensures none { IfOk result (λ r. r.0 ≡ None → self.new.made ≡ self.old.made) }
+        ensures refused { IfErr result (λ why. RefusesList L.setting self.old.rank requests.old (Some why) ⊎ IsHindrance L.setting why) }
+        ensures err { OnErr result ((self.new.made ≡ self.old.made) × (requests.new ≡ requests.old)) }
+    {
+        let rank = self.rank;
+        let combiner: &Combiner<L> = &*self.combiner;
+        let Some(tally) = &mut self.tally else {
+            unreachable!()
+        };
+        for _ in rt.forever() {
+            let mut held = combiner.enter(rt);
+            let (any, receipts) = match held.locked.traced.tested_any(tally, rank, requests) {
+                Ok(told) => told,
+                Err(why) => {
+                    combiner.release(held);
+                    return Err(why);
+                }
+            };
+            let found = match any {
+                Any::At(position, outcome) => Some((position, outcome)),
+                Any::Undefined => None,
+                Any::Unfinished => {
+                    combiner.wait_listed(rt, gate, held, rank, Awaited::Any(requests))?;
+                    continue;
+                }
+            };
+            combiner.release(held);
+            return Ok((found, receipts));
+        }
+        unreachable!()
+    }
+
+    /// Waits until no request of a list is Pending, completes those that are Done (`MPI_Waitall`; MPI 4.1, 3.7.5), and
+    /// pushes each position with its outcome to `out`, in rising position. Before that it completes none.
+    ///
+    /// # Errors
+    ///
+    /// Of the list as `wait_any`, and then as `wait`.
+    pub fn wait_all<R: Wait, G: Gate>(
+        &mut self,
+        rt: &R,
+        gate: &G,
+        requests: &mut [Request],
+        out: &mut Vec<(usize, Outcome)>,
+    ) -> Result<Receipts, Refusal>
+        requires distinct { AreDistinct requests.old }
+        requires room { vec_len out.old + length requests.old ≤ vec_capacity out.old }
+        ensures rank { self.new.rank ≡ self.old.rank }
+        ensures groups { self.new.groups ≡ self.old.groups }
+        ensures told { IfOk result (λ r. TestsAll L.setting self.old.rank requests.old requests.new out.old.items out.new.items true r) }
+        ensures made { IfOk result (λ r. self.new.made + vec_len out.old ≡ self.old.made + vec_len out.new) }
+        ensures refused { IfErr result (λ why. RefusesList L.setting self.old.rank requests.old (Some why) ⊎ IsHindrance L.setting why) }
+        ensures err { OnErr result ((self.new.made ≡ self.old.made) × (requests.new ≡ requests.old) × (out.new ≡ out.old)) }
+    {
+        let rank = self.rank;
+        let combiner: &Combiner<L> = &*self.combiner;
+        let Some(tally) = &mut self.tally else {
+            unreachable!()
+        };
+        for _ in rt.forever() {
+            let mut held = combiner.enter(rt);
+            let told = match held.locked.traced.tested_all(tally, rank, requests, out) {
+                Ok((false, _)) => {
+                    combiner.wait_listed(rt, gate, held, rank, Awaited::All(requests))?;
+                    continue;
+                }
+                Ok((true, receipts)) => Ok(receipts),
+                Err(why) => Err(why),
+            };
+            combiner.release(held);
+            return told;
+        }
+        unreachable!()
+    }
+
+    /// Waits until a request of a list is Done, completes all that are (`MPI_Waitsome`; MPI 4.1, 3.7.5), pushes each
+    /// position with its outcome to `out`, in rising position, and answers how many there were, at least one; none where no
+    /// request is active.
+    ///
+    /// # Errors
+    ///
+    /// Of the list as `wait_any`, and then as `wait`.
+    pub fn wait_some<R: Wait, G: Gate>(
+        &mut self,
+        rt: &R,
+        gate: &G,
+        requests: &mut [Request],
+        out: &mut Vec<(usize, Outcome)>,
+    ) -> Result<(Option<usize>, Receipts), Refusal>
+        requires distinct { AreDistinct requests.old }
+        requires room { vec_len out.old + length requests.old ≤ vec_capacity out.old }
+        ensures rank { self.new.rank ≡ self.old.rank }
+        ensures groups { self.new.groups ≡ self.old.groups }
+        ensures told { IfOk result (λ r. TestsSome L.setting self.old.rank requests.old requests.new out.old.items out.new.items r.0 r.1) }
+        ensures some { IfOk result (λ r. IfSome r.0 (λ n. 0 < n)) }
+        ensures made { IfOk result (λ r. IfSome r.0 (λ n. self.new.made ≡ self.old.made + n)) }
+        ensures inactive { IfOk result (λ r. r.0 ≡ None → self.new.made ≡ self.old.made) }
+        ensures refused { IfErr result (λ why. RefusesList L.setting self.old.rank requests.old (Some why) ⊎ IsHindrance L.setting why) }
+        ensures err { OnErr result ((self.new.made ≡ self.old.made) × (requests.new ≡ requests.old) × (out.new ≡ out.old)) }
+    {
+        let rank = self.rank;
+        let combiner: &Combiner<L> = &*self.combiner;
+        let Some(tally) = &mut self.tally else {
+            unreachable!()
+        };
+        for _ in rt.forever() {
+            let mut held = combiner.enter(rt);
+            let told = match held.locked.traced.waited_some(tally, rank, requests, out) {
+                Ok(None) => {
+                    combiner.wait_listed(rt, gate, held, rank, Awaited::Any(requests))?;
+                    continue;
+                }
+                Ok(Some(answer)) => Ok(answer),
+                Err(why) => Err(why),
+            };
+            combiner.release(held);
+            return told;
+        }
+        unreachable!()
+    }
+}

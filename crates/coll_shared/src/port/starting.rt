@@ -1,0 +1,119 @@
+//! A port's starts of persistent requests.
+
+ghost use Rattle.std.specs.Prelude.{◌≡◌, ◌+◌, ◌<◌, ◌≤◌, [], IfErr, IfOk, None, OnErr, OnOk, length, slice_index_or, take, vec_capacity, vec_len};
+ghost use Rattle.std.specs.List.{zip};
+ghost use Rattle.coll_complete.specs.Starting.{lists_of, unused};
+ghost use Rattle.coll_traced.specs.Calls.{IsStarted};
+ghost use Rattle.coll_traced.specs.Denials.{DeniesStart};
+ghost use Rattle.coll_shared.specs.Starts.{PushesStarts};
+
+use crate::combiner::Combiner;
+use crate::port::Port;
+use coll_complete::{Halted, Request};
+use coll_kinds::{Refusal, Refused};
+use coll_traced::{Entries, Receipt};
+use std::mem;
+use std::sync::Wait;
+
+impl<L: Entries> Port<L> {
+    /// Starts a persistent request (`MPI_Start`; MPI 4.1, 3.9).
+    ///
+    /// # Errors
+    ///
+    /// Stale where the request is null; then those of `TracedCore::start`, in its order. The bytes are handed back.
+    pub fn start<R: Wait>(
+        &mut self,
+        rt: &R,
+        request: &Request,
+        bytes: Vec<u8>,
+    ) -> Result<Receipt, Refused<Vec<u8>>>
+        ensures rank { self.new.rank ≡ self.old.rank }
+        ensures groups { self.new.groups ≡ self.old.groups }
+        ensures made { OnOk result (self.new.made ≡ self.old.made + 1) }
+        ensures receipt { IfOk result (λ receipt. IsStarted self.old.rank request.now bytes.items receipt) }
+        ensures err { OnErr result (self.new.made ≡ self.old.made) }
+        ensures refused { IfErr result (λ refused. DeniesStart L.setting self.old.rank request.now bytes.items refused.why) }
+        ensures back { IfErr result (λ refused. refused.back ≡ bytes) }
+    {
+        let Some(ticket) = request.ticket() else {
+            return Err(Refused {
+                why: Refusal::Stale,
+                back: bytes,
+            });
+        };
+        let Some(tally) = self.tally.take() else {
+            unreachable!()
+        };
+        let combiner: &Combiner<L> = &*self.combiner;
+        let (tally, started) = combiner.start(rt, self.alloc, self.rank, ticket, bytes, tally);
+        self.tally = Some(tally);
+        started
+    }
+
+    /// Starts a persistent request with bytes that are taken; where it is refused, they are left.
+    fn start_taking<R: Wait>(
+        &mut self,
+        rt: &R,
+        request: &Request,
+        bytes: &mut Vec<u8>,
+    ) -> Result<Receipt, Refusal>
+        ensures rank { self.new.rank ≡ self.old.rank }
+        ensures groups { self.new.groups ≡ self.old.groups }
+        ensures made { OnOk result (self.new.made ≡ self.old.made + 1) }
+        ensures receipt { IfOk result (λ receipt. IsStarted self.old.rank request.now bytes.old.items receipt) }
+        ensures taken { OnOk result (bytes.new.items ≡ []) }
+        ensures err { OnErr result (self.new.made ≡ self.old.made) }
+        ensures refused { IfErr result (λ why. DeniesStart L.setting self.old.rank request.now bytes.old.items why) }
+        ensures left { OnErr result (bytes.new ≡ bytes.old) }
+    {
+        let empty = Vec::new(self.alloc);
+        match self.start(rt, request, mem::replace(bytes, empty)) {
+            Ok(receipt) => Ok(receipt),
+            Err(refused) => {
+                *bytes = refused.back;
+                Err(refused.why)
+            }
+        }
+    }
+
+    /// Starts the requests of a list in rising position, each with the bytes at its position (`MPI_Startall`; MPI 4.1, 3.9), and pushes
+    /// what shows each start to `receipts`.
+    ///
+    /// # Errors
+    ///
+    /// At the first position whose start is refused, with that refusal as `start` returns it. The requests before it stay started, with
+    /// their receipts in `receipts`, and what wasn't used comes back.
+    pub fn start_all<R: Wait>(
+        &mut self,
+        rt: &R,
+        requests: &[Request],
+        mut given: Vec<Vec<u8>>,
+        receipts: &mut Vec<Receipt>,
+    ) -> Result<(), Halted>
+        requires given { vec_len given ≡ length requests.now }
+        requires room { vec_len receipts.old + length requests.now ≤ vec_capacity receipts.old }
+        ensures rank { self.new.rank ≡ self.old.rank }
+        ensures groups { self.new.groups ≡ self.old.groups }
+        ensures made { OnOk result (self.new.made ≡ self.old.made + length requests.now) }
+        ensures starts { OnOk result (PushesStarts self.old.rank (zip requests.now (lists_of given.items)) receipts.old.items receipts.new.items) }
+        ensures within { IfErr result (λ halted. halted.at < length requests.now) }
+        ensures err { IfErr result (λ halted. self.new.made ≡ self.old.made + halted.at) }
+        ensures before { IfErr result (λ halted. PushesStarts self.old.rank (take halted.at (zip requests.now (lists_of given.items))) receipts.old.items receipts.new.items) }
+        ensures refused { IfErr result (λ halted. DeniesStart L.setting self.old.rank (slice_index_or requests.now halted.at None) (slice_index_or (lists_of given.items) halted.at []) halted.why) }
+        ensures back { IfErr result (λ halted. lists_of halted.back.items ≡ unused halted.at (lists_of given.items)) }
+    {
+        for (at, request) in requests.iter().enumerate() {
+            match self.start_taking(rt, request, &mut given[at]) {
+                Ok(receipt) => receipts.push_reserved(receipt),
+                Err(why) => {
+                    return Err(Halted {
+                        at,
+                        why,
+                        back: given,
+                    });
+                }
+            }
+        }
+        Ok(())
+    }
+}

@@ -1,0 +1,163 @@
+//! Posts and starts of a port, which it makes itself where the lock is free, and else has made by the combiner.
+
+ghost use Rattle.std.specs.Prelude.{◌≡◌, ◌+◌, IfErr, IfNone, IfOk, IfSome, OnErr, OnOk, Some};
+ghost use Rattle.coll_core.specs.Posts.{post_of};
+ghost use Rattle.coll_machine.specs.Calls.{Start};
+ghost use Rattle.coll_traced.specs.Calls.{IsPosted, IsStarted};
+ghost use Rattle.coll_traced.specs.Denials.{IsDenied};
+ghost use Rattle.coll_traced.specs.Prepared.{IsPreparedFor};
+ghost use Rattle.coll_shared.specs.Publications.{IsExpected};
+
+use crate::combiner::{Combiner, Held};
+use crate::publication::{Content, Expected};
+use crate::record::PublicationRecord;
+use coll_core::Offer;
+use coll_kinds::{Refusal, Refused, Ticket};
+use coll_traced::{Entries, Operation, Prepared, Receipt, Tally};
+use std::alloc::Global;
+use std::sync::Wait;
+
+impl<L: Entries> Combiner<L> {
+    /// Waits until there is an answer in the record, or serves it as the combiner.
+    fn await_made<R: Wait>(&self, rt: &R, record: &PublicationRecord<L>) {
+        if let Some(held) = self.spin(rt, record) {
+            self.release(held);
+            record.set_leads(true);
+        }
+    }
+
+    /// Has an operation made by the combiner. None where it wasn't made: the port is to see itself why.
+    fn have_made<R: Wait>(
+        &self,
+        rt: &R,
+        alloc: Global,
+        rank: u8,
+        operation: Option<Operation>,
+        expected: Expected<'_>,
+        tally: Tally<L>,
+    ) -> (Tally<L>, Option<(Ticket, Receipt)>)
+        ensures counted { IfSome result.1 (λ made. result.0 ≡ tally + 1) }
+        ensures expected { IfSome result.1 (λ made. IsExpected rank expected.entry made.0 made.1) }
+        ensures look { IfNone result.1 (result.0 ≡ tally) }
+    {
+        let (Some(record), Some(operation)) = (self.record(rank), operation) else {
+            return (tally, None);
+        };
+        let Ok(boxed) = Box::new(alloc, operation) else {
+            return (tally, None);
+        };
+        let before = tally.made();
+        record.publish(rt, Content::Operation(boxed), tally);
+        for _ in rt.forever() {
+            self.await_made(rt, record);
+            if let Some(answer) = record.take_made(rt, rank, expected, before) {
+                return answer;
+            }
+        }
+        unreachable!()
+    }
+
+    /// Takes the lock for a post of a port that leads, unless a thread has it. What the post keeps is made before that.
+    fn lead_post<R: Wait>(
+        &self,
+        rt: &R,
+        alloc: Global,
+        rank: u8,
+        offer: &Offer,
+    ) -> Option<(Held<'_, L>, Result<Prepared, Refusal>)>
+        ensures prepared { IfSome result (λ r. IfOk r.1 (IsPreparedFor offer.now)) }
+        ensures refused { IfSome result (λ r. IfErr r.1 (λ why. why ≡ Refusal.NoMemory)) }
+    {
+        if !self.record(rank)?.leads() {
+            return None;
+        }
+        let prepared = Prepared::of(alloc, offer);
+        let held = self.try_enter(rt)?;
+        Some((held, prepared))
+    }
+
+    /// Starts a collective for a port, whose tally it returns.
+    pub(crate) fn post<R: Wait>(
+        &self,
+        rt: &R,
+        alloc: Global,
+        rank: u8,
+        comm: u32,
+        offer: Offer,
+        tally: Tally<L>,
+    ) -> (Tally<L>, Result<(Ticket, Receipt), Refused<Offer>>)
+        ensures counted { OnOk result.1 (result.0 ≡ tally + 1) }
+        ensures posted { IfOk result.1 (λ made. IsPosted rank (Some made.0) comm offer.plan.sig offer.bytes.items made.1) }
+        ensures err { OnErr result.1 (result.0 ≡ tally) }
+        ensures refused { IfErr result.1 (λ refused. IsDenied L.setting (post_of rank comm offer) refused.why) }
+        ensures back { IfErr result.1 (λ refused. refused.back ≡ offer) }
+    {
+        let mut tally = tally;
+        let (mut held, prepared) = match self.lead_post(rt, alloc, rank, &offer) {
+            Some(lead) => lead,
+            None => {
+                let operation = Operation::post(alloc, comm, &offer);
+                let expected = Expected::Post {
+                    comm,
+                    sig: offer.plan.sig(),
+                    bytes: &offer.bytes,
+                };
+                let (back, made) = self.have_made(rt, alloc, rank, operation, expected, tally);
+                if let Some(made) = made {
+                    return (back, Ok(made));
+                }
+                tally = back;
+                let prepared = Prepared::of(alloc, &offer);
+                (self.enter(rt), prepared)
+            }
+        };
+        held.locked.traced.keeps_setting();
+        let posted = held
+            .locked
+            .traced
+            .post(&mut tally, rank, comm, offer, prepared);
+        self.release(held);
+        self.has_led(rank);
+        (tally, posted)
+    }
+
+    /// Starts a persistent request for a port, whose tally it returns.
+    pub(crate) fn start<R: Wait>(
+        &self,
+        rt: &R,
+        alloc: Global,
+        rank: u8,
+        ticket: Ticket,
+        bytes: Vec<u8>,
+        tally: Tally<L>,
+    ) -> (Tally<L>, Result<Receipt, Refused<Vec<u8>>>)
+        ensures counted { OnOk result.1 (result.0 ≡ tally + 1) }
+        ensures started { IfOk result.1 (λ receipt. IsStarted rank (Some ticket) bytes.items receipt) }
+        ensures err { OnErr result.1 (result.0 ≡ tally) }
+        ensures refused { IfErr result.1 (λ refused. IsDenied L.setting (Start rank ticket bytes.items) refused.why) }
+        ensures back { IfErr result.1 (λ refused. refused.back ≡ bytes) }
+    {
+        let mut tally = tally;
+        let mut held = match self.try_lead(rt, rank) {
+            Some(held) => held,
+            None => {
+                let operation = Operation::start(alloc, ticket, &bytes);
+                let expected = Expected::Start {
+                    ticket,
+                    bytes: &bytes,
+                };
+                let (back, made) = self.have_made(rt, alloc, rank, operation, expected, tally);
+                if let Some((_ticket, receipt)) = made {
+                    return (back, Ok(receipt));
+                }
+                tally = back;
+                self.enter(rt)
+            }
+        };
+        held.locked.traced.keeps_setting();
+        let started = held.locked.traced.start(&mut tally, rank, ticket, bytes);
+        self.release(held);
+        self.has_led(rank);
+        (tally, started)
+    }
+}

@@ -1,0 +1,287 @@
+//! What a thread does with the lock that goes on with what is ready: a waiting port, one that tests, and a progress thread.
+
+ghost use Rattle.std.specs.Prelude.{◌≡◌, IfErr};
+ghost use Rattle.coll_traced.specs.Awaiting.{IsHindrance, IsSetback};
+
+use crate::combiner::{Combiner, Held, pause};
+use crate::gate::Gate;
+use crate::locked::Successor;
+use crate::record::PublicationRecord;
+use crate::tuning::{CHAIN, HOLD, STEPS};
+use coll_core::{Stepped, Work};
+use coll_kinds::Refusal;
+use coll_traced::Entries;
+use std::sync::Wait;
+
+/// How the turn of a waiting port ended, which has given the lock up.
+#[derive(Drop)]
+pub(crate) enum Turn {
+    /// There is an answer.
+    Over,
+    /// It looks at its record.
+    Spin,
+    /// It sleeps.
+    Park,
+}
+
+/// What a waiting port that has the lock does next.
+#[derive(Drop)]
+enum Next {
+    /// It looks round again.
+    Again,
+    /// It computes a combination, with the lock free.
+    Compute(Work),
+    /// It ends its turn.
+    End(Turn),
+}
+
+/// What a waiting port did in its turn.
+#[derive(Clone, Copy)]
+struct Effort {
+    steps: u32,
+    combinations: u32,
+    /// How often in a row nothing was ready.
+    looks: u32,
+}
+
+impl<L: Entries> Combiner<L> {
+    /// Gives the lock up, and tells the gate of the piece whose result was written meanwhile.
+    fn leave<'a, G: Gate>(&'a self, gate: &G, held: Held<'a, L>, written: Option<u64>) {
+        self.release(held);
+        if let Some(piece) = written {
+            gate.after(piece);
+        }
+    }
+
+    /// A turn of a waiting port, which has the lock.
+    ///
+    /// # Errors
+    ///
+    /// Stalled where nothing can go on; NoMemory and Stale of a step or a combination. The wait is given up then.
+    pub(crate) fn turn<'a, R: Wait, G: Gate>(
+        &'a self,
+        rt: &R,
+        gate: &G,
+        held: Held<'a, L>,
+        rank: u8,
+        record: &PublicationRecord<L>,
+        may_park: bool,
+    ) -> Result<Turn, Refusal>
+        ensures { IfErr result (IsHindrance L.setting) }
+    {
+        let mut held = held;
+        let mut written = None;
+        let mut effort = Effort::none();
+        for _ in rt.forever() {
+            self.combine(&mut held);
+            match self.next(&mut held, rank, record, may_park, &mut effort) {
+                Ok(Next::Again) => {}
+                Ok(Next::Compute(work)) => {
+                    let (again, piece) = self.compute(rt, gate, held, Some(rank), written, work)?;
+                    held = again;
+                    written = Some(piece);
+                }
+                Ok(Next::End(turn)) => {
+                    self.leave(gate, held, written);
+                    return Ok(turn);
+                }
+                Err(why) => {
+                    held.locked.give_up(Some(rank));
+                    self.leave(gate, held, written);
+                    return Err(why);
+                }
+            }
+        }
+        unreachable!()
+    }
+
+    /// What a waiting port does next.
+    fn next(
+        &self,
+        held: &mut Held<'_, L>,
+        rank: u8,
+        record: &PublicationRecord<L>,
+        may_park: bool,
+        effort: &mut Effort,
+    ) -> Result<Next, Refusal>
+        ensures { IfErr result (IsHindrance L.setting) }
+    {
+        if record.is_answered() {
+            record.set_leads(true);
+            return Ok(Next::End(Turn::Over));
+        }
+        if effort.is_enough() {
+            return Ok(Next::End(Turn::Spin));
+        }
+        if held.locked.traced.is_ready() {
+            return Ok(match held.locked.step()? {
+                Stepped::Out(work) => effort.compute(work),
+                _ => effort.step(),
+            });
+        }
+        if held.locked.traced.is_stalled() {
+            return Err(Refusal::Stalled);
+        }
+        if effort.looks < HOLD && !self.is_wanted() {
+            return Ok(effort.look());
+        }
+        if may_park {
+            held.locked.parked = held.locked.parked.with(rank);
+            return Ok(Next::End(Turn::Park));
+        }
+        Ok(Next::End(Turn::Spin))
+    }
+
+    /// Computes a combination with the lock free, after the gate was told of the one that was written before; and writes its result.
+    /// Then the lock is held again, and the gate is still to be told of this one.
+    ///
+    /// # Errors
+    ///
+    /// NoMemory where the combination was refused memory; Stale where its result isn't wanted any longer. The lock is given up, and
+    /// so is the wait of the port, if one computed it.
+    fn compute<'a, R: Wait, G: Gate>(
+        &'a self,
+        rt: &R,
+        gate: &G,
+        held: Held<'a, L>,
+        rank: Option<u8>,
+        written: Option<u64>,
+        work: Work,
+    ) -> Result<(Held<'a, L>, u64), Refusal>
+        ensures { IfErr result IsSetback }
+    {
+        let mut held = held;
+        let piece = held.locked.next_piece();
+        held.locked.set_away(rank, true);
+        self.leave(gate, held, written);
+        gate.before(piece);
+        let computed = work.run();
+        let mut held = self.enter(rt);
+        held.locked.set_away(rank, false);
+        if let Err(why) = held.locked.write(computed) {
+            held.locked.give_up(rank);
+            self.release(held);
+            return Err(why);
+        }
+        Ok((held, piece))
+    }
+
+    /// Takes the lock for a test, and makes progress: the steps that need no combination, and one combination where nobody else is there
+    /// to compute it. That isn't numbered, and no gate is told of it. Where it is refused, the next call finds it again.
+    pub(crate) fn enter_to_test<R: Wait>(&self, rt: &R) -> Held<'_, L> {
+        let mut held = self.enter(rt);
+        self.combine(&mut held);
+        if held.locked.successor() != Successor::Nobody {
+            return held;
+        }
+        let Ok(Stepped::Out(work)) = held.locked.step() else {
+            return held;
+        };
+        self.release(held);
+        let computed = work.run();
+        let mut held = self.enter(rt);
+        let _ = held.locked.write(computed);
+        self.combine(&mut held);
+        held
+    }
+
+    /// A progress thread, until it is stopped. Returns how many combinations it computed.
+    ///
+    /// # Errors
+    ///
+    /// NoMemory of a step or a combination; Stale where the result of one isn't wanted any longer.
+    pub(crate) fn work<R: Wait, G: Gate>(&self, rt: &R, gate: &G) -> Result<u64, Refusal>
+        ensures { IfErr result IsSetback }
+    {
+        let mut computed = 0u64;
+        let mut written = None;
+        let mut held = self.enter(rt);
+        for _ in rt.forever() {
+            self.combine(&mut held);
+            if held.locked.stopped {
+                self.leave(gate, held, written);
+                return Ok(computed);
+            }
+            if !held.locked.traced.is_ready() {
+                held = self.idle(rt, gate, held, written);
+                written = None;
+                continue;
+            }
+            match held.locked.step() {
+                Ok(Stepped::Out(work)) => {
+                    let (again, piece) = self.compute(rt, gate, held, None, written, work)?;
+                    held = again;
+                    written = Some(piece);
+                    computed = computed.saturating_add(1);
+                }
+                Ok(_) => {
+                    self.leave(gate, held, written);
+                    written = None;
+                    held = self.enter(rt);
+                }
+                Err(why) => {
+                    self.leave(gate, held, written);
+                    return Err(why);
+                }
+            }
+        }
+        unreachable!()
+    }
+
+    /// A progress thread that has the lock sleeps, since nothing is ready, and takes the lock again. It is counted under the lock, so that
+    /// a thread which makes something ready later wakes it.
+    fn idle<'a, R: Wait, G: Gate>(
+        &'a self,
+        rt: &R,
+        gate: &G,
+        held: Held<'a, L>,
+        written: Option<u64>,
+    ) -> Held<'a, L> {
+        let mut held = held;
+        held.locked.idle = held.locked.idle.saturating_add(1);
+        let key = self.idlers.prepare_wait();
+        self.leave(gate, held, written);
+        self.falls_asleep();
+        key.wait(rt);
+        self.wakes_up();
+        let mut held = self.enter(rt);
+        held.locked.idle = held.locked.idle.saturating_sub(1);
+        held
+    }
+}
+
+impl Effort {
+    fn none() -> Effort {
+        Effort {
+            steps: 0,
+            combinations: 0,
+            looks: 0,
+        }
+    }
+
+    /// Whether the port has done its part, and is to look at its record.
+    fn is_enough(&self) -> bool {
+        self.steps >= STEPS || self.combinations >= CHAIN
+    }
+
+    /// A step was made.
+    fn step(&mut self) -> Next {
+        self.looks = 0;
+        self.steps = self.steps.saturating_add(1);
+        Next::Again
+    }
+
+    /// A combination is computed.
+    fn compute(&mut self, work: Work) -> Next {
+        self.looks = 0;
+        self.combinations = self.combinations.saturating_add(1);
+        Next::Compute(work)
+    }
+
+    /// Nothing was ready.
+    fn look(&mut self) -> Next {
+        pause(self.looks);
+        self.looks = self.looks.saturating_add(1);
+        Next::Again
+    }
+}

@@ -1,0 +1,193 @@
+//! How a port waits: it looks at its record, takes the lock now and then, goes on with what is ready for all, and parks where nothing is.
+
+ghost use Rattle.std.specs.Prelude.{◌≡◌, ◌+◌, ◌⊎◌, IfErr, IfNone, IfOk, IfSome, None, OnErr, Some, true};
+ghost use Rattle.coll_traced.specs.Awaiting.{IsHindrance};
+ghost use Rattle.coll_traced.specs.Tests.{RefusesOne, TestsOne};
+
+use crate::combiner::{Combiner, Held, pause};
+use crate::gate::Gate;
+use crate::publication::Content;
+use crate::record::PublicationRecord;
+use crate::tuning::{LOOKS, SELDOM};
+use crate::turn::Turn;
+use coll_complete::Request;
+use coll_core::Outcome;
+use coll_kinds::{Refusal, Ticket};
+use coll_traced::{Awaited, Completed, Entries, Receipts, Tally};
+use std::sync::Wait;
+
+impl<L: Entries> Combiner<L> {
+    /// Looks for an answer in the record, and now and then whether the lock is free. None where there is an answer.
+    pub(crate) fn spin<R: Wait>(
+        &self,
+        rt: &R,
+        record: &PublicationRecord<L>,
+    ) -> Option<Held<'_, L>> {
+        for look in 0..LOOKS {
+            if record.is_answered() {
+                record.set_leads(false);
+                return None;
+            }
+            if look % SELDOM == SELDOM - 1 {
+                if let Some(held) = self.try_enter(rt) {
+                    return Some(held);
+                }
+            }
+            pause(look);
+        }
+        Some(self.enter(rt))
+    }
+
+    /// A port that is noted as parked sleeps until its record is answered.
+    fn park<R: Wait>(&self, rt: &R, record: &PublicationRecord<L>) {
+        self.falls_asleep();
+        record.park(rt);
+        self.wakes_up();
+    }
+
+    /// A port whose wait is published or registered waits for the answer. It may have the lock.
+    fn await_answer<'a, R: Wait, G: Gate>(
+        &'a self,
+        rt: &R,
+        gate: &G,
+        held: Option<Held<'a, L>>,
+        rank: u8,
+        record: &PublicationRecord<L>,
+    ) -> Result<(), Refusal>
+        ensures { IfErr result (IsHindrance L.setting) }
+    {
+        let mut held = held;
+        let mut may_park = false;
+        for _ in rt.forever() {
+            let turn = match held {
+                Some(held) => self.turn(rt, gate, held, rank, record, may_park)?,
+                None => Turn::Spin,
+            };
+            match turn {
+                Turn::Over => return Ok(()),
+                Turn::Park => {
+                    self.park(rt, record);
+                    return Ok(());
+                }
+                Turn::Spin => match self.spin(rt, record) {
+                    Some(again) => held = Some(again),
+                    None => return Ok(()),
+                },
+            }
+            may_park = true;
+        }
+        unreachable!()
+    }
+
+    /// Waits for one request by the port's record, with its tally in it. The completion, or none where the port has to look itself.
+    fn wait_published<R: Wait, G: Gate>(
+        &self,
+        rt: &R,
+        gate: &G,
+        rank: u8,
+        ticket: Ticket,
+        tally: Tally<L>,
+    ) -> (Tally<L>, Result<Option<Completed<L>>, Refusal>)
+        ensures counted { IfOk result.1 (λ found. IfSome found (λ completed. result.0 ≡ tally + 1)) }
+        ensures completed { IfOk result.1 (λ found. IfSome found (λ completed. (completed.rank ≡ rank) × (completed.ticket ≡ ticket))) }
+        ensures none { IfOk result.1 (λ found. IfNone found (result.0 ≡ tally)) }
+        ensures err { OnErr result.1 (result.0 ≡ tally) }
+        ensures refused { IfErr result.1 (IsHindrance L.setting) }
+    {
+        let Some(record) = self.record(rank) else {
+            return (tally, Ok(None));
+        };
+        let before = tally.made();
+        let mut held = self.try_lead(rt, rank);
+        record.publish(rt, Content::Wait(ticket), tally);
+        for _ in rt.forever() {
+            if let Err(why) = self.await_answer(rt, gate, held, rank, record) {
+                if let Some(tally) = record.take_back(before) {
+                    return (tally, Err(why));
+                }
+            }
+            if let Some((tally, found)) = record.take_completed(rt, rank, ticket, before) {
+                return (tally, Ok(found));
+            }
+            held = None;
+        }
+        unreachable!()
+    }
+
+    /// Waits until the request isn't Pending, and completes it if it is Done.
+    pub(crate) fn wait<R: Wait, G: Gate>(
+        &self,
+        rt: &R,
+        gate: &G,
+        rank: u8,
+        request: &mut Request,
+        first: Tally<L>,
+    ) -> (Tally<L>, Result<(Option<Outcome>, Receipts), Refusal>)
+        ensures told { IfOk result.1 (λ r. TestsOne L.setting rank request.old request.new true r.0 r.1) }
+        ensures counted { IfOk result.1 (λ r. IfSome r.0 (λ outcome. result.0 ≡ first + 1)) }
+        ensures none { IfOk result.1 (λ r. r.0 ≡ None → result.0 ≡ first) }
+        ensures refused { IfErr result.1 (λ why. RefusesOne L.setting rank request.old (Some why) ⊎ IsHindrance L.setting why) }
+        ensures err { OnErr result.1 ((request.new ≡ request.old) × (result.0 ≡ first)) }
+    {
+        let mut tally = first;
+        for _ in rt.forever() {
+            if let Some(ticket) = request.ticket() {
+                let (back, found) = self.wait_published(rt, gate, rank, ticket, tally);
+                tally = back;
+                match found {
+                    Ok(Some(completed)) => {
+                        let (left, outcome, receipts) = completed.open();
+                        *request = left;
+                        return (tally, Ok((Some(outcome), receipts)));
+                    }
+                    Ok(None) => {}
+                    Err(why) => return (tally, Err(why)),
+                }
+            }
+            let mut held = self.enter(rt);
+            let looked = held.locked.traced.tested(&mut tally, rank, request);
+            self.release(held);
+            match looked {
+                Ok((tested, receipts)) if tested.flag => {
+                    return (tally, Ok((tested.outcome, receipts)));
+                }
+                Ok(_) => {}
+                Err(why) => return (tally, Err(why)),
+            }
+        }
+        unreachable!()
+    }
+
+    /// A port that has the lock waits for what it awaits of a list, until it is to look.
+    pub(crate) fn wait_listed<'a, R: Wait, G: Gate>(
+        &'a self,
+        rt: &R,
+        gate: &G,
+        held: Held<'a, L>,
+        rank: u8,
+        awaited: Awaited<'_>,
+    ) -> Result<(), Refusal>
+        ensures { IfErr result (IsHindrance L.setting) }
+    {
+        let mut held = held;
+        let Some(record) = self.record(rank) else {
+            self.release(held);
+            return Ok(());
+        };
+        match held.locked.traced.register(rank, awaited) {
+            Ok(true) => {}
+            Ok(false) => {
+                self.release(held);
+                return Ok(());
+            }
+            Err(why) => {
+                self.release(held);
+                return Err(why);
+            }
+        }
+        record.register(rt);
+        let ended = self.await_answer(rt, gate, Some(held), rank, record);
+        record.clear();
+        ended
+    }
+}
