@@ -71,15 +71,15 @@ pub completed : (g : Setting) (rank : ℕ) (m n : Machine) (p q : Part) (held le
     → is_done m held ≡ true → q.completed ≡ true → q.count ≡ count → q.at ≡ p.at → q.room ≡ p.room
     → CompletesPart g rank m n p q old (take b old ++ (sub ++ drop (e - b) (drop b old)))
 completed g rank m n p q held left old sub sub_old b e count held_is left_is q_is b_is e_is old_is c long done completed_is count_is at_is room_is =
-    let fits : length c.outcome.bytes.items ≤ span_len p (length old) =
+    let fits : length c.outcome.bytes ≤ span_len p (length old) =
     let r = c.room in let k = c.count_is in omega (arith, r, k, long) in
     record {
       outcome = Some c.outcome;
       done = sym done ∙ ap (is_done m) held_is;
       runs = subst (λ (r : Option Ticket). Runs g m (completion rank r c.outcome) n) held_is c.runs;
       memory =
-          spliced p old c.outcome.bytes.items sub b e b_is e_is fits
-          (c.fills ∙ ap (λ (ys : List ℕ). c.outcome.bytes.items ++ drop (length c.outcome.bytes.items) ys) old_is);
+          spliced p old c.outcome.bytes sub b e b_is e_is fits
+          (c.fills ∙ ap (λ (ys : List ℕ). c.outcome.bytes ++ drop (length c.outcome.bytes) ys) old_is);
       completed = completed_is;
       count_is = count_is ∙ c.count_is;
       request =

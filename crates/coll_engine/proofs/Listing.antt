@@ -47,7 +47,7 @@ posts_completed g rank r None m n runs = sym (ap (λ (k : Machine). k.state.post
 posts_completed g rank None (Some o) m n runs = sym (ap (λ (k : Machine). k.state.posts) runs)
 posts_completed g rank (Some t) (Some o) m n (mid, step, same) =
     sym (ap (λ (k : Machine). k.state.posts) same)
-    ∙ posts_retired g rank o.rank t o.comm o.place o.start o.bytes.items m mid step
+    ∙ posts_retired g rank o.rank t o.comm o.place o.start o.bytes m mid step
 
 -- whether other requests are Done
 phase_same : (m n : Machine) (t : Ticket) (o : Option Request) → n.done t.slot ≡ m.done t.slot
@@ -82,7 +82,7 @@ laid-append : (parts : List Part) (xs ys : List (ℕ × Outcome)) (memory : List
     → laid parts (xs ++ ys) memory ≡ laid parts ys (laid parts xs memory)
 laid-append parts [] ys memory = refl
 laid-append parts (x ∷ xs) ys memory =
-    laid-append parts xs ys (written (slice_index (map (λ (p : Part). p.at) parts) x.0) x.1.bytes.items memory)
+    laid-append parts xs ys (written (slice_index (map (λ (p : Part). p.at) parts) x.0) x.1.bytes memory)
 
 at_index : (parts : List Part) (i : ℕ) (p : Part) → slice_get parts i ≡ Some p
     → slice_index (map (λ (p : Part). p.at) parts) i ≡ p.at
@@ -93,7 +93,7 @@ at_index parts i p is =
 laid-noted : (parts : List Part) (i : ℕ) (p : Part) (o : Option Outcome) (memory : List ℕ)
     → slice_get parts i ≡ Some p → laid parts (noted i o) memory ≡ written_if p.at o memory
 laid-noted parts i p None memory is = refl
-laid-noted parts i p (Some o) memory is = ap (λ at. written at o.bytes.items memory) (at_index parts i p is)
+laid-noted parts i p (Some o) memory is = ap (λ at. written at o.bytes memory) (at_index parts i p is)
 
 completed_from-append : (i : ℕ) (xs ys : List Part)
     → completed_from i (xs ++ ys) ≡ completed_from i xs ++ completed_from (i + length xs) ys
@@ -214,7 +214,7 @@ going_more g h rank m n k was now old new next i many more p q set distinct fits
       told =
           ap (completed_from 0) (take_more_set now i q low)
           ∙ (completed_from-append 0 (take i now) (q ∷ [])
-          ∙ (told_more ∙ sym (map-append (λ (out : ℕ × Outcome). (out.0, length out.1.bytes.items)) go.outcomes (noted i o))));
+          ∙ (told_more ∙ sym (map-append (λ (out : ℕ × Outcome). (out.0, length out.1.bytes)) go.outcomes (noted i o))));
       requests =
           map-set ticket_of now i q
           ∙ swept_list-set m n list (tickets_of now) i x (ticket_of q) go.requests in_list c.request

@@ -74,11 +74,11 @@ retired : (g : Setting) (rank who : ℕ) (t : Ticket) (comm place start : ℕ) (
 retired g rank who t comm place start bytes _ _ (retire {s} {u} {done} _ _ _ _ _ _ h is) = record { after = u; retires = h; done = is }
 
 pub outcome_fits : (p : Parts) (n : Machine) (rank : ℕ) (r : Option Ticket) (o : Outcome) (room : ℕ) → FreeLock (tables p) → is_done (seen p) r ≡ true
-    → Runs (setting p) (seen p) (completion rank r o) n → RoomFor (setting p) (seen p) r room → length o.bytes.items ≤ room
+    → Runs (setting p) (seen p) (completion rank r o) n → RoomFor (setting p) (seen p) r room → length o.bytes ≤ room
 outcome_fits p n rank None o room lock done runs has = absurd (false≢true done)
 outcome_fits p n rank (Some t) o room lock done runs has =
-    let h = retired (setting p) rank o.rank t o.comm o.place o.start o.bytes.items (seen p) runs.0 runs.1 in
-    fits_in (tables p) rank t o.comm o.place o.start o.bytes.items h.after room lock h.retires h.done (has done)
+    let h = retired (setting p) rank o.rank t o.comm o.place o.start o.bytes (seen p) runs.0 runs.1 in
+    fits_in (tables p) rank t o.comm o.place o.start o.bytes h.after room lock h.retires h.done (has done)
 
 -- ---- the test of room
 
@@ -144,12 +144,12 @@ length_for p v same r t is lengths phase len a e len_is =
 
 -- the outcome of a test
 pub tested_fits : (p v : Parts) → p ≡ v → (n : Machine) (rank : ℕ) (r : Option Ticket) (tested : Option Outcome) (o : Outcome) → tested ≡ Some o → (room : ℕ) → FreeLock (tables p) → is_some tested ≡ is_done (seen p) r
-    → Runs (setting p) (seen p) (completion_if rank r tested) n → RoomFor (setting v) (seen v) r room → length o.bytes.items ≤ room
+    → Runs (setting p) (seen p) (completion_if rank r tested) n → RoomFor (setting v) (seen v) r room → length o.bytes ≤ room
 tested_fits p v same n rank r tested o is room lock some runs has =
     outcome_fits p n rank r o room lock (sym some ∙ ap is_some is) (subst (λ (x : Option Outcome). Runs (setting p) (seen p) (completion_if rank r x) n) is runs) (subst (λ (k : Parts). RoomFor (setting k) (seen k) r room) (sym same) has)
 
 pub completed : (p v : Parts) → p ≡ v → (n : Machine) (rank : ℕ) (r : Option Ticket) (tested : Option Outcome) (o : Outcome) → tested ≡ Some o → Runs (setting p) (seen p) (completion_if rank r tested) n
-    → (count : ℕ) (old new laid : List ℕ) → count ≡ length o.bytes.items → length o.bytes.items ≤ length old → laid ≡ o.bytes.items → Fills old new laid → Completes (setting v) (seen v) rank r old count new n
+    → (count : ℕ) (old new laid : List ℕ) → count ≡ length o.bytes → length o.bytes ≤ length old → laid ≡ o.bytes → Fills old new laid → Completes (setting v) (seen v) rank r old count new n
 completed p v same n rank r tested o is runs count old new laid count_is room laid_is fills = record {
   outcome = o;
   runs = subst (λ (k : Parts). Runs (setting k) (seen k) (completion rank r o) n) same (subst (λ (x : Option Outcome). Runs (setting p) (seen p) (completion_if rank r x) n) is runs);

@@ -81,9 +81,9 @@ pub record Completes (g : Setting) (m : Machine) (rank : ℕ) (r : Option Ticket
     (n : Machine) : Type 0 where
   pub outcome : Outcome
   pub runs : Runs g m (completion rank r outcome) n
-  pub count_is : count ≡ length outcome.bytes.items
+  pub count_is : count ≡ length outcome.bytes
   pub room : count ≤ length old
-  pub fills : Fills old new outcome.bytes.items
+  pub fills : Fills old new outcome.bytes
 
 -- the request is Done, and there is room for fewer bytes than its outcome has
 pub record IsShort (g : Setting) (m : Machine) (t : Ticket) (room : ℕ) (why : Refusal) : Type 0 where

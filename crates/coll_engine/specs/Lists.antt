@@ -50,7 +50,7 @@ written at bytes memory = take at memory ++ (bytes ++ drop (at + length bytes) m
 abbrev pub laid : List Part → List (ℕ × Outcome) → List ℕ → List ℕ
 laid parts [] memory = memory
 laid parts (out ∷ outs) memory =
-    laid parts outs (written (slice_index (map (λ p. p.at) parts) out.0) out.1.bytes.items memory)
+    laid parts outs (written (slice_index (map (λ p. p.at) parts) out.0) out.1.bytes memory)
 
 -- of the parts from one on, those that were completed, with the bytes of their outcomes
 abbrev pub completed_from : ℕ → List Part → List (ℕ × ℕ)
@@ -58,7 +58,7 @@ completed_from i [] = []
 completed_from i (p ∷ ps) = (if p.completed then (i, p.count) ∷ [] else []) ++ completed_from (i + 1) ps
 
 abbrev pub counts_of : List (ℕ × Outcome) → List (ℕ × ℕ)
-counts_of outs = map (λ out. (out.0, length out.1.bytes.items)) outs
+counts_of outs = map (λ out. (out.0, length out.1.bytes)) outs
 
 abbrev pub spans_of : List Part → List (ℕ × ℕ)
 spans_of parts = map (λ p. (p.at, p.room)) parts
@@ -76,11 +76,11 @@ pub record CompletesParts (g : Setting) (rank : ℕ) (m n : Machine) (was is : L
 
 abbrev pub written_if : ℕ → Option Outcome → List ℕ → List ℕ
 written_if at None memory = memory
-written_if at (Some o) memory = written at o.bytes.items memory
+written_if at (Some o) memory = written at o.bytes memory
 
 abbrev pub count_if : Option Outcome → ℕ
 count_if None = 0
-count_if (Some o) = length o.bytes.items
+count_if (Some o) = length o.bytes
 
 -- one request was completed, if it was Done
 pub record CompletesPart (g : Setting) (rank : ℕ) (m n : Machine) (was is : Part) (old new : List ℕ) : Type 0 where

@@ -41,8 +41,8 @@ impl Engine {
         let Some(outcome) = outcome else {
             return Ok(Test::without_outcome(flag));
         };
-        lay_out(&outcome.bytes, out);
-        Ok(Test::Completed(outcome.bytes.len()))
+        lay_out(outcome.bytes.as_slice(), out);
+        Ok(Test::Completed(outcome.bytes.len() as usize))
     }
 
     /// Refuses memory that is too short for the outcome of a request that is Done.

@@ -1,4 +1,4 @@
-use Rattle.std.proofs.Common.{◌≡◌, ◌≤◌, length, arith}
+use Rattle.std.proofs.Common.{◌≡◌, ◌≤◌, length}
 use Rattle.coll_core.specs.Cores.{seen}
 use Rattle.coll_engine.proofs.Keeping.{kept_tested}
 use Rattle.coll_engine.proofs.Outcomes.{completed, tested_fits}
@@ -6,7 +6,7 @@ use Rattle.coll_engine.proofs.engine.Engine.test.Goals as goal
 
 pub lay_out-requires : goal.lay_out-requires
 lay_out-requires c =
-    rw c.deref.ensures.value (
+    rw c.as_slice.ensures (
     tested_fits c.self.inside.core c.args.self.now c.self.view_is (seen c.test.new.core) c.args.rank c.args.request.now c.in-Ok.tested.outcome c.in-Some.outcome c.in-Some.is (length c.args.out.now)
     c.lock_is_free.ensures c.in-Ok.ensures.outcome c.in-Ok.ensures.completes c.in_ok-check_room.ensures.room)
 
@@ -17,9 +17,9 @@ invariant_of-self-2 c =
 pub returns-clause-completes : goal.returns-clause-completes
 returns-clause-completes c =
     let o = c.in-Some.outcome in
-    let room : length o.bytes.items ≤ length c.args.out.now =
+    let room : length o.bytes ≤ length c.args.out.now =
     tested_fits c.self.inside.core c.args.self.now c.self.view_is (seen c.test.new.core) c.args.rank c.args.request.now c.in-Ok.tested.outcome o c.in-Some.is (length c.args.out.now)
     c.lock_is_free.ensures c.in-Ok.ensures.outcome c.in-Ok.ensures.completes c.in_ok-check_room.ensures.room in
-    let count : c.len.result ≡ length o.bytes.items = omega (arith, c.len.ensures, o.bytes.ok) in
+    let count : c.len.result ≡ length o.bytes = c.len.ensures in
     completed c.self.inside.core c.args.self.now c.self.view_is (seen c.test.new.core) c.args.rank c.args.request.now c.in-Ok.tested.outcome o c.in-Some.is c.in-Ok.ensures.completes
-    c.len.result c.args.out.now c.lay_out.new.out c.deref.result.now count room c.deref.ensures.value c.lay_out.ensures
+    c.len.result c.args.out.now c.lay_out.new.out c.as_slice.result.now count room c.as_slice.ensures c.lay_out.ensures
