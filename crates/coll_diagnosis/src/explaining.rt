@@ -2,6 +2,7 @@
 
 ghost use Rattle.std.specs.Prelude.{◌≡◌, ◌≢◌, IfOk, IfErr, IfSome, OnOk, IsOkUnless};
 ghost use Rattle.std.specs.Io.KnownBytes.{Keeps};
+ghost use Rattle.coll_script.specs.Plain.{HasCause};
 ghost use Rattle.coll_diagnosis.specs.Explained.{HasMeaning, IsFaultOf, IsExplainFault};
 ghost use Rattle.coll_diagnosis.specs.Verdicts.{IsStatus};
 
@@ -10,7 +11,7 @@ use crate::explanation::Explanation;
 use crate::json_form::json_form;
 use crate::text_form::text_form;
 use coll_kinds::Refusal;
-use coll_script::{Counted, JobFault, Script, read_text, write_lines};
+use coll_script::{Counted, JobFault, Script, Witnessed, read_text, write_lines};
 use std::alloc::Global;
 use std::io::{Read, Write};
 
@@ -47,7 +48,7 @@ pub fn explain_job<R: Read, W: Write>(
     name: &str,
     options: ExplainOptions,
     reader: &mut Counted<'_, R>,
-    writer: &mut W,
+    writer: &mut Witnessed<'_, W>,
 ) -> Result<u8, JobFault>
     requires unread { reader.old.reads ≡ 0 }
     // Only a text that has a meaning is explained.
@@ -55,7 +56,10 @@ pub fn explain_job<R: Read, W: Write>(
     ensures status { IfOk result IsStatus }
     // The fault of a text is the one that its definition gives.
     ensures faults { IfErr result (IsExplainFault (R.remaining reader.old.reader.now)) }
-    ensures unwritten { IfErr result (λ fault. fault ≢ JobFault.Write → Keeps (W.contents writer.old) (W.contents writer.new)) }
+    // A read fault is answered only where the reader failed, and a write fault only where the writer did.
+    ensures cause { IfErr result (λ fault. HasCause fault reader.new.failed writer.new.failed) }
+    ensures same_writer { writer.new.stream.ghost_name ≡ writer.old.stream.ghost_name }
+    ensures unwritten { IfErr result (λ fault. fault ≢ JobFault.Write → Keeps (W.contents writer.old.stream.now) (W.contents writer.new.stream.now)) }
 {
     let text = read_text(alloc, reader)?;
     let explained = explain_text(alloc, name, options, &text)?;

@@ -1,8 +1,9 @@
 //! From a reader to writers: a text checked.
 
-ghost use Rattle.std.specs.Prelude.{◌≡◌, ◌≢◌, IfOk, IfErr, IfSome, IfNone, IsOkUnless, Err};
+ghost use Rattle.std.specs.Prelude.{◌≡◌, ◌≢◌, ◌||◌, IfOk, IfErr, IfSome, IfNone, IsOkUnless, Err};
 ghost use Rattle.std.specs.Io.KnownBytes.{Keeps};
 ghost use Rattle.coll_script.specs.Meaning.{meaning};
+ghost use Rattle.coll_script.specs.Plain.{HasCause};
 ghost use Rattle.coll_diagnosis.specs.Explained.{HasMeaning};
 ghost use Rattle.coll_diagnosis.specs.Explained as explained;
 ghost use Rattle.coll_diagnosis.specs.Verdicts.{IsStatus};
@@ -12,7 +13,7 @@ use crate::faults::Faults;
 use crate::json_form::{faultless_json, faults_json};
 use crate::text_form::{faultless_text, faults_text};
 use coll_diagnosis::{ExplainOptions, Form, explain_text};
-use coll_script::{Counted, JobFault, read_text, write_lines};
+use coll_script::{Counted, JobFault, Witnessed, read_text, write_lines};
 use std::alloc::Global;
 use std::io::{Read, Write};
 
@@ -36,16 +37,19 @@ pub fn check_job<R: Read, W: Write, E: Write>(
     name: &str,
     form: CheckForm,
     reader: &mut Counted<'_, R>,
-    output: &mut W,
-    errors: &mut E,
+    output: &mut Witnessed<'_, W>,
+    errors: &mut Witnessed<'_, E>,
 ) -> Result<u8, JobFault>
     requires unread { reader.old.reads ≡ 0 }
     // The status is 2 exactly where the text has a fault.
     ensures status { IfOk result (λ status. IfSome (R.remaining reader.old.reader.now) (λ input. IsCheckStatus input status)) }
     ensures statuses { IfOk result IsSomeStatus }
     ensures faults { IfErr result (IsCheckFault (R.remaining reader.old.reader.now)) }
-    ensures lines { KeepsLines form (W.contents output.old) (W.contents output.new) }
-    ensures unwritten { IfErr result (λ fault. fault ≢ JobFault.Write → Keeps (W.contents output.old) (W.contents output.new)) }
+    // A read fault is answered only where the reader failed, and a write fault only where one of the writers did.
+    ensures cause { IfErr result (λ fault. HasCause fault reader.new.failed (output.new.failed || errors.new.failed)) }
+    ensures same_writer { output.new.stream.ghost_name ≡ output.old.stream.ghost_name }
+    ensures lines { KeepsLines form (W.contents output.old.stream.now) (W.contents output.new.stream.now) }
+    ensures unwritten { IfErr result (λ fault. fault ≢ JobFault.Write → Keeps (W.contents output.old.stream.now) (W.contents output.new.stream.now)) }
 {
     let text = read_text(alloc, reader)?;
     let (lines, status) = told(alloc, name, form, &text)?;

@@ -1,5 +1,5 @@
 -- What reading a text and answering it may end in.
-use Rattle.std.specs.Prelude.{◌≡◌, List, ℕ, Option, IfSome, Ok, Err}
+use Rattle.std.specs.Prelude.{◌≡◌, List, ℕ, Bool, true, Option, IfSome, Ok, Err}
 use Rattle.std.specs.Io.KnownBytes.{Appends}
 use Rattle.coll_script.specs.Meaning.{meaning}
 use Rattle.coll_script.specs.declared.fault.JobFault.{JobFault}
@@ -10,6 +10,12 @@ abbrev pub IsReadFault : JobFault → Type 0
 IsReadFault Read = Unit {0}
 IsReadFault Memory = Unit {0}
 IsReadFault fault = ⊥
+
+-- a read fault comes of a reader that failed, and a write fault of a writer that did
+abbrev pub HasCause : JobFault → Bool → Bool → Type 0
+HasCause Read reader writer = reader ≡ true
+HasCause Write reader writer = writer ≡ true
+HasCause fault reader writer = Unit {0}
 
 -- the faults of a plain job; a fault of the text is the one that its definition gives, where the text is known
 abbrev pub IsPlainFault : Option (List ℕ) → JobFault → Type 0

@@ -1,16 +1,17 @@
-ghost use Rattle.std.specs.Prelude.{◌≡◌, ◌<◌, ◌+◌};
+ghost use Rattle.std.specs.Prelude.{◌≡◌, ◌<◌, ◌+◌, true, false, OnOk, OnErr};
 ghost use Rattle.std.specs.Io.{ReadsAtMost};
 ghost use Rattle.std.specs.Io.KnownBytes.{ReadConsumes};
 
 use std::io;
 use std::io::Read;
 
-/// A reader that counts how often it is read. Its reader is reached by [`Counted::read`] alone, so no read
-/// of it goes uncounted.
+/// A reader that counts how often it is read, and remembers whether a read failed. Its reader is reached by [`Counted::read`] alone, so no
+/// read of it goes uncounted, and nothing else sets the flag.
 #[derive(Drop)]
 pub struct Counted<'r, R> {
     reader: &'r mut R,
     reads: u32,
+    failed: bool,
 }
 
 impl<'r, R: Read> Counted<'r, R> {
@@ -19,8 +20,13 @@ impl<'r, R: Read> Counted<'r, R> {
         ensures same_reference { result.reader.ghost_name ≡ reader.entry.ghost_name }
         ensures reader { result.reader.now ≡ reader.old }
         ensures reads { result.reads ≡ 0 }
+        ensures failed { result.failed ≡ false }
     {
-        Counted { reader, reads: 0 }
+        Counted {
+            reader,
+            reads: 0,
+            failed: false,
+        }
     }
 
     /// How often it has been read.
@@ -30,6 +36,13 @@ impl<'r, R: Read> Counted<'r, R> {
         self.reads
     }
 
+    /// Whether the reader answered an error.
+    pub fn has_failed(&self) -> bool
+        ensures { result ≡ self.now.failed }
+    {
+        self.failed
+    }
+
     /// Reads once. Answers the reader's error.
     pub fn read(&mut self, buf: &mut [u8]) -> io::Result<usize>
         requires { self.old.reads < 4294967295 }
@@ -37,8 +50,15 @@ impl<'r, R: Read> Counted<'r, R> {
         ensures bound { ReadsAtMost result buf.new }
         ensures bytes { ReadConsumes (R.remaining self.old.reader.now) (R.remaining self.new.reader.now) result buf.new }
         ensures reads { self.new.reads ≡ self.old.reads + 1 }
+        // An error sets the flag, and nothing else does.
+        ensures failed { OnErr result (self.new.failed ≡ true) }
+        ensures given { OnOk result (self.new.failed ≡ self.old.failed) }
     {
         self.reads += 1;
-        self.reader.read(buf)
+        let given = self.reader.read(buf);
+        if given.is_err() {
+            self.failed = true;
+        }
+        given
     }
 }

@@ -14,7 +14,8 @@
 //! | `values`, `evaluation` | `Values` of all members at a start, and those of a whole job |
 //! | `laws` | what holds of all texts |
 //! | `outcome`, `rank_lines` | the lines of an outcome, a request and a rank |
-//! | `counted` | `Counted`, a reader that counts its reads |
+//! | `counted` | `Counted`, a reader that counts its reads, and remembers whether one failed |
+//! | `witnessed` | `Witnessed`, a writer that remembers whether it failed |
 //! | `fault` | `JobFault`, why there is no answer, with its line and exit status |
 //! | `plain` | `read_text`, `plain_job` and `write_lines`, from a reader to a writer without an engine |
 #![tactic(auto)]
@@ -32,6 +33,7 @@ mod rank_lines;
 mod script;
 mod sizes;
 mod values;
+mod witnessed;
 
 pub use coll_history::{Cause, Command, Fault, Given, History, Named, ScriptFault};
 pub use counted::Counted;
@@ -40,3 +42,4 @@ pub use outcome::print_outcome;
 pub use plain::{plain_job, read_text, write_lines};
 pub use script::Script;
 pub use sizes::Sizes;
+pub use witnessed::Witnessed;

@@ -1,14 +1,15 @@
 //! A job text's answer without an engine: read, computed and written.
 
-ghost use Rattle.std.specs.Prelude.{◌≡◌, ◌≢◌, ◌<◌, ◌≤◌, ◌+◌, ◌++◌, length, take, vec_len, IfOk, IfErr, OnOk, IsOkUnless, IfSome, Ok};
+ghost use Rattle.std.specs.Prelude.{◌≡◌, ◌≢◌, ◌<◌, ◌≤◌, ◌+◌, ◌++◌, length, take, vec_len, true, false, IfOk, IfErr, OnOk, OnErr, IsOkUnless, IfSome, Ok};
 ghost use Rattle.std.specs.Io.KnownBytes.{Appends, Consumes, Keeps, IsAtEnd};
 ghost use Rattle.coll_kinds.specs.Limits.{max_text};
-ghost use Rattle.coll_script.specs.Plain.{IsReadFault, IsPlainFault, WritesMeaning, IsAnswerFault};
+ghost use Rattle.coll_script.specs.Plain.{HasCause, IsReadFault, IsPlainFault, WritesMeaning, IsAnswerFault};
 ghost use Rattle.coll_script.specs.Meaning.{meaning};
 
 use crate::counted::Counted;
 use crate::fault::JobFault;
 use crate::script::Script;
+use crate::witnessed::Witnessed;
 use coll_kinds::MAX_TEXT;
 use std::alloc::Global;
 use std::io::{Read, Write};
@@ -27,6 +28,8 @@ pub fn read_text<R: Read>(alloc: Global, reader: &mut Counted<'_, R>) -> Result<
     ensures text { IfOk result (λ text. IfSome (R.remaining reader.old.reader.now) (λ input. text.items ≡ take (max_text + 1) input)) }
     ensures left { IfOk result (λ text. Consumes (R.remaining reader.old.reader.now) (R.remaining reader.new.reader.now) text.items) }
     ensures faults { IfErr result IsReadFault }
+    // A read fault is answered only where the reader failed.
+    ensures cause { IfErr result (λ fault. HasCause fault reader.new.failed false) }
     ensures reads { reader.new.reads ≤ max_text + 1 }
     // Each read but the last gave a byte.
     ensures few { IfOk result (λ text. reader.new.reads ≤ length text.items + 1) }
@@ -62,6 +65,7 @@ fn read_piece<R: Read>(
     ensures reads { reader.new.reads ≡ reader.old.reads + 1 }
     ensures same_reference { reader.new.reader.ghost_name ≡ reader.old.reader.ghost_name }
     ensures faults { IfErr result IsReadFault }
+    ensures cause { IfErr result (λ fault. HasCause fault reader.new.failed false) }
 {
     let room = room.min(piece.len());
     let Ok(n) = reader.read(&mut piece[..room]) else {
@@ -78,14 +82,17 @@ fn read_piece<R: Read>(
 pub fn plain_job<R: Read, W: Write>(
     alloc: Global,
     reader: &mut Counted<'_, R>,
-    writer: &mut W,
+    writer: &mut Witnessed<'_, W>,
 ) -> Result<(), JobFault>
     requires unread { reader.old.reads ≡ 0 }
     // What was written is the meaning of what was read, and nothing else.
-    ensures ok { OnOk result (IfSome (R.remaining reader.old.reader.now) (λ input. WritesMeaning input (W.contents writer.old) (W.contents writer.new))) }
+    ensures ok { OnOk result (IfSome (R.remaining reader.old.reader.now) (λ input. WritesMeaning input (W.contents writer.old.stream.now) (W.contents writer.new.stream.now))) }
     // The fault of a text is the one that its definition gives.
     ensures faults { IfErr result (IsPlainFault (R.remaining reader.old.reader.now)) }
-    ensures unwritten { IfErr result (λ fault. fault ≢ JobFault.Write → Keeps (W.contents writer.old) (W.contents writer.new)) }
+    // A read fault is answered only where the reader failed, and a write fault only where the writer did.
+    ensures cause { IfErr result (λ fault. HasCause fault reader.new.failed writer.new.failed) }
+    ensures same_writer { writer.new.stream.ghost_name ≡ writer.old.stream.ghost_name }
+    ensures unwritten { IfErr result (λ fault. fault ≢ JobFault.Write → Keeps (W.contents writer.old.stream.now) (W.contents writer.new.stream.now)) }
     ensures reads { reader.new.reads ≤ max_text + 1 }
     // What was read, and no byte more, is taken from the reader.
     ensures left { OnOk result (IfSome (R.remaining reader.old.reader.now) (λ input.
@@ -98,17 +105,16 @@ pub fn plain_job<R: Read, W: Write>(
 }
 
 /// Writes all lines, and flushes them. Any error of the writer is [`JobFault::Write`].
-pub fn write_lines<W: Write>(writer: &mut W, lines: &[u8]) -> Result<(), JobFault>
-    ensures ok { OnOk result (Appends (W.contents writer.old) (W.contents writer.new) lines.now) }
+pub fn write_lines<W: Write>(writer: &mut Witnessed<'_, W>, lines: &[u8]) -> Result<(), JobFault>
+    ensures same_reference { writer.new.stream.ghost_name ≡ writer.old.stream.ghost_name }
+    ensures ok { OnOk result (Appends (W.contents writer.old.stream.now) (W.contents writer.new.stream.now) lines.now) }
     ensures fault { IsOkUnless result JobFault.Write }
+    ensures cause { OnErr result (writer.new.failed ≡ true) }
 {
-    let Ok(()) = writer.write_all(lines) else {
-        return Err(JobFault::Write);
-    };
-    let Ok(()) = writer.flush() else {
-        return Err(JobFault::Write);
-    };
-    Ok(())
+    match writer.write_through(lines) {
+        Ok(()) => Ok(()),
+        Err(_) => Err(JobFault::Write),
+    }
 }
 
 /// The output lines of a text.

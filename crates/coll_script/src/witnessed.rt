@@ -1,0 +1,52 @@
+ghost use Rattle.std.specs.Prelude.{◌≡◌, true, false, OnOk, OnErr};
+ghost use Rattle.std.specs.Io.KnownBytes.{Appends};
+
+use std::io;
+use std::io::Write;
+
+/// A writer that remembers whether an answer couldn't be written to it. What is told besides goes to `stream`, past the flag, since
+/// nobody is left to be told where that fails.
+#[derive(Drop)]
+pub struct Witnessed<'w, W> {
+    pub stream: &'w mut W,
+    failed: bool,
+}
+
+impl<'w, W: Write> Witnessed<'w, W> {
+    /// A writer whose failures are remembered from here on.
+    pub fn new(stream: &'w mut W) -> Witnessed<'w, W>
+        ensures same_reference { result.stream.ghost_name ≡ stream.entry.ghost_name }
+        ensures stream { result.stream.now ≡ stream.old }
+        ensures failed { result.failed ≡ false }
+    {
+        Witnessed {
+            stream,
+            failed: false,
+        }
+    }
+
+    /// Whether the writer answered an error, or took no byte.
+    pub fn has_failed(&self) -> bool
+        ensures { result ≡ self.now.failed }
+    {
+        self.failed
+    }
+
+    /// Writes all bytes, and flushes them. Answers the writer's error.
+    pub fn write_through(&mut self, bytes: &[u8]) -> io::Result<()>
+        ensures same_reference { self.new.stream.ghost_name ≡ self.old.stream.ghost_name }
+        ensures bytes { OnOk result (Appends (W.contents self.old.stream.now) (W.contents self.new.stream.now) bytes.now) }
+        // An error sets the flag, and nothing else does.
+        ensures failed { OnErr result (self.new.failed ≡ true) }
+        ensures taken { OnOk result (self.new.failed ≡ self.old.failed) }
+    {
+        let written = match self.stream.write_all(bytes) {
+            Ok(()) => self.stream.flush(),
+            Err(error) => Err(error),
+        };
+        if written.is_err() {
+            self.failed = true;
+        }
+        written
+    }
+}
