@@ -6,3 +6,4 @@ mod Printed
 mod Ending
 mod AttestedRows
 pub mod Failing
+pub mod Judging

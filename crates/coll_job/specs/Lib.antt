@@ -1,4 +1,5 @@
--- what a run of a job is
+-- what an engine is opened with for a job, and what a run of it is
+pub mod Opened
 pub mod Commands
 pub mod Runs
 -- what its report tells, and that it is the job's meaning

@@ -1,5 +1,8 @@
 -- What the words of a command line ask for, and how that ends.
-use Rattle.std.specs.Prelude.{◌≡◌, ℕ, ◌≤◌, ◌⊎◌, ◌==◌, ◌||◌, nat_le, Bool, true, false}
+use Rattle.std.specs.Prelude.{◌≡◌, ◌≢◌, ℕ, ◌≤◌, ◌⊎◌, ◌==◌, ◌||◌, nat_le, Bool, true, false, List, Option, IfSome, MatchResult}
+use Rattle.clap.specs.declared.error.kind.ErrorKind.{ErrorKind}
+use Rattle.clap.specs.declared.error.kind.ErrorKind.TheVariants.{DisplayHelp, DisplayVersion, OutOfMemory}
+use Rattle.coll_script.specs.Meaning.{meaning}
 use Rattle.coll_faults.specs.declared.checking.CheckForm.{CheckForm}
 use Rattle.coll_faults.specs.declared.checking.CheckForm.TheVariants.{Text, Json}
 use Rattle.coll_job.specs.declared.task.Way.{Way}
@@ -34,3 +37,26 @@ may_write (Check (Text colored)) status = false
 may_write (Check Json) status = nat_le status 3 || status == 6
 may_write (Draw draft) status = nat_le status 1
 may_write (DrawRun workers file) status = nat_le status 1
+
+-- how a text may be answered: with status 2 exactly where it has a fault, unless a stream failed or memory was refused before that
+-- was told
+abbrev pub IsTextStatus : List ℕ → ℕ → Type 0
+IsTextStatus text status =
+    MatchResult (meaning text) (λ lines. status ≢ 2) (λ fault. (status ≡ 2) ⊎ ((status ≡ 1) ⊎ (status ≡ 5)))
+
+-- the same of each task on a text, where that is known
+abbrev pub IsJudged : Way → Option (List ℕ) → ℕ → Type 0
+IsJudged Plain input status = IfSome input (λ text. IsTextStatus text status)
+IsJudged (Run options) input status = IfSome input (λ text. IsTextStatus text status)
+IsJudged (Explain options) input status = IfSome input (λ text. IsTextStatus text status)
+IsJudged (Check form) input status = IfSome input (λ text. IsTextStatus text status)
+IsJudged (Draw draft) input status = Unit {0}
+IsJudged (DrawRun workers file) input status = IfSome input (λ text. IsTextStatus text status)
+
+-- how words end of which the parser makes no task: a call for help or for the version isn't wrong, want of memory says nothing of the
+-- words, and all others are wrong words
+abbrev pub IsRefusal : ErrorKind → ℕ → Type 0
+IsRefusal DisplayHelp status = status ≢ 2
+IsRefusal DisplayVersion status = status ≢ 2
+IsRefusal OutOfMemory status = status ≡ 5
+IsRefusal kind status = status ≡ 2

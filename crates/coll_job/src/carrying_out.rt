@@ -1,8 +1,15 @@
 //! A job text carried out by threads, and what is told of it.
 
-ghost use Rattle.std.specs.Prelude.{◌≡◌, ◌≢◌, ◌<◌, ◌≤◌, IfOk, IfErr};
+ghost use Rattle.std.specs.Prelude.{◌≡◌, ◌≢◌, ◌<◌, ◌≤◌, true, false, IfOk, IfErr, IfSome, Ok};
 ghost use Rattle.std.specs.Io.KnownBytes.{Keeps};
+ghost use Rattle.coll_script.specs.Faults.{status_of};
+ghost use Rattle.coll_script.specs.Meaning.{meaning};
+ghost use Rattle.coll_script.specs.Plain.{HasCause};
+ghost use Rattle.coll_diagnosis.specs.Explained.{IsFaultOf};
+ghost use Rattle.coll_job.specs.Faults.{IsRunFault};
+ghost use Rattle.coll_job.specs.Tasks.{IsTextStatus};
 
+use crate::host::Host;
 use crate::keeping::{UNWRITTEN, is_kept, put};
 use crate::observing::NoWatch;
 use crate::progress::Progress;
@@ -13,7 +20,7 @@ use crate::tasks::{name_of, told};
 use crate::threaded::threaded_job;
 use crate::viewing::{keep_views, picture_of};
 use coll_diagnosis::{ExplainOptions, Form, explain_text};
-use coll_script::{Counted, JobFault, read_text, write_lines};
+use coll_script::{Counted, JobFault, Witnessed, read_text, write_lines};
 use std::alloc::Global;
 use std::fs::Files;
 use std::io::{Read, Write};
@@ -36,39 +43,71 @@ pub(crate) fn run_text<
     W: Write,
     E: Write,
 >(
-    machine: &M,
+    host: &mut Host<'_, M>,
     alloc: Global,
     screen: &S,
     options: RunOptions<'_>,
     file: Option<&str>,
     reader: &mut Counted<'_, R>,
-    output: &mut W,
+    output: &mut Witnessed<'_, W>,
     errors: &mut E,
 ) -> Result<u8, JobFault>
     requires unread { reader.old.reads ≡ 0 }
     requires workers { options.workers ≤ 8 }
     ensures status { IfOk result (λ status. status ≤ 1) }
-    ensures unwritten { IfOk result (λ status. 1 < status → Keeps (W.contents output.old) (W.contents output.new)) }
-    ensures unwritten_fault { IfErr result (λ fault. fault ≢ JobFault.Write → Keeps (W.contents output.old) (W.contents output.new)) }
+    ensures judged { IfOk result (λ status. IfSome (R.remaining reader.old.reader.now) (λ input. IsTextStatus input status)) }
+    ensures judged_fault { IfErr result (λ fault. IfSome (R.remaining reader.old.reader.now) (λ input. IsTextStatus input (status_of fault))) }
+    ensures cause { IfOk result (λ status. status ≡ 1 → host.new.failed ≡ true) }
+    ensures cause_fault { IfErr result (λ fault. HasCause fault reader.new.failed output.new.failed) }
+    ensures same_output { output.new.stream.ghost_name ≡ output.old.stream.ghost_name }
+    ensures unwritten { IfOk result (λ status. 1 < status → Keeps (W.contents output.old.stream.now) (W.contents output.new.stream.now)) }
+    ensures unwritten_fault { IfErr result (λ fault. fault ≢ JobFault.Write → Keeps (W.contents output.old.stream.now) (W.contents output.new.stream.now)) }
 {
     let is_shown = !options.is_quiet && screen.is_watched();
     if !is_shown && !options.views.are_wanted() && options.explanation.is_none() {
-        threaded_job(machine, alloc, options.workers, reader, output)?;
+        threaded_job(host.machine, alloc, options.workers, reader, output)?;
         return Ok(0);
     }
     let text = read_text(alloc, reader)?;
+    run_recorded(
+        host, alloc, screen, options, is_shown, file, &text, output, errors,
+    )
+}
+
+/// Has a text carried out, with all that is told of the run beside its values.
+fn run_recorded<M: Threads + Wait + Sync + Files + Clock, S: Screen + Sync, W: Write, E: Write>(
+    host: &mut Host<'_, M>,
+    alloc: Global,
+    screen: &S,
+    options: RunOptions<'_>,
+    is_shown: bool,
+    file: Option<&str>,
+    text: &[u8],
+    output: &mut Witnessed<'_, W>,
+    errors: &mut E,
+) -> Result<u8, JobFault>
+    requires { options.workers ≤ 8 }
+    ensures status { IfOk result (λ status. status ≤ 1) }
+    ensures judged { IfOk result (IsTextStatus text.now) }
+    ensures judged_fault { IfErr result (λ fault. IsTextStatus text.now (status_of fault)) }
+    ensures cause { IfOk result (λ status. status ≡ 1 → host.new.failed ≡ true) }
+    ensures cause_fault { IfErr result (λ fault. HasCause fault false output.new.failed) }
+    ensures same_output { output.new.stream.ghost_name ≡ output.old.stream.ghost_name }
+    ensures unwritten { IfOk result (λ status. 1 < status → Keeps (W.contents output.old.stream.now) (W.contents output.new.stream.now)) }
+    ensures unwritten_fault { IfErr result (λ fault. fault ≢ JobFault.Write → Keeps (W.contents output.old.stream.now) (W.contents output.new.stream.now)) }
+{
     let recorded = if is_shown {
-        shown_job(machine, alloc, screen, &text, options.workers)
+        shown_job(host.machine, alloc, screen, text, options.workers)
     } else {
-        recorded_job(machine, alloc, &text, options.workers, &NoWatch)
+        recorded_job(host.machine, alloc, text, options.workers, &NoWatch)
     };
     if let (Some(explanation), Err(JobFault::Stalled)) = (options.explanation, &recorded) {
-        if !is_explained(machine, alloc, file, &text, explanation, errors)? {
+        if !is_explained(host, alloc, file, text, explanation, errors)? {
             return Ok(UNWRITTEN);
         }
     }
     let recording = recorded?;
-    if !keep_views(machine, alloc, &options.views, &recording, errors)? {
+    if !keep_views(host, alloc, &options.views, &recording, errors)? {
         return Ok(UNWRITTEN);
     }
     write_lines(output, &recording.lines)?;
@@ -84,6 +123,8 @@ fn shown_job<M: Threads + Wait + Sync + Clock, S: Screen + Sync>(
     workers: u8,
 ) -> Result<Recording, JobFault>
     requires { workers ≤ 8 }
+    ensures meaning { IfOk result (λ done. meaning text.now ≡ Ok done.lines.items) }
+    ensures faults { IfErr result (IsRunFault text.now) }
 {
     let progress = Progress::new(machine, alloc, screen);
     let recorded = recorded_job(machine, alloc, text, workers, &progress);
@@ -93,39 +134,70 @@ fn shown_job<M: Threads + Wait + Sync + Clock, S: Screen + Sync>(
 
 /// Has a text carried out, and draws what the run did. Answers the exit status.
 pub(crate) fn draw_run<M: Threads + Wait + Sync + Files + Clock, R: Read, W: Write, E: Write>(
-    machine: &M,
+    host: &mut Host<'_, M>,
     alloc: Global,
     workers: u8,
     file: Option<&str>,
     reader: &mut Counted<'_, R>,
-    output: &mut W,
+    output: &mut Witnessed<'_, W>,
     errors: &mut E,
 ) -> Result<u8, JobFault>
     requires unread { reader.old.reads ≡ 0 }
     requires workers { workers ≤ 8 }
     ensures status { IfOk result (λ status. status ≤ 1) }
-    ensures unwritten { IfOk result (λ status. 1 < status → Keeps (W.contents output.old) (W.contents output.new)) }
-    ensures unwritten_fault { IfErr result (λ fault. fault ≢ JobFault.Write → Keeps (W.contents output.old) (W.contents output.new)) }
+    ensures judged { IfOk result (λ status. IfSome (R.remaining reader.old.reader.now) (λ input. IsTextStatus input status)) }
+    ensures judged_fault { IfErr result (λ fault. IfSome (R.remaining reader.old.reader.now) (λ input. IsTextStatus input (status_of fault))) }
+    ensures cause { IfOk result (λ status. status ≡ 1 → host.new.failed ≡ true) }
+    ensures cause_fault { IfErr result (λ fault. HasCause fault reader.new.failed output.new.failed) }
+    ensures same_output { output.new.stream.ghost_name ≡ output.old.stream.ghost_name }
+    ensures unwritten { IfOk result (λ status. 1 < status → Keeps (W.contents output.old.stream.now) (W.contents output.new.stream.now)) }
+    ensures unwritten_fault { IfErr result (λ fault. fault ≢ JobFault.Write → Keeps (W.contents output.old.stream.now) (W.contents output.new.stream.now)) }
 {
     let text = read_text(alloc, reader)?;
-    let recording = recorded_job(machine, alloc, &text, workers, &NoWatch)?;
+    draw_recorded(host, alloc, workers, file, &text, output, errors)
+}
+
+/// Has a text carried out, and draws what the run did.
+fn draw_recorded<M: Threads + Wait + Sync + Files + Clock, W: Write, E: Write>(
+    host: &mut Host<'_, M>,
+    alloc: Global,
+    workers: u8,
+    file: Option<&str>,
+    text: &[u8],
+    output: &mut Witnessed<'_, W>,
+    errors: &mut E,
+) -> Result<u8, JobFault>
+    requires { workers ≤ 8 }
+    ensures status { IfOk result (λ status. status ≤ 1) }
+    ensures judged { IfOk result (IsTextStatus text.now) }
+    ensures judged_fault { IfErr result (λ fault. IsTextStatus text.now (status_of fault)) }
+    ensures cause { IfOk result (λ status. status ≡ 1 → host.new.failed ≡ true) }
+    ensures cause_fault { IfErr result (λ fault. HasCause fault false output.new.failed) }
+    ensures same_output { output.new.stream.ghost_name ≡ output.old.stream.ghost_name }
+    ensures unwritten { IfOk result (λ status. 1 < status → Keeps (W.contents output.old.stream.now) (W.contents output.new.stream.now)) }
+    ensures unwritten_fault { IfErr result (λ fault. fault ≢ JobFault.Write → Keeps (W.contents output.old.stream.now) (W.contents output.new.stream.now)) }
+{
+    let recording = recorded_job(host.machine, alloc, text, workers, &NoWatch)?;
     let picture = picture_of(alloc, &recording)?;
-    put(machine, alloc, file, &picture, output, errors)
+    put(host, alloc, file, &picture, output, errors)
 }
 
 /// Whether the file got why the runs of a text stall. If not, the stall and the fault of the file are told.
 fn is_explained<F: Files, E: Write>(
-    files: &F,
+    host: &mut Host<'_, F>,
     alloc: Global,
     file: Option<&str>,
     text: &[u8],
     explanation: &str,
     errors: &mut E,
-) -> Result<bool, JobFault> {
+) -> Result<bool, JobFault>
+    ensures faults { IfErr result (IsFaultOf text.now) }
+    ensures cause { IfOk result (λ explained. explained ≡ false → host.new.failed ≡ true) }
+{
     let lines = explain_text(alloc, name_of(file), EXPLAINED, text)?.lines;
     let bytes = lines.as_str().as_bytes();
     let mut fault = Vec::new(alloc);
-    if is_kept(files, alloc, explanation, bytes, &mut fault) {
+    if is_kept(host, alloc, explanation, bytes, &mut fault) {
         return Ok(true);
     }
     let _ = told(file, JobFault::Stalled, errors);

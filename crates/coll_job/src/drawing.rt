@@ -1,13 +1,16 @@
 //! The schedules of a collective, drawn.
 
-ghost use Rattle.std.specs.Prelude.{◌≢◌, ◌<◌, ◌≤◌, IfOk, IfErr};
+ghost use Rattle.std.specs.Prelude.{◌≡◌, ◌≢◌, ◌<◌, ◌≤◌, true, false, IfOk, IfErr};
 ghost use Rattle.std.specs.Io.KnownBytes.{Keeps};
+ghost use Rattle.coll_script.specs.Plain.{HasCause};
 
+use crate::host::Host;
 use crate::keeping::put;
 use crate::signature::signature_of;
+use crate::tasks::BAD_WORDS;
 use coll_draw::{Drawing, svg_picture, text_lines};
 use coll_kinds::Refusal;
-use coll_script::JobFault;
+use coll_script::{JobFault, Witnessed};
 use std::alloc::Global;
 use std::fs::Files;
 use std::io::Write;
@@ -32,30 +35,30 @@ pub struct Draft<'w> {
     pub file: Option<&'w str>,
 }
 
-/// The exit status where the words are wrong.
-const BAD_WORDS: u8 = 2;
-
 /// The most members that a communicator has.
 const MOST_MEMBERS: u8 = 64;
 
 /// Draws the schedules of all members of a collective. Answers the exit status. Where the words are wrong nothing is drawn,
 /// and what is wrong with them goes to `errors`.
 pub(crate) fn draw<F: Files, W: Write, E: Write>(
-    files: &F,
+    host: &mut Host<'_, F>,
     alloc: Global,
     draft: Draft<'_>,
-    output: &mut W,
+    output: &mut Witnessed<'_, W>,
     errors: &mut E,
 ) -> Result<u8, JobFault>
     ensures status { IfOk result (λ status. status ≤ 2) }
-    ensures unwritten { IfOk result (λ status. 1 < status → Keeps (W.contents output.old) (W.contents output.new)) }
-    ensures unwritten_fault { IfErr result (λ fault. fault ≢ JobFault.Write → Keeps (W.contents output.old) (W.contents output.new)) }
+    ensures cause { IfOk result (λ status. status ≡ 1 → host.new.failed ≡ true) }
+    ensures cause_fault { IfErr result (λ fault. HasCause fault false output.new.failed) }
+    ensures same_output { output.new.stream.ghost_name ≡ output.old.stream.ghost_name }
+    ensures unwritten { IfOk result (λ status. 1 < status → Keeps (W.contents output.old.stream.now) (W.contents output.new.stream.now)) }
+    ensures unwritten_fault { IfErr result (λ fault. fault ≢ JobFault.Write → Keeps (W.contents output.old.stream.now) (W.contents output.new.stream.now)) }
 {
     let Some(lines) = drawn(alloc, draft, errors)? else {
         return Ok(BAD_WORDS);
     };
     let bytes = lines.as_str().as_bytes();
-    put(files, alloc, draft.file, bytes, output, errors)
+    put(host, alloc, draft.file, bytes, output, errors)
 }
 
 /// The drawing as it is written. Where the words are wrong that is told, and there is none.
@@ -64,7 +67,8 @@ fn drawn<E: Write>(
     draft: Draft<'_>,
     errors: &mut E,
 ) -> Result<Option<String>, JobFault>
-    ensures { IfErr result (λ fault. fault ≢ JobFault.Write) }
+    ensures other { IfErr result (λ fault. fault ≢ JobFault.Write) }
+    ensures cause { IfErr result (λ fault. HasCause fault false false) }
 {
     if draft.members == 0 || draft.members > MOST_MEMBERS {
         let _ = writeln!(

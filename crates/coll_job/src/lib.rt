@@ -11,6 +11,7 @@
 //! | `machine` | `main_of`, which takes words and streams from the machine |
 //! | `task`, `words`, `draw_words` | `Task`, what the words of the command line ask for; how they are read |
 //! | `tasks` | `run`, which checks the words and does what they ask for |
+//! | `host` | `Host`, the machine, and whether its files fail |
 //! | `opening`, `keeping` | the file that the words name is opened; a file is written whole or not at all |
 //! | `signature`, `drawing` | the words of a signature are read; its schedules are drawn |
 //! | `views`, `viewing` | the words for files on what a run did, and these files |
@@ -39,6 +40,7 @@ mod draw_words;
 mod drawing;
 mod ends;
 mod following;
+mod host;
 mod index;
 mod keeping;
 pub mod laws;
@@ -62,12 +64,13 @@ mod words;
 pub use attest_fault::AttestFault;
 pub use attested::attested_lines;
 pub use drawing::{Draft, DrawForm};
+pub use host::Host;
 pub use machine::main_of;
 pub use observing::{NoWatch, Watch};
 pub use progress::Progress;
 pub use running::{Recording, recorded_job, run_job};
 pub use screen::{NoScreen, Screen};
 pub use task::{RunOptions, Task, Way};
-pub use tasks::{do_task, run, run_on};
+pub use tasks::{do_parsed, do_task, run, run_on};
 pub use threaded::threaded_job;
 pub use views::{OutcomeForm, Views};

@@ -1,7 +1,8 @@
 //! A job text's answer by a run of its script.
 
-ghost use Rattle.std.specs.Prelude.{◌≡◌, ◌≤◌, ◌*◌, ◌⊎◌, Ok, All, IfErr, IfOk, IfSome, IsErrOf, IsTrue, OnOk, length, map, vec_len};
+ghost use Rattle.std.specs.Prelude.{◌≡◌, ◌≤◌, ◌⊎◌, Ok, All, IfErr, IfOk, IfSome, IsErrOf, IsOkUnless, IsTrue, OnOk, length, map, vec_len};
 ghost use Rattle.std.specs.Prelude.{◌↔◌};
+ghost use Rattle.coll_core.specs.Configs.{setting_by};
 ghost use Rattle.coll_core.specs.declared.config.Config.{Config as TheConfig};
 ghost use Rattle.coll_script.specs.Jobs.{job_of, script_of};
 ghost use Rattle.coll_script.specs.Meaning.{job_lines, meaning};
@@ -10,6 +11,7 @@ ghost use Rattle.coll_report.specs.Attested.{HandedOut};
 ghost use Rattle.coll_report.specs.Scripted.{Tells};
 ghost use Rattle.coll_job.specs.Commands.{commands_by};
 ghost use Rattle.coll_job.specs.Lines.{told, told_lines};
+ghost use Rattle.coll_job.specs.Opened.{setting_for};
 ghost use Rattle.coll_job.specs.Runs.{IsRun};
 ghost use Rattle.coll_job.specs.Faults.{IsEnd, IsRunFault, fault_of};
 
@@ -23,9 +25,8 @@ use coll_core::Config;
 use coll_kinds::Refusal;
 use coll_report::Report;
 use coll_script::{Command, JobFault, Script};
-use coll_shared::{
-    Ends, Engine, Entries, Gate, NoGate, Spent, close, copied_groups, ledger_for, open,
-};
+use coll_shared::{Ends, Engine, Gate, NoGate, close, open};
+use coll_traced::{Entries, Spent, copied_groups, ledger_for};
 use coll_views::Span;
 use std::alloc::{AllocError, Global};
 use std::marker::Brand;
@@ -59,6 +60,7 @@ pub fn recorded_job<R: Threads + Wait + Clock + Sync, W: Watch + Sync>(
 ) -> Result<Recording, JobFault>
     requires { workers ≤ 8 }
     ensures meaning { IfOk result (λ done. meaning text.now ≡ Ok done.lines.items) }
+    ensures opened { IfOk result (λ done. IfOk (script_of text.now) (λ script. done.report.setting ≡ setting_for script)) }
     ensures run { IfOk result (λ done. IfOk (script_of text.now) (λ script. IsRun script done.report)) }
     ensures tells { IfOk result (λ done. IfOk (script_of text.now) (λ script.
         Tells done.report (λ rank. asked (commands_by script rank)))) }
@@ -108,7 +110,9 @@ pub fn run_job<R: Threads + Wait + Sync, G: Gate + Sync>(
     requires { workers ≤ 8 }
     // The lines are the text's meaning,
     ensures meaning { IfOk result (λ told. meaning text.now ≡ Ok told.0.items) }
-    // and the report is that of a run of its script,
+    // and the engine was opened with the ranks, communicators and sizes that the script asks for,
+    ensures opened { IfOk result (λ done. IfOk (script_of text.now) (λ script. done.1.setting ≡ setting_for script)) }
+    // the report is that of a run of its script,
     ensures run { IfOk result (λ told. IfOk (script_of text.now) (λ script. IsRun script told.1)) }
     // in which each start was completed once, with its value,
     ensures tells { IfOk result (λ done. IfOk (script_of text.now) (λ script.
@@ -132,6 +136,7 @@ fn run_script<R: Threads + Wait + Sync, G: Gate + Sync, O: Observer + Sync>(
     gate: &G,
     observer: &O,
 ) -> Result<(Vec<u8>, Report, Vec<RankSpans>), JobFault>
+    ensures opened { IfOk result (λ done. done.1.setting ≡ setting_for script.now) }
     ensures run { IfOk result (λ done. IsRun script.now done.1) }
     ensures tells { IfOk result (λ done. Tells done.1 (λ rank. asked (commands_by script.now rank))) }
     ensures told { IfOk result (λ done. done.0.items ≡ told_lines (told done.1.entries) (job_of script.now)) }
@@ -144,7 +149,10 @@ fn run_script<R: Threads + Wait + Sync, G: Gate + Sync, O: Observer + Sync>(
 }
 
 /// What an engine is opened with for a script.
-fn config_of(alloc: Global, script: &Script) -> Result<Config, Refusal> {
+fn config_of(alloc: Global, script: &Script) -> Result<Config, Refusal>
+    ensures setting { IfOk result (λ config. setting_by config ≡ setting_for script.now) }
+    ensures refusal { IsOkUnless result Refusal.NoMemory }
+{
     let history = script.history();
     let sizes = script.config();
     Ok(Config {
@@ -170,7 +178,9 @@ fn run_in<L: Entries + Send + Sync, R: Threads + Wait + Sync, G: Gate + Sync, O:
     entries: Blank,
 ) -> Result<(Vec<u8>, Report, Vec<RankSpans>), JobFault>
     requires name { entries.name ≡ L.name }
-    requires parts { (entries.parts ≡ L.parts) × (L.parts ≡ 2 * L.ranks) × (L.ranks ≡ config.ranks) }
+    requires parts { (entries.parts ≡ L.parts) × (L.parts ≡ config.ranks) }
+    requires setting { L.setting ≡ setting_by config }
+    ensures opened { IfOk result (λ done. done.1.setting ≡ setting_by config) }
     ensures run { IfOk result (λ done. IsRun script.now done.1) }
     ensures tells { IfOk result (λ done. Tells done.1 (λ rank. asked (commands_by script.now rank))) }
     ensures told { IfOk result (λ done. done.0.items ≡ told_lines (told done.1.entries) (job_of script.now)) }
@@ -192,13 +202,14 @@ fn concluded<L: Entries, R: Wait>(
     engine: Engine<L>,
     ends: Ends<RankEnd<L>>,
 ) -> Result<(Vec<u8>, Report, Vec<RankSpans>), JobFault>
-    requires { L.parts ≡ 2 * L.ranks }
+    requires { L.parts ≡ L.setting.ranks }
     // The fault of the threads is told, unless memory is refused before it is found,
     ensures ends { IfSome (fault_of ends.all_started (map (λ end. end.refusal) ends.ranks.items) ends.workers.items)
         (λ fault. IsErrOf result fault ⊎ IsErrOf result JobFault.Memory) }
     // and where there is none, each rank got just what its completions handed out.
     ensures got { IfOk result (λ done.
         All (λ got. HandedOut done.1.entries got.rank got.outcomes.items) (map (λ end. end.got) ends.ranks.items)) }
+    ensures opened { IfOk result (λ done. done.1.setting ≡ L.setting) }
     ensures run { IfOk result (λ done. IsRun script.now done.1) }
     ensures tells { IfOk result (λ done. Tells done.1 (λ rank. asked (commands_by script.now rank))) }
     ensures told { IfOk result (λ done. done.0.items ≡ told_lines (told done.1.entries) (job_of script.now)) }
@@ -236,6 +247,7 @@ fn apart<L: Entries>(
     AllocError,
 >
     ensures refusals { IfOk result (λ parts. parts.0.items ≡ map (λ end. end.refusal) ranks.items) }
+    ensures spents { IfOk result (λ parts. parts.1.items ≡ map (λ end. end.spent) ranks.items) }
     ensures got { IfOk result (λ parts. parts.2.items ≡ map (λ end. end.got) ranks.items) }
 {
     let mut refusals = Vec::new(alloc);
@@ -266,6 +278,7 @@ fn judge(
     spans: Vec<RankSpans>,
 ) -> Result<(Vec<u8>, Report, Vec<RankSpans>), JobFault>
     ensures got { IfOk result (λ done. All (λ got. HandedOut done.1.entries got.rank got.outcomes.items) got.now) }
+    ensures report { IfOk result (λ done. done.1 ≡ report) }
     ensures run { IfOk result (λ done. IsRun script.now done.1) }
     ensures tells { IfOk result (λ done. Tells done.1 (λ rank. asked (commands_by script.now rank))) }
     ensures told { IfOk result (λ done. done.0.items ≡ told_lines (told done.1.entries) (job_of script.now)) }

@@ -1,11 +1,13 @@
-ghost use Rattle.std.specs.Prelude.{◌≡◌, ◌≢◌, ◌<◌, ◌≤◌, false, true, IfOk, IfErr};
+ghost use Rattle.std.specs.Prelude.{◌≡◌, ◌≢◌, ◌<◌, ◌≤◌, ◌||◌, false, true, IfOk, IfErr, IfNone, MatchResult};
 ghost use Rattle.std.specs.Io.KnownBytes.{Keeps};
+ghost use Rattle.clap.specs.Words.{kind_of};
 ghost use Rattle.coll_script.specs.Faults.{status_of};
-ghost use Rattle.coll_job.specs.Tasks.{workers_of, may_write, IsStatusOf};
+ghost use Rattle.coll_script.specs.Plain.{HasCause};
+ghost use Rattle.coll_job.specs.Tasks.{workers_of, may_write, IsJudged, IsRefusal, IsStatusOf};
 
 use crate::carrying_out::{draw_run, run_text};
 use crate::drawing::draw;
-use crate::opening::open_text;
+use crate::host::Host;
 use crate::screen::{NoScreen, Screen};
 use crate::task::{Task, Way};
 use crate::words::task_of;
@@ -13,7 +15,7 @@ use clap::Error;
 use clap::error::ErrorKind;
 use coll_diagnosis::explain_job;
 use coll_faults::check_job;
-use coll_script::{Counted, JobFault, plain_job};
+use coll_script::{Counted, JobFault, Witnessed, plain_job, write_lines};
 use std::alloc::Global;
 use std::fs::Files;
 use std::io::{Read, Write};
@@ -23,6 +25,9 @@ use std::thread::Threads;
 
 /// The exit status where a file can't be opened: that of a read fault.
 const UNOPENED: u8 = 1;
+
+/// The exit status where the words are wrong.
+pub(crate) const BAD_WORDS: u8 = 2;
 
 /// How standard input is named where a text is shown.
 const STANDARD_INPUT: &str = "<stdin>";
@@ -67,9 +72,49 @@ pub fn run_on<
     ensures statuses { result ≤ 6 }
     ensures unwritten { 3 < result → result ≢ 6 → Keeps (W.contents output.old) (W.contents output.new) }
 {
-    match task_of(alloc, screen.takes_colors(), words) {
-        Ok(task) => do_task(machine, alloc, screen, task, input, output, errors),
-        Err(error) => help(&error, output, errors),
+    let parsed = task_of(alloc, screen.takes_colors(), words);
+    do_parsed(
+        &mut Host::new(machine),
+        alloc,
+        screen,
+        parsed,
+        &mut Counted::new(input),
+        &mut Witnessed::new(output),
+        &mut Witnessed::new(errors),
+    )
+}
+
+/// Does the task that a parser made of words, or tells what it says of them where it made none.
+pub fn do_parsed<
+    M: Threads + Wait + Sync + Files + Clock,
+    S: Screen + Sync,
+    R: Read,
+    W: Write,
+    E: Write,
+>(
+    host: &mut Host<'_, M>,
+    alloc: Global,
+    screen: &S,
+    parsed: Result<Task<'_>, Error>,
+    input: &mut Counted<'_, R>,
+    output: &mut Witnessed<'_, W>,
+    errors: &mut Witnessed<'_, E>,
+) -> u8
+    requires unread { input.old.reads ≡ 0 }
+    requires workers { IfOk parsed (λ task. workers_of task.way ≤ 8) }
+    ensures statuses { result ≤ 6 }
+    // Words of which the parser makes no task end with 2, but for help, the version and want of memory;
+    ensures refused { IfErr parsed.entry (λ error. IsRefusal (kind_of error) result) }
+    // those of which it makes one on standard input end with 2 exactly where the text has a fault.
+    ensures judged { IfOk parsed.entry (λ task. IfNone task.file (IsJudged task.way (R.remaining input.old.reader.now) result)) }
+    // The status is 1 only where the input, the output, standard error or a file failed.
+    ensures cause { result ≡ 1 → (input.new.failed || (output.new.failed || (errors.new.failed || host.new.failed))) ≡ true }
+    ensures same_output { output.new.stream.ghost_name ≡ output.old.stream.ghost_name }
+    ensures unwritten { 3 < result → result ≢ 6 → Keeps (W.contents output.old.stream.now) (W.contents output.new.stream.now) }
+{
+    match parsed {
+        Ok(task) => do_task(host, alloc, screen, task, input, output, errors),
+        Err(error) => help(alloc, &error, output, errors.stream),
     }
 }
 
@@ -81,32 +126,76 @@ pub fn do_task<
     W: Write,
     E: Write,
 >(
-    machine: &M,
+    host: &mut Host<'_, M>,
     alloc: Global,
     screen: &S,
     task: Task<'_>,
-    input: &mut R,
-    output: &mut W,
-    errors: &mut E,
+    input: &mut Counted<'_, R>,
+    output: &mut Witnessed<'_, W>,
+    errors: &mut Witnessed<'_, E>,
 ) -> u8
+    requires unread { input.old.reads ≡ 0 }
     requires workers { workers_of task.way ≤ 8 }
     ensures status { IsStatusOf task.entry.way result }
+    // A text from standard input is answered with 2 exactly where it has a fault.
+    ensures judged { IfNone task.entry.file (IsJudged task.entry.way (R.remaining input.old.reader.now) result) }
+    // The status is 1 only where the input, the output, standard error or a file failed.
+    ensures cause { result ≡ 1 → (input.new.failed || (output.new.failed || (errors.new.failed || host.new.failed))) ≡ true }
+    ensures same_output { output.new.stream.ghost_name ≡ output.old.stream.ghost_name }
     // What may stand on standard output is said for each task and status.
-    ensures unwritten { may_write task.entry.way result ≡ false → Keeps (W.contents output.old) (W.contents output.new) }
+    ensures unwritten { may_write task.entry.way result ≡ false → Keeps (W.contents output.old.stream.now) (W.contents output.new.stream.now) }
 {
-    let answer = match task.file {
-        None => write_answer(machine, alloc, screen, task, input, output, errors),
-        Some(name) => match open_text(machine, name) {
-            Ok(mut file) => write_answer(machine, alloc, screen, task, &mut file, output, errors),
-            Err(error) => {
-                let _ = writeln!(errors, "{name}: {error}");
-                return UNOPENED;
-            }
-        },
-    };
+    match task.file {
+        None => {
+            let answer = write_answer(host, alloc, screen, task, input, output, errors);
+            ended(None, answer, errors.stream)
+        }
+        Some(name) => {
+            let answer = answer_file(host, alloc, screen, task, name, output, errors);
+            ended(Some(name), answer, errors.stream)
+        }
+    }
+}
+
+/// The exit status of an answer. A fault is told.
+fn ended<E: Write>(file: Option<&str>, answer: Result<u8, JobFault>, errors: &mut E) -> u8
+    ensures { MatchResult answer (λ status. result ≡ status) (λ fault. result ≡ status_of fault) }
+{
     match answer {
         Ok(status) => status,
-        Err(fault) => told(task.file, fault, errors),
+        Err(fault) => told(file, fault, errors),
+    }
+}
+
+/// Reads the job text of a task from a file, and writes what was asked for. Answers the exit status.
+fn answer_file<M: Threads + Wait + Sync + Files + Clock, S: Screen + Sync, W: Write, E: Write>(
+    host: &mut Host<'_, M>,
+    alloc: Global,
+    screen: &S,
+    task: Task<'_>,
+    name: &str,
+    output: &mut Witnessed<'_, W>,
+    errors: &mut Witnessed<'_, E>,
+) -> Result<u8, JobFault>
+    requires workers { workers_of task.way ≤ 8 }
+    ensures status { IfOk result (IsStatusOf task.entry.way) }
+    ensures cause { IfOk result (λ status. status ≡ 1 → host.new.failed ≡ true) }
+    ensures cause_fault { IfErr result (λ fault. HasCause fault host.new.failed (output.new.failed || errors.new.failed)) }
+    ensures same_output { output.new.stream.ghost_name ≡ output.old.stream.ghost_name }
+    ensures unwritten { IfOk result (λ status. may_write task.entry.way status ≡ false → Keeps (W.contents output.old.stream.now) (W.contents output.new.stream.now)) }
+    ensures unwritten_fault { IfErr result (λ fault. may_write task.entry.way (status_of fault) ≡ false → Keeps (W.contents output.old.stream.now) (W.contents output.new.stream.now)) }
+{
+    match host.open(name) {
+        Ok(mut file) => {
+            let mut reader = Counted::new(&mut file);
+            let answer = write_answer(host, alloc, screen, task, &mut reader, output, errors);
+            host.heed(&reader);
+            answer
+        }
+        Err(error) => {
+            let _ = writeln!(errors.stream, "{name}: {error}");
+            Ok(UNOPENED)
+        }
     }
 }
 
@@ -118,41 +207,46 @@ fn write_answer<
     W: Write,
     E: Write,
 >(
-    machine: &M,
+    host: &mut Host<'_, M>,
     alloc: Global,
     screen: &S,
     task: Task<'_>,
-    text: &mut R,
-    output: &mut W,
-    errors: &mut E,
+    reader: &mut Counted<'_, R>,
+    output: &mut Witnessed<'_, W>,
+    errors: &mut Witnessed<'_, E>,
 ) -> Result<u8, JobFault>
+    requires unread { reader.old.reads ≡ 0 }
     requires workers { workers_of task.way ≤ 8 }
     ensures status { IfOk result (IsStatusOf task.entry.way) }
-    ensures unwritten { IfOk result (λ status. may_write task.entry.way status ≡ false → Keeps (W.contents output.old) (W.contents output.new)) }
-    ensures unwritten_fault { IfErr result (λ fault. may_write task.entry.way (status_of fault) ≡ false → Keeps (W.contents output.old) (W.contents output.new)) }
+    ensures judged { IfOk result (IsJudged task.entry.way (R.remaining reader.old.reader.now)) }
+    ensures judged_fault { IfErr result (λ fault. IsJudged task.entry.way (R.remaining reader.old.reader.now) (status_of fault)) }
+    ensures cause { IfOk result (λ status. status ≡ 1 → host.new.failed ≡ true) }
+    ensures cause_fault { IfErr result (λ fault. HasCause fault reader.new.failed (output.new.failed || errors.new.failed)) }
+    ensures same_output { output.new.stream.ghost_name ≡ output.old.stream.ghost_name }
+    ensures unwritten { IfOk result (λ status. may_write task.entry.way status ≡ false → Keeps (W.contents output.old.stream.now) (W.contents output.new.stream.now)) }
+    ensures unwritten_fault { IfErr result (λ fault. may_write task.entry.way (status_of fault) ≡ false → Keeps (W.contents output.old.stream.now) (W.contents output.new.stream.now)) }
 {
-    let mut reader = Counted::new(text);
     let name = name_of(task.file);
     match task.way {
         Way::Plain => {
-            plain_job(alloc, &mut reader, output)?;
+            plain_job(alloc, reader, output)?;
             Ok(0)
         }
         Way::Run(options) => run_text(
-            machine,
+            host,
             alloc,
             screen,
             options,
             task.file,
-            &mut reader,
+            reader,
             output,
-            errors,
+            errors.stream,
         ),
-        Way::Explain(options) => explain_job(alloc, name, options, &mut reader, output),
-        Way::Check(form) => check_job(alloc, name, form, &mut reader, output, errors),
-        Way::Draw(draft) => draw(machine, alloc, draft, output, errors),
+        Way::Explain(options) => explain_job(alloc, name, options, reader, output),
+        Way::Check(form) => check_job(alloc, name, form, reader, output, errors),
+        Way::Draw(draft) => draw(host, alloc, draft, output, errors.stream),
         Way::DrawRun { workers, file } => {
-            draw_run(machine, alloc, workers, file, &mut reader, output, errors)
+            draw_run(host, alloc, workers, file, reader, output, errors.stream)
         }
     }
 }
@@ -163,18 +257,45 @@ pub(crate) fn name_of(file: Option<&str>) -> &str {
 }
 
 /// Tells what clap has to say of the words: help on `output` with status 0, a wrong word on `errors` with status 2.
-fn help<W: Write, E: Write>(error: &Error, output: &mut W, errors: &mut E) -> u8
+fn help<W: Write, E: Write>(
+    alloc: Global,
+    error: &Error,
+    output: &mut Witnessed<'_, W>,
+    errors: &mut E,
+) -> u8
     ensures statuses { result ≤ 5 }
-    ensures unwritten { 1 < result → Keeps (W.contents output.old) (W.contents output.new) }
+    ensures refused { IsRefusal (kind_of error.now) result }
+    ensures cause { result ≡ 1 → output.new.failed ≡ true }
+    ensures same_output { output.new.stream.ghost_name ≡ output.old.stream.ghost_name }
+    ensures unwritten { 1 < result → Keeps (W.contents output.old.stream.now) (W.contents output.new.stream.now) }
 {
-    if error.kind() == ErrorKind::OutOfMemory {
+    match error.kind() {
+        ErrorKind::DisplayHelp | ErrorKind::DisplayVersion => show(alloc, error, output, errors),
+        ErrorKind::OutOfMemory => told(None, JobFault::Memory, errors),
+        _ => {
+            let _ = write!(errors, "{error}");
+            BAD_WORDS
+        }
+    }
+}
+
+/// Shows help, or the version.
+fn show<W: Write, E: Write>(
+    alloc: Global,
+    error: &Error,
+    output: &mut Witnessed<'_, W>,
+    errors: &mut E,
+) -> u8
+    ensures statuses { result ≤ 5 }
+    ensures asked { result ≢ 2 }
+    ensures cause { result ≡ 1 → output.new.failed ≡ true }
+    ensures same_output { output.new.stream.ghost_name ≡ output.old.stream.ghost_name }
+    ensures unwritten { 1 < result → Keeps (W.contents output.old.stream.now) (W.contents output.new.stream.now) }
+{
+    let Ok(text) = format!(in alloc; "{error}") else {
         return told(None, JobFault::Memory, errors);
-    }
-    if error.use_stderr() {
-        let _ = write!(errors, "{error}");
-        return 2;
-    }
-    match write!(output, "{error}") {
+    };
+    match write_lines(output, text.as_str().as_bytes()) {
         Ok(()) => 0,
         Err(_) => told(None, JobFault::Write, errors),
     }

@@ -3,11 +3,11 @@
 ghost use Rattle.std.specs.Prelude.{◌≡◌, ◌≢◌, ◌≤◌, ◌+◌, IfErr, IfSome, OnOk};
 ghost use Rattle.std.specs.Io.KnownBytes.{Keeps};
 ghost use Rattle.coll_kinds.specs.Limits.{max_text};
-ghost use Rattle.coll_script.specs.Plain.{WritesMeaning};
+ghost use Rattle.coll_script.specs.Plain.{HasCause, WritesMeaning};
 ghost use Rattle.coll_job.specs.Faults.{IsThreadedFault};
 
 use crate::running::run_job;
-use coll_script::{Counted, JobFault, read_text, write_lines};
+use coll_script::{Counted, JobFault, Witnessed, read_text, write_lines};
 use coll_shared::NoGate;
 use std::alloc::Global;
 use std::io::{Read, Write};
@@ -25,15 +25,18 @@ pub fn threaded_job<T: Threads + Wait + Sync, R: Read, W: Write>(
     alloc: Global,
     workers: u8,
     reader: &mut Counted<'_, R>,
-    writer: &mut W,
+    writer: &mut Witnessed<'_, W>,
 ) -> Result<(), JobFault>
     requires unread { reader.old.reads ≡ 0 }
     requires workers { workers ≤ 8 }
     // What was written is the meaning of what was read, and nothing else.
-    ensures ok { OnOk result (IfSome (R.remaining reader.old.reader.now) (λ input. WritesMeaning input (W.contents writer.old) (W.contents writer.new))) }
+    ensures ok { OnOk result (IfSome (R.remaining reader.old.reader.now) (λ input. WritesMeaning input (W.contents writer.old.stream.now) (W.contents writer.new.stream.now))) }
     // The fault of a text is the one that its definition gives.
     ensures faults { IfErr result (IsThreadedFault (R.remaining reader.old.reader.now)) }
-    ensures unwritten { IfErr result (λ fault. fault ≢ JobFault.Write → Keeps (W.contents writer.old) (W.contents writer.new)) }
+    // A read fault is answered only where the reader failed, and a write fault only where the writer did.
+    ensures cause { IfErr result (λ fault. HasCause fault reader.new.failed writer.new.failed) }
+    ensures same_writer { writer.new.stream.ghost_name ≡ writer.old.stream.ghost_name }
+    ensures unwritten { IfErr result (λ fault. fault ≢ JobFault.Write → Keeps (W.contents writer.old.stream.now) (W.contents writer.new.stream.now)) }
     ensures reads { reader.new.reads ≤ max_text + 1 }
 {
     let text = read_text(alloc, reader)?;

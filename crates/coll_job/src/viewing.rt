@@ -1,8 +1,10 @@
 //! Writes what a run did to the files that are named.
 
-ghost use Rattle.std.specs.Prelude.{◌≡◌, IfOk};
+ghost use Rattle.std.specs.Prelude.{◌≡◌, true, false, IfErr, IfOk};
+ghost use Rattle.coll_script.specs.Faults.{status_of};
 ghost use Rattle.coll_job.specs.Pages.{lines_of, outcomes_page, requests_of, stats_page, trace_page};
 
+use crate::host::Host;
 use crate::keeping::is_kept;
 use crate::running::Recording;
 use crate::views::{OutcomeForm, Views};
@@ -30,17 +32,20 @@ struct Page<'w> {
 ///
 /// Memory, and Torn where the report's entries don't fit together. Then nothing is written.
 pub(crate) fn keep_views<F: Files, E: Write>(
-    files: &F,
+    host: &mut Host<'_, F>,
     alloc: Global,
     views: &Views<'_>,
     recording: &Recording,
     errors: &mut E,
-) -> Result<bool, JobFault> {
+) -> Result<bool, JobFault>
+    ensures fault { IfErr result (λ fault. status_of fault ≡ 5) }
+    ensures cause { IfOk result (λ kept. kept ≡ false → host.new.failed ≡ true) }
+{
     if !views.are_wanted() {
         return Ok(true);
     }
     match pages_of(alloc, views, recording) {
-        Ok(pages) => Ok(are_kept(files, alloc, &pages, errors)),
+        Ok(pages) => Ok(are_kept(host, alloc, &pages, errors)),
         Err(fault) => Err(told_of(fault)),
     }
 }
@@ -50,7 +55,9 @@ pub(crate) fn keep_views<F: Files, E: Write>(
 /// # Errors
 ///
 /// As of [`keep_views`].
-pub(crate) fn picture_of(alloc: Global, recording: &Recording) -> Result<Vec<u8>, JobFault> {
+pub(crate) fn picture_of(alloc: Global, recording: &Recording) -> Result<Vec<u8>, JobFault>
+    ensures { IfErr result (λ fault. status_of fault ≡ 5) }
+{
     match picture(alloc, recording) {
         Ok(picture) => Ok(picture),
         Err(fault) => Err(told_of(fault)),
@@ -65,20 +72,24 @@ fn picture(alloc: Global, recording: &Recording) -> Result<Vec<u8>, ViewFault> {
 
 /// Whether each page could be written; up to the first that can't.
 fn are_kept<F: Files, E: Write>(
-    files: &F,
+    host: &mut Host<'_, F>,
     alloc: Global,
     pages: &[Page<'_>],
     errors: &mut E,
-) -> bool {
+) -> bool
+    ensures { result ≡ false → host.new.failed ≡ true }
+{
     for page in pages {
-        if !is_kept(files, alloc, page.name, &page.bytes, errors) {
+        if !is_kept(host, alloc, page.name, &page.bytes, errors) {
             return false;
         }
     }
     true
 }
 
-fn told_of(fault: ViewFault) -> JobFault {
+fn told_of(fault: ViewFault) -> JobFault
+    ensures { status_of result ≡ 5 }
+{
     match fault {
         ViewFault::NoMemory => JobFault::Memory,
         ViewFault::Torn => JobFault::Torn,

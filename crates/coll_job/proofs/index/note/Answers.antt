@@ -22,5 +22,5 @@ returns-in_ok-insert c = λ rank comm place start.
     c.in_ok-insert.ensures.updates.0 rank comm place start
     ∙ ap (λ (bytes : List ℕ). cond (same w (record { rank = rank; comm = comm; place = place; start = start }))
     (Some bytes) (handed_in old rank comm place start))
-    c.as_slice.ensures.value
+    c.as_slice.ensures
     ∙ ap (λ (e : rust.Entry). further (seen e) (handed_in old) rank comm place start) (sym c.in-Retired.is)
