@@ -1,11 +1,11 @@
 //! A random job on one engine, each outcome compared with the value computed directly.
 
-use crate::plain::value_of;
 use crate::random::Random;
 use crate::seat::{STARTS, Seat, Stage};
 use coll_core::{Config, Core, DoneWork, Offer, Outcome, Stepped, Work};
 use coll_kinds::{Datatype, Kind, Mode, Op, Refusal, Signature, Ticket};
 use coll_plans::{Plan, plan};
+use plan_rows::plain::value_of;
 use std::alloc::Global;
 
 /// How many collectives each communicator has.
@@ -246,7 +246,7 @@ impl Job {
             return Ok(Stage::Active(ticket));
         };
         let value = value_at(self.alloc, seat)?;
-        if outcome.start != seat.starts || outcome.bytes != value {
+        if outcome.start != seat.starts || outcome.bytes.as_slice() != value.as_slice() {
             return Err(Refusal::Torn);
         }
         self.outcomes = self.outcomes.wrapping_add(1);

@@ -54,7 +54,7 @@ impl<'j> Judge<'j> {
     /// Torn where that isn't so.
     pub fn test(&self, rank: u8, outcomes: &[Outcome]) -> Result<(), Refusal> {
         for outcome in outcomes.iter() {
-            if outcome.rank != rank || outcome.bytes != self.value(outcome)? {
+            if outcome.rank != rank || outcome.bytes.as_slice() != self.value(outcome)?.as_slice() {
                 return Err(Refusal::Torn);
             }
         }

@@ -1,5 +1,4 @@
-//! Engines and their ports as tests: worked rows in one thread, and jobs by threads; and traces and reports. All of it is
-//! built for tests alone.
+//! Engines as tests: jobs by threads, and threads that must go on. All of it is built for tests alone.
 //!
 //! | Module | Has |
 //! |---|---|
@@ -9,21 +8,16 @@
 //! | `draft` | the commands of a rank of a random job |
 //! | `random` | `Random`, numbers that look random |
 //! | `pace` | `Pace`, a gate that may hold ranks up too |
-//! | `calls` | the calls of a port |
 //! | `player` | what the thread of a rank does |
 //! | `rank_threads` | a thread for each rank, and progress threads |
 //! | `judge` | whether the outcomes are the values, and attested |
 //! | `running` | `run`, a job from the opening of its engine to the last outcome |
 //! | `gate_tests` | two threads that really run at one time |
 //! | `stress_tests` | a large random job |
+//! | `program_tests` | programs of ranks, from the opening of their engine to its report |
 //! | `liveness` | threads that must go on, or be told that nobody can |
-//! | `signatures` | the signatures of the rows |
-//! | `ports` | worked rows of ports in one thread, each answer compared with the one that must come |
-//! | `reports` | traces and a report as data, with what they tell |
 #![tactic(auto)]
 
-#[cfg(test)]
-mod calls;
 #[cfg(test)]
 mod collective;
 #[cfg(test)]
@@ -43,16 +37,12 @@ mod pace;
 #[cfg(test)]
 mod player;
 #[cfg(test)]
-mod ports;
+mod program_tests;
 #[cfg(test)]
 mod random;
 #[cfg(test)]
 mod rank_threads;
 #[cfg(test)]
-mod reports;
-#[cfg(test)]
 mod running;
-#[cfg(test)]
-mod signatures;
 #[cfg(test)]
 mod stress_tests;

@@ -1,6 +1,5 @@
 //! What the thread of one rank does.
 
-use crate::calls;
 use crate::collective::Collective;
 use crate::command::Command;
 use crate::job::Job;
@@ -8,7 +7,9 @@ use crate::pace::Pace;
 use coll_complete::Request;
 use coll_core::{Offer, Outcome};
 use coll_kinds::{Refusal, member_of};
-use coll_shared::{Entries, Port, Spent};
+use coll_shared::Port;
+use coll_traced::{Entries, Spent};
+use port_rows::calls;
 use std::alloc::Global;
 use std::sync::Wait;
 use std::thread::yield_now;

@@ -1,16 +1,18 @@
 //! A job from the opening of its engine to the last outcome.
 
-ghost use Rattle.std.specs.Prelude.{◌≡◌, ◌<◌, ◌≤◌, ◌*◌};
+ghost use Rattle.std.specs.Prelude.{◌≡◌, ◌<◌, ◌≤◌};
+ghost use Rattle.coll_core.specs.Configs.{setting_by};
 
 use crate::job::Job;
 use crate::judge::Judge;
 use crate::pace::Pace;
 use crate::player::End;
 use crate::rank_threads::carry_out;
-use coll_core::Outcome;
+use coll_core::{Config, Outcome};
 use coll_kinds::Refusal;
 use coll_report::Report;
-use coll_shared::{Engine, Entries, Spent, close, copied_groups, ledger_for, open, roomy};
+use coll_shared::{Engine, close, open, roomy};
+use coll_traced::{Entries, Spent, copied_groups, ledger_for};
 use std::alloc::Global;
 use std::marker::Brand;
 use std::sync::Wait;
@@ -23,7 +25,7 @@ fn closed<L: Entries, R: Wait>(
     engine: Engine<L>,
     spents: Vec<Spent<L>>,
 ) -> Result<Report, Refusal>
-    requires { L.parts ≡ 2 * L.ranks }
+    requires { L.parts ≡ L.setting.ranks }
 {
     match close(rt, engine, spents) {
         Ok(report) => Ok(report),
@@ -53,13 +55,14 @@ fn run_in<L: Entries + Send + Sync, R: Threads + Wait + Sync, G: Pace + Sync>(
     alloc: Global,
     pace: &G,
     job: &Job,
+    config: Config,
     workers: u8,
     entries: Blank,
 ) -> Result<usize, Refusal>
     requires name { entries.name ≡ L.name }
-    requires parts { (entries.parts ≡ L.parts) × (L.parts ≡ 2 * L.ranks) × (L.ranks ≡ job.now.ranks) }
+    requires parts { (entries.parts ≡ L.parts) × (L.parts ≡ config.ranks) }
+    requires setting { L.setting ≡ setting_by config }
 {
-    let config = roomy(job.ranks, copied_groups(alloc, &job.groups)?);
     let (engine, ports) = open::<L>(alloc, config, entries)?;
     let ends = carry_out(rt, alloc, pace, job, &engine, ports, workers)?;
     let mut spents = Vec::new(alloc);
@@ -86,5 +89,7 @@ pub fn run<R: Threads + Wait + Sync, G: Pace + Sync>(
     job: &Job,
     workers: u8,
 ) -> Result<usize, Refusal> {
-    run_in::<Brand, R, G>(rt, alloc, pace, job, workers, ledger_for(job.ranks))
+    let config = roomy(job.ranks, copied_groups(alloc, &job.groups)?);
+    let entries = ledger_for(config.ranks);
+    run_in::<Brand, R, G>(rt, alloc, pace, job, config, workers, entries)
 }

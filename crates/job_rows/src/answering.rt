@@ -1,6 +1,6 @@
 //! The calls that read and answer a text, with nothing that they promise: what they do is compared when a test runs.
 
-use coll_script::{Counted, JobFault, plain_job, read_text};
+use coll_script::{Counted, JobFault, Witnessed, plain_job, read_text};
 use std::alloc::Global;
 use std::io::{Cursor, Read, Write};
 
@@ -22,7 +22,11 @@ pub fn answer<R: Read, W: Write>(
     reader: &mut R,
     writer: &mut W,
 ) -> Result<(), JobFault> {
-    plain_job(alloc, &mut Counted::new(reader), writer)
+    plain_job(
+        alloc,
+        &mut Counted::new(reader),
+        &mut Witnessed::new(writer),
+    )
 }
 
 pub fn answer_text<W: Write>(alloc: Global, text: &str, writer: &mut W) -> Result<(), JobFault> {

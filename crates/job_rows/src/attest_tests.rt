@@ -7,11 +7,12 @@ ghost use Rattle.coll_core.specs.Configs.{setting_by};
 ghost use Rattle.coll_report.specs.Rows.{two};
 ghost use Rattle.coll_report.specs.Views.{seen, trace_seen};
 
+use coll_bytes::Bytes;
 use coll_core::Config;
 use coll_job::{AttestFault, attested_lines};
 use coll_kinds::{Datatype, Kind, Mode, Signature, Ticket};
 use coll_report::laws::rows_are_closed;
-use coll_report::{Bytes, Entry, Report};
+use coll_report::{Entry, Report};
 use coll_script::Script;
 use std::alloc::{AllocError, Global};
 use std::sync::Arc;
@@ -63,11 +64,10 @@ fn retired(rank: u8, ticket: Ticket, bytes: Bytes) -> Entry
     }
 }
 
-fn seven(alloc: Global) -> Result<Bytes, AllocError>
-    ensures { IfOk result (λ bytes. bytes ≡ i32 7) }
+fn seven() -> Bytes
+    ensures { result ≡ i32 7 }
 {
-    let bytes = Vec::from_slice(alloc, &[7, 0, 0, 0])?;
-    Ok(Bytes::new(alloc, bytes))
+    Bytes::few(&[7, 0, 0, 0])
 }
 
 /// Rank 0 gives 7 to a bcast and completes it before rank 1 posts it.
@@ -75,10 +75,10 @@ fn late_bcast(alloc: Global) -> Result<Vec<Entry>, AllocError>
     ensures { IfOk result (λ trace. trace_seen trace.items ≡ late_bcast) }
 {
     let mut trace = Vec::new(alloc);
-    trace.push(posted(alloc, 0, FIRST, seven(alloc)?)?)?;
-    trace.push(retired(0, FIRST, seven(alloc)?))?;
-    trace.push(posted(alloc, 1, SECOND, Bytes::new(alloc, Vec::new(alloc)))?)?;
-    trace.push(retired(1, SECOND, seven(alloc)?))?;
+    trace.push(posted(alloc, 0, FIRST, seven())?)?;
+    trace.push(retired(0, FIRST, seven()))?;
+    trace.push(posted(alloc, 1, SECOND, Bytes::empty())?)?;
+    trace.push(retired(1, SECOND, seven()))?;
     Ok(trace)
 }
 

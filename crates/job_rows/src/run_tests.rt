@@ -1,5 +1,6 @@
 //! Job texts run by threads, with their lines or their fault.
 
+use coll_bytes::Bytes;
 use coll_core::Outcome;
 use coll_job::run_job;
 use coll_report::{Entry, Report};
@@ -231,15 +232,14 @@ fn many_requests(rt: HostRuntime) -> Result<(), Fail> {
 }
 
 /// Whether the report attests that the first collective of communicator 0 handed these bytes to the rank.
-fn is_attested(alloc: Global, report: &Report, rank: u8, bytes: &[u8]) -> Result<bool, Fail> {
-    let bytes = Vec::from_slice(alloc, bytes)?;
-    Ok(report.attests(&Outcome {
+fn is_attested(report: &Report, rank: u8, bytes: [u8; 4]) -> bool {
+    report.attests(&Outcome {
         rank,
         comm: 0,
         place: 0,
         start: 0,
-        bytes,
-    }))
+        bytes: Bytes::few(&bytes),
+    })
 }
 
 /// How many entries of the report are completions of the rank.
@@ -273,8 +273,8 @@ fn report_of_sum_of_three(rt: HostRuntime) -> Result<(), Fail> {
             }
             assert!(rt; posts.next().is_none());
             assert_eq!(rt; completions(&report, rank), 1);
-            assert!(rt; is_attested(rt.alloc(), &report, rank, &[6, 0, 0, 0])?);
-            assert!(rt; !is_attested(rt.alloc(), &report, rank, &[7, 0, 0, 0])?);
+            assert!(rt; is_attested(&report, rank, [6, 0, 0, 0]));
+            assert!(rt; !is_attested(&report, rank, [7, 0, 0, 0]));
         }
         assert_eq!(rt; report.entries().len(), 6);
     }

@@ -35,7 +35,7 @@ pub(super) enum Answer {
 
 /// An outcome's value.
 fn value_of(outcome: &Outcome) -> u8 {
-    match outcome.bytes.first() {
+    match outcome.bytes.as_slice().first() {
         Some(value) => *value,
         None => 0,
     }

@@ -172,10 +172,10 @@ impl Part {
     /// Whether this is the member's outcome.
     pub fn gets(self, outcome: &Outcome) -> bool {
         let whose = (outcome.rank, outcome.start) == (self.member, self.start);
-        let mut all = outcome.bytes.iter().enumerate();
+        let mut all = outcome.bytes.as_slice().iter().enumerate();
         whose
             && (outcome.comm, outcome.place) == self.which.home()
-            && outcome.bytes.len() == self.which.len()
+            && outcome.bytes.len() as usize == self.which.len()
             && all.all(|(index, byte)| *byte == wanted(self, index))
     }
 }

@@ -35,7 +35,11 @@ pub enum Answer {
 
 impl Answer {
     pub fn of_outcome(outcome: &Outcome) -> Answer {
-        Answer::Outcome(outcome.place, outcome.start, Values::of(&outcome.bytes))
+        Answer::Outcome(
+            outcome.place,
+            outcome.start,
+            Values::of(outcome.bytes.as_slice()),
+        )
     }
 
     pub fn of_work(work: &Work) -> Answer {

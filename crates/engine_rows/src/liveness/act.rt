@@ -9,6 +9,8 @@ pub enum Event {
     EndOf(u64),
     /// Just this many threads sleep in the engine.
     Sleepers(u64),
+    /// Just this many ports have published an operation that no thread has served.
+    Published(u64),
     /// A thread has set this mark.
     Mark(u32),
 }
@@ -42,10 +44,16 @@ pub enum Act {
     Until(Event),
     /// Sets a mark.
     Set(u32),
-    /// Looks under the lock, and holds it until just so many ports have published an operation.
-    HoldUntilPublished(u64),
+    /// Takes the lock, sets a mark, and holds the lock until just so many ports have published an operation.
+    HoldUntilPublished(u32, u64),
+    /// Takes the lock, and gives it up.
+    TakeLock,
     /// Ends the port.
     Finish,
     /// Lets the port go unfinished.
     Drop,
 }
+
+/// A rank that has no port, and takes the lock once mark 0 is set or was waited for in vain. Whoever gives the lock up tells a stall, so a
+/// stall that others didn't tell fails the test, and ends it.
+pub const LAST_LOOK: &[Act] = &[Act::Finish, Act::Until(Event::Mark(0)), Act::TakeLock];

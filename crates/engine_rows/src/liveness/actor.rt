@@ -2,11 +2,12 @@
 
 use super::act::Act;
 use super::site::Site;
-use crate::calls;
 use coll_complete::Request;
 use coll_core::{Offer, Outcome};
 use coll_kinds::{Datatype, Kind, Mode, Op, Refusal, Signature};
-use coll_shared::{Entries, Port, RankTask};
+use coll_shared::{Port, RankTask};
+use coll_traced::Entries;
+use port_rows::calls;
 use std::alloc::Global;
 use std::sync::Wait;
 use std::thread::yield_now;
@@ -45,7 +46,7 @@ fn bytes_of(number: u16) -> [u8; 4] {
 /// Whether an outcome is that number.
 fn is_number(outcome: &Option<Outcome>, number: u16) -> bool {
     match outcome {
-        Some(outcome) => &outcome.bytes[..] == &bytes_of(number)[..],
+        Some(outcome) => outcome.bytes.as_slice() == &bytes_of(number)[..],
         None => false,
     }
 }
@@ -133,7 +134,9 @@ impl<L: Entries, R: Wait + Clock> Actor<'_, L, R> {
             if outcome.is_some() {
                 return Ok(is_number(&outcome, wanted));
             }
-            self.site.nap();
+            if !self.site.nap() {
+                break;
+            }
         }
         Ok(false)
     }
@@ -171,7 +174,11 @@ impl<L: Entries, R: Wait + Clock> Actor<'_, L, R> {
                 self.site.marks.set(mark);
                 Ok(true)
             }
-            Act::HoldUntilPublished(count) => Ok(self.site.hold_until_published(count)),
+            Act::HoldUntilPublished(mark, count) => Ok(self.site.hold_until_published(mark, count)),
+            Act::TakeLock => {
+                self.site.take_lock();
+                Ok(true)
+            }
             Act::Finish => self.finish(),
             Act::Drop => {
                 self.port = None;

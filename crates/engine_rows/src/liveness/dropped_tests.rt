@@ -1,21 +1,27 @@
 //! Ports that are let go unfinished: they end, and no other rank waits for them for ever.
 
-use super::act::{Act, Event};
+use super::act::{Act, Event, LAST_LOOK};
 use super::scenario::{Scenario, first_misfit};
 use std::test::Fail;
 
-/// Rank 0 sleeps for the post of a rank whose port is let go.
+/// Rank 0 sleeps for the post of a rank whose port is let go. Rank 2 has the last look.
 #[test]
 fn a_dropped_port_has_ended(rt: HostRuntime) -> Result<(), Fail> {
     for workers in [0u8, 2] {
         let scenario = Scenario {
             groups: &[&[0, 1]],
             acts: &[
-                &[Act::Sum(0, 1), Act::WaitStalled(0), Act::TestPending(0)],
+                &[
+                    Act::Sum(0, 1),
+                    Act::WaitStalled(0),
+                    Act::Set(0),
+                    Act::TestPending(0),
+                ],
                 &[
                     Act::Until(Event::Sleepers(u64::from(workers) + 1)),
                     Act::Drop,
                 ],
+                LAST_LOOK,
             ],
             holds: &[],
         };

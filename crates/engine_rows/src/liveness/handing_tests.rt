@@ -27,8 +27,7 @@ fn a_post_wakes_who_waits(rt: HostRuntime) -> Result<(), Fail> {
             &[
                 Act::Finish,
                 Act::Until(Event::Sleepers(2)),
-                Act::Set(0),
-                Act::HoldUntilPublished(2),
+                Act::HoldUntilPublished(0, 2),
             ],
         ],
         holds: &[],
@@ -53,8 +52,7 @@ fn an_exit_hands_on(rt: HostRuntime) -> Result<(), Fail> {
             &[
                 Act::Finish,
                 Act::Until(Event::Sleepers(1)),
-                Act::Set(0),
-                Act::HoldUntilPublished(1),
+                Act::HoldUntilPublished(0, 1),
             ],
         ],
         holds: &[],
@@ -63,18 +61,20 @@ fn an_exit_hands_on(rt: HostRuntime) -> Result<(), Fail> {
     Ok(())
 }
 
-/// Ranks that don't call leave the combinations to a progress thread.
+/// Ranks that don't call leave the combinations to a progress thread, which has to be woken.
 #[test]
 fn a_worker_works(rt: HostRuntime) -> Result<(), Fail> {
     let scenario = Scenario {
         groups: &[&[0, 1]],
         acts: &[
             &[
+                Act::Until(Event::Sleepers(1)),
                 Act::Sum(0, 1),
                 Act::Until(Event::Ended(2)),
                 Act::WaitSum(0, 3),
             ],
             &[
+                Act::Until(Event::Sleepers(1)),
                 Act::Sum(0, 2),
                 Act::Until(Event::Ended(2)),
                 Act::WaitSum(0, 3),
@@ -118,9 +118,42 @@ fn three_at_one_time(rt: HostRuntime) -> Result<(), Fail> {
     Ok(())
 }
 
-/// Two ranks with two communicators. Rank 0 posts a barrier on each and then acts; rank 1 posts the second and then the first, each
-/// once rank 0 sleeps.
-fn lists<'x>(zero: &'x [Act]) -> [&'x [Act]; 2] {
+/// A progress thread goes out with the first combination, and has to call rank 1, which sleeps, for the second. While rank 1 is out with
+/// that, it is counted on by nobody: rank 0's next post has to call the progress thread again.
+#[test]
+fn who_computes_hands_on(rt: HostRuntime) -> Result<(), Fail> {
+    let scenario = Scenario {
+        groups: &[&[0, 1]],
+        acts: &[
+            &[
+                Act::Until(Event::Sleepers(2)),
+                Act::Sum(0, 1),
+                Act::Until(Event::Begun(2)),
+                Act::Until(Event::Sleepers(1)),
+                Act::Sum(0, 10),
+                Act::Until(Event::EndOf(3)),
+                Act::WaitSum(0, 3),
+                Act::WaitSum(1, 30),
+            ],
+            &[
+                Act::Sum(0, 2),
+                Act::Sum(0, 20),
+                Act::WaitSum(0, 3),
+                Act::WaitSum(1, 30),
+            ],
+        ],
+        holds: &[(0, Event::Begun(2)), (1, Event::EndOf(3))],
+    };
+    assert_eq!(rt; first_misfit(&rt, rt.alloc(), &scenario, 1)?, None);
+    Ok(())
+}
+
+const LIST_GROUPS: &[&[u8]] = &[&[0, 1], &[0, 1], &[1, 2]];
+
+/// Rank 0 posts a barrier on each of communicators 0 and 1 and then acts; rank 1 posts the second and then the first, each once rank 0
+/// sleeps. At last ranks 1 and 2 post a sum and call no more, so that a rank 0 that still sleeps is called to compute it: a wake that
+/// doesn't come ends the test.
+fn lists<'x>(zero: &'x [Act]) -> [&'x [Act]; 3] {
     [
         zero,
         &[
@@ -130,7 +163,10 @@ fn lists<'x>(zero: &'x [Act]) -> [&'x [Act]; 2] {
             Act::Until(Event::Sleepers(1)),
             Act::Barrier(0),
             Act::WaitAll,
+            Act::Until(Event::Mark(1)),
+            Act::Sum(2, 1),
         ],
+        &[Act::Until(Event::Mark(1)), Act::Sum(2, 2)],
     ]
 }
 
@@ -143,6 +179,7 @@ fn one_of_a_list_wakes(rt: HostRuntime) -> Result<(), Fail> {
         Act::WaitAny(2, 1),
         Act::Set(0),
         Act::WaitAny(2, 0),
+        Act::Set(1),
     ];
     let some: &[Act] = &[
         Act::Barrier(0),
@@ -150,10 +187,11 @@ fn one_of_a_list_wakes(rt: HostRuntime) -> Result<(), Fail> {
         Act::WaitSome,
         Act::Set(0),
         Act::WaitSome,
+        Act::Set(1),
     ];
     for zero in [any, some] {
         let scenario = Scenario {
-            groups: &[&[0, 1], &[0, 1]],
+            groups: LIST_GROUPS,
             acts: &lists(zero),
             holds: &[],
         };
@@ -165,9 +203,15 @@ fn one_of_a_list_wakes(rt: HostRuntime) -> Result<(), Fail> {
 /// A rank that sleeps for all of a list is woken once the last is done.
 #[test]
 fn the_last_of_a_list_wakes(rt: HostRuntime) -> Result<(), Fail> {
-    let zero: &[Act] = &[Act::Barrier(0), Act::Barrier(1), Act::Set(0), Act::WaitAll];
+    let zero: &[Act] = &[
+        Act::Barrier(0),
+        Act::Barrier(1),
+        Act::Set(0),
+        Act::WaitAll,
+        Act::Set(1),
+    ];
     let scenario = Scenario {
-        groups: &[&[0, 1], &[0, 1]],
+        groups: LIST_GROUPS,
         acts: &lists(zero),
         holds: &[],
     };

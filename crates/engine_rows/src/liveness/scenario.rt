@@ -1,12 +1,15 @@
 //! What all threads do, from the opening of an engine to the end of the last thread.
 
-ghost use Rattle.std.specs.Prelude.{◌≡◌, ◌*◌};
+ghost use Rattle.std.specs.Prelude.{◌≡◌};
+ghost use Rattle.coll_core.specs.Configs.{setting_by};
 
 use super::act::{Act, Event};
 use super::actor::Actor;
 use super::site::{Marks, Site};
+use coll_core::Config;
 use coll_kinds::Refusal;
-use coll_shared::{Engine, Entries, Port, ledger_for, open, roomy, run_rank_threads};
+use coll_shared::{Engine, Port, open, roomy, run_rank_threads};
+use coll_traced::{Entries, ledger_for};
 use std::alloc::Global;
 use std::marker::Brand;
 use std::sync::Wait;
@@ -30,8 +33,8 @@ pub struct Scenario<'x> {
 pub enum Misfit {
     /// An act of a rank, by its index.
     Act { rank: usize, index: usize },
-    /// This many held pieces waited for their events in vain.
-    Held(u64),
+    /// A held piece waited for its event in vain.
+    Held,
 }
 
 fn groups_of(alloc: Global, scenario: &Scenario<'_>) -> Result<Vec<Vec<u8>>, Refusal> {
@@ -75,15 +78,15 @@ fn played_in<L: Entries + Send + Sync, R: Threads + Wait + Clock + Sync>(
     rt: &R,
     alloc: Global,
     scenario: &Scenario<'_>,
-    ranks: u8,
+    config: Config,
     workers: u8,
     entries: Blank,
 ) -> Result<Option<Misfit>, Refusal>
     requires name { entries.name ≡ L.name }
-    requires parts { (entries.parts ≡ L.parts) × (L.parts ≡ 2 * L.ranks) × (L.ranks ≡ ranks) }
+    requires parts { (entries.parts ≡ L.parts) × (L.parts ≡ config.ranks) }
+    requires setting { L.setting ≡ setting_by config }
 {
     let marks = Marks::new();
-    let config = roomy(ranks, groups_of(alloc, scenario)?);
     let (engine, ports) = open::<L>(alloc, config, entries)?;
     let ends = ends_of(rt, alloc, scenario, &marks, &engine, ports, workers)?;
     for (rank, end) in ends.iter().enumerate() {
@@ -91,10 +94,10 @@ fn played_in<L: Entries + Send + Sync, R: Threads + Wait + Clock + Sync>(
             return Ok(Some(Misfit::Act { rank, index }));
         }
     }
-    match marks.missed() {
-        0 => Ok(None),
-        count => Ok(Some(Misfit::Held(count))),
+    if marks.has_missed() {
+        return Ok(Some(Misfit::Held));
     }
+    Ok(None)
 }
 
 /// Carries a scenario out with that many progress threads. None where all was as it must be.
@@ -109,5 +112,7 @@ pub fn first_misfit<R: Threads + Wait + Clock + Sync>(
     workers: u8,
 ) -> Result<Option<Misfit>, Refusal> {
     let ranks = u8::try_from(scenario.acts.len()).unwrap_or(0);
-    played_in::<Brand, R>(rt, alloc, scenario, ranks, workers, ledger_for(ranks))
+    let config = roomy(ranks, groups_of(alloc, scenario)?);
+    let entries = ledger_for(config.ranks);
+    played_in::<Brand, R>(rt, alloc, scenario, config, workers, entries)
 }

@@ -1,14 +1,19 @@
 //! What the threads of a scenario share.
 
 use super::act::Event;
-use coll_shared::{Engine, Entries, Gate, Inspect, Shared};
+use coll_shared::{Engine, Gate, Inspect};
+use coll_traced::{Entries, TracedCore};
 use std::sync::Wait;
-use std::sync::atomic::{AtomicU64, Ordering};
+use std::sync::atomic::{AtomicBool, AtomicU64, Ordering};
 use std::thread;
+use std::thread::yield_now;
 use std::time::{Clock, Duration};
 
-/// How often a thread looks for an event, and how long it sleeps between two looks: for so long that threads of a machine whose
-/// processors all are at work elsewhere come to it, too.
+/// How often a thread looks for an event without a sleep, so that it goes on at once where that comes soon.
+const LOOKS: u32 = 20_000;
+
+/// How often it looks behind that, and how long it sleeps between two looks: for so long that threads of a machine whose processors all
+/// are at work elsewhere come to it, too.
 const TURNS: u32 = 3_000;
 
 const NAP_IN_MILLIS: u64 = 10;
@@ -22,8 +27,8 @@ pub struct Marks {
     ends: AtomicU64,
     /// A bit for each mark that was set.
     marks: AtomicU64,
-    /// How many events a gate waited for in vain.
-    missed: AtomicU64,
+    /// Some thread waited for an event in vain.
+    missed: AtomicBool,
 }
 
 fn bit(number: u32) -> u64 {
@@ -38,7 +43,7 @@ impl Marks {
             ended: AtomicU64::new(0),
             ends: AtomicU64::new(0),
             marks: AtomicU64::new(0),
-            missed: AtomicU64::new(0),
+            missed: AtomicBool::new(false),
         }
     }
 
@@ -47,8 +52,8 @@ impl Marks {
         self.marks.fetch_or(bit(mark), Ordering::SeqCst);
     }
 
-    /// How many events a gate waited for in vain.
-    pub fn missed(&self) -> u64 {
+    /// Whether some thread waited for an event in vain. The others then look once for theirs, so that a test that has failed ends soon.
+    pub fn has_missed(&self) -> bool {
         self.missed.load(Ordering::SeqCst)
     }
 }
@@ -72,31 +77,47 @@ impl<L: Entries, R: Wait + Clock> Site<'_, L, R> {
                 piece < 64 && marks.ends.load(Ordering::SeqCst) & bit(piece as u32) != 0
             }
             Event::Sleepers(count) => self.engine.sleepers() == count,
+            Event::Published(count) => self.engine.published() == count,
             Event::Mark(mark) => marks.marks.load(Ordering::SeqCst) & bit(mark) != 0,
         }
     }
 
     /// Waits for an event, for a bounded time. Answers whether it has come.
     pub fn until(&self, event: Event) -> bool {
-        for _turn in 0..TURNS {
+        for look in 0..LOOKS + TURNS {
             if self.has_come(event) {
                 return true;
             }
-            self.nap();
+            if look < LOOKS {
+                yield_now();
+            } else if !self.nap() {
+                return false;
+            }
         }
+        self.marks.missed.store(true, Ordering::SeqCst);
         false
     }
 
-    /// Sleeps between two looks.
-    pub fn nap(&self) {
+    /// Sleeps between two looks. False where there is to be no further look, since some thread waited in vain.
+    pub fn nap(&self) -> bool {
+        if self.marks.has_missed() {
+            return false;
+        }
         let _ = thread::sleep(self.rt, Duration::from_millis(NAP_IN_MILLIS));
+        true
     }
 
-    /// Holds the engine's lock until just so many ports have published an operation, for a bounded time. Answers whether they have.
-    pub fn hold_until_published(&self, count: u64) -> bool {
+    /// Takes the engine's lock, and gives it up.
+    pub fn take_lock(&self) {
+        self.engine.inspect(self.rt, &mut Nothing);
+    }
+
+    /// Takes the engine's lock, sets a mark, and holds the lock until just so many ports have published an operation, for a bounded time.
+    /// Answers whether they have.
+    pub fn hold_until_published(&self, mark: u32, count: u64) -> bool {
         let mut holding = Holding {
-            rt: self.rt,
-            engine: self.engine,
+            site: self,
+            mark,
             count,
             has_come: false,
         };
@@ -105,24 +126,27 @@ impl<L: Entries, R: Wait + Clock> Site<'_, L, R> {
     }
 }
 
+/// Does nothing with the engine's lock.
+#[derive(Clone, Copy)]
+struct Nothing;
+
+impl<L: Entries> Inspect<L> for Nothing {
+    fn inspect(&mut self, _traced: &TracedCore<L>) {}
+}
+
 /// Waits, with the engine's lock, until just so many ports have published an operation.
 #[derive(Drop)]
 struct Holding<'x, L: Entries, R> {
-    rt: &'x R,
-    engine: &'x Engine<L>,
+    site: &'x Site<'x, L, R>,
+    mark: u32,
     count: u64,
     has_come: bool,
 }
 
 impl<L: Entries, R: Wait + Clock> Inspect<L> for Holding<'_, L, R> {
-    fn inspect(&mut self, _shared: &Shared<L>) {
-        for _turn in 0..TURNS {
-            if self.engine.published() == self.count {
-                self.has_come = true;
-                return;
-            }
-            let _ = thread::sleep(self.rt, Duration::from_millis(NAP_IN_MILLIS));
-        }
+    fn inspect(&mut self, _traced: &TracedCore<L>) {
+        self.site.marks.set(self.mark);
+        self.has_come = self.site.until(Event::Published(self.count));
     }
 }
 
@@ -130,8 +154,8 @@ impl<L: Entries, R: Wait + Clock> Gate for Site<'_, L, R> {
     fn before(&self, piece: u64) {
         self.marks.begun.fetch_add(1, Ordering::SeqCst);
         for (held, event) in self.holds.iter() {
-            if *held == piece && !self.until(*event) {
-                self.marks.missed.fetch_add(1, Ordering::SeqCst);
+            if *held == piece {
+                self.until(*event);
             }
         }
     }

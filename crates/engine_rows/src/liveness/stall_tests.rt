@@ -1,13 +1,13 @@
 //! Stalls, which must be told to each rank that waits, however they begin.
 
-use super::act::{Act, Event};
+use super::act::{Act, Event, LAST_LOOK};
 use super::scenario::{Scenario, first_misfit};
 use std::test::Fail;
 
 const THREE_AND_TWO: &[&[u8]] = &[&[0, 1, 2], &[1, 2]];
 
 /// A progress thread has a combination while all ranks sleep, and its commit finishes no request. Ranks 0 and 1 wait for rank 2's post
-/// of the sum, and rank 2 for rank 1's barrier. Rank 3 looks under the lock at last, so that a stall that isn't told ends the test.
+/// of the sum, and rank 2 for rank 1's barrier. Rank 3 has the last look.
 #[test]
 fn stall_after_a_commit(rt: HostRuntime) -> Result<(), Fail> {
     let scenario = Scenario {
@@ -29,11 +29,7 @@ fn stall_after_a_commit(rt: HostRuntime) -> Result<(), Fail> {
                 Act::Until(Event::Begun(1)),
                 Act::WaitStalled(0),
             ],
-            &[
-                Act::Finish,
-                Act::Until(Event::Mark(0)),
-                Act::HoldUntilPublished(0),
-            ],
+            LAST_LOOK,
         ],
         holds: &[(0, Event::Sleepers(3))],
     };
@@ -41,7 +37,7 @@ fn stall_after_a_commit(rt: HostRuntime) -> Result<(), Fail> {
     Ok(())
 }
 
-/// Rank 1 ends while rank 0 sleeps for its post.
+/// Rank 1 ends while rank 0 sleeps for its post. Rank 2 has the last look.
 #[test]
 fn a_stall_at_an_end(rt: HostRuntime) -> Result<(), Fail> {
     for workers in [0u8, 2] {
@@ -51,6 +47,7 @@ fn a_stall_at_an_end(rt: HostRuntime) -> Result<(), Fail> {
                 &[
                     Act::Sum(0, 1),
                     Act::WaitStalled(0),
+                    Act::Set(0),
                     Act::WaitStalled(0),
                     Act::TestPending(0),
                 ],
@@ -58,6 +55,7 @@ fn a_stall_at_an_end(rt: HostRuntime) -> Result<(), Fail> {
                     Act::Until(Event::Sleepers(u64::from(workers) + 1)),
                     Act::Finish,
                 ],
+                LAST_LOOK,
             ],
             holds: &[],
         };

@@ -1,14 +1,16 @@
 //! Ranks that only test, which must get on (MPI 4.1, 3.7.4).
 
-ghost use Rattle.std.specs.Prelude.{◌≡◌, ◌*◌};
+ghost use Rattle.std.specs.Prelude.{◌≡◌};
+ghost use Rattle.coll_core.specs.Configs.{setting_by};
 
 use super::act::{Act, Event};
 use super::scenario::{Scenario, first_misfit};
-use crate::calls;
 use coll_complete::Request;
-use coll_core::Offer;
+use coll_core::{Config, Offer};
 use coll_kinds::{Datatype, Kind, Mode, Op, Refusal, Signature};
-use coll_shared::{Entries, Port, ledger_for, open, roomy};
+use coll_shared::{Port, open, roomy};
+use coll_traced::{Entries, ledger_for};
+use port_rows::calls;
 use std::alloc::Global;
 use std::marker::Brand;
 use std::sync::Wait;
@@ -65,13 +67,17 @@ fn posted<L: Entries, R: Wait>(
 }
 
 /// How many requests of two ports in this thread are complete, once each was tested so often.
-fn complete_in<L: Entries, R: Wait>(rt: &R, alloc: Global, entries: Blank) -> Result<usize, Refusal>
+fn complete_in<L: Entries, R: Wait>(
+    rt: &R,
+    alloc: Global,
+    config: Config,
+    entries: Blank,
+) -> Result<usize, Refusal>
     requires name { entries.name ≡ L.name }
-    requires parts { (entries.parts ≡ L.parts) × (L.parts ≡ 2 * L.ranks) × (L.ranks ≡ 2) }
+    requires parts { (entries.parts ≡ L.parts) × (L.parts ≡ config.ranks) }
+    requires setting { L.setting ≡ setting_by config }
 {
-    let mut groups = Vec::new(alloc);
-    groups.push(Vec::from_slice(alloc, &[0u8, 1])?)?;
-    let (_engine, ports) = open::<L>(alloc, roomy(2, groups), entries)?;
+    let (_engine, ports) = open::<L>(alloc, config, entries)?;
     let mut pairs = Vec::new(alloc);
     for port in ports {
         let mut port = port;
@@ -91,7 +97,11 @@ fn complete_in<L: Entries, R: Wait>(rt: &R, alloc: Global, entries: Blank) -> Re
 
 /// The same, with the ledger of its engine.
 fn complete<R: Wait>(rt: &R, alloc: Global) -> Result<usize, Refusal> {
-    complete_in::<Brand, R>(rt, alloc, ledger_for(2))
+    let mut groups = Vec::new(alloc);
+    groups.push(Vec::from_slice(alloc, &[0u8, 1])?)?;
+    let config = roomy(2, groups);
+    let entries = ledger_for(config.ranks);
+    complete_in::<Brand, R>(rt, alloc, config, entries)
 }
 
 #[test]

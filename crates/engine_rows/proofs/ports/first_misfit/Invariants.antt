@@ -1,7 +1,0 @@
-use Rattle.engine_rows.proofs.ports.first_misfit.Given as goal
-
-abbrev pub ghosts-first_misfit_in-L-Ledger : goal.ghosts-first_misfit_in-L-Ledger
-ghosts-first_misfit_in-L-Ledger g a = record { name = a.entries.name; parts = a.entries.parts }
-
-abbrev pub ghosts-first_misfit_in-L-Entries : goal.ghosts-first_misfit_in-L-Entries
-ghosts-first_misfit_in-L-Entries g a = record { ranks = a.setup.now.ranks }

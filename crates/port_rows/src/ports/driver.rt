@@ -1,0 +1,384 @@
+//! An engine that makes the calls of rows.
+
+ghost use Rattle.std.specs.Prelude.{◌≡◌};
+ghost use Rattle.coll_core.specs.Configs.{setting_by};
+
+use crate::calls;
+use crate::ports::answer::Answer;
+use crate::ports::call::{Call, ListCall};
+use crate::ports::closed::Closed;
+use crate::ports::noted::Bytes;
+use crate::ports::{Misfit, Row, completions};
+use coll_complete::Request;
+use coll_core::{Config, Offer, Outcome};
+use coll_kinds::{Refusal, Signature, Ticket};
+use coll_report::Report;
+use coll_shared::{Engine, NoGate, Port, close, open};
+use coll_traced::{Entries, Spent};
+use std::alloc::Global;
+use std::sync::Wait;
+use std::sync::ledger::Blank;
+
+pub const NO_MEMORY: Answer = Answer::Refused(Refusal::NoMemory);
+
+/// An engine with its ports, and the requests that rows made.
+#[derive(Drop)]
+pub struct Driver<L: Entries> {
+    alloc: Global,
+    engine: Engine<L>,
+    /// Those that haven't ended, by their ranks.
+    ports: Vec<Port<L>>,
+    aside: Option<Port<L>>,
+    /// The ends of those that have ended, the highest rank's first.
+    ended: Vec<Spent<L>>,
+    requests: Vec<Request>,
+    /// What each request named when it was made.
+    tickets: Vec<Option<Ticket>>,
+    /// What the waits for one request told.
+    outcomes: Vec<Outcome>,
+}
+
+impl<L: Entries> Driver<L> {
+    pub fn open(alloc: Global, config: Config, entries: Blank) -> Result<Driver<L>, Refusal>
+        requires name { entries.name ≡ L.name }
+        requires parts { (entries.parts ≡ L.parts) × (L.parts ≡ config.ranks) }
+        requires setting { L.setting ≡ setting_by config }
+    {
+        let (engine, ports) = open::<L>(alloc, config, entries)?;
+        Driver::of(alloc, engine, ports)
+    }
+
+    /// Of an engine that was opened. Its ports end, and it is closed, without further memory.
+    pub fn of(alloc: Global, engine: Engine<L>, ports: Vec<Port<L>>) -> Result<Driver<L>, Refusal> {
+        let ended = Vec::with_capacity(alloc, ports.len())?;
+        Ok(Driver {
+            alloc,
+            engine,
+            ports,
+            aside: None,
+            ended,
+            requests: Vec::new(alloc),
+            tickets: Vec::new(alloc),
+            outcomes: Vec::new(alloc),
+        })
+    }
+
+    /// Makes the calls of some lists, until one is answered otherwise.
+    pub fn first_misfit<R: Wait>(&mut self, rt: &R, parts: &[&[Row]]) -> Option<Misfit> {
+        for rows in parts {
+            let misfit = self.misfit_among(rt, rows);
+            if misfit.is_some() {
+                return misfit;
+            }
+        }
+        None
+    }
+
+    /// Makes the calls of a list, and once more each that is refused memory and may take some, until one is answered
+    /// otherwise. Else how many were refused memory.
+    pub fn refusals_among<R: Wait>(&mut self, rt: &R, rows: &[Row]) -> Result<u32, Misfit> {
+        let mut refusals = 0u32;
+        for (index, (call, want)) in rows.iter().enumerate() {
+            let mut got = self.answer(rt, *call);
+            if got == NO_MEMORY && call.takes_memory() {
+                refusals = refusals.saturating_add(1);
+                got = self.answer(rt, *call);
+            }
+            if got != *want {
+                return Err(Misfit { index, got });
+            }
+        }
+        Ok(refusals)
+    }
+
+    fn misfit_among<R: Wait>(&mut self, rt: &R, rows: &[Row]) -> Option<Misfit> {
+        for (index, (call, want)) in rows.iter().enumerate() {
+            let got = self.answer(rt, *call);
+            if got != *want {
+                return Some(Misfit { index, got });
+            }
+        }
+        None
+    }
+
+    /// Makes a call.
+    pub fn answer<R: Wait>(&mut self, rt: &R, call: Call) -> Answer {
+        match self.carry_out(rt, call) {
+            Ok(answer) => answer,
+            Err(why) => Answer::Refused(why),
+        }
+    }
+
+    /// Makes a call. The Err is its refusal; Torn where there is no such port or request.
+    fn carry_out<R: Wait>(&mut self, rt: &R, call: Call) -> Result<Answer, Refusal> {
+        match call {
+            Call::Null => self.number(Request::null()),
+            Call::Post(rank, comm, sig, bytes) => {
+                let request = self.post(rt, rank, comm, sig, bytes)?;
+                self.number(request)
+            }
+            Call::Init(rank, comm, sig) => self.init(rt, rank, comm, sig),
+            Call::Start(rank, number, bytes) => self.start(rt, rank, number, bytes),
+            Call::Free(rank, number) => self.free(rt, rank, number),
+            Call::Test(rank, number) => self.test(rt, rank, number),
+            Call::TestTicket(rank, number) => self.test_ticket(rt, rank, number),
+            Call::Wait(rank, number) => self.wait(rt, rank, number),
+            Call::PostAndWait(comm, sig, bytes) => self.post_and_wait(rt, comm, sig, bytes),
+            Call::IsNull(number) => self.is_null(number),
+            Call::Left => Ok(self.left()),
+            Call::Made(rank) => self.made(rank),
+            Call::Finish => self.finish(rt),
+            Call::PutAside => self.put_aside(),
+            Call::Over(call) => {
+                let count = self.count();
+                self.complete(rt, call, 0, count)
+            }
+            Call::OverSome(call, from, count) => self.complete(rt, call, from, count),
+            Call::Stop => Ok(self.stop(rt)),
+            Call::Work => self.work(rt),
+        }
+    }
+
+    /// Numbers a request, for which `room_for_one` has made room.
+    pub fn number(&mut self, request: Request) -> Result<Answer, Refusal> {
+        self.tickets.push(request.ticket())?;
+        self.requests.push(request)?;
+        Ok(Answer::Accepted)
+    }
+
+    /// Makes room for one more request and for its outcome, so that no refusal of memory can lose it.
+    pub fn room_for_one(&mut self) -> Result<(), Refusal> {
+        self.tickets.reserve(1)?;
+        self.requests.reserve(1)?;
+        self.outcomes.reserve(1)?;
+        Ok(())
+    }
+
+    /// The port of a rank. Torn where there is none.
+    pub fn port(&mut self, rank: u8) -> Result<&mut Port<L>, Refusal> {
+        self.ports.get_mut(usize::from(rank)).ok_or(Refusal::Torn)
+    }
+
+    /// The port of a rank, and the request of that number. Torn where there isn't such a one.
+    pub fn port_and_request(
+        &mut self,
+        rank: u8,
+        number: usize,
+    ) -> Result<(&mut Port<L>, &Request), Refusal> {
+        let port = self.ports.get_mut(usize::from(rank)).ok_or(Refusal::Torn)?;
+        let request = self.requests.get(number).ok_or(Refusal::Torn)?;
+        Ok((port, request))
+    }
+
+    fn post<R: Wait>(
+        &mut self,
+        rt: &R,
+        rank: u8,
+        comm: u32,
+        sig: Signature,
+        bytes: &[u8],
+    ) -> Result<Request, Refusal> {
+        self.room_for_one()?;
+        let port = self.ports.get_mut(usize::from(rank)).ok_or(Refusal::Torn)?;
+        let plan = port.ready_plan(comm, &sig)?;
+        let offer = Offer {
+            plan,
+            bytes: Vec::from_slice(self.alloc, bytes)?,
+        };
+        match port.post(rt, comm, offer) {
+            Ok((request, _receipt)) => Ok(request),
+            Err(refused) if refused.back.bytes.as_slice() == bytes => Err(refused.why),
+            Err(_) => Err(Refusal::Torn),
+        }
+    }
+
+    fn init<R: Wait>(
+        &mut self,
+        rt: &R,
+        rank: u8,
+        comm: u32,
+        sig: Signature,
+    ) -> Result<Answer, Refusal> {
+        self.room_for_one()?;
+        let port = self.ports.get_mut(usize::from(rank)).ok_or(Refusal::Torn)?;
+        let plan = port.ready_plan(comm, &sig)?;
+        let request = calls::init(rt, port, comm, plan)?;
+        self.number(request)
+    }
+
+    fn start<R: Wait>(
+        &mut self,
+        rt: &R,
+        rank: u8,
+        number: usize,
+        bytes: &[u8],
+    ) -> Result<Answer, Refusal> {
+        let port = self.ports.get_mut(usize::from(rank)).ok_or(Refusal::Torn)?;
+        let request = self.requests.get(number).ok_or(Refusal::Torn)?;
+        let own = Vec::from_slice(self.alloc, bytes)?;
+        match port.start(rt, request, own) {
+            Ok(_receipt) => Ok(Answer::Accepted),
+            Err(refused) if refused.back.as_slice() == bytes => Err(refused.why),
+            Err(_) => Err(Refusal::Torn),
+        }
+    }
+
+    fn free<R: Wait>(&mut self, rt: &R, rank: u8, number: usize) -> Result<Answer, Refusal> {
+        let port = self.ports.get_mut(usize::from(rank)).ok_or(Refusal::Torn)?;
+        let request = self.requests.get_mut(number).ok_or(Refusal::Torn)?;
+        calls::free(rt, port, request)?;
+        Ok(Answer::Accepted)
+    }
+
+    fn test<R: Wait>(&mut self, rt: &R, rank: u8, number: usize) -> Result<Answer, Refusal> {
+        let port = self.ports.get_mut(usize::from(rank)).ok_or(Refusal::Torn)?;
+        let request = self.requests.get_mut(number).ok_or(Refusal::Torn)?;
+        completions::test(rt, port, number, request)
+    }
+
+    fn test_ticket<R: Wait>(&mut self, rt: &R, rank: u8, number: usize) -> Result<Answer, Refusal> {
+        let port = self.ports.get_mut(usize::from(rank)).ok_or(Refusal::Torn)?;
+        let Some(Some(ticket)) = self.tickets.get(number) else {
+            return Err(Refusal::Torn);
+        };
+        completions::test(rt, port, number, &mut Request::of(*ticket))
+    }
+
+    fn wait<R: Wait>(&mut self, rt: &R, rank: u8, number: usize) -> Result<Answer, Refusal> {
+        let port = self.ports.get_mut(usize::from(rank)).ok_or(Refusal::Torn)?;
+        let request = self.requests.get_mut(number).ok_or(Refusal::Torn)?;
+        self.outcomes.reserve(1)?;
+        let outcome = calls::wait(rt, &NoGate, port, request)?;
+        self.keep(outcome)
+    }
+
+    fn post_and_wait<R: Wait>(
+        &mut self,
+        rt: &R,
+        comm: u32,
+        sig: Signature,
+        bytes: &[u8],
+    ) -> Result<Answer, Refusal> {
+        let mut request = self.post(rt, 0, comm, sig, bytes)?;
+        let port = self.ports.get_mut(0).ok_or(Refusal::Torn)?;
+        let outcome = calls::wait(rt, &NoGate, port, &mut request)?;
+        self.keep(outcome)
+    }
+
+    /// Keeps what a wait told.
+    fn keep(&mut self, outcome: Option<Outcome>) -> Result<Answer, Refusal> {
+        let Some(outcome) = outcome else {
+            return Ok(Answer::NoOutcome);
+        };
+        let answer = Answer::Outcome(Bytes::of(&outcome));
+        self.outcomes.push(outcome)?;
+        Ok(answer)
+    }
+
+    /// How many requests were numbered.
+    fn count(&self) -> usize {
+        self.requests.len()
+    }
+
+    /// A call of rank 0 over some requests: from that number on, so many.
+    fn complete<R: Wait>(
+        &mut self,
+        rt: &R,
+        call: ListCall,
+        from: usize,
+        count: usize,
+    ) -> Result<Answer, Refusal> {
+        let port = self.ports.get_mut(0).ok_or(Refusal::Torn)?;
+        let (_, rest) = self
+            .requests
+            .split_at_mut_checked(from)
+            .ok_or(Refusal::Torn)?;
+        let (list, _) = rest.split_at_mut_checked(count).ok_or(Refusal::Torn)?;
+        match call {
+            ListCall::TestAny => completions::test_any(rt, port, list),
+            ListCall::WaitAny => completions::wait_any(rt, port, list),
+            ListCall::TestAll => completions::test_all(rt, self.alloc, port, list),
+            ListCall::WaitAll => completions::wait_all(rt, self.alloc, port, list),
+            ListCall::TestSome => completions::test_some(rt, self.alloc, port, list),
+            ListCall::WaitSome => completions::wait_some(rt, self.alloc, port, list),
+        }
+    }
+
+    fn is_null(&self, number: usize) -> Result<Answer, Refusal> {
+        let request = self.requests.get(number).ok_or(Refusal::Torn)?;
+        Ok(Answer::IsNull(request.is_null()))
+    }
+
+    fn left(&self) -> Answer {
+        let left = self.requests.iter().filter(|request| !request.is_null());
+        Answer::Left(left.count())
+    }
+
+    fn made(&self, rank: u8) -> Result<Answer, Refusal> {
+        let port = self.ports.get(usize::from(rank)).ok_or(Refusal::Torn)?;
+        Ok(Answer::Made(port.rank(), port.made()))
+    }
+
+    fn finish<R: Wait>(&mut self, rt: &R) -> Result<Answer, Refusal> {
+        self.ended.reserve(1)?;
+        let port = self.ports.pop().ok_or(Refusal::Torn)?;
+        let spent = port.finish(rt);
+        let answer = Answer::Ended(spent.rank(), spent.made());
+        self.ended.push(spent)?;
+        Ok(answer)
+    }
+
+    fn put_aside(&mut self) -> Result<Answer, Refusal> {
+        self.aside = self.ports.pop();
+        Ok(Answer::Accepted)
+    }
+
+    fn stop<R: Wait>(&self, rt: &R) -> Answer {
+        self.engine.stop(rt);
+        Answer::Accepted
+    }
+
+    fn work<R: Wait>(&self, rt: &R) -> Result<Answer, Refusal> {
+        Ok(Answer::Worked(self.engine.work(rt, &NoGate)?))
+    }
+
+    /// Ends the ports that haven't, but the one that was put aside, and closes the engine.
+    pub fn close<R: Wait>(self, rt: &R) -> Result<Closed, Refusal>
+        requires { L.parts ≡ L.setting.ranks }
+    {
+        let mut driver = self;
+        for _port in 0..driver.ports.len() {
+            driver.finish(rt)?;
+        }
+        let Driver {
+            engine,
+            aside: _aside,
+            ended,
+            outcomes,
+            ..
+        } = driver;
+        let mut spents = ended;
+        spents.reverse();
+        Ok(Closed {
+            outcomes,
+            report: report_of(rt, engine, spents),
+        })
+    }
+}
+
+/// Closes an engine with these ends.
+fn report_of<L: Entries, R: Wait>(
+    rt: &R,
+    engine: Engine<L>,
+    spents: Vec<Spent<L>>,
+) -> Result<Report, (Refusal, usize)>
+    requires { L.parts ≡ L.setting.ranks }
+{
+    match close(rt, engine, spents) {
+        Ok(report) => Ok(report),
+        Err(refused) => {
+            let (_engine, spents) = refused.back;
+            Err((refused.why, spents.len()))
+        }
+    }
+}

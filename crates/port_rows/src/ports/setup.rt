@@ -1,0 +1,64 @@
+use coll_core::Config;
+use coll_kinds::Refusal;
+use std::alloc::Global;
+
+/// What a row's engine is opened with.
+#[derive(Clone, Copy)]
+pub struct Setup {
+    pub ranks: u8,
+    /// The ranks of each communicator; communicator 0 has all.
+    pub groups: &'static [&'static [u8]],
+    pub slots: u32,
+    pub places: u32,
+    pub trace: u32,
+}
+
+impl Setup {
+    /// The engine's configuration.
+    pub fn config(&self, alloc: Global) -> Result<Config, Refusal> {
+        let mut groups = Vec::new(alloc);
+        for group in self.groups {
+            groups.push(Vec::from_slice(alloc, group)?)?;
+        }
+        Ok(Config {
+            ranks: self.ranks,
+            groups,
+            slots: self.slots,
+            places: self.places,
+            wear: 8,
+            starts: 8,
+            trace: self.trace,
+        })
+    }
+}
+
+/// One rank.
+pub const LONE: Setup = Setup {
+    ranks: 1,
+    groups: &[&[0]],
+    slots: 4,
+    places: 8,
+    trace: 8,
+};
+
+/// Two ranks in one communicator.
+pub const PAIR: Setup = Setup {
+    ranks: 2,
+    groups: &[&[0, 1]],
+    slots: 4,
+    places: 8,
+    trace: 16,
+};
+
+/// Two ranks: communicator `BOTH` has both, and `ALONE` has rank 0.
+pub const TWO_GROUPS: Setup = Setup {
+    ranks: 2,
+    groups: &[&[0, 1], &[0]],
+    slots: 8,
+    places: 8,
+    trace: 64,
+};
+
+pub const BOTH: u32 = 0;
+
+pub const ALONE: u32 = 1;
