@@ -2,62 +2,12 @@
 //! threads, and prints the median of the first rank's samples in nanoseconds a collective; or makes each once, among 2 ranks,
 //! and prints what it made.
 
-ghost use Rattle.std.specs.Prelude.{◌≡◌, ◌≤◌, ◌*◌};
-
 use crate::measure::Measure;
-use crate::running::{Task, run_task};
-use coll_kinds::Refusal;
-use coll_shared::{Entries, ledger_for, open, roomy};
+use crate::running::{Task, ThreadCounts, run_task};
 use std::alloc::Global;
-use std::marker::Brand;
 use std::rt::Clock;
 use std::sync::Wait;
-use std::sync::ledger::Blank;
 use std::thread::Threads;
-
-/// How many threads a row has.
-#[derive(Clone, Copy, Debug)]
-struct ThreadCounts {
-    ranks: u8,
-    workers: u8,
-}
-
-/// One communicator of so many ranks.
-fn world(alloc: Global, ranks: u8) -> Result<Vec<Vec<u8>>, Refusal> {
-    let mut all = Vec::new(alloc);
-    for rank in 0..ranks {
-        all.push(rank)?;
-    }
-    let mut groups = Vec::new(alloc);
-    groups.push(all)?;
-    Ok(groups)
-}
-
-fn measured_in<L: Entries + Send + Sync, R: Threads + Wait + Clock + Sync>(
-    rt: &R,
-    alloc: Global,
-    threads: ThreadCounts,
-    task: Task,
-    entries: Blank,
-) -> Result<Vec<u128>, Refusal>
-    requires name { entries.name ≡ L.name }
-    requires parts { (entries.parts ≡ L.parts) × (L.parts ≡ 2 * L.ranks) × (L.ranks ≡ threads.ranks) }
-{
-    let mut config = roomy(threads.ranks, world(alloc, threads.ranks)?);
-    config.slots = task.measure.slots(threads.ranks);
-    let (engine, ports) = open::<L>(alloc, config, entries)?;
-    run_task(rt, alloc, &engine, ports, task, threads.workers)
-}
-
-/// What the samples of the first rank took, in nanoseconds.
-fn measured<R: Threads + Wait + Clock + Sync>(
-    rt: &R,
-    alloc: Global,
-    threads: ThreadCounts,
-    task: Task,
-) -> Result<Vec<u128>, Refusal> {
-    measured_in::<Brand, R>(rt, alloc, threads, task, ledger_for(threads.ranks))
-}
 
 /// Prints a row: the median of a measure for each threads.
 fn row<R: Threads + Wait + Clock + Print + Sync>(
@@ -73,7 +23,7 @@ fn row<R: Threads + Wait + Clock + Print + Sync>(
                 samples: measure.samples(),
                 turns: measure.turns(ranks),
             };
-            let mut times = measured(rt, alloc, ThreadCounts { ranks, workers }, task)?;
+            let mut times = run_task(rt, alloc, ThreadCounts { ranks, workers }, task)?;
             times.sort_unstable();
             let median = times.get(times.len() / 2).copied().unwrap_or(0);
             let turns = u128::from(task.turns);
@@ -99,7 +49,7 @@ fn once<R: Threads + Wait + Clock + Print + Sync>(
         ranks: 2,
         workers: 1,
     };
-    let times = measured(rt, alloc, threads, task)?;
+    let times = run_task(rt, alloc, threads, task)?;
     println!(rt; "{measure}: {} sample", times.len())?;
     Ok(())
 }

@@ -1,10 +1,12 @@
 //! What the thread of one rank does.
 
 use crate::measure::Measure;
+use crate::running::Task;
 use coll_complete::Request;
 use coll_core::Offer;
 use coll_kinds::Refusal;
-use coll_shared::{Entries, NoGate, Port};
+use coll_shared::{NoGate, Port};
+use coll_traced::Entries;
 use std::alloc::Global;
 use std::rt::Clock;
 use std::sync::Wait;
@@ -136,25 +138,29 @@ fn sample<L: Entries, R: Wait>(
 /// # Errors
 ///
 /// The engine's first refusal; Torn where the clock can't be read.
-pub fn play<L: Entries, R: Wait + Clock>(
+pub fn play<L: Entries, R: Wait, C: Clock>(
     rt: &R,
+    clock: &C,
     alloc: Global,
     port: &mut Port<L>,
-    measure: Measure,
-    samples: u32,
-    turns: u32,
+    task: Task,
 ) -> Result<Vec<u128>, Refusal> {
+    let Task {
+        measure,
+        samples,
+        turns,
+    } = task;
     let mut request = Request::null();
     if measure == Measure::Starts {
         request = init(rt, port, measure)?;
     }
     let mut times = Vec::with_capacity(alloc, samples as usize)?;
     for _sample in 0..samples {
-        let Ok(begin) = Instant::now(rt) else {
+        let Ok(begin) = Instant::now(clock) else {
             return Err(Refusal::Torn);
         };
         sample(rt, alloc, port, measure, &mut request, turns)?;
-        let Ok(time) = begin.elapsed(rt) else {
+        let Ok(time) = begin.elapsed(clock) else {
             return Err(Refusal::Torn);
         };
         times.push(time.as_nanos())?;

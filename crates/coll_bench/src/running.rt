@@ -1,13 +1,24 @@
 //! A thread for each rank that takes samples, and progress threads.
 
+ghost use Rattle.std.specs.Prelude.{◌≡◌, IfOk, vec_len};
+
 use crate::measure::Measure;
 use crate::player::play;
+use coll_core::Config;
 use coll_kinds::Refusal;
-use coll_shared::{Engine, Entries, NoGate, Port, RankTask, run_rank_threads};
+use coll_shared::{NoGate, Port, RankProgram, roomy, run_ranks};
+use coll_traced::Entries;
 use std::alloc::Global;
 use std::rt::Clock;
 use std::sync::Wait;
 use std::thread::Threads;
+
+/// How many threads there are.
+#[derive(Clone, Copy, Debug)]
+pub struct ThreadCounts {
+    pub ranks: u8,
+    pub workers: u8,
+}
 
 /// What is measured, and by how many samples of how many collectives.
 #[derive(Clone, Copy, Debug)]
@@ -20,59 +31,70 @@ pub struct Task {
 /// What the samples of one rank took, in nanoseconds.
 type Times = Result<Vec<u128>, Refusal>;
 
-/// Takes a task's samples at a port.
+/// A rank that takes a task's samples by a clock.
 #[derive(Drop)]
-struct Sampling<'x, L: Entries, R> {
-    rt: &'x R,
+struct Sampling<'x, C> {
+    clock: &'x C,
     alloc: Global,
     task: Task,
-    port: Port<L>,
 }
 
-impl<L: Entries, R: Wait + Clock> RankTask<Times> for Sampling<'_, L, R> {
-    fn run(self, all_started: bool) -> Times {
-        let Sampling {
-            rt,
-            alloc,
-            task,
-            port,
-        } = self;
-        let mut port = port;
-        let times = if all_started {
-            play(rt, alloc, &mut port, task.measure, task.samples, task.turns)
-        } else {
-            Err(Refusal::NoMemory)
-        };
-        let _spent = port.finish(rt);
-        times
+impl<C: Clock> RankProgram<Times> for Sampling<'_, C> {
+    fn run<L: Entries, R: Wait>(self, rt: &R, port: &mut Port<L>) -> Times {
+        let Sampling { clock, alloc, task } = self;
+        play(rt, clock, alloc, port, task)
     }
 }
 
-/// Runs a task by a thread for each port and so many progress threads: what the samples of the first rank took, in
-/// nanoseconds.
+/// What the engine of a measure is opened with: one communicator of so many ranks.
+fn config_of(alloc: Global, ranks: u8, measure: Measure) -> Result<Config, Refusal>
+    ensures { IfOk result (λ config. config.ranks ≡ ranks) }
+{
+    let mut all = Vec::new(alloc);
+    for rank in 0..ranks {
+        all.push(rank)?;
+    }
+    let mut groups = Vec::new(alloc);
+    groups.push(all)?;
+    let slots = measure.slots(ranks);
+    Ok(Config {
+        slots,
+        ..roomy(ranks, groups)
+    })
+}
+
+/// The program of each rank.
+fn programs<C>(
+    clock: &C,
+    alloc: Global,
+    ranks: u8,
+    task: Task,
+) -> Result<Vec<Sampling<'_, C>>, Refusal>
+    ensures { IfOk result (λ all. vec_len all ≡ ranks) }
+{
+    let mut all = Vec::with_capacity(alloc, usize::from(ranks))?;
+    for _rank in 0..ranks {
+        all.push(Sampling { clock, alloc, task })?;
+    }
+    Ok(all)
+}
+
+/// Runs a task by threads: what the samples of the first rank took, in nanoseconds.
 ///
 /// # Errors
 ///
 /// NoMemory where not all threads could be made; what a progress thread ended by; the engine's first refusal to the
 /// first rank.
-pub fn run_task<L: Entries + Send + Sync, R: Threads + Wait + Clock + Sync>(
+pub fn run_task<R: Threads + Wait + Clock + Sync>(
     rt: &R,
     alloc: Global,
-    engine: &Engine<L>,
-    ports: Vec<Port<L>>,
+    threads: ThreadCounts,
     task: Task,
-    workers: u8,
 ) -> Times {
-    let mut tasks = Vec::with_capacity(alloc, ports.len())?;
-    for port in ports {
-        tasks.push(Sampling {
-            rt,
-            alloc,
-            task,
-            port,
-        })?;
-    }
-    let mut ranks = run_rank_threads(rt, alloc, &NoGate, engine, tasks, workers)?.into_ranks()?;
-    ranks.truncate(1);
-    ranks.pop().unwrap_or(Err(Refusal::Torn))
+    let ThreadCounts { ranks, workers } = threads;
+    let config = config_of(alloc, ranks, task.measure)?;
+    let programs = programs(rt, alloc, ranks, task)?;
+    let (mut ends, _report) = run_ranks(rt, alloc, config, workers, &NoGate, programs)?;
+    ends.truncate(1);
+    ends.pop().unwrap_or(Err(Refusal::Torn))
 }

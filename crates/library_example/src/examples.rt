@@ -24,7 +24,8 @@ pub fn show(rt: &impl Print, alloc: Global) -> anyhow::Result<()> {
     println!(rt; "core: {} bytes", outcome.bytes.len())?;
     let ticket = core_posts(alloc, &mut core)?;
     lists(rt, &mut core, ticket)?;
-    engine(rt, alloc)
+    engine(rt, alloc)?;
+    refusal(rt, alloc)
 }
 
 /// One communicator, of one rank.
@@ -91,5 +92,15 @@ fn engine(rt: &impl Print, alloc: Global) -> anyhow::Result<()> {
     let test = engine.test(0, &mut request, &mut value)?;
     let completed = matches!(test, Test::Completed(1));
     println!(rt; "engine: {completed}, {}", value[0])?;
+    Ok(())
+}
+
+/// A refusal in words: a number has four bytes, and one is given.
+fn refusal(rt: &impl Print, alloc: Global) -> anyhow::Result<()> {
+    let mut engine = Engine::open(alloc, roomy(1, one_rank(alloc)?))?;
+    let sum = Signature::allreduce(Op::Sum, Datatype::I32, 1);
+    if let Err(why) = engine.post(0, 0, sum, &[7]) {
+        println!(rt; "{why}: {}", why.sentence())?;
+    }
     Ok(())
 }

@@ -1,8 +1,9 @@
 //! What one rank does.
 
-use coll_core::{Offer, Outcome};
+use coll_core::Outcome;
 use coll_kinds::{Datatype, Op, Refusal, Signature};
-use coll_shared::{Entries, NoGate, Port, RankTask};
+use coll_shared::{NoGate, Port, RankProgram};
+use coll_traced::Entries;
 use std::alloc::Global;
 use std::sync::Wait;
 
@@ -14,9 +15,8 @@ fn sum_of_all<L: Entries, R: Wait>(
     number: i32,
 ) -> Result<i32, Refusal> {
     let sum = Signature::allreduce(Op::Sum, Datatype::I32, 1);
-    let plan = port.ready_plan(0, &sum)?;
-    let offer = Offer::of_i32s(alloc, plan, &[number])?;
-    let (mut request, _receipt) = match port.post(rt, 0, offer) {
+    let given = Vec::from_slice(alloc, &number.to_le_bytes())?;
+    let (mut request, _receipt) = match port.post_bytes(rt, 0, &sum, given) {
         Ok(posted) => posted,
         Err(refused) => return Err(refused.why),
     };
@@ -27,39 +27,19 @@ fn sum_of_all<L: Entries, R: Wait>(
 
 /// The number that an outcome has. There is none for a null request, which a rank that has posted doesn't wait for.
 fn number_of(alloc: Global, outcome: Option<Outcome>) -> Result<i32, Refusal> {
-    let Some(outcome) = outcome else {
-        return Err(Refusal::Torn);
-    };
-    match outcome.i32s(alloc)?.first() {
-        Some(number) => Ok(*number),
-        None => Err(Refusal::Torn),
-    }
+    let numbers = outcome.ok_or(Refusal::Torn)?.i32s(alloc)?;
+    numbers.first().copied().ok_or(Refusal::Torn)
 }
 
 /// A rank that adds its number.
-#[derive(Drop)]
-pub struct Adding<'x, L: Entries, R> {
-    pub rt: &'x R,
+#[derive(Clone, Copy, Debug)]
+pub struct Adding {
     pub alloc: Global,
-    pub port: Port<L>,
     pub number: i32,
 }
 
-impl<L: Entries, R: Wait> RankTask<Result<i32, Refusal>> for Adding<'_, L, R> {
-    fn run(self, all_started: bool) -> Result<i32, Refusal> {
-        let Adding {
-            rt,
-            alloc,
-            port,
-            number,
-        } = self;
-        let mut port = port;
-        let sum = if all_started {
-            sum_of_all(rt, alloc, &mut port, number)
-        } else {
-            Err(Refusal::NoMemory)
-        };
-        let _spent = port.finish(rt);
-        sum
+impl RankProgram<Result<i32, Refusal>> for Adding {
+    fn run<L: Entries, R: Wait>(self, rt: &R, port: &mut Port<L>) -> Result<i32, Refusal> {
+        sum_of_all(rt, self.alloc, port, self.number)
     }
 }
