@@ -28,9 +28,12 @@ sed -n 's/^ *Refusal::\([A-Za-z]*\)\( {.*}\)\{0,1\} => \([0-9]*\),$/\3 \1/p' "$h
 cmp "$work/table" "$work/refusals.want"
 echo "refusals: the table is that of coll_kinds"
 
+# A minute or two in all; each step tells its seconds, and is given up after five minutes.
 run() {
+    begun=$(date +%s)
     echo "== $*"
     timeout 300 "$@"
+    echo "== $(($(date +%s) - begun)) s"
 }
 run "$work/sum"
 for kind in "" .shared .tsan; do

@@ -1,9 +1,10 @@
-/* One engine shared by the threads of a process: a lock, and a condition for each rank. Link with -pthread.
+/* One engine shared by the threads of a process: a lock, and a record for each rank. Link with -pthread.
 
-   Each rank is played by one thread at a time. A post and a start make all progress that they make possible, for all ranks, and
-   wake the ranks whose awaited request is done. They hold the lock meanwhile, but for combinations of long rows: these are computed
-   with the lock free, so that other ranks go on. A wait looks at a flag for a while before it sleeps. Where each rank waits or has
-   left, no wait can end: all are told WZ_STALLED then.
+   Each rank is played by one thread at a time. A thread that posts, starts or waits writes that into its rank's record. Whoever has the lock
+   carries out what stands in the records, makes all progress that becomes possible, for all ranks, and completes the requests that ranks wait
+   for. So the engine's memory stays with one processor while the ranks meet in a collective. Combinations of long rows are computed with the
+   lock free, so that other ranks go on. A wait looks at its record for a while before it sleeps. Where each rank waits or has left, no wait can
+   end: all are told WZ_STALLED then.
 
    Nothing here is proved. It is compiled as part of the program. */
 #ifndef WORZSUNAB_THREADS_H
@@ -21,8 +22,9 @@ extern "C" {
 
 enum {
     WZ_MOST_RANKS = 64,
-    WZ_LOOKS = 2000, /* how often a wait looks at its flag before it offers its processor */
-    WZ_OFFERS = 20   /* and how often it offers it before it sleeps */
+    WZ_LOOKS = 600,  /* how often a thread looks at its record, or at the lock, before it offers its processor */
+    WZ_OFFERS = 20,  /* and how often it offers it before it sleeps */
+    WZ_HOLDS = 30    /* how often a wait that has the lock looks at the records of the others before it gives the lock up */
 };
 
 /* Once a rank gives so many bytes, combinations are computed with the lock free. */
@@ -30,26 +32,51 @@ enum {
 #define WZ_LONG 4096
 #endif
 
-/* What others know of a rank's thread. */
-typedef struct wz_waiter {
-    pthread_cond_t woken;
-    wz_request awaited; /* while it waits */
-    bool waits;
-    bool sleeps;
+/* What a rank asks for: the arguments of wz_post, wz_post_allgatherv, wz_start or wz_test. */
+enum { WZ_ASK_POST, WZ_ASK_POST_ALLGATHERV, WZ_ASK_START, WZ_ASK_WAIT };
+typedef struct wz_ask {
+    int what;
+    uint32_t comm;
+    const wz_call *call;
+    uint8_t type;
+    const uint32_t *counts;
+    size_t many;
+    const void *bytes;
+    size_t length;
+    const wz_request *started;
+    wz_request *request;
+    void *out;
+    size_t room;
+    size_t *count;
+} wz_ask;
+
+/* How far a record is: it was answered, or is empty; its rank asks; its rank waits for a request that is pending. */
+enum { WZ_ANSWERED, WZ_ASKS, WZ_WAITS };
+
+typedef struct wz_record {
+    wz_ask ask;
+    int32_t answer;
+    int stage;  /* read and written without the lock, as is sleeps */
+    int sleeps;
     bool left;
     wz_reason reason; /* of the last refusal to this rank */
-    int news; /* set once the awaited request is done, or can't be; read without the lock */
+    pthread_mutex_t guard; /* for the condition alone */
+    pthread_cond_t woken;
     char apart[64];
-} wz_waiter;
+} wz_record;
 
 typedef struct wz_shared {
     pthread_mutex_t lock;
+    int held; /* whether some thread has the lock: a hint, read without it */
+    char apart[64];
     wz_engine engine;
     uint32_t ranks;
     uint32_t blocked; /* ranks that wait for what isn't done, or have left */
+    uint32_t outside; /* combinations that are computed with the lock free */
     bool stalled;
+    bool behind;   /* progress was refused memory */
     bool has_long; /* some rank gave a long row */
-    wz_waiter waiters[WZ_MOST_RANKS];
+    wz_record records[WZ_MOST_RANKS];
 } wz_shared;
 
 /* Opens an engine for threads; as wz_open. */
@@ -60,7 +87,10 @@ static inline int32_t wz_shared_open(wz_shared *shared, const wz_limits *limits,
     if (code != WZ_DONE) return code;
     shared->ranks = limits->ranks;
     pthread_mutex_init(&shared->lock, NULL);
-    for (uint32_t rank = 0; rank < shared->ranks; rank++) pthread_cond_init(&shared->waiters[rank].woken, NULL);
+    for (uint32_t rank = 0; rank < shared->ranks; rank++) {
+        pthread_mutex_init(&shared->records[rank].guard, NULL);
+        pthread_cond_init(&shared->records[rank].woken, NULL);
+    }
     return WZ_DONE;
 }
 
@@ -76,27 +106,74 @@ static inline int32_t wz_shared_open_world(wz_shared *shared, uint8_t ranks) {
 static inline int32_t wz_shared_close(wz_shared *shared) {
     int32_t code = wz_close(&shared->engine);
     if (code != WZ_DONE) return code;
-    for (uint32_t rank = 0; rank < shared->ranks; rank++) pthread_cond_destroy(&shared->waiters[rank].woken);
+    for (uint32_t rank = 0; rank < shared->ranks; rank++) {
+        pthread_cond_destroy(&shared->records[rank].woken);
+        pthread_mutex_destroy(&shared->records[rank].guard);
+    }
     pthread_mutex_destroy(&shared->lock);
     return WZ_DONE;
 }
 
-/* Under the lock: lets a waiter go on. */
-static inline void wz_wake_(wz_shared *shared, wz_waiter *waiter) {
-    waiter->waits = false;
-    shared->blocked--;
-    __atomic_store_n(&waiter->news, 1, __ATOMIC_RELEASE);
-    if (waiter->sleeps) pthread_cond_signal(&waiter->woken);
+static inline bool wz_try_lock_(wz_shared *shared) {
+    if (__atomic_load_n(&shared->held, __ATOMIC_RELAXED) || pthread_mutex_trylock(&shared->lock) != 0) return false;
+    __atomic_store_n(&shared->held, 1, __ATOMIC_RELAXED);
+    return true;
 }
 
-/* Under the lock: wakes each rank whose awaited request is no longer pending; all where progress failed. */
-static inline void wz_wake_done_(wz_shared *shared, int32_t code) {
+/* Takes the lock, after some looks: most calls hold it for less time than a sleep takes. */
+static inline void wz_lock_(wz_shared *shared) {
+    for (int look = 0; look < WZ_LOOKS; look++)
+        if (wz_try_lock_(shared)) return;
+    pthread_mutex_lock(&shared->lock);
+    __atomic_store_n(&shared->held, 1, __ATOMIC_RELAXED);
+}
+
+static inline void wz_unlock_(wz_shared *shared) {
+    __atomic_store_n(&shared->held, 0, __ATOMIC_RELAXED);
+    pthread_mutex_unlock(&shared->lock);
+}
+
+/* Under the lock: notes why a rank's call was refused. */
+static inline int32_t wz_noted_(wz_shared *shared, uint8_t rank, int32_t code) {
+    if (code >= WZ_BAD_COMM && code <= WZ_BAD_CONFIG && rank < shared->ranks)
+        shared->records[rank].reason = shared->engine.reason;
+    return code;
+}
+
+/* Under the lock: the call that is asked for. */
+static inline int32_t wz_do_(wz_shared *shared, uint8_t rank, const wz_ask *ask) {
+    wz_engine *engine = &shared->engine;
+    int32_t code;
+    switch (ask->what) {
+    case WZ_ASK_POST: code = wz_post(engine, rank, ask->comm, ask->call, ask->bytes, ask->length, ask->request); break;
+    case WZ_ASK_POST_ALLGATHERV:
+        code = wz_post_allgatherv(engine, rank, ask->comm, ask->type, ask->counts, ask->many, ask->bytes, ask->length, ask->request);
+        break;
+    case WZ_ASK_START: code = wz_start(engine, rank, ask->started, ask->bytes, ask->length); break;
+    default: code = wz_test(engine, rank, ask->request, ask->out, ask->room, ask->count); break;
+    }
+    return wz_noted_(shared, rank, code);
+}
+
+/* Under the lock: answers a record. It is its rank's from then on. */
+static inline void wz_answer_(wz_record *record, int32_t code) {
+    record->answer = code;
+    __atomic_store_n(&record->stage, WZ_ANSWERED, __ATOMIC_SEQ_CST);
+    if (!__atomic_load_n(&record->sleeps, __ATOMIC_SEQ_CST)) return;
+    pthread_mutex_lock(&record->guard);
+    pthread_cond_signal(&record->woken);
+    pthread_mutex_unlock(&record->guard);
+}
+
+/* Under the lock: answers each rank that waits for a request which is done; where progress failed, each that waits. */
+static inline void wz_answer_waits_(wz_shared *shared, int32_t code) {
     for (uint32_t rank = 0; rank < shared->ranks; rank++) {
-        wz_waiter *waiter = &shared->waiters[rank];
-        uint8_t phase = WZ_IS_DONE;
-        if (!waiter->waits) continue;
-        wz_phase(&shared->engine, (uint8_t)rank, &waiter->awaited, &phase);
-        if (phase != WZ_IS_PENDING || code != WZ_DONE) wz_wake_(shared, waiter);
+        wz_record *record = &shared->records[rank];
+        if (__atomic_load_n(&record->stage, __ATOMIC_RELAXED) != WZ_WAITS) continue;
+        int32_t tested = wz_do_(shared, (uint8_t)rank, &record->ask);
+        if (tested == WZ_PENDING && code == WZ_DONE) continue;
+        shared->blocked--;
+        wz_answer_(record, tested == WZ_PENDING ? wz_noted_(shared, (uint8_t)rank, code) : tested);
     }
 }
 
@@ -105,10 +182,12 @@ static inline int32_t wz_combine_(wz_shared *shared) {
     wz_work work = WZ_EMPTY_WORK;
     int32_t code = wz_take_work(&shared->engine, &work);
     while (code == WZ_DONE) {
-        wz_wake_done_(shared, WZ_DONE);
-        pthread_mutex_unlock(&shared->lock);
+        wz_answer_waits_(shared, WZ_DONE);
+        shared->outside++;
+        wz_unlock_(shared);
         int32_t run = wz_run_work(&work);
-        pthread_mutex_lock(&shared->lock);
+        wz_lock_(shared);
+        shared->outside--;
         code = wz_return_work(&shared->engine, &work);
         if (run != WZ_DONE) return run;
         if (code == WZ_DONE) code = wz_take_work(&shared->engine, &work);
@@ -116,155 +195,193 @@ static inline int32_t wz_combine_(wz_shared *shared) {
     return code == WZ_NO_WORK ? WZ_DONE : code;
 }
 
-/* Under the lock: makes all progress, and wakes each rank whose awaited request is no longer pending. */
+/* Under the lock: makes all progress, and completes what ranks wait for. */
 static inline int32_t wz_progress_(wz_shared *shared) {
     int32_t code = shared->has_long ? wz_combine_(shared) : wz_settle(&shared->engine);
-    wz_wake_done_(shared, code);
+    shared->behind = code != WZ_DONE;
+    wz_answer_waits_(shared, code);
     return code;
 }
 
-/* Under the lock: notes why a rank's call was refused. */
-static inline int32_t wz_noted_(wz_shared *shared, uint8_t rank, int32_t code) {
-    if (code >= WZ_BAD_COMM && code <= WZ_BAD_CONFIG && rank < shared->ranks)
-        shared->waiters[rank].reason = shared->engine.reason;
-    return code;
+/* Under the lock: where each rank waits or has left, tells it to all. */
+static inline void wz_judge_(wz_shared *shared) {
+    if (shared->blocked < shared->ranks || shared->outside > 0) return;
+    shared->stalled = true;
+    for (uint32_t rank = 0; rank < shared->ranks; rank++) {
+        if (__atomic_load_n(&shared->records[rank].stage, __ATOMIC_RELAXED) != WZ_WAITS) continue;
+        shared->blocked--;
+        wz_answer_(&shared->records[rank], WZ_STALLED);
+    }
+}
+
+/* Under the lock: carries out what a rank asks for. Whether progress may have become possible. */
+static inline bool wz_carry_out_(wz_shared *shared, uint8_t rank) {
+    wz_record *record = &shared->records[rank];
+    size_t length = record->ask.length;
+    int32_t code = wz_do_(shared, rank, &record->ask);
+    if (record->ask.what == WZ_ASK_WAIT) {
+        if (code == WZ_PENDING && shared->stalled) code = WZ_STALLED;
+        if (code != WZ_PENDING) {
+            wz_answer_(record, code);
+            return false;
+        }
+        shared->blocked++;
+        __atomic_store_n(&record->stage, WZ_WAITS, __ATOMIC_RELAXED);
+        return shared->behind;
+    }
+    wz_answer_(record, code);
+    if (code != WZ_DONE) return false;
+    shared->stalled = false;
+    shared->has_long = shared->has_long || length >= WZ_LONG;
+    return true;
+}
+
+/* Under the lock: carries out what ranks ask for, and makes the progress that follows. Whether any asked. */
+static inline bool wz_serve_(wz_shared *shared) {
+    bool any = false, begun = false;
+    for (uint32_t rank = 0; rank < shared->ranks; rank++) {
+        if (__atomic_load_n(&shared->records[rank].stage, __ATOMIC_ACQUIRE) != WZ_ASKS) continue;
+        any = true;
+        if (wz_carry_out_(shared, (uint8_t)rank)) begun = true;
+    }
+    if (begun) wz_progress_(shared);
+    if (any) wz_judge_(shared);
+    return any;
+}
+
+/* Under the lock, which it gives up: serves all ranks until this one is answered, nobody has asked for a while, or as often as each rank posts
+   and waits once; else a rank that tests could be kept out by others that go on without this one. */
+static inline void wz_lead_(wz_shared *shared, wz_record *me) {
+    uint32_t served = 0;
+    for (int look = 0; look < WZ_HOLDS && served < 2 * shared->ranks; look++) {
+        if (wz_serve_(shared)) {
+            look = 0;
+            served++;
+        }
+        if (__atomic_load_n(&me->stage, __ATOMIC_RELAXED) == WZ_ANSWERED) break;
+    }
+    wz_unlock_(shared);
+}
+
+/* Sleeps until the record is answered. */
+static inline void wz_sleep_(wz_record *me) {
+    pthread_mutex_lock(&me->guard);
+    __atomic_store_n(&me->sleeps, 1, __ATOMIC_SEQ_CST);
+    while (__atomic_load_n(&me->stage, __ATOMIC_SEQ_CST) != WZ_ANSWERED) pthread_cond_wait(&me->woken, &me->guard);
+    __atomic_store_n(&me->sleeps, 0, __ATOMIC_SEQ_CST);
+    pthread_mutex_unlock(&me->guard);
+}
+
+/* Asks for a call, and gives its answer. A record that is asked by and not read yet is carried out by its own thread in the end; one that
+   waits is answered by whoever makes progress. */
+static inline int32_t wz_asked_(wz_shared *shared, uint8_t rank, const wz_ask *ask) {
+    if (rank >= shared->ranks) {
+        wz_lock_(shared);
+        int32_t code = wz_do_(shared, rank, ask);
+        wz_unlock_(shared);
+        return code;
+    }
+    wz_record *me = &shared->records[rank];
+    me->ask = *ask;
+    __atomic_store_n(&me->stage, WZ_ASKS, __ATOMIC_RELEASE);
+    for (int look = 0; look < WZ_LOOKS + WZ_OFFERS; look++) {
+        int stage = __atomic_load_n(&me->stage, __ATOMIC_ACQUIRE);
+        if (stage == WZ_ANSWERED) return me->answer;
+        if (stage == WZ_ASKS && wz_try_lock_(shared)) wz_lead_(shared, me);
+        if (look >= WZ_LOOKS) sched_yield();
+    }
+    if (__atomic_load_n(&me->stage, __ATOMIC_ACQUIRE) == WZ_ASKS) {
+        wz_lock_(shared);
+        wz_lead_(shared, me);
+    }
+    if (__atomic_load_n(&me->stage, __ATOMIC_ACQUIRE) != WZ_ANSWERED) wz_sleep_(me);
+    return me->answer;
 }
 
 /* Why the last call of this rank that was refused was; code is 0 where none was. For the rank's thread. */
 static inline wz_reason wz_shared_reason(const wz_shared *shared, uint8_t rank) {
     wz_reason none = WZ_NO_REASON;
-    return rank < shared->ranks ? shared->waiters[rank].reason : none;
+    return rank < shared->ranks ? shared->records[rank].reason : none;
 }
 
-/* Under the lock: where each rank waits or has left, tells it to all. */
-static inline void wz_judge_(wz_shared *shared) {
-    if (shared->blocked < shared->ranks) return;
-    shared->stalled = true;
-    for (uint32_t rank = 0; rank < shared->ranks; rank++)
-        if (shared->waiters[rank].waits) wz_wake_(shared, &shared->waiters[rank]);
-}
-
-/* Under the lock: what follows a post and a start. */
-static inline int32_t wz_begun_(wz_shared *shared, uint8_t rank, int32_t code, size_t length) {
-    if (code != WZ_DONE) return wz_noted_(shared, rank, code);
-    shared->stalled = false;
-    shared->has_long = shared->has_long || length >= WZ_LONG;
-    wz_progress_(shared);
-    return code;
-}
-
-/* As wz_post, with progress. WZ_NO_MEMORY of the progress isn't answered here: a wait meets it again. */
+/* As wz_post, with progress. WZ_NO_MEMORY of the progress isn't answered here: a wait meets it. */
 static inline int32_t wz_shared_post(wz_shared *shared, uint8_t rank, uint32_t comm, const wz_call *call, const void *bytes,
                                      size_t length, wz_request *request) {
-    pthread_mutex_lock(&shared->lock);
-    int32_t code = wz_post(&shared->engine, rank, comm, call, bytes, length, request);
-    code = wz_begun_(shared, rank, code, length);
-    pthread_mutex_unlock(&shared->lock);
-    return code;
+    wz_ask ask = { WZ_ASK_POST, comm, call, 0, NULL, 0, bytes, length, NULL, request, NULL, 0, NULL };
+    return wz_asked_(shared, rank, &ask);
 }
 
 /* As wz_post_allgatherv, with progress, as wz_shared_post. */
 static inline int32_t wz_shared_post_allgatherv(wz_shared *shared, uint8_t rank, uint32_t comm, uint8_t type,
                                                 const uint32_t *counts, size_t many, const void *bytes, size_t length,
                                                 wz_request *request) {
-    pthread_mutex_lock(&shared->lock);
-    int32_t code = wz_post_allgatherv(&shared->engine, rank, comm, type, counts, many, bytes, length, request);
-    code = wz_begun_(shared, rank, code, length);
-    pthread_mutex_unlock(&shared->lock);
-    return code;
+    wz_ask ask = { WZ_ASK_POST_ALLGATHERV, comm, NULL, type, counts, many, bytes, length, NULL, request, NULL, 0, NULL };
+    return wz_asked_(shared, rank, &ask);
 }
 
 /* As wz_init. */
 static inline int32_t wz_shared_init(wz_shared *shared, uint8_t rank, uint32_t comm, const wz_call *call, wz_request *request) {
-    pthread_mutex_lock(&shared->lock);
+    wz_lock_(shared);
     int32_t code = wz_noted_(shared, rank, wz_init(&shared->engine, rank, comm, call, request));
-    pthread_mutex_unlock(&shared->lock);
+    wz_unlock_(shared);
     return code;
 }
 
 /* As wz_init_allgatherv. */
 static inline int32_t wz_shared_init_allgatherv(wz_shared *shared, uint8_t rank, uint32_t comm, uint8_t type,
                                                 const uint32_t *counts, size_t many, wz_request *request) {
-    pthread_mutex_lock(&shared->lock);
+    wz_lock_(shared);
     int32_t code = wz_noted_(shared, rank, wz_init_allgatherv(&shared->engine, rank, comm, type, counts, many, request));
-    pthread_mutex_unlock(&shared->lock);
+    wz_unlock_(shared);
     return code;
 }
 
 /* As wz_start, with progress, as wz_shared_post. */
 static inline int32_t wz_shared_start(wz_shared *shared, uint8_t rank, const wz_request *request, const void *bytes,
                                       size_t length) {
-    pthread_mutex_lock(&shared->lock);
-    int32_t code = wz_start(&shared->engine, rank, request, bytes, length);
-    code = wz_begun_(shared, rank, code, length);
-    pthread_mutex_unlock(&shared->lock);
-    return code;
+    wz_ask ask = { WZ_ASK_START, 0, NULL, 0, NULL, 0, bytes, length, request, NULL, NULL, 0, NULL };
+    return wz_asked_(shared, rank, &ask);
 }
 
 /* As wz_free. */
 static inline int32_t wz_shared_free(wz_shared *shared, uint8_t rank, wz_request *request) {
-    pthread_mutex_lock(&shared->lock);
+    wz_lock_(shared);
     int32_t code = wz_noted_(shared, rank, wz_free(&shared->engine, rank, request));
-    pthread_mutex_unlock(&shared->lock);
+    wz_unlock_(shared);
     return code;
-}
-
-/* Under the lock: a test, and where the request is pending another one after progress. */
-static inline int32_t wz_tested_(wz_shared *shared, uint8_t rank, wz_request *request, void *out, size_t room, size_t *count) {
-    int32_t code = wz_test(&shared->engine, rank, request, out, room, count);
-    if (code == WZ_PENDING) {
-        code = wz_progress_(shared);
-        if (code == WZ_DONE) code = wz_test(&shared->engine, rank, request, out, room, count);
-    }
-    return wz_noted_(shared, rank, code);
 }
 
 /* As wz_test, after progress. */
 static inline int32_t wz_shared_test(wz_shared *shared, uint8_t rank, wz_request *request, void *out, size_t room,
                                      size_t *count) {
-    pthread_mutex_lock(&shared->lock);
-    int32_t code = wz_tested_(shared, rank, request, out, room, count);
-    pthread_mutex_unlock(&shared->lock);
+    wz_lock_(shared);
+    int32_t code = wz_test(&shared->engine, rank, request, out, room, count);
+    if (code == WZ_PENDING) {
+        code = wz_progress_(shared);
+        if (code == WZ_DONE) code = wz_test(&shared->engine, rank, request, out, room, count);
+    }
+    wz_noted_(shared, rank, code);
+    wz_unlock_(shared);
     return code;
 }
 
-/* Completes a request (MPI_Wait): as wz_test, and where that answers WZ_PENDING it waits. WZ_STALLED where no wait can end, with
-   nothing changed. */
+/* Completes a request (MPI_Wait): as wz_test, and where that answers WZ_PENDING it waits. WZ_STALLED where no wait can end, and WZ_NO_MEMORY
+   where progress was refused memory, with nothing changed: it can be waited for again. */
 static inline int32_t wz_shared_wait(wz_shared *shared, uint8_t rank, wz_request *request, void *out, size_t room,
                                      size_t *count) {
-    pthread_mutex_lock(&shared->lock);
-    for (;;) {
-        int32_t code = wz_tested_(shared, rank, request, out, room, count);
-        if (code == WZ_PENDING && shared->stalled) code = WZ_STALLED;
-        if (code != WZ_PENDING) {
-            pthread_mutex_unlock(&shared->lock);
-            return code;
-        }
-        wz_waiter *me = &shared->waiters[rank];
-        me->awaited = *request;
-        me->waits = true;
-        __atomic_store_n(&me->news, 0, __ATOMIC_RELAXED);
-        shared->blocked++;
-        wz_judge_(shared);
-        pthread_mutex_unlock(&shared->lock);
-        for (int look = 0; look < WZ_LOOKS + WZ_OFFERS && !__atomic_load_n(&me->news, __ATOMIC_ACQUIRE); look++)
-            if (look >= WZ_LOOKS) sched_yield();
-        pthread_mutex_lock(&shared->lock);
-        me->sleeps = true;
-        while (!__atomic_load_n(&me->news, __ATOMIC_RELAXED)) pthread_cond_wait(&me->woken, &shared->lock);
-        me->sleeps = false;
-    }
+    wz_ask ask = { WZ_ASK_WAIT, 0, NULL, 0, NULL, 0, NULL, 0, NULL, request, out, room, count };
+    return wz_asked_(shared, rank, &ask);
 }
 
 /* The rank's thread makes no further call, so others don't wait for it. */
 static inline void wz_shared_leave(wz_shared *shared, uint8_t rank) {
-    pthread_mutex_lock(&shared->lock);
-    if (rank < shared->ranks && !shared->waiters[rank].left) {
-        shared->waiters[rank].left = true;
+    wz_lock_(shared);
+    if (rank < shared->ranks && !shared->records[rank].left) {
+        shared->records[rank].left = true;
         shared->blocked++;
         wz_judge_(shared);
     }
-    pthread_mutex_unlock(&shared->lock);
+    wz_unlock_(shared);
 }
 
 #ifdef __cplusplus

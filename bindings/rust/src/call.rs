@@ -1,3 +1,7 @@
+use std::fmt;
+
+use crate::raw::RawCall;
+
 /// A collective (MPI 4.1, 6.12).
 #[derive(Clone, Copy, Debug, PartialEq, Eq, Hash)]
 #[repr(u8)]
@@ -24,6 +28,26 @@ pub enum Kind {
     Scan,
     /// `MPI_Iexscan`
     Exscan,
+    /// `MPI_Iallgatherv`, whose members' counts stand beside the call
+    Allgatherv,
+}
+
+impl Kind {
+    /// By their numbers in C, with their words in job texts.
+    const ALL: [(Kind, &'static str); 12] = [
+        (Kind::Barrier, "barrier"),
+        (Kind::Bcast, "bcast"),
+        (Kind::Gather, "gather"),
+        (Kind::Scatter, "scatter"),
+        (Kind::Allgather, "allgather"),
+        (Kind::Alltoall, "alltoall"),
+        (Kind::Reduce, "reduce"),
+        (Kind::Allreduce, "allreduce"),
+        (Kind::ReduceScatterBlock, "rsblock"),
+        (Kind::Scan, "scan"),
+        (Kind::Exscan, "exscan"),
+        (Kind::Allgatherv, "allgatherv"),
+    ];
 }
 
 /// An operation (MPI 4.1, 6.9.2 and 6.9.4).
@@ -58,6 +82,25 @@ pub enum Op {
     MinLoc,
 }
 
+impl Op {
+    /// By their numbers in C, with their words in job texts.
+    const ALL: [(Op, &'static str); 13] = [
+        (Op::Max, "max"),
+        (Op::Min, "min"),
+        (Op::Sum, "sum"),
+        (Op::Prod, "prod"),
+        (Op::Land, "land"),
+        (Op::Lor, "lor"),
+        (Op::Lxor, "lxor"),
+        (Op::Band, "band"),
+        (Op::Bor, "bor"),
+        (Op::Bxor, "bxor"),
+        (Op::LastNz, "lastnz"),
+        (Op::MaxLoc, "maxloc"),
+        (Op::MinLoc, "minloc"),
+    ];
+}
+
 /// The type of an element; numbers are little-endian.
 #[derive(Clone, Copy, Debug, PartialEq, Eq, Hash)]
 #[repr(u8)]
@@ -82,6 +125,22 @@ pub enum Type {
     Byte,
     /// `MPI_2INT`: a value and its index, each an `i32`
     Pair,
+}
+
+impl Type {
+    /// By their numbers in C, with their words in job texts.
+    const ALL: [(Type, &'static str); 10] = [
+        (Type::I8, "i8"),
+        (Type::I16, "i16"),
+        (Type::I32, "i32"),
+        (Type::I64, "i64"),
+        (Type::U8, "u8"),
+        (Type::U16, "u16"),
+        (Type::U32, "u32"),
+        (Type::U64, "u64"),
+        (Type::Byte, "byte"),
+        (Type::Pair, "pair"),
+    ];
 }
 
 const NO_OPERATION: u8 = 255;
@@ -161,5 +220,41 @@ impl Call {
     /// Which collective it is.
     pub fn kind(&self) -> Kind {
         self.kind
+    }
+
+    /// Its operation, where it has one.
+    pub fn op(&self) -> Option<Op> {
+        Op::ALL.get(usize::from(self.op)).map(|(op, _)| *op)
+    }
+
+    /// The type of its elements.
+    pub fn ty(&self) -> Type {
+        self.ty
+    }
+
+    /// The root's member number, 0 where it has no root.
+    pub fn root(&self) -> u8 {
+        self.root
+    }
+
+    /// The elements of a block; 0 for a barrier and for an allgatherv.
+    pub fn count(&self) -> u32 {
+        self.count
+    }
+
+    /// A call as the engine tells it.
+    pub(crate) fn of(raw: &RawCall) -> Call {
+        let (kind, _) = Kind::ALL[usize::from(raw.kind)];
+        let (ty, _) = Type::ALL[usize::from(raw.ty)];
+        Call::new(kind, raw.op, ty, raw.root, raw.count)
+    }
+}
+
+impl fmt::Display for Call {
+    fn fmt(&self, f: &mut fmt::Formatter<'_>) -> fmt::Result {
+        let (_, kind) = Kind::ALL[self.kind as usize];
+        let (_, ty) = Type::ALL[self.ty as usize];
+        let op = Op::ALL.get(usize::from(self.op)).map_or("no operation", |(_, word)| word);
+        write!(f, "{kind}, {op}, {ty}, root {}, count {}", self.root, self.count)
     }
 }

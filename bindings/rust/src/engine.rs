@@ -1,9 +1,9 @@
 use std::sync::{Condvar, Mutex, MutexGuard};
 
-use crate::call::{Call, Type};
+use crate::call::{Call, Kind, Type};
 use crate::list::List;
-use crate::raw::{self, RawEngine, RawLimits, RawReason, RawRequest};
-use crate::refusal::Refusal;
+use crate::raw::{self, RawCall, RawEngine, RawLimits, RawPosted, RawReason, RawRequest};
+use crate::refusal::{Field, Refusal, Rule};
 
 /// What an engine is opened with. `Limits::default()` has the greatest numbers.
 #[derive(Clone, Copy, Debug, PartialEq, Eq)]
@@ -63,6 +63,17 @@ impl Request {
     }
 }
 
+/// What all members of a communicator that have a place of the posting lists have there.
+#[derive(Clone, Debug, PartialEq, Eq)]
+pub struct Posted {
+    /// The collective.
+    pub call: Call,
+    /// Whether it is persistent.
+    pub persistent: bool,
+    /// Of an allgatherv, the elements that each member gives; else empty.
+    pub counts: Vec<u32>,
+}
+
 /// The engine's state under the lock.
 struct Held {
     raw: RawEngine,
@@ -80,6 +91,8 @@ pub struct Engine {
     held: Mutex<Held>,
     /// By rank.
     woken: Vec<Condvar>,
+    /// By communicator, how many members it has.
+    sizes: Vec<u8>,
 }
 
 impl Engine {
@@ -101,7 +114,7 @@ impl Engine {
     pub fn open(ranks: u8, communicators: &[&[u8]], limits: Limits) -> Result<Engine, Refusal> {
         let mut sizes = Vec::new();
         for members in communicators {
-            sizes.push(u8::try_from(members.len()).map_err(|_| Refusal::BadConfig)?);
+            sizes.push(u8::try_from(members.len()).map_err(|_| Refusal::BadConfig(Field::Groups))?);
         }
         let members = communicators.concat();
         let mut raw = RawEngine { at: std::ptr::null_mut(), opened: false, reason: RawReason::default() };
@@ -113,13 +126,15 @@ impl Engine {
             starts: limits.starts,
         };
         // SAFETY: the engine is closed, and both lists are as long as is said.
-        answer(unsafe {
+        let code = unsafe {
             raw::wz_open(&mut raw, &limits, sizes.as_ptr(), sizes.len(), members.as_ptr(), members.len())
-        })?;
+        };
+        answer(code, &raw.reason)?;
         let ranks = usize::from(ranks);
         Ok(Engine {
             held: Mutex::new(Held { raw, awaited: vec![None; ranks], left: vec![false; ranks], stalled: false }),
             woken: (0..ranks).map(|_| Condvar::new()).collect(),
+            sizes,
         })
     }
 
@@ -132,9 +147,10 @@ impl Engine {
         let mut held = self.lock();
         let mut raw = RawRequest::default();
         // SAFETY: the engine is open and this thread has the lock; the bytes are as many as is said.
-        answer(unsafe {
+        let code = unsafe {
             raw::wz_post(&mut held.raw, rank, comm, &call, bytes.as_ptr(), bytes.len(), &mut raw)
-        })?;
+        };
+        answer(code, &held.raw.reason)?;
         held.stalled = false;
         self.progress(&mut held).ok();
         Ok(Request { rank, raw })
@@ -149,7 +165,8 @@ impl Engine {
         let mut held = self.lock();
         let mut raw = RawRequest::default();
         // SAFETY: the engine is open, and this thread has the lock.
-        answer(unsafe { raw::wz_init(&mut held.raw, rank, comm, &call, &mut raw) })?;
+        let code = unsafe { raw::wz_init(&mut held.raw, rank, comm, &call, &mut raw) };
+        answer(code, &held.raw.reason)?;
         Ok(Request { rank, raw })
     }
 
@@ -170,7 +187,7 @@ impl Engine {
         let mut raw = RawRequest::default();
         let many = few(counts)?;
         // SAFETY: the engine is open and this thread has the lock; both lists are as long as is said.
-        answer(unsafe {
+        let code = unsafe {
             raw::wz_post_allgatherv(
                 &mut held.raw,
                 rank,
@@ -182,7 +199,8 @@ impl Engine {
                 bytes.len(),
                 &mut raw,
             )
-        })?;
+        };
+        answer(code, &held.raw.reason)?;
         held.stalled = false;
         self.progress(&mut held).ok();
         Ok(Request { rank, raw })
@@ -198,9 +216,10 @@ impl Engine {
         let mut raw = RawRequest::default();
         let many = few(counts)?;
         // SAFETY: the engine is open and this thread has the lock; the list is as long as is said.
-        answer(unsafe {
+        let code = unsafe {
             raw::wz_init_allgatherv(&mut held.raw, rank, comm, ty as u8, counts.as_ptr(), many, &mut raw)
-        })?;
+        };
+        answer(code, &held.raw.reason)?;
         Ok(Request { rank, raw })
     }
 
@@ -212,9 +231,10 @@ impl Engine {
     pub fn start(&self, request: &Request, bytes: &[u8]) -> Result<(), Refusal> {
         let mut held = self.lock();
         // SAFETY: the engine is open and this thread has the lock; the bytes are as many as is said.
-        answer(unsafe {
+        let code = unsafe {
             raw::wz_start(&mut held.raw, request.rank, &request.raw, bytes.as_ptr(), bytes.len())
-        })?;
+        };
+        answer(code, &held.raw.reason)?;
         held.stalled = false;
         self.progress(&mut held).ok();
         Ok(())
@@ -228,7 +248,8 @@ impl Engine {
     pub fn free(&self, request: &mut Request) -> Result<(), Refusal> {
         let mut held = self.lock();
         // SAFETY: the engine is open, and this thread has the lock.
-        answer(unsafe { raw::wz_free(&mut held.raw, request.rank, &mut request.raw) })
+        let code = unsafe { raw::wz_free(&mut held.raw, request.rank, &mut request.raw) };
+        answer(code, &held.raw.reason)
     }
 
     /// How far a request is.
@@ -286,10 +307,11 @@ impl Engine {
         let mut index = 0;
         let (rank, parts) = (list.rank(), list.parts());
         // SAFETY: the engine is open and this thread has the lock; list and memory are as long as is said.
-        list_answer(unsafe {
+        let code = unsafe {
             let (parts, many) = (parts.as_mut_ptr(), parts.len());
             raw::wz_test_any(&mut held.raw, rank, parts, many, out.as_mut_ptr(), out.len(), &mut index)
-        })?;
+        };
+        list_answer(code, &held.raw.reason)?;
         Ok(Some(index).filter(|index| *index != UNDEFINED))
     }
 
@@ -305,10 +327,11 @@ impl Engine {
         let mut completed = 0;
         let (rank, parts) = (list.rank(), list.parts());
         // SAFETY: the engine is open and this thread has the lock; list and memory are as long as is said.
-        list_answer(unsafe {
+        let code = unsafe {
             let (parts, many) = (parts.as_mut_ptr(), parts.len());
             raw::wz_test_some(&mut held.raw, rank, parts, many, out.as_mut_ptr(), out.len(), &mut completed)
-        })?;
+        };
+        list_answer(code, &held.raw.reason)?;
         Ok(Some(completed).filter(|completed| *completed != UNDEFINED))
     }
 
@@ -322,10 +345,11 @@ impl Engine {
         self.progress(&mut held)?;
         let (rank, parts) = (list.rank(), list.parts());
         // SAFETY: the engine is open and this thread has the lock; list and memory are as long as is said.
-        list_answer(unsafe {
+        let code = unsafe {
             let (parts, many) = (parts.as_mut_ptr(), parts.len());
             raw::wz_test_all(&mut held.raw, rank, parts, many, out.as_mut_ptr(), out.len())
-        })
+        };
+        list_answer(code, &held.raw.reason)
     }
 
     /// Starts the requests of a list one after the other (`MPI_Startall`), each with the bytes of its span of `given`.
@@ -338,13 +362,33 @@ impl Engine {
         let mut started = 0;
         let (rank, parts) = (list.rank(), list.parts());
         // SAFETY: the engine is open and this thread has the lock; list and memory are as long as is said.
-        let answer = answer(unsafe {
+        let code = unsafe {
             let (parts, many) = (parts.as_ptr(), parts.len());
             raw::wz_start_all(&mut held.raw, rank, parts, many, given.as_ptr(), given.len(), &mut started)
-        });
+        };
+        let answer = answer(code, &held.raw.reason);
         held.stalled = false;
         self.progress(&mut held).ok();
         answer.map_err(|why| (started, why))
+    }
+
+    /// The collective that the members of a communicator have at a place of their posting lists, from 0 on: all that have the place
+    /// have the same. None where no member has posted so much, or there is no such communicator.
+    pub fn posted_at(&self, comm: u32, place: u32) -> Option<Posted> {
+        let mut held = self.lock();
+        let mut raw = RawPosted { call: RawCall::default(), persistent: false, counts: [0; 64] };
+        // SAFETY: the engine is open, and this thread has the lock.
+        let code = unsafe { raw::wz_posted_at(&mut held.raw, comm, place, &mut raw) };
+        if code == NO_PLACE {
+            return None;
+        }
+        debug_assert_eq!(code, 0);
+        let call = Call::of(&raw.call);
+        let counts = match call.kind() {
+            Kind::Allgatherv => raw.counts[..usize::from(self.sizes[comm as usize])].to_vec(),
+            _ => Vec::new(),
+        };
+        Some(Posted { call, persistent: raw.persistent, counts })
     }
 
     /// Says that a rank makes no further call, so that a wait which nobody can end is told.
@@ -382,7 +426,8 @@ impl Engine {
     /// Makes all progress, and wakes each rank whose awaited request isn't pending any longer.
     fn progress(&self, held: &mut Held) -> Result<(), Refusal> {
         // SAFETY: the engine is open, and this thread has the lock.
-        let settled = answer(unsafe { raw::wz_settle(&mut held.raw) });
+        let code = unsafe { raw::wz_settle(&mut held.raw) };
+        let settled = answer(code, &held.raw.reason);
         for rank in 0..self.woken.len() {
             let Some(awaited) = held.awaited[rank] else {
                 continue;
@@ -421,7 +466,7 @@ impl Drop for Engine {
 fn few(counts: &[u32]) -> Result<usize, Refusal> {
     const MOST_RANKS: usize = 64;
     if counts.len() > MOST_RANKS {
-        return Err(Refusal::BadSignature);
+        return Err(Refusal::BadSignature(Rule::Count));
     }
     Ok(counts.len())
 }
@@ -431,6 +476,7 @@ const UNDEFINED: usize = usize::MAX;
 
 const PENDING: i32 = -1;
 const TWICE: i32 = 24;
+const NO_PLACE: i32 = 25;
 
 /// Why the test of a list completed nothing.
 #[derive(Clone, Copy, Debug, PartialEq, Eq)]
@@ -447,19 +493,20 @@ impl From<Refusal> for ListRefusal {
     }
 }
 
-fn list_answer(code: i32) -> Result<(), ListRefusal> {
+fn list_answer(code: i32, reason: &RawReason) -> Result<(), ListRefusal> {
     match code {
         PENDING => Err(ListRefusal::Pending),
         // Requests of two engines may have one name.
         TWICE => Err(Refusal::Stale.into()),
-        code => Ok(answer(code)?),
+        code => Ok(answer(code, reason)?),
     }
 }
 
-fn answer(code: i32) -> Result<(), Refusal> {
+/// A function's answer; `reason` is that of the engine after the call.
+fn answer(code: i32, reason: &RawReason) -> Result<(), Refusal> {
     match code {
         0 => Ok(()),
-        code => Err(Refusal::of(code)),
+        code => Err(Refusal::of(code, reason)),
     }
 }
 
@@ -472,14 +519,15 @@ fn test_once(held: &mut Held, request: &mut Request, out: &mut [u8]) -> Result<O
     if code == PENDING {
         return Ok(None);
     }
-    answer(code)?;
+    answer(code, &held.raw.reason)?;
     Ok(Some(count))
 }
 
 fn phase(held: &mut Held, rank: u8, request: &RawRequest) -> Result<Phase, Refusal> {
     let mut number = 0;
     // SAFETY: the engine is open, and this thread has the lock.
-    answer(unsafe { raw::wz_phase(&mut held.raw, rank, request, &mut number) })?;
+    let code = unsafe { raw::wz_phase(&mut held.raw, rank, request, &mut number) };
+    answer(code, &held.raw.reason)?;
     Ok(match number {
         0 => Phase::Idle,
         1 => Phase::Pending,

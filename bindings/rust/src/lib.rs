@@ -29,6 +29,6 @@ mod raw;
 mod refusal;
 
 pub use call::{Call, Kind, Op, Type};
-pub use engine::{Engine, Limits, ListRefusal, Phase, Request};
+pub use engine::{Engine, Limits, ListRefusal, Phase, Posted, Request};
 pub use list::List;
-pub use refusal::Refusal;
+pub use refusal::{Field, Mismatch, Refusal, Rule};

@@ -42,6 +42,14 @@ pub struct RawEngine {
 }
 
 #[repr(C)]
+#[derive(Clone, Copy)]
+pub struct RawPosted {
+    pub call: RawCall,
+    pub persistent: bool,
+    pub counts: [u32; 64],
+}
+
+#[repr(C)]
 #[derive(Clone, Copy, Debug)]
 pub struct RawPart {
     pub request: RawRequest,
@@ -163,6 +171,7 @@ extern "C" {
         length: usize,
         started: &mut usize,
     ) -> i32;
+    pub fn wz_posted_at(engine: &mut RawEngine, comm: u32, place: u32, posted: &mut RawPosted) -> i32;
     pub fn wz_settle(engine: &mut RawEngine) -> i32;
     pub fn wz_lent(engine: &mut RawEngine, bytes: &mut u64) -> i32;
 }

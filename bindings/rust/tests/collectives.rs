@@ -1,7 +1,7 @@
 //! Ranks as threads, and each refusal.
 
 use std::thread;
-use worzsunab::{Call, Engine, Limits, List, ListRefusal, Op, Phase, Refusal, Type};
+use worzsunab::{Call, Engine, Field, Kind, Limits, List, ListRefusal, Mismatch, Op, Phase, Refusal, Request, Rule, Type};
 
 fn by_ranks(engine: &Engine, ranks: u8, body: impl Fn(&Engine, u8) + Sync) {
     thread::scope(|threads| {
@@ -102,31 +102,32 @@ fn communicators_number_their_members() {
     assert_eq!(engine.test(&mut second, &mut out), Ok(Some(1)));
     assert_eq!(engine.wait(&mut first, &mut out), Ok(1));
     assert_eq!(out, [9]);
-    assert_eq!(engine.post(1, 1, Call::barrier(), &[]), Err(Refusal::NotMember));
-    assert_eq!(engine.post(1, 2, Call::barrier(), &[]), Err(Refusal::BadComm));
+    assert_eq!(engine.post(1, 1, Call::barrier(), &[]), Err(Refusal::NotMember { rank: 1 }));
+    assert_eq!(engine.post(1, 2, Call::barrier(), &[]), Err(Refusal::BadComm { comm: 2 }));
 }
 
 #[test]
 fn refusals_change_nothing() {
-    assert_eq!(Engine::of_ranks(0).err(), Some(Refusal::BadConfig));
-    assert_eq!(Engine::of_ranks(65).err(), Some(Refusal::BadConfig));
-    assert_eq!(Engine::open(2, &[&[0, 0]], Limits::default()).err(), Some(Refusal::BadConfig));
+    assert_eq!(Engine::of_ranks(0).err(), Some(Refusal::BadConfig(Field::Ranks)));
+    assert_eq!(Engine::of_ranks(65).err(), Some(Refusal::BadConfig(Field::Ranks)));
+    assert_eq!(Engine::open(2, &[&[0, 0]], Limits::default()).err(), Some(Refusal::BadConfig(Field::Groups)));
     let few = Limits { slots: 2, places: 2, wear: 9, starts: 1 };
     let engine = Engine::open(2, &[&[0, 1]], few).unwrap();
     let four = [1, 0, 0, 0];
-    assert_eq!(engine.post(0, 0, Call::bcast(2, Type::U8, 1), &[]), Err(Refusal::BadSignature));
-    assert_eq!(engine.post(0, 0, SUM(), &[1]), Err(Refusal::BadLength));
+    assert_eq!(engine.post(0, 0, Call::bcast(2, Type::U8, 1), &[]), Err(Refusal::BadSignature(Rule::Root)));
+    assert_eq!(engine.post(0, 0, SUM(), &[1]), Err(Refusal::BadLength { want: 4, got: 1 }));
     let mut mine = engine.init(0, 0, SUM()).unwrap();
-    assert_eq!(engine.post(1, 0, SUM(), &four), Err(Refusal::Mismatch));
+    let of_rank_0 = Mismatch { place: 0, first: 0, persistent: true, call: SUM() };
+    assert_eq!(engine.post(1, 0, SUM(), &four), Err(Refusal::Mismatch(of_rank_0)));
     let mut yours = engine.init(1, 0, SUM()).unwrap();
     assert_eq!(engine.init(1, 0, SUM()), Err(Refusal::Full));
-    assert_eq!(engine.start(&mine, &[1]), Err(Refusal::BadLength));
+    assert_eq!(engine.start(&mine, &[1]), Err(Refusal::BadLength { want: 4, got: 1 }));
     engine.start(&mine, &four).unwrap();
     assert_eq!(engine.start(&mine, &four), Err(Refusal::Active));
     assert_eq!(engine.free(&mut mine), Err(Refusal::Active));
     engine.start(&yours, &four).unwrap();
     let mut out = [7; 4];
-    assert_eq!(engine.test(&mut mine, &mut out[..3]), Err(Refusal::BadLength));
+    assert_eq!(engine.test(&mut mine, &mut out[..3]), Err(Refusal::BadLength { want: 4, got: 3 }));
     assert_eq!(out, [7; 4]);
     assert_eq!(engine.test(&mut mine, &mut out), Ok(Some(4)));
     assert_eq!(number(out), 2);
@@ -142,11 +143,19 @@ fn refusals_change_nothing() {
 
 #[test]
 fn sentences_and_numbers() {
-    for refusal in Refusal::ALL {
-        assert!(refusal.to_string().len() > 9);
-    }
+    let other = Mismatch { place: 3, first: 1, persistent: true, call: Call::bcast(2, Type::I32, 5) };
+    assert_eq!(
+        Refusal::Mismatch(other).to_string(),
+        "at place 3 rank 1 has another collective: persistent bcast, no operation, i32, root 2, count 5"
+    );
+    let short = Refusal::BadLength { want: 8, got: 3 };
+    assert_eq!((short.number(), short.to_string().as_str()), (4, "8 bytes are due, not 3"));
+    assert_eq!(Refusal::BadConfig(Field::Wear).to_string(), "what is given as wear is out of its range");
     fn shared<T: Send + Sync>() {}
     shared::<Engine>();
+    shared::<Request>();
+    shared::<List>();
+    shared::<Refusal>();
 }
 
 #[test]
@@ -167,9 +176,26 @@ fn members_of_an_allgatherv_give_as_many_as_is_counted() {
         engine.free(&mut again).unwrap();
     });
     let counts = [1; 65];
-    assert_eq!(engine.post_allgatherv(0, 0, Type::U8, &counts, &[1]).err(), Some(Refusal::BadSignature));
-    assert_eq!(engine.post_allgatherv(0, 0, Type::U8, &counts[..4], &[1]).err(), Some(Refusal::BadSignature));
-    assert_eq!(engine.post_allgatherv(0, 0, Type::U8, &counts[..3], &[1, 2]).err(), Some(Refusal::BadLength));
+    assert_eq!(engine.post_allgatherv(0, 0, Type::U8, &counts, &[1]).err(), Some(Refusal::BadSignature(Rule::Count)));
+    assert_eq!(engine.post_allgatherv(0, 0, Type::U8, &counts[..4], &[1]).err(), Some(Refusal::BadSignature(Rule::Count)));
+    let short = Refusal::BadLength { want: 1, got: 2 };
+    assert_eq!(engine.post_allgatherv(0, 0, Type::U8, &counts[..3], &[1, 2]).err(), Some(short));
+}
+
+#[test]
+fn the_counts_of_a_mismatch_are_told() {
+    let engine = Engine::of_ranks(2).unwrap();
+    assert_eq!(engine.posted_at(0, 0), None);
+    engine.post_allgatherv(1, 0, Type::U16, &[2, 1], &[1, 0]).unwrap();
+    let Err(Refusal::Mismatch(other)) = engine.init_allgatherv(0, 0, Type::U16, &[1, 1]) else {
+        panic!("the counts differ");
+    };
+    assert_eq!((other.place, other.first, other.persistent, other.call.kind()), (0, 1, false, Kind::Allgatherv));
+    let posted = engine.posted_at(0, other.place).unwrap();
+    assert_eq!((posted.call, posted.persistent, posted.counts.as_slice()), (other.call, false, &[2, 1][..]));
+    assert_eq!((posted.call.ty(), posted.call.op(), posted.call.root()), (Type::U16, None, 0));
+    engine.init(0, 0, SUM()).unwrap_err();
+    assert_eq!((engine.posted_at(0, 1), engine.posted_at(1, 0)), (None, None));
 }
 
 #[test]
@@ -182,7 +208,7 @@ fn lists_of_requests() {
     }
     let mut out = [0; 8];
     assert_eq!(engine.test_any(&mut mine, &mut out), Ok(None));
-    assert_eq!(engine.start_all(&mut mine, &[1; 6]), Err((1, Refusal::BadLength)));
+    assert_eq!(engine.start_all(&mut mine, &[1; 6]), Err((1, Refusal::BadLength { want: 4, got: 2 })));
     assert_eq!(engine.test_any(&mut mine, &mut out), Err(ListRefusal::Pending));
     assert_eq!(engine.test_some(&mut mine, &mut out), Ok(Some(0)));
     engine.start_all(&mut yours, &[0, 0, 0, 1, 0, 0, 0, 2]).unwrap();
@@ -197,7 +223,7 @@ fn lists_of_requests() {
     mine = List::new(0);
     mine.push(second, 4, 4).unwrap();
     mine.push(first, 0, 3).unwrap();
-    assert_eq!(engine.test_all(&mut mine, &mut out), Err(Refusal::BadLength.into()));
+    assert_eq!(engine.test_all(&mut mine, &mut out), Err(Refusal::BadLength { want: 4, got: 3 }.into()));
     assert_eq!(engine.test_any(&mut mine, &mut out), Ok(Some(0)));
     assert_eq!(out[4..], [5, 5, 5, 7]);
     let other = engine.init(1, 0, SUM()).unwrap();
