@@ -1,9 +1,11 @@
 /* The time of a small collective through include/worzsunab.h: one thread plays all ranks, or a thread for each; see c_interface.py. */
+#include <sched.h>
 #include <stdio.h>
 #include <stdlib.h>
+#include <string.h>
 #include <time.h>
 
-#include "../include/worzsunab_threads.h"
+#include "worzsunab_threads.h"
 
 enum { MOST = 8, ROW = 262144 };
 #ifndef TURNS
@@ -109,6 +111,53 @@ static void *rank_of(void *number) {
     return NULL;
 }
 
+/* The same in short samples, each thread on a processor of its own: what a loaded machine allows to compare. */
+enum { SAMPLES = 400, OF = 40 };
+static double samples[3][SAMPLES];
+
+static void sample(uint8_t me, int measure, wz_request *request, const wz_call *call, const void *bytes, size_t length) {
+    int32_t sum = 0;
+    size_t count;
+    for (int i = 0; i < SAMPLES; i++) {
+        double from = now();
+        for (int turn = 0; turn < OF; turn++) {
+            must(call ? wz_shared_post(&shared, me, 0, call, bytes, length, request)
+                      : wz_shared_start(&shared, me, request, bytes, length));
+            must(wz_shared_wait(&shared, me, request, &sum, sizeof sum, &count));
+        }
+        if (me == 0) samples[measure][i] = (now() - from) / OF;
+    }
+}
+
+static void *sampled(void *number) {
+    uint8_t me = (uint8_t)(size_t)number;
+    wz_request request;
+    int32_t one = 1;
+    cpu_set_t mine;
+    CPU_ZERO(&mine);
+    CPU_SET(me, &mine);
+    pthread_setaffinity_np(pthread_self(), sizeof mine, &mine);
+    sample(me, 0, &request, &barrier, NULL, 0);
+    sample(me, 1, &request, &allreduce, &one, sizeof one);
+    must(wz_shared_init(&shared, me, 0, &allreduce, &request));
+    sample(me, 2, &request, NULL, &one, sizeof one);
+    return NULL;
+}
+
+static int is_less(const void *left, const void *right) {
+    double l = *(const double *)left, r = *(const double *)right;
+    return (l > r) - (l < r);
+}
+
+/* Tells the lowest tenth, as nanoseconds an operation. */
+static void tell_samples(void) {
+    static const char *const names[] = { "barrier", "allreduce of one i32", "persistent allreduce of one i32" };
+    for (int i = 0; i < 3; i++) {
+        qsort(samples[i], SAMPLES, sizeof samples[i][0], is_less);
+        printf("%s: %.0f\n", names[i], samples[i][SAMPLES / 10]);
+    }
+}
+
 /* Sums of rows of so many bytes, as many as take some time. */
 static uint32_t row_bytes;
 
@@ -133,12 +182,14 @@ int main(int argc, char **argv) {
     ranks = argc > 1 ? atoi(argv[1]) : 2;
     row_bytes = argc > 2 ? (uint32_t)atoi(argv[2]) : 0;
     if (ranks < 1 || ranks > MOST || row_bytes > ROW) return 1;
-    if (row_bytes == 0) one_thread();
-    if (argc > 3) return 0;
+    bool samples_alone = argc > 3 && strcmp(argv[3], "samples") == 0;
+    if (row_bytes == 0 && !samples_alone) one_thread();
+    if (argc > 3 && !samples_alone) return 0;
     must(wz_shared_open_world(&shared, (uint8_t)ranks));
     for (size_t i = 0; i < (size_t)ranks; i++)
-        pthread_create(&threads[i], NULL, row_bytes == 0 ? rank_of : rows_of, (void *)i);
+        pthread_create(&threads[i], NULL, samples_alone ? sampled : row_bytes == 0 ? rank_of : rows_of, (void *)i);
     for (int i = 0; i < ranks; i++) pthread_join(threads[i], NULL);
+    if (samples_alone) tell_samples();
     must(wz_shared_close(&shared));
     return 0;
 }

@@ -5,6 +5,9 @@ theirs are processes.
 
     bench/c_interface.py [RUNS]    (3 where no number is said)
 
+With `samples` behind RUNS each thread of the shim has a processor of its own, for 2 and 4 ranks, and of 400 samples of 40 operations the
+lowest tenth counts: that can be compared on a machine that does other work too. WZ_HEADERS names a folder with other headers.
+
 With `rows` behind RUNS it compares sums of rows of 1 to 256 KiB under the shim instead, where combinations are computed with the lock
 free and where they aren't, by 2 and 4 ranks. With `instructions` it counts those of one thread that plays all ranks, by valgrind.
 
@@ -40,11 +43,27 @@ def ours(program):
     return found
 
 
+def samples(library, runs):
+    """Medians of the lowest tenths."""
+    with tempfile.TemporaryDirectory() as folder:
+        program = compiled(folder, library, "samples")
+        for ranks in (2, 4):
+            times = {}
+            for _ in range(runs):
+                told = subprocess.run([program, str(ranks), "0", "samples"], check=True, capture_output=True, text=True).stdout
+                for line in told.splitlines():
+                    measure, time = line.split(": ")
+                    times.setdefault(measure, []).append(int(time))
+            for measure, column in times.items():
+                print(f"{ranks} ranks, {measure}: {statistics.median(column) / 1000:.1f}", flush=True)
+
+
 def compiled(folder, library, name, *defines):
     """The program, with these definitions."""
     program = os.path.join(folder, name)
     source = os.path.join(mpi.HERE, "c_interface.c")
-    subprocess.run(["cc", "-O2", "-D_GNU_SOURCE", *defines, source, library, "-pthread", "-o", program], check=True)
+    headers = os.environ.get("WZ_HEADERS", os.path.join(mpi.HERE, "..", "include"))
+    subprocess.run(["cc", "-O2", "-D_GNU_SOURCE", f"-I{headers}", *defines, source, library, "-pthread", "-o", program], check=True)
     return program
 
 
@@ -82,6 +101,8 @@ def main():
     if not os.path.exists(library):
         sys.exit(f"{library} isn't built: call `make -C bindings` first")
     runs = int(sys.argv[1]) if len(sys.argv) > 1 else 3
+    if sys.argv[2:] == ["samples"]:
+        return samples(library, runs)
     if sys.argv[2:] == ["rows"]:
         return rows(library, runs)
     if sys.argv[2:] == ["instructions"]:
