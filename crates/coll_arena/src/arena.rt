@@ -263,6 +263,7 @@ impl<R: Drop> Arena<R> {
     }
 
     /// Moves a request to the back of a list, which may be its own.
+    #[inline(always)]
     pub fn shift(&mut self, ticket: Ticket, list: ListName) -> Result<(), Refusal>
         requires live_list { 2 ≤ number_of list }
         requires list_in { number_of list < list_count self.old.comms }

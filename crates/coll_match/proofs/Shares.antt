@@ -58,6 +58,32 @@ empty_part f y none some zero m = none
 empty_part f y none some (suc n) zero = some
 empty_part f y none some (suc n) (suc m) = empty_part f y none some n m
 
+abbrev pub empty_share : Share
+empty_share = record { given = None; slot = None; mailbox = [] }
+
+-- the first n shares are empty
+pub emptied : ℕ → List Share → List Share
+emptied zero shares = shares
+emptied (suc n) [] = []
+emptied (suc n) (share ∷ shares) = empty_share ∷ emptied n shares
+
+pub emptied_none : (shares : List Share) → shares ≡ emptied 0 shares
+unfolding emptied
+emptied_none shares = refl
+
+pub emptied_next : (n : ℕ) (shares : List Share) → n < length shares → set (emptied n shares) n empty_share ≡ emptied (suc n) shares
+unfolding emptied
+emptied_next n [] low = absurd (omega (arith, low))
+emptied_next zero (share ∷ shares) low = refl
+emptied_next (suc n) (share ∷ shares) low = ap (λ rest. empty_share ∷ rest) (emptied_next n shares (omega (arith, low)))
+
+pub emptied_all : (n : ℕ) (shares : List Share) → n ≡ length shares → emptied n shares ≡ replicate (length shares) empty_share
+unfolding emptied
+emptied_all zero [] e = refl
+emptied_all (suc n) [] e = absurd (omega (arith, e))
+emptied_all zero (share ∷ shares) e = absurd (omega (arith, e))
+emptied_all (suc n) (share ∷ shares) e = ap (λ rest. empty_share ∷ rest) (emptied_all n shares (omega (arith, e)))
+
 -- a member's number is an index of the shares
 pub low_share : (shares : List Share) (v : Held) (member i : ℕ) → held_of shares ≡ v → member < length v.shares → i ≡ member → i < length shares
 low_share shares v member i e low is = omega (arith, low, is, ap (λ (h : Held). length h.shares) e, length-map shares part_of)

@@ -22,6 +22,13 @@ struct Share {
     mailbox: Mailbox,
 }
 
+/// The shares of an instance that is over, without anything. Their memory serves the next instance.
+#[derive(Debug, Drop)]
+pub(crate) struct Vacant {
+    shares: Vec<Share>,
+    ghost empty: { shares.items ≡ replicate (length shares.items) (record { given = None; slot = None; mailbox = [] }) },
+}
+
 /// What stands of one collective: a share for each member.
 #[derive(Debug, Drop)]
 pub(crate) struct Instance {
@@ -62,7 +69,55 @@ fn empty_shares(alloc: Global, members: u8) -> Result<Vec<Share>, AllocError>
     Ok(made)
 }
 
+/// Takes everything out of the shares.
+fn empty_all(shares: &mut [Share])
+    ensures { shares.new ≡ replicate (length shares.old) (record { given = None; slot = None; mailbox = [] }) }
+{
+    for member in 0..shares.len() {
+        shares[member].empty();
+    }
+}
+
+impl Share {
+    /// Takes everything out.
+    fn empty(&mut self)
+        ensures { self.new ≡ record { given = None; slot = None; mailbox = [] } }
+    {
+        self.given = None;
+        self.slot = None;
+        self.mailbox.empty();
+    }
+}
+
+impl Vacant {
+    /// Whether there are that many shares.
+    pub(crate) fn is_for(&self, members: u8) -> bool
+        ensures { IsTrue result ↔ (length self.now.shares.items ≡ members) }
+    {
+        self.shares.len() == usize::from(members)
+    }
+
+    /// An instance of as many members as there are shares, to which none has given. It takes no memory.
+    pub(crate) fn into_instance(self) -> Instance
+        ensures members { length result.shares ≡ length self.shares.items }
+        ensures given { given_in result ≡ (λ _. None) }
+        ensures seats { seat_in result ≡ (λ _. None) }
+        ensures mail { mail_in result ≡ (λ _ _ _. None) }
+    {
+        Instance {
+            shares: self.shares,
+        }
+    }
+}
+
 impl Instance {
+    /// The shares, while all that they have goes. It takes no memory.
+    pub(crate) fn into_vacant(self) -> Vacant {
+        let mut shares = self.shares;
+        empty_all(&mut shares);
+        Vacant { shares }
+    }
+
     /// An instance of that many members, to which none has given.
     pub(crate) fn new(alloc: Global, members: u8) -> Result<Instance, AllocError>
         ensures members { IfOk result (λ made. length made.shares ≡ members) }

@@ -69,6 +69,13 @@ impl Mailbox {
         }
     }
 
+    /// Drops all messages. Their row's memory stays.
+    pub(crate) fn empty(&mut self)
+        ensures { self.new ≡ [] }
+    {
+        self.messages.clear();
+    }
+
     /// Keeps a message until it is taken. Only NoMemory is refused, and hands the message back.
     pub(crate) fn put(&mut self, envelope: Envelope, bytes: Message) -> Result<(), Refused<Message>>
         requires { sent_in self.old envelope.to envelope.round ≡ None }

@@ -1,16 +1,17 @@
-ghost use Rattle.std.specs.Prelude.{◌≡◌, ◌<◌, ◌≢◌, Some, None, slice_get, is_some, IsTrue, ◌↔◌, OnOk, IfOk, IfErr, OnErr};
+ghost use Rattle.std.specs.Prelude.{◌≡◌, ◌<◌, ◌≢◌, length, Some, None, slice_get, is_some, IsTrue, ◌↔◌, OnOk, IfOk, IfErr, OnErr};
 ghost use Rattle.std.specs.Option.{option_copied, option_copied_mut};
 ghost use Rattle.coll_kinds.specs.declared.refusal.Refused.{Refused};
+ghost use Rattle.coll_match.specs.Held.{given_in, mail_in, seat_in};
 ghost use Rattle.coll_match.specs.Instances.{IsLast, dissolved, given, is_of, joined, left, look_ups, mail, mailed, nothing, roomed, seated, seats, size, standing};
 
 use crate::envelope::Envelope;
-use crate::instance::Instance;
+use crate::instance::{Instance, Vacant};
 use crate::mailbox::Message;
 use coll_bytes::Bytes;
 use coll_kinds::{Refusal, Refused};
 use coll_machine::Key;
 use indexmap::IndexMap;
-use std::alloc::Global;
+use std::alloc::{AllocError, Global};
 use std::marker::Model;
 
 /// The instances that stand: what their members gave, the slots of the members' active requests, and the messages.
@@ -23,6 +24,9 @@ use std::marker::Model;
 pub struct Matches {
     alloc: Global,
     instances: IndexMap<Key, Instance>,
+    /// The shares of the instance that went last, for the next one: to take memory and give it back for each costs more than
+    /// what is put there.
+    vacant: Option<Vacant>,
 }
 
 impl Model for Matches {
@@ -33,6 +37,14 @@ impl Model for Matches {
     ghost Value = { List (Key × Held) };
 
     ghost view = { λ a. a.instances.entries };
+}
+
+/// What stays of an instance that goes.
+fn vacated(instance: Option<Instance>) -> Option<Vacant> {
+    match instance {
+        Some(instance) => Some(instance.into_vacant()),
+        None => None,
+    }
 }
 
 impl Matches {
@@ -46,6 +58,7 @@ impl Matches {
         Matches {
             alloc,
             instances: IndexMap::new(alloc),
+            vacant: None,
         }
     }
 
@@ -56,10 +69,26 @@ impl Matches {
         ensures err { OnErr result (self.new ≡ self.old) }
     {
         if !self.stands(key) {
-            let instance = Instance::new(self.alloc, n)?;
+            let instance = self.make(n)?;
             self.instances.insert(key, instance)?;
         }
         Ok(())
+    }
+
+    /// An instance of that many members, to which none has given, in the shares that are kept where they are as many.
+    fn make(&mut self, n: u8) -> Result<Instance, AllocError>
+        ensures same { self.new ≡ self.old }
+        ensures members { IfOk result (λ made. length made.shares ≡ n) }
+        ensures given { IfOk result (λ made. given_in made ≡ (λ _. None)) }
+        ensures seats { IfOk result (λ made. seat_in made ≡ (λ _. None)) }
+        ensures mail { IfOk result (λ made. mail_in made ≡ (λ _ _ _. None)) }
+    {
+        if let Some(vacant) = self.vacant.take() {
+            if vacant.is_for(n) {
+                return Ok(vacant.into_instance());
+            }
+        }
+        Instance::new(self.alloc, n)
     }
 
     /// Keeps the bytes that a member gives to an instance, for which room was made. It takes no memory. A member joins
@@ -132,7 +161,7 @@ impl Matches {
     fn dissolve(&mut self, key: Key)
         ensures { look_ups self.new ≡ dissolved (look_ups self.old) key }
     {
-        self.instances.swap_remove(&key);
+        self.vacant = vacated(self.instances.swap_remove(&key));
     }
 
     /// Keeps a message of a member that has joined until it is taken, and answers the slot of the receiver's active
