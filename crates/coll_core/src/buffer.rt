@@ -194,7 +194,10 @@ impl Buffer {
             long.segments.copy_to(&mut self.own);
             self.long = None;
         }
-        into.write(bytes.as_slice(), &mut self.own);
+        // A barrier's messages have no bytes.
+        if into.len > 0 {
+            into.write(bytes.as_slice(), &mut self.own);
+        }
     }
 
     /// The bytes of a region, shared where one segment has them, else copied. Only NoMemory is refused.

@@ -27,6 +27,7 @@ use crate::about::About;
 use crate::config::Config;
 use crate::phase::Phase;
 use crate::request::Request;
+use crate::shared_result::InstanceResults;
 use coll_arena::laws::is_sound;
 use coll_arena::{Arena, ListName, Ticket};
 use coll_kinds::Refusal;
@@ -46,6 +47,8 @@ pub struct Core {
     arena: Arena<Request>,
     queues: Queues,
     matches: Matches,
+    /// Long results of an instance that others of its members may share. No contract sees it.
+    results: Option<Box<InstanceResults>>,
 }
 
 impl Model for Core {
@@ -83,6 +86,7 @@ impl Core {
             arena,
             queues,
             matches: Matches::new(alloc),
+            results: None,
         })
     }
 

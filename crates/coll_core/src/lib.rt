@@ -10,6 +10,7 @@
 //! | `buffer` | `Buffer`, the bytes that a schedule's actions read and write |
 //! | `request` | `Request`, what the engine keeps of a live request |
 //! | `sent` | `Sent`, the way of a message |
+//! | `shared_result` | results of long combinations that several members need |
 //! | `combined` | the combination of two operands, as `Bytes` |
 //! | `work` | `Work` and `DoneWork`, a combination that is computed outside the engine |
 //! | `stepped` | `Stepped`, what a step did |
@@ -36,6 +37,7 @@ mod outcome;
 mod phase;
 mod request;
 mod sent;
+mod shared_result;
 mod stepped;
 mod work;
 

@@ -13,10 +13,11 @@ ghost use Rattle.coll_core.specs.Works.{Combined, StandsAt};
 
 use crate::buffer::Buffer;
 use crate::sent::Sent;
+use crate::shared_result::{InstanceResults, LONG, share};
 use crate::work::{DoneWork, Work};
 use coll_arena::{ListName, Ticket};
 use coll_bytes::Bytes;
-use coll_kinds::{Datatype, Op, Refusal};
+use coll_kinds::{Datatype, Kind, Op, Refusal};
 use coll_match::{Key, Matches};
 use coll_plans::Plan;
 use coll_sched::Action;
@@ -127,7 +128,12 @@ impl Request {
 
     /// The combination that comes next, with its operands. Only NoMemory is refused.
     #[inline(always)]
-    pub(crate) fn work(&mut self, alloc: Global, ticket: Ticket) -> Result<Work, Refusal>
+    pub(crate) fn work(
+        &mut self,
+        alloc: Global,
+        ticket: Ticket,
+        results: &mut Option<Box<InstanceResults>>,
+    ) -> Result<Work, Refusal>
         requires combine { IfSome (next_of (shown self.old)) IsCombine }
         requires some { next_of (shown self.old) ≢ None }
         requires sized { length self.old.buffer ≡ (schedule (shown self.old)).size }
@@ -150,7 +156,14 @@ impl Request {
         };
         let first = self.buffer.part(alloc, left)?;
         let second = self.buffer.part(alloc, right)?;
-        Ok(Work::new(alloc, ticket, self.round, self.index, op, ty, first, second))
+        let shared = if left.len >= LONG && self.plan.sig().kind == Kind::Allreduce {
+            share(results, alloc, self.key(), self.round, (&first, &second))
+        } else {
+            None
+        };
+        Ok(Work::new(
+            alloc, ticket, self.round, self.index, op, ty, first, second, shared,
+        ))
     }
 
     /// The next action is the work's combination, with the same operands.

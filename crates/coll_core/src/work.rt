@@ -2,6 +2,7 @@ ghost use Rattle.std.specs.Prelude.{◌≡◌, IfOk, IfErr};
 ghost use Rattle.coll_core.specs.Works.{IsPiece, result_of};
 
 use crate::combined::combined;
+use crate::shared_result::SharedResult;
 use coll_bytes::Bytes;
 use coll_kinds::{Datatype, Op, Refusal, Refused, Ticket};
 use std::alloc::Global;
@@ -19,6 +20,8 @@ pub struct Work {
     ty: Datatype,
     left: Bytes,
     right: Bytes,
+    /// Where other members that combine the same look for the result.
+    shared: Option<SharedResult>,
 }
 
 impl Model for Work {
@@ -60,6 +63,7 @@ impl Work {
         ty: Datatype,
         left: Bytes,
         right: Bytes,
+        shared: Option<SharedResult>,
     ) -> Work
         requires { IsPiece (record { ticket = ticket; round = round; index = index; op = op; ty = ty; left = left; right = right }) }
         ensures { result ≡ record { ticket = ticket; round = round; index = index; op = op; ty = ty; left = left; right = right } }
@@ -73,6 +77,7 @@ impl Work {
             ty,
             left,
             right,
+            shared,
         }
     }
 
@@ -129,13 +134,30 @@ impl Work {
         ensures made { IfOk result (λ done. done.piece ≡ self) }
         ensures refused { IfErr result (λ refused. refused ≡ record { why = Refusal.NoMemory; back = self }) }
     {
-        match combined(self.alloc, self.op, self.ty, &self.left, &self.right) {
+        match self.found_or_combined() {
             Ok(result) => Ok(DoneWork { work: self, result }),
             Err(_) => Err(Refused {
                 why: Refusal::NoMemory,
                 back: self,
             }),
         }
+    }
+
+    /// The result of another member that combines the same, or else one that others may share. Only NoMemory is refused.
+    #[inline(always)]
+    fn found_or_combined(&self) -> Result<Bytes, Refusal>
+        ensures ok { IfOk result (λ bytes. bytes ≡ result_of self.now) }
+    {
+        let Some(shared) = &self.shared else {
+            return combined(self.alloc, self.op, self.ty, &self.left, &self.right);
+        };
+        let (left, right) = (&self.left, &self.right);
+        if let Some(bytes) = shared.find(self.op, self.ty, left.as_slice(), right.as_slice()) {
+            return Ok(bytes);
+        }
+        let bytes = combined(self.alloc, self.op, self.ty, left, right)?;
+        shared.tell(self.alloc, self.op, self.ty, (left, right), &bytes);
+        Ok(bytes)
     }
 }
 

@@ -18,6 +18,7 @@ ghost use Rattle.coll_core.specs.Requests.{schedule, shown};
 use crate::engine::Core;
 use crate::outcome::Outcome;
 use crate::request::Request;
+use crate::shared_result::forget;
 use coll_arena::laws::is_sound;
 use coll_arena::{Arena, ListName, Ticket};
 use coll_bytes::Bytes;
@@ -103,7 +104,8 @@ impl Core {
         let hint = request.hint;
         let member = request.plan.member();
         let (bytes, room) = give_up(&mut self.arena, self.alloc, ticket);
-        self.matches.leave(key, hint, member);
+        let is_over = self.matches.leave(key, hint, member);
+        forget(&mut self.results, key, is_over);
         let outcome = Outcome {
             rank,
             comm: key.comm,

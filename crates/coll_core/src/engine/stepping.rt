@@ -201,7 +201,7 @@ impl Core {
         let Ok(request) = self.arena.get_mut(ticket) else {
             unreachable!()
         };
-        let work = request.work(self.alloc, ticket)?;
+        let work = request.work(self.alloc, ticket, &mut self.results)?;
         let Ok(()) = self.arena.shift(ticket, ListName::Running) else {
             unreachable!()
         };
@@ -227,6 +227,7 @@ pub(super) fn advance(arena: &mut Arena<Request>, matches: &Matches, ticket: Tic
 
 /// Takes a request to the back of a list, unless it is on that list: one that is the first of Ready, and can go on, stays
 /// the first.
+#[inline(always)]
 fn place(arena: &mut Arena<Request>, ticket: Ticket, list: ListName)
     requires live { names arena.old ticket ≡ true }
     requires live_list { 2 ≤ number_of list }

@@ -20,8 +20,8 @@ give_up-bytes-requires-clause-can c =
     let on = on_done c.self.inside.arena c.args.ticket (6 + 3 * c.in_ok-request.request.now.comm) c.if-not-is_on.ensures in
     gives_up _ c.args.rank c.args.ticket c.in_ok-request.request.now c.self.invariant owns on c.acting_core.ensures
 
-pub leave-requires : goal.leave-requires
-leave-requires c =
+pub leave-is_over-requires : goal.leave-is_over-requires
+leave-is_over-requires c =
     let owns = owned _ c.args.self.now c.args.rank c.args.ticket c.in_ok-request.request.now c.self.view_is c.in_ok-request.ensures.refused c.in_ok-request.ensures.named c.in_ok-request.ensures.found in
     let on = on_done c.self.inside.arena c.args.ticket (6 + 3 * c.in_ok-request.request.now.comm) c.if-not-is_on.ensures in
     seated _ c.args.rank c.args.ticket c.in_ok-request.request.now c.self.invariant owns on c.acting_core.ensures
@@ -31,30 +31,30 @@ pub invariant_of-self : goal.invariant_of-self
 invariant_of-self c =
     let owns = owned _ c.args.self.now c.args.rank c.args.ticket c.in_ok-request.request.now c.self.view_is c.in_ok-request.ensures.refused c.in_ok-request.ensures.named c.in_ok-request.ensures.found in
     let on = on_done c.self.inside.arena c.args.ticket (6 + 3 * c.in_ok-request.request.now.comm) c.if-not-is_on.ensures in
-    kept _ c.give_up-bytes.new.arena c.leave.new.self c.args.ticket c.args.rank c.in_ok-request.request.now c.give_up-bytes.result.0 c.leave.result
+    kept _ c.give_up-bytes.new.arena c.leave-is_over.new.self c.args.ticket c.args.rank c.in_ok-request.request.now c.give_up-bytes.result.0 c.leave-is_over.result
     c.key-key.result c.member-member.result c.retire_core.ensures c.self.invariant owns on
     c.give_up-bytes.ensures.bytes c.give_up-bytes.ensures.rests c.key-key.ensures c.member-member.ensures.member
     (record {
-      last_is = c.leave.ensures.last;
-      members = (ap (λ (s : LookUps). s.members) c.leave.ensures.left);
-      given = (ap (λ (s : LookUps). s.given) c.leave.ensures.left);
-      seats = (ap (λ (s : LookUps). s.seats) c.leave.ensures.left);
-      mail = (ap (λ (s : LookUps). s.mail) c.leave.ensures.left);
+      last_is = c.leave-is_over.ensures.last;
+      members = (ap (λ (s : LookUps). s.members) c.leave-is_over.ensures.left);
+      given = (ap (λ (s : LookUps). s.given) c.leave-is_over.ensures.left);
+      seats = (ap (λ (s : LookUps). s.seats) c.leave-is_over.ensures.left);
+      mail = (ap (λ (s : LookUps). s.mail) c.leave-is_over.ensures.left);
     })
 
 pub returns-clause-completes : goal.returns-clause-completes
 returns-clause-completes c =
     let owns = owned _ c.args.self.now c.args.rank c.args.ticket c.in_ok-request.request.now c.self.view_is c.in_ok-request.ensures.refused c.in_ok-request.ensures.named c.in_ok-request.ensures.found in
     let on = on_done c.self.inside.arena c.args.ticket (6 + 3 * c.in_ok-request.request.now.comm) c.if-not-is_on.ensures in
-    completes _ c.give_up-bytes.new.arena c.leave.new.self c.args.ticket c.args.rank c.in_ok-request.request.now c.give_up-bytes.result.0 c.leave.result
+    completes _ c.give_up-bytes.new.arena c.leave-is_over.new.self c.args.ticket c.args.rank c.in_ok-request.request.now c.give_up-bytes.result.0 c.leave-is_over.result
     c.key-key.result c.member-member.result c.retire_core.ensures c.self.invariant owns on
     c.give_up-bytes.ensures.bytes c.give_up-bytes.ensures.rests c.key-key.ensures c.member-member.ensures.member
     (record {
-      last_is = c.leave.ensures.last;
-      members = (ap (λ (s : LookUps). s.members) c.leave.ensures.left);
-      given = (ap (λ (s : LookUps). s.given) c.leave.ensures.left);
-      seats = (ap (λ (s : LookUps). s.seats) c.leave.ensures.left);
-      mail = (ap (λ (s : LookUps). s.mail) c.leave.ensures.left);
+      last_is = c.leave-is_over.ensures.last;
+      members = (ap (λ (s : LookUps). s.members) c.leave-is_over.ensures.left);
+      given = (ap (λ (s : LookUps). s.given) c.leave-is_over.ensures.left);
+      seats = (ap (λ (s : LookUps). s.seats) c.leave-is_over.ensures.left);
+      mail = (ap (λ (s : LookUps). s.mail) c.leave-is_over.ensures.left);
     })
     c.args.self.now c.self.view_is
 
@@ -62,14 +62,14 @@ pub returns-clause-progress : goal.returns-clause-progress
 returns-clause-progress c =
     let owns = owned _ c.args.self.now c.args.rank c.args.ticket c.in_ok-request.request.now c.self.view_is c.in_ok-request.ensures.refused c.in_ok-request.ensures.named c.in_ok-request.ensures.found in
     let on = on_done c.self.inside.arena c.args.ticket (6 + 3 * c.in_ok-request.request.now.comm) c.if-not-is_on.ensures in
-    retires_alone _ c.give_up-bytes.new.arena c.leave.new.self c.args.ticket c.args.rank c.in_ok-request.request.now c.give_up-bytes.result.0 c.leave.result
+    retires_alone _ c.give_up-bytes.new.arena c.leave-is_over.new.self c.args.ticket c.args.rank c.in_ok-request.request.now c.give_up-bytes.result.0 c.leave-is_over.result
     c.key-key.result c.member-member.result c.retire_core.ensures c.self.invariant owns on
     c.give_up-bytes.ensures.bytes c.give_up-bytes.ensures.rests c.key-key.ensures c.member-member.ensures.member
     (record {
-      last_is = c.leave.ensures.last;
-      members = (ap (λ (s : LookUps). s.members) c.leave.ensures.left);
-      given = (ap (λ (s : LookUps). s.given) c.leave.ensures.left);
-      seats = (ap (λ (s : LookUps). s.seats) c.leave.ensures.left);
-      mail = (ap (λ (s : LookUps). s.mail) c.leave.ensures.left);
+      last_is = c.leave-is_over.ensures.last;
+      members = (ap (λ (s : LookUps). s.members) c.leave-is_over.ensures.left);
+      given = (ap (λ (s : LookUps). s.given) c.leave-is_over.ensures.left);
+      seats = (ap (λ (s : LookUps). s.seats) c.leave-is_over.ensures.left);
+      mail = (ap (λ (s : LookUps). s.mail) c.leave-is_over.ensures.left);
     })
     c.args.self.now c.self.view_is c.is_sound.ensures c.give_up-bytes.ensures.lists
