@@ -55,6 +55,10 @@ pub idle_if : {g : Setting} {config : Config} {p : Parts} {es : List Entry} {n :
 idle_if {g} {config} {p} {es} {n} o k same none =
     all_balanced (setting p) (seen p).state es (legal_there k) k.legal.leads (λ r lt. same none r (subst (λ (g : Setting). r < g.ranks) k.opened lt))
 
+pub balanced_if : {g : Setting} {config : Config} {p : Parts} {es : List Entry} {n : ℕ} (o : Option ℕ) → IsKept g config p es n
+    → (IsNone o → (r : ℕ) → r < config.ranks → IsBalanced r es) → IsNone o → (r : ℕ) → r < g.ranks → IsBalanced r es
+balanced_if o k all none r lt = all none r (subst (λ (g : Setting). r < g.ranks) (sym k.set) lt)
+
 pub busy_if : {g : Setting} {config : Config} {p : Parts} {es : List Entry} {n : ℕ} (o : Option ℕ) → IsKept g config p es n
     → IfSome o (λ rank. IsBalanced rank es → ⊥) → IfSome o (λ rank. (r : ℕ) → r < rank → IsBalanced r es) → IfSome o (IsFirstBusy (seen p).state)
 busy_if None k other first = tt

@@ -1,14 +1,17 @@
 -- What is noted for a port that waits, and what a wait may be given up for.
-use Rattle.std.specs.Prelude.{◌≡◌, ◌⊎◌, ℕ, List, Contains, filter_map, Option, None, Some, slice_set}
+use Rattle.std.specs.Prelude.{◌≡◌, ◌⊎◌, ℕ, List, Contains, filter_map, Option, None, Some, position, slice_get, slice_set, true}
+use Rattle.std.specs.List.{list_any}
 use Rattle.coll_kinds.specs.declared.refusal.Refusal.{Refusal}
 use Rattle.coll_kinds.specs.declared.refusal.Refusal.TheVariants.{NoMemory, Stale, Stalled}
 use Rattle.coll_kinds.specs.declared.ticket.Ticket.{Ticket}
 use Rattle.coll_machine.specs.Settings.{Setting}
 use Rattle.coll_machine.specs.States.{Machine}
 use Rattle.coll_core.specs.declared.phase.Phase.TheVariants.{Pending}
+use Rattle.coll_core.specs.Cores.{Parts}
 use Rattle.coll_core.specs.Phases.{phase_in}
-use Rattle.coll_traced.specs.Waits.{WaitFor, ForOne, ForAny}
-use Rattle.coll_traced.specs.Stalls.{WasStalled}
+use Rattle.coll_complete.specs.Requests.{is_active, is_done}
+use Rattle.coll_traced.specs.Waits.{WaitFor, Awake, ForOne, ForAny, Ended}
+use Rattle.coll_traced.specs.Stalls.{IsDone, WasStalled}
 use Rattle.coll_traced.specs.declared.awaited.Awaited.{Awaited}
 use Rattle.coll_traced.specs.declared.awaited.Awaited.TheVariants as awaited
 
@@ -54,3 +57,24 @@ pub record WaitsFor (m : Machine) (rank : ℕ) (wanted : Awaited) (old new : Lis
   pub wait : WaitFor
   pub is_for : IsWaitFor m rank wanted wait
   pub waits_are : new ≡ slice_set old rank wait
+
+-- of a list's requests some are active, and none is Done
+pub record IsUnfinished (m : Machine) (list : List (Option Ticket)) : Type 0 where
+  pub active : list_any (is_active m) list ≡ true
+  pub none_done : position (is_done m) list ≡ None
+
+-- the request that is waited for, where it is just one
+abbrev pub one_by : Option WaitFor → Option Ticket
+one_by None = None
+one_by (Some Awake) = None
+one_by (Some (ForOne rank t)) = Some t
+one_by (Some (ForAny rank ts)) = None
+one_by (Some Ended) = None
+
+-- the request that the rank's port waits for, where it is just one
+abbrev pub one_in : List WaitFor → ℕ → Option Ticket
+one_in waits rank = one_by (slice_get waits rank)
+
+-- where the rank's port waits for just one request, that can't be completed
+abbrev pub IsUnmet : Parts → List WaitFor → ℕ → Type 0
+IsUnmet p waits rank = (t : Ticket) → one_in waits rank ≡ Some t → IsDone p rank t → ⊥

@@ -1,7 +1,7 @@
-ghost use Rattle.std.specs.Prelude.{◌≡◌, [], ◌↔◌, ◌<◌, ◌≤◌, All, IfErr, IfOk, IsTrue, OnErr, OnOk, length, vec_capacity};
+ghost use Rattle.std.specs.Prelude.{◌≡◌, [], ◌↔◌, ◌<◌, ◌≤◌, All, IfErr, IfOk, IsTrue, OnErr, OnOk, Some, length, vec_capacity};
 ghost use Rattle.coll_traced.specs.Waits.{Awake, wait_in};
 ghost use Rattle.coll_traced.specs.Stalls.{IsDone, IsBlocked};
-ghost use Rattle.coll_traced.specs.Awaiting.{tickets_in};
+ghost use Rattle.coll_traced.specs.Awaiting.{one_by, tickets_in};
 
 use crate::waiting::Waiting;
 use coll_complete::Request;
@@ -103,7 +103,9 @@ impl PortWait {
     }
 
     /// The request that the port waits for, if it waits for just one.
-    pub(crate) fn one(&self) -> Option<Ticket> {
+    pub(crate) fn one(&self) -> Option<Ticket>
+        ensures { result ≡ one_by (Some (wait_in self.now)) }
+    {
         match self.how {
             Waiting::ForOne { ticket, .. } => Some(ticket),
             _ => None,

@@ -3,7 +3,7 @@
 ghost use Rattle.std.specs.Prelude.{◌≡◌, [], ◌↔◌, ◌<◌, All, IfErr, IfOk, IsTrue, OnErr, OnOk, length, replicate, slice_set};
 ghost use Rattle.coll_traced.specs.Waits.{Awake, ForAny, wait_in, wait_of};
 ghost use Rattle.coll_traced.specs.Stalls.{IsBlocked};
-ghost use Rattle.coll_traced.specs.Awaiting.{tickets_in};
+ghost use Rattle.coll_traced.specs.Awaiting.{one_in, tickets_in};
 
 use crate::port_wait::PortWait;
 use crate::ranks::Ranks;
@@ -111,7 +111,9 @@ impl Waits {
     }
 
     /// The request that a port waits for, if it waits for just one.
-    pub(crate) fn one_of(&self, rank: u8) -> Option<Ticket> {
+    pub(crate) fn one_of(&self, rank: u8) -> Option<Ticket>
+        ensures { result ≡ one_in self.now.waits rank }
+    {
         self.ports.get(usize::from(rank))?.one()
     }
 

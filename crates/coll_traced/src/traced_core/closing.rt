@@ -1,8 +1,8 @@
 //! Whether the engine can be closed, and what is taken out of it then.
 
-ghost use Rattle.std.specs.Prelude.{◌≡◌, IfSome, IsNone, length};
+ghost use Rattle.std.specs.Prelude.{◌≡◌, ◌<◌, ℕ, IfSome, IsNone, length};
 ghost use Rattle.coll_core.specs.Cores.{seen, setting};
-ghost use Rattle.coll_traced.specs.Closings.{IsFirstBusy, Objects, ends_of};
+ghost use Rattle.coll_traced.specs.Closings.{IsBalanced, IsFirstBusy, Objects, ends_of};
 ghost use Rattle.coll_report.specs.Told.{IsIdle};
 
 use crate::replacement::Replacement;
@@ -26,6 +26,7 @@ impl<L: Entries> TracedCore<L> {
     /// The lowest rank that has an active request, which the trace tells.
     fn first_busy(&self) -> Option<u8>
         ensures none { IsNone result → IsIdle (seen self.now.core).state }
+        ensures balanced { IsNone result → (r : ℕ) → r < L.setting.ranks → IsBalanced r self.now.entries }
         ensures some { IfSome result (IsFirstBusy (seen self.now.core).state) }
     {
         self.trace.first_unbalanced(self.config.ranks)
@@ -36,6 +37,7 @@ impl<L: Entries> TracedCore<L> {
     /// entries as its rank has.
     pub fn objection(&self, ends: &[Spent<L>]) -> Option<Refusal>
         ensures idle { IsNone result → IsIdle (seen self.now.core).state }
+        ensures balanced { IsNone result → (r : ℕ) → r < L.setting.ranks → IsBalanced r self.now.entries }
         ensures ends { IsNone result → ends.now ≡ ends_of (setting self.now.core).ranks self.now.entries }
         ensures refused { IfSome result (Objects self.now ends.now) }
         ensures setting { setting self.now.core ≡ L.setting }

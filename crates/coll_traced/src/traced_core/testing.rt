@@ -1,12 +1,12 @@
 //! The tests of requests with receipts, in words that outlast the hold of a lock. The state of each is that of `coll_complete`'s call.
 
-ghost use Rattle.std.specs.Prelude.{◌≡◌, ◌+◌, ◌≤◌, ◌∷◌, ◌++◌, [], IfOk, IfSome, None, OnErr, OnOk, drop, false, is_some, length, vec_capacity, vec_len};
+ghost use Rattle.std.specs.Prelude.{◌≡◌, ◌+◌, ◌≤◌, ◌∷◌, ◌++◌, [], IfOk, IfSome, None, OnErr, OnOk, drop, false, is_some, length, not, position, vec_capacity, vec_len};
 ghost use Rattle.std.specs.List.{list_any};
 ghost use Rattle.std.specs.Result.{result_err};
 ghost use Rattle.coll_core.specs.Cores.{seen, setting};
-ghost use Rattle.coll_complete.specs.Anys.{position_of};
+ghost use Rattle.coll_complete.specs.Anys.{is_undefined, position_of};
 ghost use Rattle.coll_complete.specs.Completing.{done_positions};
-ghost use Rattle.coll_complete.specs.Requests.{AreDistinct, is_active};
+ghost use Rattle.coll_complete.specs.Requests.{AreDistinct, is_active, is_done, is_pending, list_refusal, refusal_at};
 ghost use Rattle.coll_report.specs.Views.{trace_seen};
 ghost use Rattle.coll_traced.specs.Outcomes.{release};
 ghost use Rattle.coll_traced.specs.Tests.{RefusesFree, RefusesList, RefusesOne, TestsAll, TestsAny, TestsOne, TestsSome};
@@ -48,11 +48,14 @@ impl<L: Entries> TracedCore<L> {
     ) -> Result<(Tested, Receipts), Refusal>
         ensures setting { setting self.new.core ≡ setting self.old.core }
         ensures waits { (self.new.waits ≡ self.old.waits) × (self.new.stalled ≡ self.old.stalled) }
+        ensures flag { IfOk result (λ r. r.0.flag ≡ not (is_pending (seen self.old.core) request.old)) }
+        ensures outcome { IfOk result (λ r. is_some r.0.outcome ≡ is_done (seen self.old.core) request.old) }
         ensures appended { IfOk result (λ r. self.new.entries ≡ self.old.entries ++ r.1) }
         ensures told { IfOk result (λ r. TestsOne L.setting rank request.old request.new r.0.flag r.0.outcome r.1) }
         ensures counted { IfOk result (λ r. IfSome r.0.outcome (λ outcome. mine.new ≡ mine.old + 1)) }
         ensures none { IfOk result (λ r. r.0.outcome ≡ None → (self.new ≡ self.old) × (mine.new ≡ mine.old)) }
         ensures pending { IfOk result (λ r. r.0.flag ≡ false → (request.new ≡ request.old) × (mine.new ≡ mine.old)) }
+        ensures refusal { result_err result ≡ refusal_at (setting self.old.core) (seen self.old.core).state rank request.old }
         ensures refused { RefusesOne L.setting rank request.old (result_err result) }
         ensures err { OnErr result ((self.new ≡ self.old) × (request.new ≡ request.old) × (mine.new ≡ mine.old)) }
     {
@@ -78,10 +81,13 @@ impl<L: Entries> TracedCore<L> {
         requests: &mut [Request],
     ) -> Result<(Any, Receipts), Refusal>
         ensures waits { (self.new.waits ≡ self.old.waits) × (self.new.stalled ≡ self.old.stalled) }
+        ensures undefined { IfOk result (λ r. is_undefined r.0 ≡ not (list_any (is_active (seen self.old.core)) requests.old)) }
+        ensures lowest { IfOk result (λ r. position_of r.0 ≡ position (is_done (seen self.old.core)) requests.old) }
         ensures appended { IfOk result (λ r. self.new.entries ≡ self.old.entries ++ r.1) }
         ensures told { IfOk result (λ r. TestsAny L.setting rank requests.old requests.new r.0 r.1) }
         ensures counted { IfOk result (λ r. IfSome (position_of r.0) (λ at. mine.new ≡ mine.old + 1)) }
         ensures none { IfOk result (λ r. position_of r.0 ≡ None → (self.new ≡ self.old) × (mine.new ≡ mine.old)) }
+        ensures refusal { result_err result ≡ list_refusal (setting self.old.core) (seen self.old.core).state rank requests.old }
         ensures refused { RefusesList L.setting rank requests.old (result_err result) }
         ensures err { OnErr result ((self.new ≡ self.old) × (requests.new ≡ requests.old) × (mine.new ≡ mine.old)) }
     {
@@ -109,10 +115,12 @@ impl<L: Entries> TracedCore<L> {
         requires distinct { AreDistinct requests.old }
         requires room { vec_len out.old + length requests.old ≤ vec_capacity out.old }
         ensures waits { (self.new.waits ≡ self.old.waits) × (self.new.stalled ≡ self.old.stalled) }
+        ensures flag { IfOk result (λ r. r.0 ≡ not (list_any (is_pending (seen self.old.core)) requests.old)) }
         ensures appended { IfOk result (λ r. self.new.entries ≡ self.old.entries ++ r.1) }
         ensures told { IfOk result (λ r. TestsAll L.setting rank requests.old requests.new out.old.items out.new.items r.0 r.1) }
         ensures counted { IfOk result (λ r. mine.new + vec_len out.old ≡ mine.old + vec_len out.new) }
         ensures unfinished { IfOk result (λ r. r.0 ≡ false → (self.new ≡ self.old) × (requests.new ≡ requests.old) × (out.new ≡ out.old) × (mine.new ≡ mine.old)) }
+        ensures refusal { result_err result ≡ list_refusal (setting self.old.core) (seen self.old.core).state rank requests.old }
         ensures refused { RefusesList L.setting rank requests.old (result_err result) }
         ensures err { OnErr result ((self.new ≡ self.old) × (requests.new ≡ requests.old) × (out.new ≡ out.old) × (mine.new ≡ mine.old)) }
     {
@@ -146,6 +154,7 @@ impl<L: Entries> TracedCore<L> {
         ensures told { IfOk result (λ r. TestsSome L.setting rank requests.old requests.new out.old.items out.new.items r.0 r.1) }
         ensures counted { IfOk result (λ r. IfSome r.0 (λ n. mine.new ≡ mine.old + n)) }
         ensures inactive { IfOk result (λ r. r.0 ≡ None → (self.new ≡ self.old) × (mine.new ≡ mine.old)) }
+        ensures refusal { result_err result ≡ list_refusal (setting self.old.core) (seen self.old.core).state rank requests.old }
         ensures refused { RefusesList L.setting rank requests.old (result_err result) }
         ensures err { OnErr result ((self.new ≡ self.old) × (requests.new ≡ requests.old) × (out.new ≡ out.old) × (mine.new ≡ mine.old)) }
     {

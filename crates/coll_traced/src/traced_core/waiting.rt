@@ -1,11 +1,12 @@
 //! What a waiting port asks: whether what it awaits is the case, and else for what it is to wait.
 
 ghost use Rattle.std.specs.Prelude.{◌≡◌, ◌+◌, ◌<◌, ◌≤◌, ◌∷◌, ◌++◌, [], IfErr, IfOk, IfSome, IsNone, None, OnErr, Some, false, length, slice_set, true, vec_capacity, vec_len};
+ghost use Rattle.std.specs.Result.{result_err};
 ghost use Rattle.coll_core.specs.Cores.{seen, setting};
 ghost use Rattle.coll_core.specs.Phases.{phase_in};
 ghost use Rattle.coll_core.specs.declared.phase.Phase.TheVariants.{Pending};
-ghost use Rattle.coll_complete.specs.Requests.{AreDistinct};
-ghost use Rattle.coll_traced.specs.Awaiting.{IsListed, NeedsNoWait, WaitsFor};
+ghost use Rattle.coll_complete.specs.Requests.{AreDistinct, list_refusal};
+ghost use Rattle.coll_traced.specs.Awaiting.{IsListed, IsUnfinished, IsUnmet, NeedsNoWait, WaitsFor, one_in};
 ghost use Rattle.coll_traced.specs.Tests.{RefusesList, RefusesOne, TestsAll, TestsAny, TestsOne, TestsSome, any_of};
 ghost use Rattle.coll_traced.specs.Waits.{Awake, ForOne};
 
@@ -34,7 +35,9 @@ impl<L: Entries> TracedCore<L> {
         ensures some { IfOk result (λ found. IfSome found (λ r. IfSome r.0 (λ n. 0 < n))) }
         ensures counted { IfOk result (λ found. IfSome found (λ r. IfSome r.0 (λ n. mine.new ≡ mine.old + n))) }
         ensures inactive { IfOk result (λ found. IfSome found (λ r. r.0 ≡ None → mine.new ≡ mine.old)) }
-        ensures pending { IfOk result (λ found. IsNone found → (requests.new ≡ requests.old) × (out.new ≡ out.old) × (mine.new ≡ mine.old)) }
+        ensures unfinished { IfOk result (λ found. IsNone found → IsUnfinished (seen self.old.core) requests.old) }
+        ensures pending { IfOk result (λ found. IsNone found → (self.new ≡ self.old) × (requests.new ≡ requests.old) × (out.new ≡ out.old) × (mine.new ≡ mine.old)) }
+        ensures refusal { result_err result ≡ list_refusal (setting self.old.core) (seen self.old.core).state rank requests.old }
         ensures refused { IfErr result (λ why. RefusesList L.setting rank requests.old (Some why)) }
         ensures err { OnErr result ((requests.new ≡ requests.old) × (out.new ≡ out.old) × (mine.new ≡ mine.old)) }
     {
@@ -118,9 +121,11 @@ impl<L: Entries> TracedCore<L> {
     pub fn complete_for(&mut self, mine: &mut Tally<L>, rank: u8) -> Option<Completed<L>>
         ensures setting { setting self.new.core ≡ setting self.old.core }
         ensures rank { IfSome result (λ completed. completed.rank ≡ rank) }
+        ensures ticket { IfSome result (λ completed. one_in self.old.waits rank ≡ Some completed.ticket) }
         ensures entry { IfSome result (λ completed. self.new.entries ≡ self.old.entries ++ completed.entry ∷ []) }
         ensures awake { IfSome result (λ completed. self.new.waits ≡ slice_set self.old.waits rank Awake) }
         ensures counted { IfSome result (λ completed. mine.new ≡ mine.old + 1) }
+        ensures unmet { IsNone result → IsUnmet self.old.core self.old.waits rank }
         ensures none { IsNone result → (self.new ≡ self.old) × (mine.new ≡ mine.old) }
     {
         let ticket = self.waits.one_of(rank)?;
