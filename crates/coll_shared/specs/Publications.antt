@@ -1,8 +1,13 @@
 -- What a port publishes, and what the combiner makes of it.
-use Rattle.std.specs.Prelude.{◌≡◌, ◌<◌, ◌+◌, ◌++◌, ◌⊎◌, ℕ, List, [], ◌∷◌, Some, length, slice_get, slice_set}
+use Rattle.std.specs.Prelude.{◌≡◌, ◌<◌, ◌+◌, ◌++◌, ◌⊎◌, ℕ, List, [], ◌∷◌, None, Some, length, slice_get, slice_set}
 use Rattle.coll_kinds.specs.declared.ticket.Ticket.{Ticket}
+use Rattle.coll_machine.specs.Calls.{Retire}
 use Rattle.coll_machine.specs.Entries.{Entry}
+use Rattle.coll_machine.specs.Refusals.{refusal}
 use Rattle.coll_machine.specs.Settings.{Setting}
+use Rattle.coll_core.specs.declared.phase.Phase.TheVariants.{Pending}
+use Rattle.coll_core.specs.Cores.{Parts, seen, setting}
+use Rattle.coll_core.specs.Phases.{phase_in}
 use Rattle.coll_traced.specs.Calls.{IsPosted, IsStarted}
 use Rattle.coll_traced.specs.Operations.{IsMade, IsRefused}
 use Rattle.coll_traced.specs.Waits.{WaitFor, Awake, ForOne}
@@ -48,11 +53,15 @@ abbrev pub IsRegistered : {L : Type 0} → ℕ → Content L → List WaitFor �
 IsRegistered rank (content.Wait t) old new = new ≡ slice_set old rank (ForOne rank t)
 IsRegistered rank other old new = ⊥
 
--- the port still waits for its request
-abbrev pub IsWait : {L : Type 0} → Content L → Type 0
-IsWait (content.Wait t) = Unit {0}
-IsWait other = ⊥
+-- the ticket names a request of the rank that isn't finished
+abbrev pub IsPending : Parts → ℕ → Ticket → Type 0
+IsPending p rank t = (refusal (setting p) (seen p).state (Retire rank t) ≡ None) × (phase_in (seen p) t ≡ Some Pending)
 
--- a record without an answer changes no wait, or just registers one for its port
-abbrev pub IsUnanswered : ℕ → List WaitFor → List WaitFor → Type 0
-IsUnanswered rank old new = (new ≡ old) ⊎ ((t : Ticket) × (new ≡ slice_set old rank (ForOne rank t)))
+-- the port still waits for its request, since that isn't finished
+abbrev pub IsWait : {L : Type 0} → Parts → ℕ → Content L → Type 0
+IsWait p rank (content.Wait t) = IsPending p rank t
+IsWait p rank other = ⊥
+
+-- a record without an answer changes no wait, or just registers its port's for a request that isn't finished
+abbrev pub IsUnanswered : Parts → ℕ → List WaitFor → List WaitFor → Type 0
+IsUnanswered p rank old new = (new ≡ old) ⊎ ((t : Ticket) × (new ≡ slice_set old rank (ForOne rank t)) × IsPending p rank t)

@@ -1,16 +1,15 @@
-ghost use Rattle.std.specs.Prelude.{◌≡◌, ◌<◌, length, sum_by, vec_len, IfErr, IfOk};
-ghost use Rattle.coll_traced.specs.Closings.{IsObjected, ends_of};
+ghost use Rattle.std.specs.Prelude.{◌≡◌, ◌<◌, ℕ, length, sum_by, vec_len, IfErr, IfOk};
+ghost use Rattle.coll_traced.specs.Closings.{IsBalanced, IsObjected, ends_of};
 
-use crate::combiner::Combiner;
 use crate::engine::Engine;
 use coll_kinds::{Refusal, Refused};
 use coll_report::Report;
-use coll_traced::{Entries, Replacement, Spent};
+use coll_traced::{Entries, Spent};
 use std::sync::Wait;
 use std::sync::ledger::Share;
 
 /// Closes an engine, whose ports have ended: the report of all that it accepted. Idle requests may remain. `spents` are the ends of the
-/// ports, in the order of their ranks.
+/// ports, in the order of their ranks. All of it is done under one hold of the lock: what was tested is what is taken.
 ///
 /// # Errors
 ///
@@ -23,6 +22,7 @@ pub fn close<L: Entries, R: Wait>(
 ) -> Result<Report, Refused<(Engine<L>, Vec<Spent<L>>)>>
     requires { L.parts ≡ L.setting.ranks }
     ensures all { IfOk result (λ report. report.setting ≡ L.setting) }
+    ensures idle { IfOk result (λ report. (r : ℕ) → r < L.setting.ranks → IsBalanced r report.entries) }
     ensures each { IfOk result (λ report. spents.items ≡ ends_of L.setting.ranks report.entries) }
     ensures total { IfOk result (λ report. sum_by (λ spent. spent.1) spents.items ≡ length report.entries) }
     ensures back { IfErr result (λ refused. refused.back.1 ≡ spents) }
@@ -32,47 +32,16 @@ pub fn close<L: Entries, R: Wait>(
         combiner,
         replacement,
     } = engine;
-    match settle(rt, &*combiner, replacement, spents) {
-        Ok(report) => Ok(report),
-        Err(refused) => {
-            let Refused {
-                why,
-                back: (replacement, spents),
-            } = refused;
-            let engine = Engine {
-                combiner,
-                replacement,
-            };
-            Err(Refused {
-                why,
-                back: (engine, spents),
-            })
-        }
-    }
-}
-
-/// All of it under one hold of the lock: what was tested is what is taken.
-fn settle<L: Entries, R: Wait>(
-    rt: &R,
-    combiner: &Combiner<L>,
-    replacement: Replacement,
-    spents: Vec<Spent<L>>,
-) -> Result<Report, Refused<(Replacement, Vec<Spent<L>>)>>
-    requires parts { L.parts ≡ L.setting.ranks }
-    requires setting { replacement ≡ L.setting }
-    requires ranks { 0 < L.setting.ranks }
-    ensures all { IfOk result (λ report. report.setting ≡ L.setting) }
-    ensures each { IfOk result (λ report. spents.items ≡ ends_of L.setting.ranks report.entries) }
-    ensures total { IfOk result (λ report. sum_by (λ spent. spent.1) spents.items ≡ length report.entries) }
-    ensures back { IfErr result (λ refused. (refused.back.0 ≡ replacement) × (refused.back.1 ≡ spents)) }
-    ensures refused { IfErr result (λ refused. IsObjected L.setting spents.items refused.why) }
-{
     let mut held = combiner.enter(rt);
     if let Some(why) = held.locked.traced.objection(&spents) {
         combiner.release(held);
+        let engine = Engine {
+            combiner,
+            replacement,
+        };
         return Err(Refused {
             why,
-            back: (replacement, spents),
+            back: (engine, spents),
         });
     }
     let mut all = merged(spents);
@@ -82,12 +51,11 @@ fn settle<L: Entries, R: Wait>(
 }
 
 /// The shares of all ports as one.
-fn merged<L: Entries>(spents: Vec<Spent<L>>) -> Share<L>
+fn merged<L: Entries>(mut spents: Vec<Spent<L>>) -> Share<L>
     requires { 0 < vec_len spents }
     ensures parts { result.parts ≡ vec_len spents }
     ensures amount { result.amount ≡ sum_by (λ spent. spent.1) spents.items }
 {
-    let mut spents = spents;
     let Some(last) = spents.pop() else {
         unreachable!()
     };

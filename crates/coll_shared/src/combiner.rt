@@ -72,24 +72,17 @@ impl<L: Entries> Combiner<L> {
         Some(&**record)
     }
 
-    /// Takes the lock, unless a thread has it. For code that isn't allowed to wait: the lock is given up again by `release`, which
-    /// doesn't wait either.
-    fn try_hold(&self) -> Option<Held<'_, L>> {
+    /// Takes the lock, unless a thread has it. Neither this nor `release` waits.
+    pub(crate) fn try_enter(&self) -> Option<Held<'_, L>> {
         Some(Held::new(self.locked.try_lock()?))
     }
 
-    /// Takes the lock, unless a thread has it.
-    pub(crate) fn try_enter<R: Wait>(&self, _rt: &R) -> Option<Held<'_, L>> {
-        self.try_hold()
-    }
-
     /// Takes the lock for a call of the rank's port that leads, unless a thread has it.
-    pub(crate) fn try_lead<R: Wait>(&self, rt: &R, rank: u8) -> Option<Held<'_, L>> {
-        if self.record(rank)?.leads() {
-            self.try_enter(rt)
-        } else {
-            None
+    pub(crate) fn try_lead(&self, rank: u8) -> Option<Held<'_, L>> {
+        if !self.record(rank)?.leads() {
+            return None;
         }
+        self.try_enter()
     }
 
     /// The port of the rank has served its call itself.
@@ -101,7 +94,7 @@ impl<L: Entries> Combiner<L> {
 
     /// Takes the lock.
     pub(crate) fn enter<R: Wait>(&self, rt: &R) -> Held<'_, L> {
-        if let Some(held) = self.try_hold() {
+        if let Some(held) = self.try_enter() {
             return held;
         }
         self.wanted.fetch_add(1, Ordering::SeqCst);
@@ -112,7 +105,7 @@ impl<L: Entries> Combiner<L> {
 
     fn await_lock<R: Wait>(&self, rt: &R) -> Held<'_, L> {
         for look in 0..LOOKS {
-            if let Some(held) = self.try_hold() {
+            if let Some(held) = self.try_enter() {
                 return held;
             }
             pause(look);
@@ -123,11 +116,6 @@ impl<L: Entries> Combiner<L> {
     /// Whether a thread asks for the lock.
     pub(crate) fn is_wanted(&self) -> bool {
         self.wanted.load(Ordering::SeqCst) != 0
-    }
-
-    /// Whether something was published that nobody has served yet.
-    fn is_published(&self) -> bool {
-        self.records.iter().any(|record| record.is_published())
     }
 
     /// How many ports published something that nobody has served yet.
@@ -162,7 +150,7 @@ impl<L: Entries> Combiner<L> {
     pub(crate) fn depart(&self, rank: u8) {
         self.departed
             .fetch_or(Ranks::NONE.with(rank).bits(), Ordering::SeqCst);
-        if let Some(held) = self.try_hold() {
+        if let Some(held) = self.try_enter() {
             self.release(held);
         }
     }
@@ -193,42 +181,32 @@ impl<L: Entries> Combiner<L> {
         }
     }
 
-    /// Answers the registered ports that wait for what is finished now.
-    fn settle(&self, held: &mut Held<'_, L>) {
-        if !held.locked.finished {
-            return;
-        }
-        held.locked.finished = false;
-        let met = held.locked.traced.met();
-        if met.is_empty() {
+    /// Answers these ranks, whose ports are registered.
+    fn answer(&self, held: &mut Held<'_, L>, ranks: Ranks) {
+        if ranks.is_empty() {
             return;
         }
         for (rank, record) in (0..=u8::MAX).zip(self.records.iter()) {
-            if met.has(rank) && record.settle(&mut held.locked.traced, rank) {
+            if ranks.has(rank) && record.answer(&mut held.locked.traced, rank) {
                 held.answered(rank);
             }
         }
     }
 
-    /// Answers a registered port that it is to look itself.
-    fn answer_look(&self, held: &mut Held<'_, L>, rank: u8) {
-        if let Some(record) = self.record(rank) {
-            if record.answer_look(&mut held.locked.traced, rank) {
-                held.answered(rank);
-            }
+    /// Answers the registered ports that wait for what is finished now.
+    fn settle(&self, held: &mut Held<'_, L>) {
+        if held.locked.finished {
+            held.locked.finished = false;
+            let met = held.locked.traced.met();
+            self.answer(held, met);
         }
     }
 
     /// Tells all that wait, where nothing can go on.
     fn tell_stall(&self, held: &mut Held<'_, L>) {
-        if !held.locked.traced.tell_stall() {
-            return;
-        }
-        let waiting = held.locked.traced.waiting();
-        for rank in 0..64u8 {
-            if waiting.has(rank) {
-                self.answer_look(held, rank);
-            }
+        if held.locked.traced.tell_stall() {
+            let waiting = held.locked.traced.waiting();
+            self.answer(held, waiting);
         }
     }
 
@@ -242,30 +220,28 @@ impl<L: Entries> Combiner<L> {
 
     /// The only way to give the lock up. It takes the lock again, without waiting, for what was published meanwhile, a few times; for
     /// ports that were dropped, of which there are few, each time.
-    pub(crate) fn release<'a>(&'a self, held: Held<'a, L>) {
-        let mut held = held;
+    pub(crate) fn release<'a>(&'a self, mut held: Held<'a, L>) {
         for round in 1..u32::MAX {
             self.let_go(held);
-            let is_asked = round < ROUNDS && self.is_published();
+            let is_asked = round < ROUNDS && self.published() > 0;
             if !is_asked && !self.has_departed() {
                 return;
             }
-            match self.try_hold() {
-                Some(again) => held = again,
-                None => return,
-            }
+            let Some(again) = self.try_enter() else {
+                return;
+            };
+            held = again;
         }
         self.let_go(held);
     }
 
     /// Does what is to be done for all, unlocks, and wakes the ports that were answered and the thread that goes on.
-    fn let_go(&self, held: Held<'_, L>) {
-        let mut held = held;
+    fn let_go(&self, mut held: Held<'_, L>) {
         self.combine(&mut held);
         self.tell_stall(&mut held);
         let next = held.locked.successor();
         if let Successor::Port(rank) = next {
-            self.answer_look(&mut held, rank);
+            self.answer(&mut held, Ranks::NONE.with(rank));
         }
         let wake = held.unlock();
         self.wake(wake);

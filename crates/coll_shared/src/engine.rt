@@ -55,37 +55,32 @@ impl<L: Entries> Engine<L> {
     pub fn work<R: Wait, G: Gate>(&self, rt: &R, gate: &G) -> Result<u64, Refusal>
         ensures refused { IfErr result IsSetback }
     {
-        let combiner: &Combiner<L> = &*self.combiner;
-        combiner.work(rt, gate)
+        self.combiner.work(rt, gate)
     }
 
     /// Lets progress threads end.
     pub fn stop<R: Wait>(&self, rt: &R) {
-        let combiner: &Combiner<L> = &*self.combiner;
-        let mut held = combiner.enter(rt);
+        let mut held = self.combiner.enter(rt);
         held.locked.stopped = true;
-        combiner.release(held);
-        combiner.idlers.notify_all();
+        self.combiner.release(held);
+        self.combiner.idlers.notify_all();
     }
 
     /// How many threads sleep in the engine: waiting ports and progress threads. It is read without the lock.
     pub fn sleepers(&self) -> u64 {
-        let combiner: &Combiner<L> = &*self.combiner;
-        combiner.sleepers()
+        self.combiner.sleepers()
     }
 
     /// How many ports have published a post, a start or a wait that no thread has served yet. It is read without the lock.
     pub fn published(&self) -> u64 {
-        let combiner: &Combiner<L> = &*self.combiner;
-        combiner.published()
+        self.combiner.published()
     }
 
     /// Looks at what lies under the lock, for tests and tools.
     pub fn inspect<R: Wait, I: Inspect<L>>(&self, rt: &R, inspector: &mut I) {
-        let combiner: &Combiner<L> = &*self.combiner;
-        let held = combiner.enter(rt);
+        let held = self.combiner.enter(rt);
         inspector.inspect(&held.locked.traced);
-        combiner.release(held);
+        self.combiner.release(held);
     }
 }
 
@@ -129,7 +124,7 @@ fn ports_of<L: Entries>(
     combiner: &Arc<Combiner<L>>,
     groups: &[Vec<u8>],
     ranks: u8,
-    shares: Share<L>,
+    mut shares: Share<L>,
 ) -> Result<Vec<Port<L>>, Refusal>
     requires shares { (shares.parts ≡ ranks) × (shares.amount ≡ 0) }
     requires ranks { ranks ≡ L.setting.ranks }
@@ -137,10 +132,9 @@ fn ports_of<L: Entries>(
     ensures ports { IfOk result (λ ports. ports.items ≡ map (opened (groups_seen groups.now)) (range_with_len 0 ranks)) }
     ensures refused { IfErr result (λ why. why ≡ Refusal.NoMemory) }
 {
-    let mut rest = shares;
     let mut ports = Vec::with_capacity(alloc, ranks as usize)?;
     for rank in 0..ranks {
-        let tally = Tally::new(rest.split_off(1, 0));
+        let tally = Tally::new(shares.split_off(1, 0));
         let own = Arc::try_clone(combiner)?;
         let copy = copied_groups(alloc, groups)?;
         ports.push_reserved(Port::new(alloc, own, rank, copy, tally));

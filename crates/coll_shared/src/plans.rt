@@ -51,10 +51,7 @@ impl Plans {
         if let Some(known) = self.known(sig, n, member) {
             return known.share();
         }
-        let made = match plan(self.alloc, *sig, n, member) {
-            Ok(made) => made,
-            Err(why) => return Err(why),
-        };
+        let made = plan(self.alloc, *sig, n, member)?;
         self.add(&made);
         Ok(made)
     }

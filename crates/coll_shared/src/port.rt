@@ -100,10 +100,7 @@ impl<L: Entries> Port<L> {
             (IsOkUnless result Refusal.NoMemory)
             (λ cause. IsErrOf result (Refusal.BadSignature cause))) }
     {
-        let (n, member) = match seat(&self.groups, comm, self.rank) {
-            Ok(seat) => seat,
-            Err(why) => return Err(why),
-        };
+        let (n, member) = seat(&self.groups, comm, self.rank)?;
         self.plans.ready(sig, n, member)
     }
 
@@ -120,7 +117,6 @@ impl<L: Entries> Port<L> {
             tally,
         } = self;
         let Some(tally) = tally else { unreachable!() };
-        let combiner: &Combiner<L> = &*combiner;
         let mut held = combiner.enter(rt);
         held.locked.traced.end(rank);
         combiner.release(held);
@@ -139,7 +135,6 @@ impl<L: Entries> Drop for Port<L> {
             plans: _plans,
             tally: _tally,
         } = self;
-        let combiner: &Combiner<L> = &*combiner;
         combiner.depart(rank);
     }
 }

@@ -51,17 +51,16 @@ pub(crate) enum Expected<'a> {
 }
 
 impl Expected<'_> {
-    /// The request of this post or start by the rank, where the entry is of just that.
-    fn request_in(&self, entry: &Entry, rank: u8) -> Option<Ticket>
-        ensures { IfSome result (λ ticket. IsExpected rank self.now ticket (seen entry.now)) }
+    /// Whether the entry is of just this post or start by the rank, and of the request.
+    fn is_made(&self, rank: u8, request: Ticket, entry: &Entry) -> bool
+        ensures { IsTrue result → IsExpected rank self.now request (seen entry.now) }
     {
         match self {
-            Expected::Post { comm, sig, bytes } => posted_in(entry, rank, *comm, *sig, *bytes),
+            Expected::Post { comm, sig, bytes } => {
+                posted_in(entry, rank, *comm, *sig, *bytes) == Some(request)
+            }
             Expected::Start { ticket, bytes } => {
-                if started_in(entry, rank, *ticket, *bytes) {
-                    return Some(*ticket);
-                }
-                None
+                request == *ticket && started_in(entry, rank, request, *bytes)
             }
         }
     }
@@ -81,6 +80,7 @@ impl<L: Entries> Publication<L> {
         ensures served { IsServed L.setting rank self.content self.tally traced.old.entries result.0.content result.0.tally traced.new.entries }
         ensures awake { OnTrue result.1 (IsAwake rank traced.new.waits) }
         ensures registered { OnFalse result.1 (IsRegistered rank self.content traced.old.waits traced.new.waits) }
+        ensures pending { OnFalse result.1 (IsWait traced.new.core rank self.content) }
     {
         let Publication { content, mut tally } = self;
         let content = match content {
@@ -92,39 +92,35 @@ impl<L: Entries> Publication<L> {
             }
             Content::Wait(ticket) => {
                 let request = Request::of(ticket);
-                match traced.register(rank, Awaited::One(&request)) {
-                    Ok(_) => Content::Wait(ticket),
-                    Err(_) => Content::Look,
+                let content = Content::Wait(ticket);
+                if let Ok(true) = traced.register(rank, Awaited::One(&request)) {
+                    if let Ok(Phase::Pending) = Requests::phase(traced, rank, ticket) {
+                        return (Publication { content, tally }, false);
+                    }
                 }
+                content
             }
             content => content,
         };
-        Publication { content, tally }.settled(traced, rank)
+        (Publication { content, tally }.answered(traced, rank), true)
     }
 
-    /// Completes the request that its registered port waits for, where that is Done. Returns whether an answer is in it; then the port
-    /// is awake.
-    pub(crate) fn settled(self, traced: &mut TracedCore<L>, rank: u8) -> (Publication<L>, bool)
-        ensures settled { IsSettled rank self.content self.tally traced.old.entries result.0.content result.0.tally traced.new.entries }
-        ensures awake { OnTrue result.1 (IsAwake rank traced.new.waits) }
-        ensures pending { OnFalse result.1 (IsWait self.content × (traced.new.waits ≡ traced.old.waits)) }
+    /// Answers a registered port, which is awake then: it completes the request that the port waits for, where that is Done; else the
+    /// port is to look itself.
+    pub(crate) fn answered(self, traced: &mut TracedCore<L>, rank: u8) -> Publication<L>
+        ensures settled { IsSettled rank self.content self.tally traced.old.entries result.content result.tally traced.new.entries }
+        ensures awake { IsAwake rank traced.new.waits }
     {
         let Publication { content, mut tally } = self;
         let content = match content {
-            Content::Wait(ticket) => {
-                if let Ok(Phase::Pending) = Requests::phase(traced, rank, ticket) {
-                    let content = Content::Wait(ticket);
-                    return (Publication { content, tally }, false);
-                }
-                match traced.complete_for(&mut tally, rank) {
-                    Some(completed) => Content::Completed(completed),
-                    None => Content::Look,
-                }
-            }
+            Content::Wait(_ticket) => match traced.complete_for(&mut tally, rank) {
+                Some(completed) => Content::Completed(completed),
+                None => Content::Look,
+            },
             content => content,
         };
         traced.wake(rank);
-        (Publication { content, tally }, true)
+        Publication { content, tally }
     }
 
     /// The answer to a post or start that a port published which had made `before` entries: its tally, with the request and what
@@ -142,10 +138,8 @@ impl<L: Entries> Publication<L> {
         let Publication { content, tally } = self;
         match content {
             Content::Made(ticket, appended) => {
-                if is_one_more(&tally, before) {
-                    if let Some(request) = expected.request_in(appended.entry(), rank) {
-                        return Ok((tally, Some((request, Receipt::of(&appended)))));
-                    }
+                if is_one_more(&tally, before) && expected.is_made(rank, ticket, appended.entry()) {
+                    return Ok((tally, Some((ticket, Receipt::of(&appended)))));
                 }
                 let content = Content::Made(ticket, appended);
                 Err(Publication { content, tally })

@@ -58,9 +58,8 @@ impl<L: Entries> Combiner<L> {
     }
 
     /// Takes the lock for a post of a port that leads, unless a thread has it. What the post keeps is made before that.
-    fn lead_post<R: Wait>(
+    fn lead_post(
         &self,
-        rt: &R,
         alloc: Global,
         rank: u8,
         offer: &Offer,
@@ -72,7 +71,7 @@ impl<L: Entries> Combiner<L> {
             return None;
         }
         let prepared = Prepared::of(alloc, offer);
-        let held = self.try_enter(rt)?;
+        let held = self.try_enter()?;
         Some((held, prepared))
     }
 
@@ -84,7 +83,7 @@ impl<L: Entries> Combiner<L> {
         rank: u8,
         comm: u32,
         offer: Offer,
-        tally: Tally<L>,
+        mut tally: Tally<L>,
     ) -> (Tally<L>, Result<(Ticket, Receipt), Refused<Offer>>)
         ensures counted { OnOk result.1 (result.0 ≡ tally + 1) }
         ensures posted { IfOk result.1 (λ made. IsPosted rank (Some made.0) comm offer.plan.sig offer.bytes.items made.1) }
@@ -92,8 +91,7 @@ impl<L: Entries> Combiner<L> {
         ensures refused { IfErr result.1 (λ refused. IsDenied L.setting (post_of rank comm offer) refused.why) }
         ensures back { IfErr result.1 (λ refused. refused.back ≡ offer) }
     {
-        let mut tally = tally;
-        let (mut held, prepared) = match self.lead_post(rt, alloc, rank, &offer) {
+        let (mut held, prepared) = match self.lead_post(alloc, rank, &offer) {
             Some(lead) => lead,
             None => {
                 let operation = Operation::post(alloc, comm, &offer);
@@ -129,7 +127,7 @@ impl<L: Entries> Combiner<L> {
         rank: u8,
         ticket: Ticket,
         bytes: Vec<u8>,
-        tally: Tally<L>,
+        mut tally: Tally<L>,
     ) -> (Tally<L>, Result<Receipt, Refused<Vec<u8>>>)
         ensures counted { OnOk result.1 (result.0 ≡ tally + 1) }
         ensures started { IfOk result.1 (λ receipt. IsStarted rank (Some ticket) bytes.items receipt) }
@@ -137,8 +135,7 @@ impl<L: Entries> Combiner<L> {
         ensures refused { IfErr result.1 (λ refused. IsDenied L.setting (Start rank ticket bytes.items) refused.why) }
         ensures back { IfErr result.1 (λ refused. refused.back ≡ bytes) }
     {
-        let mut tally = tally;
-        let mut held = match self.try_lead(rt, rank) {
+        let mut held = match self.try_lead(rank) {
             Some(held) => held,
             None => {
                 let operation = Operation::start(alloc, ticket, &bytes);

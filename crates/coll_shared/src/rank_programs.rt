@@ -43,8 +43,11 @@ struct Running<'x, L: Entries, R, P> {
 impl<L: Entries, R: Wait, T: Drop, P: RankProgram<T> + Drop> RankTask<RankEnd<L, T>>
     for Running<'_, L, R, P> {
     fn run(self, all_started: bool) -> RankEnd<L, T> {
-        let Running { rt, port, program } = self;
-        let mut port = port;
+        let Running {
+            rt,
+            mut port,
+            program,
+        } = self;
         let value = if all_started {
             Some(program.run(rt, &mut port))
         } else {
@@ -108,23 +111,12 @@ fn run_in<
     ensures { IfOk result (λ r. r.1.setting ≡ setting_by config) }
 {
     let (engine, ports) = open::<L>(alloc, config, entries)?;
-    let tasks = tasks_of(rt, alloc, ports, programs)?;
-    let ends = run_rank_threads(rt, alloc, gate, &engine, tasks, workers)?.into_ranks()?;
-    concluded(rt, alloc, engine, ends)
-}
-
-/// Each program with its port.
-fn tasks_of<'x, L: Entries, R, P: Drop>(
-    rt: &'x R,
-    alloc: Global,
-    ports: Vec<Port<L>>,
-    programs: Vec<P>,
-) -> Result<Vec<Running<'x, L, R, P>>, Refusal> {
     let mut tasks = Vec::with_capacity(alloc, ports.len())?;
     for (port, program) in ports.into_iter().zip(programs) {
         tasks.push(Running { rt, port, program })?;
     }
-    Ok(tasks)
+    let ends = run_rank_threads(rt, alloc, gate, &engine, tasks, workers)?.into_ranks()?;
+    concluded(rt, alloc, engine, ends)
 }
 
 /// Closes the engine with the ends of its ports.

@@ -92,13 +92,12 @@ fn start_ranks<
     rt: &'s R,
     scope: &Scope<'s, E>,
     start: &'s Start,
-    tasks: Vec<K>,
+    mut tasks: Vec<K>,
     threads: &mut Vec<JoinHandle<T>>,
 ) -> bool
     requires room { vec_len threads.old + vec_len tasks ≤ vec_capacity threads.old }
     ensures few { vec_len threads.new ≤ vec_len threads.old + vec_len tasks }
 {
-    let mut tasks = tasks;
     while let Some(task) = tasks.pop() {
         match scope.spawn(move || run_rank(rt, start, task)) {
             Ok(thread) => threads.push_reserved(thread),
@@ -151,10 +150,9 @@ fn run_worker<L: Entries, R: Wait, G: Gate>(
 }
 
 /// Waits for the threads, the last one first.
-fn join_all<T: Drop, R: Threads>(rt: &R, threads: Vec<JoinHandle<T>>, ends: &mut Vec<T>)
+fn join_all<T: Drop, R: Threads>(rt: &R, mut threads: Vec<JoinHandle<T>>, ends: &mut Vec<T>)
     requires room { vec_len ends.old + vec_len threads ≤ vec_capacity ends.old }
 {
-    let mut threads = threads;
     while let Some(thread) = threads.pop() {
         ends.push_reserved(thread.join(rt));
     }

@@ -1,6 +1,6 @@
 //! A port's publication record.
 
-ghost use Rattle.std.specs.Prelude.{◌≡◌, ◌+◌, IfNone, IfSome};
+ghost use Rattle.std.specs.Prelude.{◌≡◌, ◌+◌, IfNone, IfSome, Ok};
 ghost use Rattle.std.specs.Bool.{OnFalse, OnTrue};
 ghost use Rattle.coll_shared.specs.Publications.{IsAwake, IsExpected, IsUnanswered};
 
@@ -8,7 +8,7 @@ use crate::publication::{Content, Expected, Publication};
 use coll_kinds::Ticket;
 use coll_traced::{Completed, Entries, Receipt, Tally, TracedCore};
 use std::sync::atomic::{AtomicBool, AtomicU64, Ordering};
-use std::sync::{Mutex, Wait};
+use std::sync::{Mutex, MutexGuard, Wait};
 
 const EMPTY: u64 = 0;
 
@@ -69,7 +69,7 @@ impl<L: Entries> PublicationRecord<L> {
     /// The combiner does what was published here, or registers the port. Returns whether there is an answer now; then the port is awake.
     pub(crate) fn serve(&self, traced: &mut TracedCore<L>, rank: u8) -> bool
         ensures awake { OnTrue result (IsAwake rank traced.new.waits) }
-        ensures pending { OnFalse result (IsUnanswered rank traced.old.waits traced.new.waits) }
+        ensures pending { OnFalse result (IsUnanswered traced.new.core rank traced.old.waits traced.new.waits) }
     {
         let Some(mut slot) = self.slot.try_lock() else {
             return false;
@@ -85,9 +85,9 @@ impl<L: Entries> PublicationRecord<L> {
         is_over
     }
 
-    /// The combiner answers a registered port whose wait is over: with the request's completion where it waits for just one. Returns
-    /// whether there is an answer now; then the port is awake.
-    pub(crate) fn settle(&self, traced: &mut TracedCore<L>, rank: u8) -> bool
+    /// The combiner answers a registered port: with the completion where it waits for just one request and that is Done, else that it is
+    /// to look itself. Returns whether there is an answer now; then the port is awake.
+    pub(crate) fn answer(&self, traced: &mut TracedCore<L>, rank: u8) -> bool
         ensures awake { OnTrue result (IsAwake rank traced.new.waits) }
         ensures pending { OnFalse result (traced.new.waits ≡ traced.old.waits) }
     {
@@ -95,29 +95,7 @@ impl<L: Entries> PublicationRecord<L> {
             return false;
         };
         if let Some(publication) = slot.take() {
-            let (publication, _is_over) = publication.settled(traced, rank);
-            *slot = Some(publication);
-        }
-        drop(slot);
-        traced.wake(rank);
-        self.word.store(ANSWERED, Ordering::SeqCst);
-        true
-    }
-
-    /// The combiner answers a registered port that it is to look itself. Returns as `settle` does.
-    pub(crate) fn answer_look(&self, traced: &mut TracedCore<L>, rank: u8) -> bool
-        ensures awake { OnTrue result (IsAwake rank traced.new.waits) }
-        ensures pending { OnFalse result (traced.new.waits ≡ traced.old.waits) }
-    {
-        let Some(mut slot) = self.slot.try_lock() else {
-            return false;
-        };
-        if let Some(publication) = slot.take() {
-            let Publication { content: _, tally } = publication;
-            *slot = Some(Publication {
-                content: Content::Look,
-                tally,
-            });
+            *slot = Some(publication.answered(traced, rank));
         }
         drop(slot);
         traced.wake(rank);
@@ -141,17 +119,8 @@ impl<L: Entries> PublicationRecord<L> {
             return None;
         }
         let mut slot = self.slot.lock(rt);
-        match slot.take()?.made(rank, expected, before) {
-            Ok(answer) => {
-                drop(slot);
-                self.word.store(EMPTY, Ordering::SeqCst);
-                Some(answer)
-            }
-            Err(other) => {
-                *slot = Some(other);
-                None
-            }
-        }
+        let found = slot.take()?.made(rank, expected, before);
+        self.concluded(slot, found)
     }
 
     /// The same of a wait for one request.
@@ -170,17 +139,8 @@ impl<L: Entries> PublicationRecord<L> {
             return None;
         }
         let mut slot = self.slot.lock(rt);
-        match slot.take()?.completed(rank, request, before) {
-            Ok(answer) => {
-                drop(slot);
-                self.word.store(EMPTY, Ordering::SeqCst);
-                Some(answer)
-            }
-            Err(other) => {
-                *slot = Some(other);
-                None
-            }
-        }
+        let found = slot.take()?.completed(rank, request, before);
+        self.concluded(slot, found)
     }
 
     /// The port gives its wait up, and takes its tally back.
@@ -188,11 +148,23 @@ impl<L: Entries> PublicationRecord<L> {
         ensures { IfSome result (λ tally. tally ≡ before) }
     {
         let mut slot = self.slot.try_lock()?;
-        match slot.take()?.taken_back(before) {
-            Ok(tally) => {
+        let found = slot.take()?.taken_back(before);
+        self.concluded(slot, found)
+    }
+
+    /// The port has found what it wants in what it took out of the slot, or puts that back.
+    fn concluded<T>(
+        &self,
+        mut slot: MutexGuard<'_, Option<Publication<L>>>,
+        found: Result<T, Publication<L>>,
+    ) -> Option<T>
+        ensures { IfSome result (λ wanted. found ≡ Ok wanted) }
+    {
+        match found {
+            Ok(wanted) => {
                 drop(slot);
                 self.word.store(EMPTY, Ordering::SeqCst);
-                Some(tally)
+                Some(wanted)
             }
             Err(other) => {
                 *slot = Some(other);

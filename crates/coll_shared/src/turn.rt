@@ -36,7 +36,7 @@ enum Next {
 }
 
 /// What a waiting port did in its turn.
-#[derive(Clone, Copy)]
+#[derive(Clone, Copy, Default)]
 struct Effort {
     steps: u32,
     combinations: u32,
@@ -62,16 +62,15 @@ impl<L: Entries> Combiner<L> {
         &'a self,
         rt: &R,
         gate: &G,
-        held: Held<'a, L>,
+        mut held: Held<'a, L>,
         rank: u8,
         record: &PublicationRecord<L>,
         may_park: bool,
     ) -> Result<Turn, Refusal>
         ensures { IfErr result (IsHindrance L.setting) }
     {
-        let mut held = held;
         let mut written = None;
-        let mut effort = Effort::none();
+        let mut effort = Effort::default();
         for _ in rt.forever() {
             self.combine(&mut held);
             match self.next(&mut held, rank, record, may_park, &mut effort) {
@@ -143,14 +142,13 @@ impl<L: Entries> Combiner<L> {
         &'a self,
         rt: &R,
         gate: &G,
-        held: Held<'a, L>,
+        mut held: Held<'a, L>,
         rank: Option<u8>,
         written: Option<u64>,
         work: Work,
     ) -> Result<(Held<'a, L>, u64), Refusal>
         ensures { IfErr result IsSetback }
     {
-        let mut held = held;
         let piece = held.locked.next_piece();
         held.locked.set_away(rank, true);
         self.leave(gate, held, written);
@@ -234,10 +232,9 @@ impl<L: Entries> Combiner<L> {
         &'a self,
         rt: &R,
         gate: &G,
-        held: Held<'a, L>,
+        mut held: Held<'a, L>,
         written: Option<u64>,
     ) -> Held<'a, L> {
-        let mut held = held;
         held.locked.idle = held.locked.idle.saturating_add(1);
         let key = self.idlers.prepare_wait();
         self.leave(gate, held, written);
@@ -251,14 +248,6 @@ impl<L: Entries> Combiner<L> {
 }
 
 impl Effort {
-    fn none() -> Effort {
-        Effort {
-            steps: 0,
-            combinations: 0,
-            looks: 0,
-        }
-    }
-
     /// Whether the port has done its part, and is to look at its record.
     fn is_enough(&self) -> bool {
         self.steps >= STEPS || self.combinations >= CHAIN

@@ -29,7 +29,7 @@ impl<L: Entries> Combiner<L> {
                 return None;
             }
             if look % SELDOM == SELDOM - 1 {
-                if let Some(held) = self.try_enter(rt) {
+                if let Some(held) = self.try_enter() {
                     return Some(held);
                 }
             }
@@ -50,13 +50,12 @@ impl<L: Entries> Combiner<L> {
         &'a self,
         rt: &R,
         gate: &G,
-        held: Option<Held<'a, L>>,
+        mut held: Option<Held<'a, L>>,
         rank: u8,
         record: &PublicationRecord<L>,
     ) -> Result<(), Refusal>
         ensures { IfErr result (IsHindrance L.setting) }
     {
-        let mut held = held;
         let mut may_park = false;
         for _ in rt.forever() {
             let turn = match held {
@@ -98,7 +97,7 @@ impl<L: Entries> Combiner<L> {
             return (tally, Ok(None));
         };
         let before = tally.made();
-        let mut held = self.try_lead(rt, rank);
+        let mut held = self.try_lead(rank);
         record.publish(rt, Content::Wait(ticket), tally);
         for _ in rt.forever() {
             if let Err(why) = self.await_answer(rt, gate, held, rank, record) {
@@ -163,28 +162,22 @@ impl<L: Entries> Combiner<L> {
         &'a self,
         rt: &R,
         gate: &G,
-        held: Held<'a, L>,
+        mut held: Held<'a, L>,
         rank: u8,
         awaited: Awaited<'_>,
     ) -> Result<(), Refusal>
         ensures { IfErr result (IsHindrance L.setting) }
     {
-        let mut held = held;
         let Some(record) = self.record(rank) else {
             self.release(held);
             return Ok(());
         };
-        match held.locked.traced.register(rank, awaited) {
-            Ok(true) => {}
-            Ok(false) => {
-                self.release(held);
-                return Ok(());
-            }
-            Err(why) => {
-                self.release(held);
-                return Err(why);
-            }
-        }
+        let registered = held.locked.traced.register(rank, awaited);
+        let Ok(true) = registered else {
+            self.release(held);
+            registered?;
+            return Ok(());
+        };
         record.register(rt);
         let ended = self.await_answer(rt, gate, Some(held), rank, record);
         record.clear();

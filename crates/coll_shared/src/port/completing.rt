@@ -8,7 +8,6 @@ ghost use Rattle.coll_complete.specs.Requests.{AreDistinct};
 ghost use Rattle.coll_traced.specs.Awaiting.{IsHindrance};
 ghost use Rattle.coll_traced.specs.Tests.{RefusesList, RefusesOne, TestsAll, TestsAny, TestsOne, TestsSome, any_of};
 
-use crate::combiner::Combiner;
 use crate::gate::Gate;
 use crate::port::Port;
 use coll_complete::{Any, Request, Tested};
@@ -37,14 +36,12 @@ impl<L: Entries> Port<L> {
         ensures refused { RefusesOne L.setting self.old.rank request.old (result_err result) }
         ensures err { OnErr result ((self.new.made ≡ self.old.made) × (request.new ≡ request.old)) }
     {
-        let rank = self.rank;
-        let combiner: &Combiner<L> = &*self.combiner;
         let Some(tally) = &mut self.tally else {
             unreachable!()
         };
-        let mut held = combiner.enter_to_test(rt);
-        let tested = held.locked.traced.tested(tally, rank, request);
-        combiner.release(held);
+        let mut held = self.combiner.enter_to_test(rt);
+        let tested = held.locked.traced.tested(tally, self.rank, request);
+        self.combiner.release(held);
         tested
     }
 
@@ -68,14 +65,12 @@ impl<L: Entries> Port<L> {
         ensures refused { RefusesList L.setting self.old.rank requests.old (result_err result) }
         ensures err { OnErr result ((self.new.made ≡ self.old.made) × (requests.new ≡ requests.old)) }
     {
-        let rank = self.rank;
-        let combiner: &Combiner<L> = &*self.combiner;
         let Some(tally) = &mut self.tally else {
             unreachable!()
         };
-        let mut held = combiner.enter_to_test(rt);
-        let tested = held.locked.traced.tested_any(tally, rank, requests);
-        combiner.release(held);
+        let mut held = self.combiner.enter_to_test(rt);
+        let tested = held.locked.traced.tested_any(tally, self.rank, requests);
+        self.combiner.release(held);
         tested
     }
 
@@ -100,14 +95,15 @@ impl<L: Entries> Port<L> {
         ensures refused { RefusesList L.setting self.old.rank requests.old (result_err result) }
         ensures err { OnErr result ((self.new.made ≡ self.old.made) × (requests.new ≡ requests.old) × (out.new ≡ out.old)) }
     {
-        let rank = self.rank;
-        let combiner: &Combiner<L> = &*self.combiner;
         let Some(tally) = &mut self.tally else {
             unreachable!()
         };
-        let mut held = combiner.enter_to_test(rt);
-        let tested = held.locked.traced.tested_all(tally, rank, requests, out);
-        combiner.release(held);
+        let mut held = self.combiner.enter_to_test(rt);
+        let tested = held
+            .locked
+            .traced
+            .tested_all(tally, self.rank, requests, out);
+        self.combiner.release(held);
         tested
     }
 
@@ -133,14 +129,15 @@ impl<L: Entries> Port<L> {
         ensures refused { RefusesList L.setting self.old.rank requests.old (result_err result) }
         ensures err { OnErr result ((self.new.made ≡ self.old.made) × (requests.new ≡ requests.old) × (out.new ≡ out.old)) }
     {
-        let rank = self.rank;
-        let combiner: &Combiner<L> = &*self.combiner;
         let Some(tally) = &mut self.tally else {
             unreachable!()
         };
-        let mut held = combiner.enter_to_test(rt);
-        let tested = held.locked.traced.tested_some(tally, rank, requests, out);
-        combiner.release(held);
+        let mut held = self.combiner.enter_to_test(rt);
+        let tested = held
+            .locked
+            .traced
+            .tested_some(tally, self.rank, requests, out);
+        self.combiner.release(held);
         tested
     }
 
@@ -166,12 +163,10 @@ impl<L: Entries> Port<L> {
         ensures refused { IfErr result (λ why. RefusesOne L.setting self.old.rank request.old (Some why) ⊎ IsHindrance L.setting why) }
         ensures err { OnErr result ((self.new.made ≡ self.old.made) × (request.new ≡ request.old)) }
     {
-        let rank = self.rank;
-        let combiner: &Combiner<L> = &*self.combiner;
         let Some(first) = self.tally.take() else {
             unreachable!()
         };
-        let (tally, waited) = combiner.wait(rt, gate, rank, request, first);
+        let (tally, waited) = self.combiner.wait(rt, gate, self.rank, request, first);
         self.tally = Some(tally);
         waited
     }
@@ -198,16 +193,15 @@ impl<L: Entries> Port<L> {
         ensures err { OnErr result ((self.new.made ≡ self.old.made) × (requests.new ≡ requests.old)) }
     {
         let rank = self.rank;
-        let combiner: &Combiner<L> = &*self.combiner;
         let Some(tally) = &mut self.tally else {
             unreachable!()
         };
         for _ in rt.forever() {
-            let mut held = combiner.enter(rt);
+            let mut held = self.combiner.enter(rt);
             let (any, receipts) = match held.locked.traced.tested_any(tally, rank, requests) {
                 Ok(told) => told,
                 Err(why) => {
-                    combiner.release(held);
+                    self.combiner.release(held);
                     return Err(why);
                 }
             };
@@ -215,11 +209,12 @@ impl<L: Entries> Port<L> {
                 Any::At(position, outcome) => Some((position, outcome)),
                 Any::Undefined => None,
                 Any::Unfinished => {
-                    combiner.wait_listed(rt, gate, held, rank, Awaited::Any(requests))?;
+                    self.combiner
+                        .wait_listed(rt, gate, held, rank, Awaited::Any(requests))?;
                     continue;
                 }
             };
-            combiner.release(held);
+            self.combiner.release(held);
             return Ok((found, receipts));
         }
         unreachable!()
@@ -248,21 +243,21 @@ impl<L: Entries> Port<L> {
         ensures err { OnErr result ((self.new.made ≡ self.old.made) × (requests.new ≡ requests.old) × (out.new ≡ out.old)) }
     {
         let rank = self.rank;
-        let combiner: &Combiner<L> = &*self.combiner;
         let Some(tally) = &mut self.tally else {
             unreachable!()
         };
         for _ in rt.forever() {
-            let mut held = combiner.enter(rt);
+            let mut held = self.combiner.enter(rt);
             let told = match held.locked.traced.tested_all(tally, rank, requests, out) {
                 Ok((false, _)) => {
-                    combiner.wait_listed(rt, gate, held, rank, Awaited::All(requests))?;
+                    self.combiner
+                        .wait_listed(rt, gate, held, rank, Awaited::All(requests))?;
                     continue;
                 }
                 Ok((true, receipts)) => Ok(receipts),
                 Err(why) => Err(why),
             };
-            combiner.release(held);
+            self.combiner.release(held);
             return told;
         }
         unreachable!()
@@ -294,21 +289,21 @@ impl<L: Entries> Port<L> {
         ensures err { OnErr result ((self.new.made ≡ self.old.made) × (requests.new ≡ requests.old) × (out.new ≡ out.old)) }
     {
         let rank = self.rank;
-        let combiner: &Combiner<L> = &*self.combiner;
         let Some(tally) = &mut self.tally else {
             unreachable!()
         };
         for _ in rt.forever() {
-            let mut held = combiner.enter(rt);
+            let mut held = self.combiner.enter(rt);
             let told = match held.locked.traced.waited_some(tally, rank, requests, out) {
                 Ok(None) => {
-                    combiner.wait_listed(rt, gate, held, rank, Awaited::Any(requests))?;
+                    self.combiner
+                        .wait_listed(rt, gate, held, rank, Awaited::Any(requests))?;
                     continue;
                 }
                 Ok(Some(answer)) => Ok(answer),
                 Err(why) => Err(why),
             };
-            combiner.release(held);
+            self.combiner.release(held);
             return told;
         }
         unreachable!()

@@ -9,7 +9,6 @@ ghost use Rattle.coll_traced.specs.Denials.{IsDenied};
 ghost use Rattle.coll_traced.specs.Outcomes.{release};
 ghost use Rattle.coll_traced.specs.Tests.{RefusesFree};
 
-use crate::combiner::Combiner;
 use crate::port::Port;
 use coll_complete::Request;
 use coll_core::Offer;
@@ -42,8 +41,9 @@ impl<L: Entries> Port<L> {
         let Some(tally) = self.tally.take() else {
             unreachable!()
         };
-        let combiner: &Combiner<L> = &*self.combiner;
-        let (tally, posted) = combiner.post(rt, self.alloc, self.rank, comm, offer, tally);
+        let (tally, posted) = self
+            .combiner
+            .post(rt, self.alloc, self.rank, comm, offer, tally);
         self.tally = Some(tally);
         match posted {
             Ok((ticket, receipt)) => Ok((Request::of(ticket), receipt)),
@@ -103,15 +103,13 @@ impl<L: Entries> Port<L> {
         ensures refused { IfErr result (λ refused. IsDenied L.setting (init_of self.old.rank comm plan) refused.why) }
         ensures back { IfErr result (λ refused. refused.back ≡ plan) }
     {
-        let rank = self.rank;
-        let combiner: &Combiner<L> = &*self.combiner;
         let Some(tally) = &mut self.tally else {
             unreachable!()
         };
-        let mut held = combiner.enter(rt);
+        let mut held = self.combiner.enter(rt);
         held.locked.traced.keeps_setting();
-        let made = held.locked.traced.init(tally, rank, comm, plan);
-        combiner.release(held);
+        let made = held.locked.traced.init(tally, self.rank, comm, plan);
+        self.combiner.release(held);
         match made {
             Ok((ticket, receipt)) => Ok((Request::of(ticket), receipt)),
             Err(refused) => Err(refused),
@@ -133,14 +131,12 @@ impl<L: Entries> Port<L> {
         ensures null { OnOk result (request.new ≡ None) }
         ensures err { OnErr result ((self.new.made ≡ self.old.made) × (request.new ≡ request.old)) }
     {
-        let rank = self.rank;
-        let combiner: &Combiner<L> = &*self.combiner;
         let Some(tally) = &mut self.tally else {
             unreachable!()
         };
-        let mut held = combiner.enter(rt);
-        let freed = held.locked.traced.freed(tally, rank, request);
-        combiner.release(held);
+        let mut held = self.combiner.enter(rt);
+        let freed = held.locked.traced.freed(tally, self.rank, request);
+        self.combiner.release(held);
         freed
     }
 }

@@ -7,7 +7,6 @@ ghost use Rattle.coll_traced.specs.Calls.{IsStarted};
 ghost use Rattle.coll_traced.specs.Denials.{DeniesStart};
 ghost use Rattle.coll_shared.specs.Starts.{PushesStarts};
 
-use crate::combiner::Combiner;
 use crate::port::Port;
 use coll_complete::{Halted, Request};
 use coll_kinds::{Refusal, Refused};
@@ -44,8 +43,9 @@ impl<L: Entries> Port<L> {
         let Some(tally) = self.tally.take() else {
             unreachable!()
         };
-        let combiner: &Combiner<L> = &*self.combiner;
-        let (tally, started) = combiner.start(rt, self.alloc, self.rank, ticket, bytes, tally);
+        let (tally, started) = self
+            .combiner
+            .start(rt, self.alloc, self.rank, ticket, bytes, tally);
         self.tally = Some(tally);
         started
     }

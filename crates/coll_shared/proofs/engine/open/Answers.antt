@@ -23,3 +23,8 @@ pub returns-in_err-ports-clause-refused : goal.returns-in_err-ports-clause-refus
 returns-in_err-ports-clause-refused g c =
     let p = err_from_is_err_and c.from_residual-in_err-ports.result c.from_residual-in_err-ports.ensures.1 in
     rw p.1 (short_of_memory c.args.config p.0 c.in_ok-check.ensures.ok (p.2 ∙ c.in_err-ports.ensures.refused))
+
+pub returns-in_err-open-clause-refused : goal.returns-in_err-open-clause-refused
+returns-in_err-open-clause-refused g c =
+    let p = err_from_is_err_and c.from_residual-in_err-open.result c.from_residual-in_err-open.ensures.1 in
+    rw p.1 (short_of_memory c.args.config p.0 c.in_ok-check.ensures.ok (p.2 ∙ c.in_err-open.ensures))

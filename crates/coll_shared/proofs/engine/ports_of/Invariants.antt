@@ -6,4 +6,4 @@ use Rattle.coll_shared.proofs.engine.ports_of.Given as goal
 
 abbrev pub invariant-loop-rank : goal.invariant-loop-rank
 invariant-loop-rank g l =
-    (l.rest.parts + l.rank ≡ l.ranks) × (l.rest.amount ≡ 0) × (vec_len l.ports ≡ l.rank) × (l.ranks ≤ vec_capacity l.ports) × (l.ports.items ≡ map (opened (groups_seen l.groups)) (range_with_len 0 l.rank))
+    (l.shares.parts + l.rank ≡ l.ranks) × (l.shares.amount ≡ 0) × (vec_len l.ports ≡ l.rank) × (l.ranks ≤ vec_capacity l.ports) × (l.ports.items ≡ map (opened (groups_seen l.groups)) (range_with_len 0 l.rank))
