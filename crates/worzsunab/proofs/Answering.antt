@@ -1,6 +1,6 @@
 -- What an export's call did, in the words of its answer.
 use Rattle.std.proofs.Common.{◌≡◌, ◌∙◌, ℕ, ℤ, List, Option, Some, None, true, false, refl, sym, ap, subst}
-use Rattle.std.specs.Prelude.{IfSome}
+use Rattle.std.specs.Prelude.{IfSome, is_some}
 use Rattle.std.proofs.lemmas.Bool.{false≢true}
 use Rattle.coll_kinds.specs.declared.refusal.Refusal.{Refusal}
 use Rattle.coll_kinds.specs.declared.ticket.Ticket.{Ticket}
@@ -24,6 +24,10 @@ use Rattle.worzsunab.specs.declared.reason.Reason.{Reason}
 use Rattle.coll_engine.specs.Combinations.{TakesBack}
 use Rattle.coll_kinds.specs.declared.refusal.Refusal.TheVariants.{Stale}
 use Rattle.worzsunab.specs.Answers.{Answers, IsPhase, IsSame, Tested, phase_number}
+
+pub none_of : {X : Type 0} (x : Option X) → is_some x ≡ false → x ≡ None
+none_of None e = refl
+none_of (Some y) e = absurd (false≢true (sym e))
 
 pub was_open : (old : Option Parts) (engine p : Parts) → old ≡ Some engine → p ≡ engine → old ≡ Some p
 was_open old engine p found is = found ∙ ap Some (sym is)

@@ -1,3 +1,5 @@
+mod Cutting
+mod Totals
 mod Words
 mod Boxes
 mod Coding

@@ -7,3 +7,4 @@ pub mod Answers
 pub mod Works
 pub mod Listing
 pub mod Posted
+pub mod Openings

@@ -1,7 +1,10 @@
 //! Requests and configurations as C gives them.
 
-ghost use Rattle.std.specs.Prelude.{◌≡◌};
+ghost use Rattle.std.specs.Prelude.{◌≡◌, IfErr, IfOk};
+ghost use Rattle.coll_core.specs.Configs.{setting_by};
+ghost use Rattle.coll_engine.specs.Communicators.{lists};
 ghost use Rattle.worzsunab.specs.Forms.{about_of, named_by, request_of};
+ghost use Rattle.worzsunab.specs.Openings.{DeniesGroups, IsCut, setting_of};
 
 use coll_complete::Request as Held;
 use coll_core::{About as Told, Config};
@@ -95,7 +98,9 @@ impl About {
 
 impl Limits {
     /// The configuration; more ranks than a byte counts are as many as it does, which are too many too. No trace is kept.
-    pub fn config(self, groups: Vec<Vec<u8>>) -> Config {
+    pub fn config(self, groups: Vec<Vec<u8>>) -> Config
+        ensures { setting_by result ≡ setting_of self (lists groups.items) }
+    {
         Config {
             ranks: u8::try_from(self.ranks).unwrap_or(u8::MAX),
             groups,
@@ -113,14 +118,17 @@ impl Limits {
 /// # Errors
 ///
 /// BadConfig where there are more or fewer members than the sizes tell, and NoMemory.
-pub fn groups_of(alloc: Global, sizes: &[u8], members: &[u8]) -> Result<Vec<Vec<u8>>, Refusal> {
+pub fn groups_of(alloc: Global, sizes: &[u8], members: &[u8]) -> Result<Vec<Vec<u8>>, Refusal>
+    ensures cut { IfOk result (λ groups. IsCut sizes.now members.now (lists groups.items)) }
+    ensures refused { IfErr result (DeniesGroups sizes.now members.now) }
+{
     let mut groups = Vec::new(alloc);
     let mut rest = members;
     for size in sizes {
         let Some((group, after)) = rest.split_at_checked(usize::from(*size)) else {
             return Err(MISFIT);
         };
-        groups.push(group.to_vec(alloc)?)?;
+        groups.push(Vec::from_slice(alloc, group)?)?;
         rest = after;
     }
     if !rest.is_empty() {

@@ -17,10 +17,8 @@
 //! | `lib` | the other functions |
 #![tactic(auto)]
 
-ghost use Rattle.std.specs.Prelude.{◌≡◌, ◌<◌, ◌≤◌, ◌⊎◌, [], None, Some, IfOk, IfSome, IsSome, if◌then◌else◌, is_some, pos};
-ghost use Rattle.coll_kinds.specs.declared.refusal.Refusal.{Refusal as Why};
+ghost use Rattle.std.specs.Prelude.{◌≡◌, ◌<◌, ◌≤◌, ◌⊎◌, [], None, Some, IfErr, IfOk, IfSome, IsSome, if◌then◌else◌, is_some, pos};
 ghost use Rattle.coll_kinds.specs.declared.refusal.Refusal.TheVariants.{Stale};
-ghost use Rattle.coll_kinds.specs.Refusals.{number_of};
 ghost use Rattle.coll_machine.specs.Lents.{lent_bytes};
 ghost use Rattle.coll_machine.specs.Runs.{Runs};
 ghost use Rattle.coll_core.specs.Configs.{idle};
@@ -34,9 +32,10 @@ ghost use Rattle.coll_engine.specs.Lengths.{IsOutcomeLengthAt};
 ghost use Rattle.coll_engine.specs.Progress.{Advances};
 ghost use Rattle.worzsunab.specs.Answers.{Answers, IsPhase, Tests, phase_number};
 ghost use Rattle.worzsunab.specs.Forms.{IsAbout, named_by, request_of};
+ghost use Rattle.worzsunab.specs.Openings.{DeniesOpen, IsOpened, Opens};
 ghost use Rattle.coll_engine.specs.Signatures.{signature_at};
 ghost use Rattle.worzsunab.specs.Posted.{Tells};
-ghost use Rattle.worzsunab.specs.Reasons.{no_reason, reason_of};
+ghost use Rattle.worzsunab.specs.Reasons.{no_reason};
 
 mod call;
 mod codes;
@@ -68,9 +67,7 @@ pub extern "C" fn wz_open(
     members: &[u8],
 ) -> i32
     ensures open { IsSome handle.old.held.engine → (result ≡ pos 21) × (handle.new ≡ handle.old) }
-    ensures done { result ≡ pos 0 → IfSome handle.new.held.engine (λ p. seen p ≡ idle) × IsSome handle.new.held.engine }
-    ensures refused { (result ≡ pos 0) ⊎ (handle.new.held.engine ≡ handle.old.held.engine) }
-    ensures reason { (handle.new.reason ≡ handle.old.reason) ⊎ (why : Why) × (handle.new.reason ≡ reason_of why) × (result ≡ pos (number_of why)) }
+    ensures opens { Opens handle.old.held.engine handle.new.held.engine handle.old.reason handle.new.reason result limits.now sizes.now members.now }
 {
     if handle.is_open() {
         return OPEN;
@@ -91,6 +88,8 @@ fn open_engine(
     members: &[u8],
 ) -> Result<Box<Engine>, Refusal>
     ensures idle { IfOk result (λ engine. seen engine.value ≡ idle) }
+    ensures opened { IfOk result (λ engine. IsOpened limits sizes.now members.now engine.value) }
+    ensures refused { IfErr result (DeniesOpen limits sizes.now members.now) }
 {
     let groups = groups_of(alloc, sizes, members)?;
     let engine = Engine::open(alloc, limits.config(groups))?;
@@ -254,6 +253,7 @@ pub extern "C" fn wz_outcome_length(
 #[unsafe(no_mangle)]
 pub extern "C" fn wz_step(alloc: Global, handle: &mut Handle, budget: u32, actions: &mut u32) -> i32
     ensures closed { handle.old.held.engine ≡ None → (handle.new.held.engine ≡ None) × (result ≡ pos 20) }
+    ensures open { IsSome handle.old.held.engine → (result ≡ pos 0) ⊎ (result ≡ pos 17) }
     ensures quiet { (result ≡ pos 17) ⊎ IfSome handle.new.held.engine (λ r. actions.new < budget → ready r ≡ []) }
     ensures steps { (result ≡ pos 17) ⊎ IfSome handle.old.held.engine (λ p. IfSome handle.new.held.engine (λ r. Advances p r actions.new × (actions.new ≤ budget))) }
     ensures finishes { IfSome handle.old.held.engine (λ p. IfSome handle.new.held.engine (λ r. (setting r ≡ setting p) × Finishings (setting p) (seen p) (seen r))) }
@@ -275,6 +275,7 @@ pub extern "C" fn wz_step(alloc: Global, handle: &mut Handle, budget: u32, actio
 #[unsafe(no_mangle)]
 pub extern "C" fn wz_settle(alloc: Global, handle: &mut Handle) -> i32
     ensures closed { handle.old.held.engine ≡ None → (handle.new.held.engine ≡ None) × (result ≡ pos 20) }
+    ensures open { IsSome handle.old.held.engine → (result ≡ pos 0) ⊎ (result ≡ pos 17) }
     ensures quiet { (result ≡ pos 17) ⊎ IfSome handle.new.held.engine (λ r. ready r ≡ []) }
     ensures settles { IfSome handle.old.held.engine (λ p. IfSome handle.new.held.engine (λ r. (setting r ≡ setting p) × Finishings (setting p) (seen p) (seen r))) }
 {

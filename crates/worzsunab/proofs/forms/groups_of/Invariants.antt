@@ -1,0 +1,9 @@
+use Rattle.std.proofs.Common.{◌≡◌, ◌++◌, length, map, take}
+use Rattle.std.specs.List.{concat}
+use Rattle.coll_engine.specs.Communicators.{lists}
+use Rattle.worzsunab.proofs.forms.groups_of.Given as goal
+
+abbrev pub invariant-loop-size : goal.invariant-loop-size
+invariant-loop-size l =
+    (map (λ group. length group) (lists l.groups.items) ≡ take l.size-index l.sizes)
+    × (concat (lists l.groups.items) ++ l.rest ≡ l.members)
