@@ -12,7 +12,7 @@ use std::rt::Clock;
 use std::sync::Wait;
 use std::time::Instant;
 
-/// Plans a measure's collective and posts it on communicator 0.
+/// Plans a measure's collective and posts it on communicator 0. Each rank gives bytes of its own, as programs do.
 fn post<L: Entries, R: Wait>(
     rt: &R,
     alloc: Global,
@@ -20,7 +20,7 @@ fn post<L: Entries, R: Wait>(
     measure: Measure,
 ) -> Result<Request, Refusal> {
     let plan = port.ready_plan(0, &measure.signature())?;
-    let bytes = vec![in alloc; 1; plan.given_len()]?;
+    let bytes = vec![in alloc; port.rank().wrapping_add(1); plan.given_len()]?;
     match port.post(rt, 0, Offer { plan, bytes }) {
         Ok((request, _receipt)) => Ok(request),
         Err(refused) => Err(refused.why),
@@ -40,7 +40,7 @@ fn init<L: Entries, R: Wait>(
     }
 }
 
-/// Starts a persistent collective with so many bytes.
+/// Starts a persistent collective with so many bytes, which are the rank's own.
 fn start<L: Entries, R: Wait>(
     rt: &R,
     alloc: Global,
@@ -48,7 +48,7 @@ fn start<L: Entries, R: Wait>(
     request: &Request,
     len: usize,
 ) -> Result<(), Refusal> {
-    let bytes = vec![in alloc; 1; len]?;
+    let bytes = vec![in alloc; port.rank().wrapping_add(1); len]?;
     match port.start(rt, request, bytes) {
         Ok(_receipt) => Ok(()),
         Err(refused) => Err(refused.why),

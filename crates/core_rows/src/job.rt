@@ -70,10 +70,12 @@ fn signature(random: &mut Random, size: u8) -> Signature {
     }
 }
 
-/// Mostly a few elements, sometimes so many that a combination reads them where they stand.
+/// Mostly a few elements, sometimes so many that a combination reads them where they stand, seldom so many that members share
+/// its result.
 fn element_count(random: &mut Random) -> u32 {
-    match random.below(10) {
-        0 => 300,
+    match random.below(20) {
+        0 => 2_100,
+        1 | 2 => 300,
         few => (few % 5) as u32,
     }
 }

@@ -1,20 +1,23 @@
 //! The examples of the crates' first pages, each with what it needs, so that the check reads them too.
 
+use crate::on_a_port::OnAPort;
 use coll_complete::{Any, Request, test_any};
 use coll_core::{Core, Offer, Outcome};
 use coll_engine::{Engine, Test};
 use coll_kinds::{Datatype, Op, Signature, Ticket};
 use coll_plans::plan;
-use coll_shared::roomy;
+use coll_shared::{NoGate, roomy, run_ranks};
 use std::alloc::Global;
 use std::io::Print;
+use std::sync::Wait;
+use std::thread::Threads;
 
 /// Prints what each example comes to.
 ///
 /// # Errors
 ///
 /// The first refusal of an example; a write that failed.
-pub fn show(rt: &impl Print, alloc: Global) -> anyhow::Result<()> {
+pub fn show<R: Print + Threads + Wait + Sync>(rt: &R, alloc: Global) -> anyhow::Result<()> {
     kinds(rt)?;
     plans(rt, alloc)?;
     let mut core = Core::open(alloc, roomy(1, one_rank(alloc)?))?;
@@ -25,7 +28,7 @@ pub fn show(rt: &impl Print, alloc: Global) -> anyhow::Result<()> {
     let ticket = core_posts(alloc, &mut core)?;
     lists(rt, &mut core, ticket)?;
     engine(rt, alloc)?;
-    refusal(rt, alloc)
+    port(rt, alloc)
 }
 
 /// One communicator, of one rank.
@@ -95,12 +98,12 @@ fn engine(rt: &impl Print, alloc: Global) -> anyhow::Result<()> {
     Ok(())
 }
 
-/// A refusal in words: a number has four bytes, and one is given.
-fn refusal(rt: &impl Print, alloc: Global) -> anyhow::Result<()> {
-    let mut engine = Engine::open(alloc, roomy(1, one_rank(alloc)?))?;
-    let sum = Signature::allreduce(Op::Sum, Datatype::I32, 1);
-    if let Err(why) = engine.post(0, 0, sum, &[7]) {
-        println!(rt; "{why}: {}", why.sentence())?;
+/// That of `coll_shared`.
+fn port<R: Print + Threads + Wait + Sync>(rt: &R, alloc: Global) -> anyhow::Result<()> {
+    let ranks = Vec::from_array(alloc, [OnAPort { alloc, number: 7 }])?;
+    let (ends, _report) = run_ranks(rt, alloc, roomy(1, one_rank(alloc)?), 0, &NoGate, ranks)?;
+    for end in ends {
+        println!(rt; "port: {}", end?)?;
     }
     Ok(())
 }

@@ -26,7 +26,7 @@ fn sum_of_all<L: Entries, R: Wait>(
 }
 
 /// The number that an outcome has. There is none for a null request, which a rank that has posted doesn't wait for.
-fn number_of(alloc: Global, outcome: Option<Outcome>) -> Result<i32, Refusal> {
+pub fn number_of(alloc: Global, outcome: Option<Outcome>) -> Result<i32, Refusal> {
     let numbers = outcome.ok_or(Refusal::Torn)?.i32s(alloc)?;
     numbers.first().copied().ok_or(Refusal::Torn)
 }
