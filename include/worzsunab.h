@@ -182,9 +182,9 @@ enum {
     WZ_STARTS_USED = 11,    /* the request has had all its starts */
     WZ_FULL = 12,           /* no slot is free */
     WZ_TRACE_FULL = 13,     /* of engines with a trace; no function of this library answers it */
-    WZ_STALLED = 14,        /* likewise */
-    WZ_STILL_ACTIVE = 15,   /* likewise */
-    WZ_TORN = 16,           /* likewise */
+    WZ_STALLED = 14,        /* no wait can end: the waits of worzsunab_threads.h answer it, no function of this library */
+    WZ_STILL_ACTIVE = 15,   /* as WZ_TRACE_FULL */
+    WZ_TORN = 16,           /* as WZ_TRACE_FULL */
     WZ_NO_MEMORY = 17,      /* malloc gave none */
     WZ_BAD_CONFIG = 18,     /* a limit or a communicator is out of its range */
     WZ_BAD_NUMBER = 19,     /* a number that names no kind, operation or type */
@@ -320,6 +320,20 @@ static inline const char *wz_mpi_class(int32_t code) {
     case WZ_TORN: return "MPI_ERR_OTHER";
     default: return "MPI_ERR_UNKNOWN";
     }
+}
+
+/* The same of a refusal with what is known of it: the rules of signatures have classes of their own. */
+static inline const char *wz_reason_mpi_class(const wz_reason *reason) {
+    if (reason->code == WZ_BAD_SIGNATURE) {
+        switch (reason->cause) {
+        case WZ_RULE_ROOT: return "MPI_ERR_ROOT";
+        case WZ_RULE_OPERATION: return "MPI_ERR_OP";
+        case WZ_RULE_COUNT:
+        case WZ_RULE_SIZE: return "MPI_ERR_COUNT";
+        default: break;
+        }
+    }
+    return wz_mpi_class(reason->code);
 }
 
 /* ---- functions. After an answer that isn't WZ_DONE nothing has changed, in the engine, the request or the memory, unless

@@ -32,8 +32,8 @@ enum {
 #define WZ_LONG 4096
 #endif
 
-/* What a rank asks for: the arguments of wz_post, wz_post_allgatherv, wz_start or wz_test. */
-enum { WZ_ASK_POST, WZ_ASK_POST_ALLGATHERV, WZ_ASK_START, WZ_ASK_WAIT };
+/* What a rank asks for: the arguments of wz_post, wz_post_allgatherv, wz_start, wz_test, or wz_phase. The last two wait. */
+enum { WZ_ASK_POST, WZ_ASK_POST_ALLGATHERV, WZ_ASK_START, WZ_ASK_WAIT, WZ_ASK_REST };
 typedef struct wz_ask {
     int what;
     uint32_t comm;
@@ -79,7 +79,7 @@ typedef struct wz_shared {
     wz_record records[WZ_MOST_RANKS];
 } wz_shared;
 
-/* Opens an engine for threads; as wz_open. */
+/* Opens an engine for threads; as wz_open, but whatever stood in *shared is overwritten: close it first where it was open. */
 static inline int32_t wz_shared_open(wz_shared *shared, const wz_limits *limits, const uint8_t *sizes, size_t communicators,
                                      const uint8_t *members, size_t member_count) {
     memset(shared, 0, sizeof *shared);
@@ -143,6 +143,7 @@ static inline int32_t wz_noted_(wz_shared *shared, uint8_t rank, int32_t code) {
 /* Under the lock: the call that is asked for. */
 static inline int32_t wz_do_(wz_shared *shared, uint8_t rank, const wz_ask *ask) {
     wz_engine *engine = &shared->engine;
+    uint8_t phase = WZ_IDLE;
     int32_t code;
     switch (ask->what) {
     case WZ_ASK_POST: code = wz_post(engine, rank, ask->comm, ask->call, ask->bytes, ask->length, ask->request); break;
@@ -150,6 +151,10 @@ static inline int32_t wz_do_(wz_shared *shared, uint8_t rank, const wz_ask *ask)
         code = wz_post_allgatherv(engine, rank, ask->comm, ask->type, ask->counts, ask->many, ask->bytes, ask->length, ask->request);
         break;
     case WZ_ASK_START: code = wz_start(engine, rank, ask->started, ask->bytes, ask->length); break;
+    case WZ_ASK_REST:
+        code = wz_phase(engine, rank, ask->request, &phase);
+        if (phase == WZ_IS_PENDING) code = WZ_PENDING;
+        break;
     default: code = wz_test(engine, rank, ask->request, ask->out, ask->room, ask->count); break;
     }
     return wz_noted_(shared, rank, code);
@@ -219,7 +224,7 @@ static inline bool wz_carry_out_(wz_shared *shared, uint8_t rank) {
     wz_record *record = &shared->records[rank];
     size_t length = record->ask.length;
     int32_t code = wz_do_(shared, rank, &record->ask);
-    if (record->ask.what == WZ_ASK_WAIT) {
+    if (record->ask.what >= WZ_ASK_WAIT) {
         if (code == WZ_PENDING && shared->stalled) code = WZ_STALLED;
         if (code != WZ_PENDING) {
             wz_answer_(record, code);
@@ -371,6 +376,102 @@ static inline int32_t wz_shared_wait(wz_shared *shared, uint8_t rank, wz_request
                                      size_t *count) {
     wz_ask ask = { WZ_ASK_WAIT, 0, NULL, 0, NULL, 0, NULL, 0, NULL, request, out, room, count };
     return wz_asked_(shared, rank, &ask);
+}
+
+/* As wz_test_any, wz_test_some and wz_test_all, after progress. */
+static inline int32_t wz_shared_test_any(wz_shared *shared, uint8_t rank, wz_part *parts, size_t many, void *out, size_t room,
+                                         size_t *index) {
+    wz_lock_(shared);
+    int32_t code = wz_progress_(shared);
+    if (code == WZ_DONE) code = wz_test_any(&shared->engine, rank, parts, many, out, room, index);
+    wz_noted_(shared, rank, code);
+    wz_unlock_(shared);
+    return code;
+}
+
+static inline int32_t wz_shared_test_some(wz_shared *shared, uint8_t rank, wz_part *parts, size_t many, void *out, size_t room,
+                                          size_t *completed) {
+    wz_lock_(shared);
+    int32_t code = wz_progress_(shared);
+    if (code == WZ_DONE) code = wz_test_some(&shared->engine, rank, parts, many, out, room, completed);
+    wz_noted_(shared, rank, code);
+    wz_unlock_(shared);
+    return code;
+}
+
+static inline int32_t wz_shared_test_all(wz_shared *shared, uint8_t rank, wz_part *parts, size_t many, void *out, size_t room) {
+    wz_lock_(shared);
+    int32_t code = wz_progress_(shared);
+    if (code == WZ_DONE) code = wz_test_all(&shared->engine, rank, parts, many, out, room);
+    wz_noted_(shared, rank, code);
+    wz_unlock_(shared);
+    return code;
+}
+
+/* As wz_start_all, with progress, as wz_shared_post. */
+static inline int32_t wz_shared_start_all(wz_shared *shared, uint8_t rank, const wz_part *parts, size_t many, const void *given,
+                                          size_t length, size_t *started) {
+    size_t begun = 0;
+    wz_lock_(shared);
+    int32_t code = wz_noted_(shared, rank, wz_start_all(&shared->engine, rank, parts, many, given, length, &begun));
+    for (size_t i = 0; i < begun; i++) shared->has_long = shared->has_long || parts[i].room >= WZ_LONG;
+    if (begun > 0) {
+        shared->stalled = false;
+        wz_progress_(shared);
+    }
+    *started = begun;
+    wz_unlock_(shared);
+    return code;
+}
+
+/* As wz_phase, wz_about, wz_outcome_length, wz_posted_at and wz_lent. */
+static inline int32_t wz_shared_phase(wz_shared *shared, uint8_t rank, const wz_request *request, uint8_t *phase) {
+    wz_lock_(shared);
+    int32_t code = wz_noted_(shared, rank, wz_phase(&shared->engine, rank, request, phase));
+    wz_unlock_(shared);
+    return code;
+}
+
+static inline int32_t wz_shared_about(wz_shared *shared, uint8_t rank, const wz_request *request, wz_about_request *about) {
+    wz_lock_(shared);
+    int32_t code = wz_noted_(shared, rank, wz_about(&shared->engine, request, about));
+    wz_unlock_(shared);
+    return code;
+}
+
+static inline int32_t wz_shared_outcome_length(wz_shared *shared, uint8_t rank, const wz_request *request, size_t *bytes) {
+    wz_lock_(shared);
+    int32_t code = wz_noted_(shared, rank, wz_outcome_length(&shared->engine, rank, request, bytes));
+    wz_unlock_(shared);
+    return code;
+}
+
+static inline int32_t wz_shared_posted_at(wz_shared *shared, uint32_t comm, uint32_t place, wz_posted *posted) {
+    wz_lock_(shared);
+    int32_t code = wz_posted_at(&shared->engine, comm, place, posted);
+    wz_unlock_(shared);
+    return code;
+}
+
+static inline int32_t wz_shared_lent(wz_shared *shared, uint64_t *bytes) {
+    wz_lock_(shared);
+    int32_t code = wz_lent(&shared->engine, bytes);
+    wz_unlock_(shared);
+    return code;
+}
+
+/* Completes all requests of a list (MPI_Waitall): as wz_test_all, and where that answers WZ_PENDING it waits. WZ_STALLED and WZ_NO_MEMORY
+   as wz_shared_wait, with none completed. */
+static inline int32_t wz_shared_wait_all(wz_shared *shared, uint8_t rank, wz_part *parts, size_t many, void *out, size_t room) {
+    int32_t code = wz_shared_test_all(shared, rank, parts, many, out, room);
+    if (code != WZ_PENDING) return code;
+    for (size_t i = 0; i < many; i++) {
+        wz_ask ask = { WZ_ASK_REST, 0, NULL, 0, NULL, 0, NULL, 0, NULL, &parts[i].request, NULL, 0, NULL };
+        if (parts[i].request.generation == 0) continue;
+        code = wz_asked_(shared, rank, &ask);
+        if (code != WZ_DONE) return code;
+    }
+    return wz_shared_test_all(shared, rank, parts, many, out, room);
 }
 
 /* The rank's thread makes no further call, so others don't wait for it. */

@@ -242,6 +242,32 @@ static void worn_slot(void) {
     DONE(wz_close(&engine));
 }
 
+/* Of three requests that are done the second is completed: the others stay. Its slot goes behind the one that is free. */
+static void retire_the_named(void) {
+    wz_engine engine = opened(1, 4, 2);
+    wz_call own = { WZ_BCAST, WZ_NO_OPERATION, WZ_INT32, 0, 1 };
+    wz_request requests[3], later[2];
+    int32_t got = -1;
+    size_t count;
+    uint8_t phase;
+    for (int32_t i = 0; i < 3; i++) {
+        DONE(wz_post(&engine, 0, 0, &own, &i, 4, &requests[i]));
+        HOLDS(requests[i].slot == (uint32_t)i && requests[i].generation == 1);
+    }
+    DONE(wz_settle(&engine));
+    DONE(wz_test(&engine, 0, &requests[1], &got, 4, &count));
+    HOLDS(got == 1);
+    for (int i = 0; i < 2; i++) DONE(wz_post(&engine, 0, 0, &own, &got, 4, &later[i]));
+    HOLDS(later[0].slot == 3 && later[0].generation == 1 && later[1].slot == 1 && later[1].generation == 2);
+    for (int i = 0; i < 3; i += 2) {
+        DONE(wz_phase(&engine, 0, &requests[i], &phase));
+        HOLDS(phase == WZ_IS_DONE);
+        DONE(wz_test(&engine, 0, &requests[i], &got, 4, &count));
+        HOLDS(got == i);
+    }
+    DONE(wz_close(&engine));
+}
+
 /* 32 members of 65,536 u64 each are as much as a root may get. */
 static void gather_size_limit(void) {
     wz_call gather = { WZ_GATHER, WZ_NO_OPERATION, WZ_UINT64, 0, 65536 };
@@ -343,6 +369,7 @@ int main(void) {
     lent_bytes();
     starts_out_of_order();
     worn_slot();
+    retire_the_named();
     gather_size_limit();
     some_over_inactive();
     mismatch_names_the_first();

@@ -1,5 +1,5 @@
 /* Each answer of each function, and that nothing changes where one refuses. One thread plays all ranks.
-   refusals table: prints the numbers and names of the refusals. */
+   refusals table: prints the numbers and names of the refusals. refusals answers: prints all answers as docs/C.md has them. */
 #include <stdio.h>
 #include <stdlib.h>
 #include <string.h>
@@ -178,19 +178,22 @@ static void reasons(void) {
     tells(&engine, "rank 0 isn't in the communicator's group");
     call.root = 1;
     WANT(WZ_BAD_SIGNATURE, wz_init(&engine, 0, 0, &call, &request));
-    HOLDS(engine.reason.cause == WZ_RULE_ROOT);
+    HOLDS(engine.reason.cause == WZ_RULE_ROOT && strcmp(wz_reason_mpi_class(&engine.reason), "MPI_ERR_ROOT") == 0);
+    tells(&engine, "the root isn't a member, or isn't 0 for a collective without a root");
     call = sum;
     call.op = WZ_MINLOC;
     WANT(WZ_BAD_SIGNATURE, wz_init(&engine, 0, 0, &call, &request));
-    HOLDS(engine.reason.cause == WZ_RULE_OPERATION);
+    HOLDS(engine.reason.cause == WZ_RULE_OPERATION && strcmp(wz_reason_mpi_class(&engine.reason), "MPI_ERR_OP") == 0);
     tells(&engine, "the operation is missing, isn't for that type, or is one too many");
     call = sum;
     call.count = 65537;
     WANT(WZ_BAD_SIGNATURE, wz_init(&engine, 0, 0, &call, &request));
-    HOLDS(engine.reason.cause == WZ_RULE_COUNT);
+    HOLDS(engine.reason.cause == WZ_RULE_COUNT && strcmp(wz_reason_mpi_class(&engine.reason), "MPI_ERR_COUNT") == 0);
+    tells(&engine, "a count is above 65,536, or one is given that has no meaning");
     WANT(WZ_BAD_LENGTH, wz_post(&engine, 1, 0, &sum, &number, 3, &request));
     HOLDS(engine.reason.code == WZ_BAD_LENGTH && engine.reason.want == 4 && engine.reason.got == 3);
     tells(&engine, "4 bytes are due, not 3");
+    HOLDS(strcmp(wz_reason_mpi_class(&engine.reason), "MPI_ERR_TRUNCATE") == 0);
     WANT(WZ_DONE, wz_post(&engine, 0, 0, &sum, &number, 4, &held));
     HOLDS(engine.reason.code == WZ_BAD_LENGTH); /* what is done leaves it */
     call = sum;
@@ -507,6 +510,11 @@ static void lists(void) {
 int main(int argc, char **argv) {
     if (argc > 1 && strcmp(argv[1], "table") == 0) {
         for (int32_t code = 1; code <= WZ_BAD_CONFIG; code++) printf("%d %s\n", (int)code, wz_name(code));
+        return 0;
+    }
+    if (argc > 1 && strcmp(argv[1], "answers") == 0) {
+        for (int32_t code = -1; code <= WZ_NO_PLACE; code++)
+            printf("| %d | %s | %s | %s |\n", (int)code, wz_name(code), wz_message(code), wz_mpi_class(code));
         return 0;
     }
     for (int32_t code = -1; code <= WZ_NO_PLACE; code++)

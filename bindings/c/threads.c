@@ -1,5 +1,5 @@
 /* Ranks as threads: many posts, a persistent loop, overlap, communicators of some ranks, allgathervs, long rows that are combined
-   with the lock free, refusals with their reasons, and a stall that is told.
+   with the lock free, lists of requests, refusals with their reasons, and stalls that are told.
    threads RANKS TIMES [quiet]: without `quiet` it prints the microseconds of an allreduce. */
 #include <stdio.h>
 #include <stdlib.h>
@@ -147,6 +147,44 @@ static void long_rows(uint8_t me) {
     }
 }
 
+/* Sums of a list, all started at once, and waited for, or tested until all are completed: together, one by one, and as many as are done. */
+static void lists(uint8_t me) {
+    enum { MANY = 3 };
+    wz_part parts[MANY];
+    int32_t given[MANY], sums[MANY];
+    size_t started = 9, index = 9, some = 9, completed = 0, length = 9;
+    wz_about_request about;
+    wz_posted posted;
+    uint8_t phase = 9;
+    for (size_t i = 0; i < MANY; i++) {
+        parts[i] = (wz_part){ WZ_NULL_REQUEST, 4 * i, 4, 0, false };
+        MUST(wz_shared_init(&shared, me, 0, &allreduce, &parts[i].request));
+        given[i] = me + (int32_t)i;
+    }
+    MUST(wz_shared_about(&shared, me, &parts[1].request, &about));
+    MUST(wz_shared_posted_at(&shared, 0, about.place, &posted));
+    MUST(wz_shared_outcome_length(&shared, me, &parts[1].request, &length));
+    MUST(wz_shared_phase(&shared, me, &parts[1].request, &phase));
+    HOLDS(about.rank == me && about.persistent && posted.call.kind == WZ_ALLREDUCE && length == 4 && phase == WZ_IDLE);
+    for (int32_t round = 0; round < 20; round++) {
+        MUST(wz_shared_start_all(&shared, me, parts, MANY, given, sizeof given, &started));
+        HOLDS(started == MANY);
+        HOLDS(wz_shared_start_all(&shared, me, parts, MANY, given, sizeof given, &started) == WZ_ACTIVE && started == 0);
+        int32_t code = WZ_PENDING;
+        for (completed = 0; completed < MANY; sched_yield()) {
+            if (round % 4 == 0) code = wz_shared_wait_all(&shared, me, parts, MANY, sums, sizeof sums);
+            if (round % 4 == 1) code = wz_shared_test_all(&shared, me, parts, MANY, sums, sizeof sums);
+            if (round % 4 == 2) code = wz_shared_test_any(&shared, me, parts, MANY, sums, sizeof sums, &index);
+            if (round % 4 == 3) code = wz_shared_test_some(&shared, me, parts, MANY, sums, sizeof sums, &some);
+            if (code == WZ_PENDING && round % 4 != 0) continue;
+            MUST(code);
+            completed += round % 4 < 2 ? MANY : round % 4 == 2 ? 1 : some;
+        }
+        for (int32_t i = 0; i < MANY; i++) HOLDS(sums[i] == sum_at(i));
+    }
+    for (size_t i = 0; i < MANY; i++) MUST(wz_shared_free(&shared, me, &parts[i].request));
+}
+
 /* Each rank is told why its own call was refused. */
 static void refused(uint8_t me) {
     int32_t number = 0;
@@ -169,6 +207,34 @@ static void stall(uint8_t me) {
     }
     MUST(wz_shared_post(&shared, me, 0, &barrier, NULL, 0, &request));
     HOLDS(wz_shared_wait(&shared, me, &request, NULL, 0, &count) == WZ_STALLED);
+    wz_part part = { request, 0, 0, 0, false };
+    HOLDS(wz_shared_wait_all(&shared, me, &part, 1, NULL, 0) == WZ_STALLED && part.request.generation != 0);
+}
+
+/* crossed_barriers: rank 0 waits for a barrier of communicator 1, rank 1 for one of communicator 2, and neither has posted the other's. */
+static wz_shared crossed;
+
+static void *crossed_rank(void *number) {
+    uint8_t me = (uint8_t)(size_t)number;
+    wz_call barrier = { WZ_BARRIER, WZ_NO_OPERATION, WZ_BYTE, 0, 0 };
+    wz_request first, second;
+    size_t count = 0;
+    MUST(wz_shared_post(&crossed, me, 1u + me, &barrier, NULL, 0, &first));
+    HOLDS(wz_shared_wait(&crossed, me, &first, NULL, 0, &count) == WZ_STALLED);
+    MUST(wz_shared_post(&crossed, me, 2u - me, &barrier, NULL, 0, &second));
+    MUST(wz_shared_wait(&crossed, me, &first, NULL, 0, &count)); /* a stall isn't the end: now both have posted both */
+    MUST(wz_shared_wait(&crossed, me, &second, NULL, 0, &count));
+    return NULL;
+}
+
+static void crossed_barriers(void) {
+    uint8_t members[6] = { 0, 1, 0, 1, 0, 1 }, sizes[3] = { 2, 2, 2 };
+    wz_limits limits = wz_greatest_limits(2);
+    pthread_t threads[2];
+    MUST(wz_shared_open(&crossed, &limits, sizes, 3, members, 6));
+    for (size_t i = 0; i < 2; i++) pthread_create(&threads[i], NULL, crossed_rank, (void *)i);
+    for (int i = 0; i < 2; i++) pthread_join(threads[i], NULL);
+    MUST(wz_shared_close(&crossed));
 }
 
 static void *rank(void *number) {
@@ -178,6 +244,7 @@ static void *rank(void *number) {
     overlap(me);
     reversed(me);
     refused(me);
+    lists(me);
     counted(me);
     long_rows(me);
     stall(me);
@@ -202,7 +269,11 @@ int main(int argc, char **argv) {
     for (size_t i = 0; i < (size_t)ranks; i++) pthread_create(&threads[i], NULL, rank, (void *)i);
     for (int i = 0; i < ranks; i++) pthread_join(threads[i], NULL);
     pthread_barrier_destroy(&together);
+    uint64_t lent = 9;
+    MUST(wz_shared_lent(&shared, &lent));
+    HOLDS(lent == 0); /* of the stall's barriers, which have no bytes */
     MUST(wz_shared_close(&shared));
+    crossed_barriers();
     puts("threads: all as it should be");
     return 0;
 }

@@ -1,86 +1,20 @@
-use std::sync::{Condvar, Mutex, MutexGuard};
+use std::fmt;
+use std::sync::Condvar;
 
 use crate::call::{Call, Kind, Type};
-use crate::list::List;
-use crate::raw::{self, RawCall, RawEngine, RawLimits, RawPosted, RawReason, RawRequest};
+use crate::element::{values_of, Element};
+use crate::lock::{Guard, Lock};
+use crate::raw::{self, RawAbout, RawCall, RawEngine, RawLimits, RawPosted, RawReason, RawRequest};
 use crate::refusal::{Field, Refusal, Rule};
-
-/// What an engine is opened with. `Limits::default()` has the greatest numbers.
-#[derive(Clone, Copy, Debug, PartialEq, Eq)]
-pub struct Limits {
-    /// The most live requests at one time: 1 to 4,096.
-    pub slots: u32,
-    /// The most posts and initialisations of one member on one communicator: 1 to 65,536.
-    pub places: u32,
-    /// How many requests one slot is given to, one after the other: 1 or more.
-    pub wear: u32,
-    /// The most starts of one request: 1 to 1,048,576.
-    pub starts: u32,
-}
-
-impl Default for Limits {
-    fn default() -> Limits {
-        Limits { slots: 4_096, places: 65_536, wear: u32::MAX, starts: 1_048_576 }
-    }
-}
-
-/// How far a request is (MPI 4.1, 3.7.3 and 3.9).
-#[derive(Clone, Copy, Debug, PartialEq, Eq)]
-pub enum Phase {
-    /// Persistent, and not started since it was made or completed.
-    Idle,
-    /// Started, and not done.
-    Pending,
-    /// It can be completed.
-    Done,
-}
-
-/// A rank's request. It is null once it was completed, if it isn't persistent, or freed. A request of one engine that is used
-/// with another is refused, or names a request of the same rank there.
-#[derive(Debug, PartialEq, Eq)]
-pub struct Request {
-    rank: u8,
-    raw: RawRequest,
-}
-
-impl Request {
-    /// The rank that posted or made it.
-    pub fn rank(&self) -> u8 {
-        self.rank
-    }
-
-    /// Whether it names nothing any longer.
-    pub fn is_null(&self) -> bool {
-        self.raw.generation == 0
-    }
-
-    pub(crate) fn of(rank: u8, raw: RawRequest) -> Request {
-        Request { rank, raw }
-    }
-
-    pub(crate) fn raw(&self) -> RawRequest {
-        self.raw
-    }
-}
-
-/// What all members of a communicator that have a place of the posting lists have there.
-#[derive(Clone, Debug, PartialEq, Eq)]
-pub struct Posted {
-    /// The collective.
-    pub call: Call,
-    /// Whether it is persistent.
-    pub persistent: bool,
-    /// Of an allgatherv, the elements that each member gives; else empty.
-    pub counts: Vec<u32>,
-}
+use crate::request::{About, Limits, Phase, Posted, Request};
 
 /// The engine's state under the lock.
-struct Held {
-    raw: RawEngine,
+pub(crate) struct Held {
+    pub(crate) raw: RawEngine,
     /// By rank, what its thread waits for.
     awaited: Vec<Option<RawRequest>>,
     left: Vec<bool>,
-    stalled: bool,
+    pub(crate) stalled: bool,
 }
 
 // The engine behind the pointer is plain data in memory of malloc, and goes to one call at a time, under the lock.
@@ -88,7 +22,7 @@ unsafe impl Send for Held {}
 
 /// An engine that the threads of a process share: each rank is played by one thread at a time.
 pub struct Engine {
-    held: Mutex<Held>,
+    held: Lock<Held>,
     /// By rank.
     woken: Vec<Condvar>,
     /// By communicator, how many members it has.
@@ -126,13 +60,12 @@ impl Engine {
             starts: limits.starts,
         };
         // SAFETY: the engine is closed, and both lists are as long as is said.
-        let code = unsafe {
-            raw::wz_open(&mut raw, &limits, sizes.as_ptr(), sizes.len(), members.as_ptr(), members.len())
-        };
+        let code =
+            unsafe { raw::wz_open(&mut raw, &limits, sizes.as_ptr(), sizes.len(), members.as_ptr(), members.len()) };
         answer(code, &raw.reason)?;
         let ranks = usize::from(ranks);
         Ok(Engine {
-            held: Mutex::new(Held { raw, awaited: vec![None; ranks], left: vec![false; ranks], stalled: false }),
+            held: Lock::new(Held { raw, awaited: vec![None; ranks], left: vec![false; ranks], stalled: false }),
             woken: (0..ranks).map(|_| Condvar::new()).collect(),
             sizes,
         })
@@ -147,9 +80,7 @@ impl Engine {
         let mut held = self.lock();
         let mut raw = RawRequest::default();
         // SAFETY: the engine is open and this thread has the lock; the bytes are as many as is said.
-        let code = unsafe {
-            raw::wz_post(&mut held.raw, rank, comm, &call, bytes.as_ptr(), bytes.len(), &mut raw)
-        };
+        let code = unsafe { raw::wz_post(&mut held.raw, rank, comm, &call, bytes.as_ptr(), bytes.len(), &mut raw) };
         answer(code, &held.raw.reason)?;
         held.stalled = false;
         self.progress(&mut held).ok();
@@ -216,9 +147,8 @@ impl Engine {
         let mut raw = RawRequest::default();
         let many = few(counts)?;
         // SAFETY: the engine is open and this thread has the lock; the list is as long as is said.
-        let code = unsafe {
-            raw::wz_init_allgatherv(&mut held.raw, rank, comm, ty as u8, counts.as_ptr(), many, &mut raw)
-        };
+        let code =
+            unsafe { raw::wz_init_allgatherv(&mut held.raw, rank, comm, ty as u8, counts.as_ptr(), many, &mut raw) };
         answer(code, &held.raw.reason)?;
         Ok(Request { rank, raw })
     }
@@ -231,9 +161,7 @@ impl Engine {
     pub fn start(&self, request: &Request, bytes: &[u8]) -> Result<(), Refusal> {
         let mut held = self.lock();
         // SAFETY: the engine is open and this thread has the lock; the bytes are as many as is said.
-        let code = unsafe {
-            raw::wz_start(&mut held.raw, request.rank, &request.raw, bytes.as_ptr(), bytes.len())
-        };
+        let code = unsafe { raw::wz_start(&mut held.raw, request.rank, &request.raw, bytes.as_ptr(), bytes.len()) };
         answer(code, &held.raw.reason)?;
         held.stalled = false;
         self.progress(&mut held).ok();
@@ -277,99 +205,67 @@ impl Engine {
     ///
     /// Those of `test`, and Stalled where each rank waits or has left; the request can still be completed.
     pub fn wait(&self, request: &mut Request, out: &mut [u8]) -> Result<usize, Refusal> {
-        let rank = usize::from(request.rank);
         let mut held = self.lock();
         loop {
             if let Some(count) = self.test_held(&mut held, request, out)? {
                 return Ok(count);
             }
-            if held.stalled {
-                return Err(Refusal::Stalled);
-            }
-            held.awaited[rank] = Some(request.raw);
-            self.judge(&mut held);
-            while held.awaited[rank].is_some() {
-                held = self.woken[rank].wait(held).unwrap_or_else(|poisoned| poisoned.into_inner());
-            }
+            held = self.sleep(held, request.rank, request.raw)?;
         }
     }
 
-    /// Completes the lowest request of a list that is done (`MPI_Testany`): its outcome stands at the front of its span of `out`. Ok
-    /// with its position, or with none where no request is active.
+    /// Completes a request as `wait` does: the bytes of its outcome, none of a request that is null or not active.
     ///
     /// # Errors
     ///
-    /// Pending where some are active and none is done. Stale, BadLength where the outcome has more bytes than its span, and
-    /// NoMemory; the requests can still be completed.
-    pub fn test_any(&self, list: &mut List, out: &mut [u8]) -> Result<Option<usize>, ListRefusal> {
-        let mut held = self.lock();
-        self.progress(&mut held)?;
-        let mut index = 0;
-        let (rank, parts) = (list.rank(), list.parts());
-        // SAFETY: the engine is open and this thread has the lock; list and memory are as long as is said.
-        let code = unsafe {
-            let (parts, many) = (parts.as_mut_ptr(), parts.len());
-            raw::wz_test_any(&mut held.raw, rank, parts, many, out.as_mut_ptr(), out.len(), &mut index)
-        };
-        list_answer(code, &held.raw.reason)?;
-        Ok(Some(index).filter(|index| *index != UNDEFINED))
+    /// Stale, NoMemory, and Stalled where each rank waits or has left; the request can still be completed.
+    pub fn wait_bytes(&self, request: &mut Request) -> Result<Vec<u8>, Refusal> {
+        let mut out = vec![0; self.room(request)?];
+        let count = self.wait(request, &mut out)?;
+        out.truncate(count);
+        Ok(out)
     }
 
-    /// Completes all requests of a list that are done (`MPI_Testsome`), as `test_any` does one. Ok with their number, or with none
-    /// where no request is active.
+    /// Completes a request as `wait_bytes` does: the values of its outcome's elements.
     ///
     /// # Errors
     ///
-    /// Stale, BadLength where an outcome has more bytes than its span, and NoMemory; the requests can still be completed.
-    pub fn test_some(&self, list: &mut List, out: &mut [u8]) -> Result<Option<usize>, ListRefusal> {
-        let mut held = self.lock();
-        self.progress(&mut held)?;
-        let mut completed = 0;
-        let (rank, parts) = (list.rank(), list.parts());
-        // SAFETY: the engine is open and this thread has the lock; list and memory are as long as is said.
-        let code = unsafe {
-            let (parts, many) = (parts.as_mut_ptr(), parts.len());
-            raw::wz_test_some(&mut held.raw, rank, parts, many, out.as_mut_ptr(), out.len(), &mut completed)
-        };
-        list_answer(code, &held.raw.reason)?;
-        Ok(Some(completed).filter(|completed| *completed != UNDEFINED))
+    /// Those of `wait_bytes`, and BadLength where the outcome isn't made of such elements.
+    pub fn wait_values<T: Element>(&self, request: &mut Request) -> Result<Vec<T>, Refusal> {
+        let room = self.room(request)?;
+        if room % T::BYTES != 0 {
+            return Err(Refusal::BadLength { want: T::BYTES as u32, got: room % T::BYTES });
+        }
+        values_of(&self.wait_bytes(request)?)
     }
 
-    /// Completes all requests of a list if none is pending (`MPI_Testall`), as `test_some` does.
+    /// What a live request is.
     ///
     /// # Errors
     ///
-    /// Pending where one is. Those of `test_some`.
-    pub fn test_all(&self, list: &mut List, out: &mut [u8]) -> Result<(), ListRefusal> {
+    /// Stale.
+    pub fn about(&self, request: &Request) -> Result<About, Refusal> {
         let mut held = self.lock();
-        self.progress(&mut held)?;
-        let (rank, parts) = (list.rank(), list.parts());
-        // SAFETY: the engine is open and this thread has the lock; list and memory are as long as is said.
-        let code = unsafe {
-            let (parts, many) = (parts.as_mut_ptr(), parts.len());
-            raw::wz_test_all(&mut held.raw, rank, parts, many, out.as_mut_ptr(), out.len())
-        };
-        list_answer(code, &held.raw.reason)
+        let mut about = RawAbout::default();
+        // SAFETY: the engine is open, and this thread has the lock.
+        let code = unsafe { raw::wz_about(&mut held.raw, &request.raw, &mut about) };
+        answer(code, &held.raw.reason)?;
+        let RawAbout { rank, persistent, comm, place, starts } = about;
+        Ok(About { rank, persistent, comm, place, starts })
     }
 
-    /// Starts the requests of a list one after the other (`MPI_Startall`), each with the bytes of its span of `given`.
+    /// The bytes of the outcome that a live request will have, or has.
     ///
     /// # Errors
     ///
-    /// The position of the first whose start is refused, with that refusal; those before it are started.
-    pub fn start_all(&self, list: &mut List, given: &[u8]) -> Result<(), (usize, Refusal)> {
+    /// Stale.
+    pub fn outcome_length(&self, request: &Request) -> Result<usize, Refusal> {
         let mut held = self.lock();
-        let mut started = 0;
-        let (rank, parts) = (list.rank(), list.parts());
-        // SAFETY: the engine is open and this thread has the lock; list and memory are as long as is said.
-        let code = unsafe {
-            let (parts, many) = (parts.as_ptr(), parts.len());
-            raw::wz_start_all(&mut held.raw, rank, parts, many, given.as_ptr(), given.len(), &mut started)
-        };
-        let answer = answer(code, &held.raw.reason);
-        held.stalled = false;
-        self.progress(&mut held).ok();
-        answer.map_err(|why| (started, why))
+        let mut bytes = 0;
+        // SAFETY: the engine is open, and this thread has the lock.
+        let code = unsafe { raw::wz_outcome_length(&mut held.raw, request.rank, &request.raw, &mut bytes) };
+        answer(code, &held.raw.reason)?;
+        Ok(bytes)
     }
 
     /// The collective that the members of a communicator have at a place of their posting lists, from 0 on: all that have the place
@@ -410,9 +306,39 @@ impl Engine {
         bytes
     }
 
-    /// The lock; a thread that panicked left the engine between two calls.
-    fn lock(&self) -> MutexGuard<'_, Held> {
-        self.held.lock().unwrap_or_else(|poisoned| poisoned.into_inner())
+    /// Sleeps until a request of a rank isn't pending any longer, or progress was refused memory.
+    ///
+    /// # Errors
+    ///
+    /// Stalled where each rank waits or has left.
+    pub(crate) fn sleep<'a>(
+        &'a self,
+        mut held: Guard<'a, Held>,
+        rank: u8,
+        request: RawRequest,
+    ) -> Result<Guard<'a, Held>, Refusal> {
+        if held.stalled {
+            return Err(Refusal::Stalled);
+        }
+        let rank = usize::from(rank);
+        held.awaited[rank] = Some(request);
+        self.judge(&mut held);
+        while held.awaited[rank].is_some() {
+            held = held.wait(&self.woken[rank]);
+        }
+        Ok(held)
+    }
+
+    /// The bytes that a wait for a request may write.
+    fn room(&self, request: &Request) -> Result<usize, Refusal> {
+        if request.is_null() {
+            return Ok(0);
+        }
+        self.outcome_length(request)
+    }
+
+    pub(crate) fn lock(&self) -> Guard<'_, Held> {
+        self.held.lock()
     }
 
     fn test_held(&self, held: &mut Held, request: &mut Request, out: &mut [u8]) -> Result<Option<usize>, Refusal> {
@@ -424,7 +350,7 @@ impl Engine {
     }
 
     /// Makes all progress, and wakes each rank whose awaited request isn't pending any longer.
-    fn progress(&self, held: &mut Held) -> Result<(), Refusal> {
+    pub(crate) fn progress(&self, held: &mut Held) -> Result<(), Refusal> {
         // SAFETY: the engine is open, and this thread has the lock.
         let code = unsafe { raw::wz_settle(&mut held.raw) };
         let settled = answer(code, &held.raw.reason);
@@ -453,9 +379,15 @@ impl Engine {
     }
 }
 
+impl fmt::Debug for Engine {
+    fn fmt(&self, f: &mut fmt::Formatter<'_>) -> fmt::Result {
+        f.debug_struct("Engine").field("ranks", &self.woken.len()).field("sizes", &self.sizes).finish_non_exhaustive()
+    }
+}
+
 impl Drop for Engine {
     fn drop(&mut self) {
-        let held = self.held.get_mut().unwrap_or_else(|poisoned| poisoned.into_inner());
+        let held = self.held.get_mut();
         // SAFETY: the engine is open, and nobody else has it.
         let code = unsafe { raw::wz_close(&mut held.raw) };
         debug_assert_eq!(code, 0);
@@ -471,39 +403,11 @@ fn few(counts: &[u32]) -> Result<usize, Refusal> {
     Ok(counts.len())
 }
 
-/// What a function over a list answers that has none of its requests active.
-const UNDEFINED: usize = usize::MAX;
-
-const PENDING: i32 = -1;
-const TWICE: i32 = 24;
+pub(crate) const PENDING: i32 = -1;
 const NO_PLACE: i32 = 25;
 
-/// Why the test of a list completed nothing.
-#[derive(Clone, Copy, Debug, PartialEq, Eq)]
-pub enum ListRefusal {
-    /// It is to be called again: nothing is done yet that it asks for.
-    Pending,
-    /// It was refused.
-    Refused(Refusal),
-}
-
-impl From<Refusal> for ListRefusal {
-    fn from(why: Refusal) -> ListRefusal {
-        ListRefusal::Refused(why)
-    }
-}
-
-fn list_answer(code: i32, reason: &RawReason) -> Result<(), ListRefusal> {
-    match code {
-        PENDING => Err(ListRefusal::Pending),
-        // Requests of two engines may have one name.
-        TWICE => Err(Refusal::Stale.into()),
-        code => Ok(answer(code, reason)?),
-    }
-}
-
 /// A function's answer; `reason` is that of the engine after the call.
-fn answer(code: i32, reason: &RawReason) -> Result<(), Refusal> {
+pub(crate) fn answer(code: i32, reason: &RawReason) -> Result<(), Refusal> {
     match code {
         0 => Ok(()),
         code => Err(Refusal::of(code, reason)),
@@ -513,9 +417,8 @@ fn answer(code: i32, reason: &RawReason) -> Result<(), Refusal> {
 fn test_once(held: &mut Held, request: &mut Request, out: &mut [u8]) -> Result<Option<usize>, Refusal> {
     let mut count = 0;
     // SAFETY: the engine is open and this thread has the lock; the memory is as long as is said.
-    let code = unsafe {
-        raw::wz_test(&mut held.raw, request.rank, &mut request.raw, out.as_mut_ptr(), out.len(), &mut count)
-    };
+    let code =
+        unsafe { raw::wz_test(&mut held.raw, request.rank, &mut request.raw, out.as_mut_ptr(), out.len(), &mut count) };
     if code == PENDING {
         return Ok(None);
     }
@@ -523,7 +426,7 @@ fn test_once(held: &mut Held, request: &mut Request, out: &mut [u8]) -> Result<O
     Ok(Some(count))
 }
 
-fn phase(held: &mut Held, rank: u8, request: &RawRequest) -> Result<Phase, Refusal> {
+pub(crate) fn phase(held: &mut Held, rank: u8, request: &RawRequest) -> Result<Phase, Refusal> {
     let mut number = 0;
     // SAFETY: the engine is open, and this thread has the lock.
     let code = unsafe { raw::wz_phase(&mut held.raw, rank, request, &mut number) };

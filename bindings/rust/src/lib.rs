@@ -3,7 +3,7 @@
 //! The engine beneath is proved; this crate, which puts a lock round it, is not.
 //!
 //! ```
-//! use worzsunab::{Call, Engine, Op, Type};
+//! use worzsunab::{bytes_of, Call, Engine, Op, Type};
 //!
 //! let engine = Engine::of_ranks(4)?;
 //! std::thread::scope(|threads| {
@@ -11,24 +11,38 @@
 //!         let engine = &engine;
 //!         threads.spawn(move || {
 //!             let sum_of_all = Call::allreduce(Op::Sum, Type::I32, 1);
-//!             let mut request = engine.post(rank, 0, sum_of_all, &i32::from(rank).to_le_bytes()).unwrap();
-//!             let mut sum = [0; 4];
-//!             engine.wait(&mut request, &mut sum).unwrap();
-//!             assert_eq!(i32::from_le_bytes(sum), 6);
+//!             let mut request = engine.post(rank, 0, sum_of_all, &bytes_of(&[i32::from(rank)])).unwrap();
+//!             // The call is under way: here the rank computes something else.
+//!             assert_eq!(engine.wait_values(&mut request), Ok(vec![6_i32]));
 //!         });
 //!     }
 //! });
 //! # Ok::<(), worzsunab::Refusal>(())
 //! ```
+//!
+//! | | |
+//! |---|---|
+//! | [`Engine`] | posts, starts, completes and tells of requests |
+//! | [`Call`] | a collective: one function for each of MPI's |
+//! | [`Request`], [`List`] | one request, and several that are tested or started together |
+//! | [`bytes_of`], [`values_of`] | numbers as bytes, and back |
+//! | [`Refusal`] | why a call was refused, with what is known of it: it prints as a sentence |
 #![deny(missing_docs, unsafe_op_in_unsafe_fn)]
 
 mod call;
+mod element;
 mod engine;
 mod list;
+mod listing;
+mod lock;
 mod raw;
 mod refusal;
+mod request;
 
 pub use call::{Call, Kind, Op, Type};
-pub use engine::{Engine, Limits, ListRefusal, Phase, Posted, Request};
+pub use element::{bytes_of, values_of, Element};
+pub use engine::Engine;
 pub use list::List;
+pub use listing::{ListRefusal, Stopped};
 pub use refusal::{Field, Mismatch, Refusal, Rule};
+pub use request::{About, Limits, Phase, Posted, Request};

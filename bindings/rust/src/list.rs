@@ -1,5 +1,5 @@
-use crate::engine::Request;
-use crate::raw::{RawPart, RawRequest};
+use crate::raw::RawPart;
+use crate::request::Request;
 
 /// Requests of one rank, each with a span of the memory that belongs to the list: in a test for its outcome, in a start for the
 /// bytes that it is given.
@@ -24,7 +24,7 @@ impl List {
         if request.rank() != self.rank {
             return Err(request);
         }
-        self.parts.push(RawPart { request: request.raw(), at, room, count: 0, completed: false });
+        self.parts.push(RawPart { request: request.raw, at, room, count: 0, completed: false });
         Ok(())
     }
 
@@ -43,10 +43,16 @@ impl List {
         self.parts.get(position).filter(|part| part.completed).map(|part| part.count)
     }
 
+    /// The requests that the last test completed, by their positions in rising order, each with its outcome in the memory of that test.
+    pub fn outcomes<'a>(&'a self, out: &'a [u8]) -> impl Iterator<Item = (usize, &'a [u8])> + 'a {
+        let parts = self.parts.iter().enumerate().filter(|(_, part)| part.completed);
+        parts.filter_map(|(position, part)| Some((position, out.get(part.at..)?.get(..part.count)?)))
+    }
+
     /// Takes a request out, and leaves a null one.
     pub fn take(&mut self, position: usize) -> Option<Request> {
         let part = self.parts.get_mut(position)?;
-        Some(Request::of(self.rank, std::mem::replace(&mut part.request, RawRequest::default())))
+        Some(Request { rank: self.rank, raw: std::mem::take(&mut part.request) })
     }
 
     pub(crate) fn rank(&self) -> u8 {

@@ -60,6 +60,16 @@ pub struct RawPart {
 }
 
 #[repr(C)]
+#[derive(Clone, Copy, Debug, Default)]
+pub struct RawAbout {
+    pub rank: u8,
+    pub persistent: bool,
+    pub comm: u32,
+    pub place: u32,
+    pub starts: u32,
+}
+
+#[repr(C)]
 pub struct RawLimits {
     pub ranks: u32,
     pub slots: u32,
@@ -87,13 +97,7 @@ extern "C" {
         length: usize,
         request: &mut RawRequest,
     ) -> i32;
-    pub fn wz_init(
-        engine: &mut RawEngine,
-        rank: u8,
-        comm: u32,
-        call: &Call,
-        request: &mut RawRequest,
-    ) -> i32;
+    pub fn wz_init(engine: &mut RawEngine, rank: u8, comm: u32, call: &Call, request: &mut RawRequest) -> i32;
     pub fn wz_post_allgatherv(
         engine: &mut RawEngine,
         rank: u8,
@@ -114,13 +118,7 @@ extern "C" {
         many: usize,
         request: &mut RawRequest,
     ) -> i32;
-    pub fn wz_start(
-        engine: &mut RawEngine,
-        rank: u8,
-        request: &RawRequest,
-        bytes: *const u8,
-        length: usize,
-    ) -> i32;
+    pub fn wz_start(engine: &mut RawEngine, rank: u8, request: &RawRequest, bytes: *const u8, length: usize) -> i32;
     pub fn wz_free(engine: &mut RawEngine, rank: u8, request: &mut RawRequest) -> i32;
     pub fn wz_test(
         engine: &mut RawEngine,
@@ -130,12 +128,7 @@ extern "C" {
         room: usize,
         count: &mut usize,
     ) -> i32;
-    pub fn wz_phase(
-        engine: &mut RawEngine,
-        rank: u8,
-        request: &RawRequest,
-        phase: &mut u8,
-    ) -> i32;
+    pub fn wz_phase(engine: &mut RawEngine, rank: u8, request: &RawRequest, phase: &mut u8) -> i32;
     pub fn wz_test_any(
         engine: &mut RawEngine,
         rank: u8,
@@ -171,6 +164,8 @@ extern "C" {
         length: usize,
         started: &mut usize,
     ) -> i32;
+    pub fn wz_about(engine: &mut RawEngine, request: &RawRequest, about: &mut RawAbout) -> i32;
+    pub fn wz_outcome_length(engine: &mut RawEngine, rank: u8, request: &RawRequest, bytes: &mut usize) -> i32;
     pub fn wz_posted_at(engine: &mut RawEngine, comm: u32, place: u32, posted: &mut RawPosted) -> i32;
     pub fn wz_settle(engine: &mut RawEngine) -> i32;
     pub fn wz_lent(engine: &mut RawEngine, bytes: &mut u64) -> i32;

@@ -143,6 +143,24 @@ impl Refusal {
     }
 }
 
+impl Refusal {
+    /// The name of the MPI error class that it stands for (MPI 4.1, 9.4).
+    pub fn mpi_class(&self) -> &'static str {
+        match self {
+            Refusal::BadComm { .. } => "MPI_ERR_COMM",
+            Refusal::NotMember { .. } => "MPI_ERR_RANK",
+            Refusal::BadSignature(Rule::Root) => "MPI_ERR_ROOT",
+            Refusal::BadSignature(Rule::Operation) => "MPI_ERR_OP",
+            Refusal::BadSignature(Rule::Count | Rule::Size) => "MPI_ERR_COUNT",
+            Refusal::BadLength { .. } => "MPI_ERR_TRUNCATE",
+            Refusal::Mismatch(_) | Refusal::BadConfig(_) => "MPI_ERR_ARG",
+            Refusal::Stale | Refusal::NotYours | Refusal::Active | Refusal::NotPersistent => "MPI_ERR_REQUEST",
+            Refusal::NoMemory => "MPI_ERR_NO_MEM",
+            Refusal::PlacesUsed | Refusal::StartsUsed | Refusal::Full | Refusal::Stalled => "MPI_ERR_OTHER",
+        }
+    }
+}
+
 impl Rule {
     fn of(number: u8) -> Rule {
         match number {

@@ -1,7 +1,11 @@
 //! Ranks as threads, and each refusal.
 
+use std::error::Error;
 use std::thread;
-use worzsunab::{Call, Engine, Field, Kind, Limits, List, ListRefusal, Mismatch, Op, Phase, Refusal, Request, Rule, Type};
+use worzsunab::{
+    bytes_of, values_of, About, Call, Element, Engine, Field, Kind, Limits, List, ListRefusal, Mismatch, Op, Phase,
+    Refusal, Request, Rule, Stopped, Type,
+};
 
 fn by_ranks(engine: &Engine, ranks: u8, body: impl Fn(&Engine, u8) + Sync) {
     thread::scope(|threads| {
@@ -177,7 +181,10 @@ fn members_of_an_allgatherv_give_as_many_as_is_counted() {
     });
     let counts = [1; 65];
     assert_eq!(engine.post_allgatherv(0, 0, Type::U8, &counts, &[1]).err(), Some(Refusal::BadSignature(Rule::Count)));
-    assert_eq!(engine.post_allgatherv(0, 0, Type::U8, &counts[..4], &[1]).err(), Some(Refusal::BadSignature(Rule::Count)));
+    assert_eq!(
+        engine.post_allgatherv(0, 0, Type::U8, &counts[..4], &[1]).err(),
+        Some(Refusal::BadSignature(Rule::Count))
+    );
     let short = Refusal::BadLength { want: 1, got: 2 };
     assert_eq!(engine.post_allgatherv(0, 0, Type::U8, &counts[..3], &[1, 2]).err(), Some(short));
 }
@@ -186,7 +193,7 @@ fn members_of_an_allgatherv_give_as_many_as_is_counted() {
 fn the_counts_of_a_mismatch_are_told() {
     let engine = Engine::of_ranks(2).unwrap();
     assert_eq!(engine.posted_at(0, 0), None);
-    engine.post_allgatherv(1, 0, Type::U16, &[2, 1], &[1, 0]).unwrap();
+    let _given = engine.post_allgatherv(1, 0, Type::U16, &[2, 1], &[1, 0]).unwrap();
     let Err(Refusal::Mismatch(other)) = engine.init_allgatherv(0, 0, Type::U16, &[1, 1]) else {
         panic!("the counts differ");
     };
@@ -208,13 +215,17 @@ fn lists_of_requests() {
     }
     let mut out = [0; 8];
     assert_eq!(engine.test_any(&mut mine, &mut out), Ok(None));
-    assert_eq!(engine.start_all(&mut mine, &[1; 6]), Err((1, Refusal::BadLength { want: 4, got: 2 })));
+    assert_eq!(
+        engine.start_all(&mut mine, &[1; 6]),
+        Err(Stopped { at: 1, why: Refusal::BadLength { want: 4, got: 2 } })
+    );
     assert_eq!(engine.test_any(&mut mine, &mut out), Err(ListRefusal::Pending));
     assert_eq!(engine.test_some(&mut mine, &mut out), Ok(Some(0)));
     engine.start_all(&mut yours, &[0, 0, 0, 1, 0, 0, 0, 2]).unwrap();
     assert_eq!(engine.test_all(&mut yours, &mut out), Err(ListRefusal::Pending));
     assert_eq!(engine.test_any(&mut yours, &mut out), Ok(Some(0)));
     assert_eq!((out, yours.completed(0), yours.completed(1)), ([1, 1, 1, 2, 0, 0, 0, 0], Some(4), None));
+    assert_eq!(yours.outcomes(&out).collect::<Vec<_>>(), [(0, &[1, 1, 1, 2][..])]);
     let first = mine.take(0).unwrap();
     assert_eq!(engine.test_all(&mut mine, &mut out), Ok(()));
     let second = mine.take(1).unwrap();
@@ -228,4 +239,65 @@ fn lists_of_requests() {
     assert_eq!(out[4..], [5, 5, 5, 7]);
     let other = engine.init(1, 0, SUM()).unwrap();
     assert!(mine.push(other, 0, 4).is_err());
+}
+
+#[test]
+fn numbers_are_given_and_got() {
+    let engine = Engine::of_ranks(3).unwrap();
+    by_ranks(&engine, 3, |engine, rank| {
+        let rows = Call::exscan(Op::Prod, i64::TYPE, 2);
+        let mut request = engine.post(rank, 0, rows, &bytes_of(&[-2_i64, i64::from(rank) + 1])).unwrap();
+        let length = if rank == 0 { 0 } else { 16 };
+        assert_eq!(engine.outcome_length(&request), Ok(length));
+        let about = About { rank, persistent: false, comm: 0, place: 0, starts: 1 };
+        assert_eq!(engine.about(&request), Ok(about));
+        let short = Refusal::BadLength { want: 8, got: 4 };
+        let wants = [vec![], vec![-2, 1], vec![4, 2]];
+        assert_eq!(engine.wait_values::<i64>(&mut request).as_ref(), Ok(&wants[usize::from(rank)]));
+        assert_eq!(engine.wait_values::<i64>(&mut request), Ok(vec![]));
+        assert_eq!(
+            (engine.about(&request), engine.outcome_length(&request)),
+            (Err(Refusal::Stale), Err(Refusal::Stale))
+        );
+        let mut four = engine.post(rank, 0, SUM(), &bytes_of(&[1_i32])).unwrap();
+        assert_eq!(engine.wait_values::<i64>(&mut four), Err(short));
+        assert_eq!(engine.wait_bytes(&mut four), Ok(vec![3, 0, 0, 0]));
+    });
+    assert_eq!(values_of::<u16>(&[1, 2, 3]), Err(Refusal::BadLength { want: 2, got: 1 }));
+    assert_eq!(format!("{engine:?}"), "Engine { ranks: 3, sizes: [3], .. }");
+}
+
+#[test]
+fn what_is_refused_is_an_error() {
+    let told = |why: &dyn Error| why.to_string();
+    let full = Refusal::Full;
+    assert_eq!(told(&full), "no request slot is free");
+    assert_eq!(told(&ListRefusal::from(full)), told(&full));
+    assert_eq!(told(&ListRefusal::Pending), "what is asked for of the list isn't done yet");
+    assert_eq!(told(&Stopped { at: 2, why: full }), "request 2 of the list isn't started: no request slot is free");
+    assert_eq!((full.mpi_class(), Refusal::Stale.mpi_class()), ("MPI_ERR_OTHER", "MPI_ERR_REQUEST"));
+}
+
+#[test]
+fn a_list_is_waited_for() {
+    let engine = Engine::of_ranks(4).unwrap();
+    by_ranks(&engine, 4, |engine, rank| {
+        let mut list = List::new(rank);
+        for i in 0..3 {
+            list.push(engine.init(rank, 0, SUM()).unwrap(), 4 * i, 4).unwrap();
+        }
+        for start in 0..100 {
+            engine.start_all(&mut list, &bytes_of(&[start, i32::from(rank), 1])).unwrap();
+            let mut out = [0; 12];
+            engine.wait_all(&mut list, &mut out).unwrap();
+            assert_eq!(values_of(&out), Ok(vec![4 * start, 6, 4]));
+        }
+        assert_eq!(engine.wait_all(&mut list, &mut []), Ok(()));
+        if rank == 3 {
+            engine.leave(rank);
+            return;
+        }
+        engine.start_all(&mut list, &[0; 12]).unwrap();
+        assert_eq!(engine.wait_all(&mut list, &mut [0; 12]), Err(Refusal::Stalled));
+    });
 }

@@ -1,0 +1,167 @@
+/* Each allocation of each call is refused in turn: the call answers WZ_NO_MEMORY with nothing changed, and once there is memory it is done.
+   To be linked with -Wl,--wrap=malloc -Wl,--wrap=realloc. One thread plays all ranks. */
+#include <stdio.h>
+#include <stdlib.h>
+#include <string.h>
+
+#include "worzsunab_threads.h"
+
+/* The allocation that is refused, counted from 1 on; 0: none. */
+static long refused;
+/* How many calls were refused memory. */
+static long refusals;
+
+void *__real_malloc(size_t size);
+void *__real_realloc(void *old, size_t size);
+void *__wrap_malloc(size_t size);
+void *__wrap_realloc(void *old, size_t size);
+
+void *__wrap_malloc(size_t size) { return refused > 0 && --refused == 0 ? NULL : __real_malloc(size); }
+
+void *__wrap_realloc(void *old, size_t size) { return refused > 0 && --refused == 0 ? NULL : __real_realloc(old, size); }
+
+#define HOLDS(fact)                                                                    \
+    do {                                                                               \
+        if (!(fact)) {                                                                 \
+            fprintf(stderr, "%s:%d: not so: %s\n", __FILE__, __LINE__, #fact);         \
+            exit(1);                                                                   \
+        }                                                                              \
+    } while (0)
+
+/* Makes a call again and again, each time with a later allocation refused, until it is done; `same` holds after each refusal. */
+#define WITH_LITTLE(call, same)                                                        \
+    do {                                                                               \
+        int32_t code_ = WZ_NO_MEMORY;                                                  \
+        for (long at_ = 1; code_ != WZ_DONE; at_++) {                                  \
+            refused = at_;                                                             \
+            code_ = (call);                                                            \
+            if (code_ != WZ_DONE) {                                                    \
+                HOLDS(code_ == WZ_NO_MEMORY && refused == 0 && at_ < 1000);            \
+                HOLDS(same);                                                           \
+                refusals++;                                                            \
+            }                                                                          \
+            refused = 0;                                                               \
+        }                                                                              \
+    } while (0)
+
+/* A call that takes no memory. */
+#define WITHOUT(call)                                                                  \
+    do {                                                                               \
+        refused = 1;                                                                   \
+        HOLDS((call) == WZ_DONE && refused == 1);                                      \
+        refused = 0;                                                                   \
+    } while (0)
+
+static const uint8_t members[2] = { 0, 1 };
+static const uint8_t two = 2;
+
+static uint64_t lent(wz_engine *engine) {
+    uint64_t bytes = 0;
+    WITHOUT(wz_lent(engine, &bytes));
+    return bytes;
+}
+
+static bool is(wz_engine *engine, uint8_t rank, const wz_request *request, uint8_t phase) {
+    uint8_t found = 9;
+    WITHOUT(wz_phase(engine, rank, request, &found));
+    return found == phase;
+}
+
+/* Rows of `count` numbers: a sum of two ranks, started twice as a persistent one, and posted once. */
+static void sums(uint32_t count) {
+    enum { MOST = 600 };
+    static int32_t given[MOST], got[MOST];
+    wz_engine engine = WZ_CLOSED_ENGINE;
+    wz_limits limits = wz_greatest_limits(2);
+    wz_call sum = { WZ_ALLREDUCE, WZ_SUM, WZ_INT32, 0, count };
+    wz_request requests[2] = { WZ_NULL_REQUEST, WZ_NULL_REQUEST }, once[2] = { WZ_NULL_REQUEST, WZ_NULL_REQUEST };
+    size_t bytes = 4 * count, out = 9;
+    limits.slots = 8;
+    for (uint32_t i = 0; i < count; i++) given[i] = (int32_t)i;
+    WITH_LITTLE(wz_open(&engine, &limits, &two, 1, members, 2), !engine.opened && engine.at == NULL);
+    for (uint8_t rank = 0; rank < 2; rank++)
+        WITH_LITTLE(wz_init(&engine, rank, 0, &sum, &requests[rank]), requests[rank].generation == 0 && lent(&engine) == 0);
+    for (int start = 0; start < 2; start++) {
+        for (uint8_t rank = 0; rank < 2; rank++)
+            WITH_LITTLE(wz_start(&engine, rank, &requests[rank], given, bytes),
+                        is(&engine, rank, &requests[rank], WZ_IDLE) && lent(&engine) == 2 * bytes * rank);
+        WITH_LITTLE(wz_settle(&engine), lent(&engine) == 4 * bytes);
+        for (uint8_t rank = 0; rank < 2; rank++) {
+            WITHOUT(wz_test(&engine, rank, &requests[rank], got, bytes, &out));
+            HOLDS(out == bytes);
+            for (uint32_t i = 0; i < count; i++) HOLDS(got[i] == 2 * (int32_t)i);
+        }
+    }
+    for (uint8_t rank = 0; rank < 2; rank++) WITHOUT(wz_free(&engine, rank, &requests[rank]));
+    for (uint8_t rank = 0; rank < 2; rank++)
+        WITH_LITTLE(wz_post(&engine, rank, 0, &sum, given, bytes, &once[rank]),
+                    once[rank].generation == 0 && lent(&engine) == 2 * bytes * rank);
+    for (int combinations = 0; combinations < 2; combinations++) {
+        wz_work work = WZ_EMPTY_WORK;
+        WITH_LITTLE(wz_take_work(&engine, &work), !work.full && lent(&engine) == 4 * bytes);
+        WITH_LITTLE(wz_run_work(&work), work.full);
+        WITHOUT(wz_return_work(&engine, &work));
+    }
+    WITH_LITTLE(wz_settle(&engine), lent(&engine) == 4 * bytes);
+    for (uint8_t rank = 0; rank < 2; rank++) {
+        WITHOUT(wz_test(&engine, rank, &once[rank], got, bytes, &out));
+        for (uint32_t i = 0; i < count; i++) HOLDS(got[i] == 2 * (int32_t)i);
+    }
+    WITHOUT(wz_close(&engine));
+}
+
+static void counted(void) {
+    wz_engine engine = WZ_CLOSED_ENGINE;
+    wz_limits limits = wz_greatest_limits(2);
+    wz_request requests[2] = { WZ_NULL_REQUEST, WZ_NULL_REQUEST };
+    uint32_t counts[2] = { 2, 1 };
+    int16_t given[2] = { 5, 6 }, got[3];
+    size_t out = 9;
+    HOLDS(wz_open(&engine, &limits, &two, 1, members, 2) == WZ_DONE);
+    for (uint8_t rank = 0; rank < 2; rank++)
+        WITH_LITTLE(wz_post_allgatherv(&engine, rank, 0, WZ_INT16, counts, 2, given, 2 * counts[rank], &requests[rank]),
+                    requests[rank].generation == 0);
+    WITH_LITTLE(wz_settle(&engine), lent(&engine) == 18);
+    for (uint8_t rank = 0; rank < 2; rank++) {
+        WITHOUT(wz_test(&engine, rank, &requests[rank], got, sizeof got, &out));
+        HOLDS(out == 6 && got[0] == 5 && got[1] == 6 && got[2] == 5);
+    }
+    WITHOUT(wz_close(&engine));
+}
+
+/* Under the shim a post that was made is done, also where the progress behind it was refused memory; a wait meets that. */
+static void shim(void) {
+    static wz_shared shared;
+    wz_call sum = { WZ_ALLREDUCE, WZ_SUM, WZ_INT32, 0, 1 };
+    for (long at = 1; at < 60; at++) {
+        wz_request requests[2] = { WZ_NULL_REQUEST, WZ_NULL_REQUEST };
+        HOLDS(wz_shared_open_world(&shared, 2) == WZ_DONE);
+        for (uint8_t rank = 0; rank < 2; rank++) {
+            int32_t one = 1;
+            refused = at;
+            int32_t code = wz_shared_post(&shared, rank, 0, &sum, &one, sizeof one, &requests[rank]);
+            refused = 0;
+            HOLDS(code == WZ_DONE || (code == WZ_NO_MEMORY && wz_shared_reason(&shared, rank).code == WZ_NO_MEMORY));
+            if (code == WZ_DONE) continue;
+            refusals++;
+            HOLDS(wz_shared_post(&shared, rank, 0, &sum, &one, sizeof one, &requests[rank]) == WZ_DONE);
+        }
+        for (uint8_t rank = 0; rank < 2; rank++) {
+            int32_t got = 0;
+            size_t count = 9;
+            WITH_LITTLE(wz_shared_wait(&shared, rank, &requests[rank], &got, sizeof got, &count), requests[rank].generation != 0);
+            HOLDS(got == 2 && count == 4);
+        }
+        HOLDS(wz_shared_close(&shared) == WZ_DONE);
+    }
+}
+
+int main(void) {
+    sums(1);
+    sums(600); /* long enough to be shared, not copied */
+    counted();
+    shim();
+    HOLDS(refusals > 50);
+    puts("memory: all as it should be");
+    return 0;
+}

@@ -1,0 +1,44 @@
+//! Four ranks, each a thread: a sum of their numbers, and one that is started a thousand times.
+
+use std::thread;
+
+use worzsunab::{bytes_of, Call, Engine, Op, Refusal, Type};
+
+const RANKS: u8 = 4;
+const STARTS: i32 = 1_000;
+
+/// What one rank does: the sum that it gets, and the last one of the persistent request.
+fn rank(engine: &Engine, me: u8) -> Result<(i32, i32), Refusal> {
+    let mine = i32::from(me);
+    let sum_of_all = Call::allreduce(Op::Sum, Type::I32, 1);
+    let mut once = engine.post(me, 0, sum_of_all, &bytes_of(&[mine]))?;
+    // The call is under way: here the rank computes something else.
+    let sums: Vec<i32> = engine.wait_values(&mut once)?;
+    let mut again = engine.init(me, 0, sum_of_all)?;
+    let mut last = [0; 4];
+    for start in 0..STARTS {
+        engine.start(&again, &(mine + start).to_le_bytes())?;
+        engine.wait(&mut again, &mut last)?;
+    }
+    engine.free(&mut again)?;
+    Ok((sums[0], i32::from_le_bytes(last)))
+}
+
+fn main() -> Result<(), Refusal> {
+    let engine = Engine::of_ranks(RANKS)?;
+    let by_rank = |me| {
+        let sums = rank(&engine, me);
+        engine.leave(me);
+        sums
+    };
+    thread::scope(|threads| {
+        let ranks: Vec<_> = (0..RANKS).map(|me| threads.spawn(move || by_rank(me))).collect();
+        for (me, ended) in ranks.into_iter().enumerate() {
+            match ended.join().expect("no rank panics") {
+                Ok((sum, last)) => println!("rank {me}: {sum}, at last {last}"),
+                Err(why) => println!("rank {me}: {why}"),
+            }
+        }
+    });
+    Ok(())
+}
