@@ -1,6 +1,8 @@
 //! A refusal in one sentence, with its data.
 
+use crate::limits::MAX_RANKS;
 use crate::refusal::{ConfigField, Refusal, SignatureFault};
+use crate::signature::Signature;
 use std::fmt;
 
 /// Prints a refusal as a sentence that names its data, without the full stop.
@@ -31,11 +33,27 @@ impl fmt::Display for Sentence {
                 place,
                 first,
                 kind,
-                ..
-            } => write!(
-                f,
-                "rank {first} has another collective at place {place}, {kind}"
-            ),
+                mode,
+                root,
+                op,
+                ty,
+                count,
+            } => {
+                let other = Signature {
+                    kind,
+                    mode,
+                    root,
+                    op,
+                    ty,
+                    count,
+                    // A refusal has no counts of an allgatherv, and none is printed where all are 0.
+                    each: kind.has_counts().then_some([0; MAX_RANKS]),
+                };
+                write!(
+                    f,
+                    "rank {first} has another collective at place {place}: {other}"
+                )
+            }
             Refusal::StillActive { rank } => write!(f, "rank {rank} has an active request"),
             Refusal::BadConfig { field } => f.write_str(bad_field(field)),
             why => f.write_str(plain(why)),
