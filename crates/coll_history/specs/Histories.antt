@@ -45,11 +45,6 @@ abbrev pub given_at_once : Command → List (List ℕ)
 given_at_once (Post comm sig given) = given ∷ []
 given_at_once command = []
 
--- what a start gives to request q
-abbrev pub gift : ℕ → Command → Option (List ℕ)
-gift q (Start other given) = if other == q then Some given else None
-gift q command = None
-
 -- whether it is a start of request q
 abbrev pub starts : ℕ → Command → Bool
 starts q (Start other given) = other == q

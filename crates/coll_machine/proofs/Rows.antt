@@ -27,14 +27,14 @@ below_two P zero one m lt = go (cases_eq m 0) (cases_eq m 1)
 there : (o : Option (List ℕ)) (a : List ℕ) → o ≡ Some a → o ≢ None
 there o a e none = none-some a (sym none ∙ e)
 
-abbrev Gifts : Type 0
-Gifts = ℕ → Option (List ℕ)
+abbrev Contributions : Type 0
+Contributions = ℕ → Option (List ℕ)
 
 -- an allgather needs both, a bcast its root
-needed_all : (given : Gifts) (a b : List ℕ) → given 0 ≡ Some a → given 1 ≡ Some b → (r m : ℕ) → needs gather 2 r m ≡ true → given m ≢ None
+needed_all : (given : Contributions) (a b : List ℕ) → given 0 ≡ Some a → given 1 ≡ Some b → (r m : ℕ) → needs gather 2 r m ≡ true → given m ≢ None
 needed_all given a b x y r m need = below_two (λ m. given m ≢ None) (there (given 0) a x) (there (given 1) b y) m (ltb-true m 2 (and_parts (ltb m 2) true need).0)
 
-needed_root : (given : Gifts) (a : List ℕ) → given 0 ≡ Some a → (r m : ℕ) → needs bcast 2 r m ≡ true → given m ≢ None
+needed_root : (given : Contributions) (a : List ℕ) → given 0 ≡ Some a → (r m : ℕ) → needs bcast 2 r m ≡ true → given m ≢ None
 needed_root given a x r m need = subst (λ m. given m ≢ None) (sym (eqb-true m 0 (and_parts (ltb m 2) (eqb m 0) need).1)) (there (given 0) a x)
 
 -- ---- what is in the two slots works on other collectives

@@ -44,6 +44,10 @@ member_refusals groups comm rank =
     ∷ unless (is_some (member_of rank (group_in groups comm))) (NotMember rank)
     ∷ []
 
+-- why a rank has no place in a communicator, if it has none
+abbrev pub unseated : List (List ℕ) → ℕ → ℕ → Option Refusal
+unseated groups rank comm = first_of (member_refusals groups comm rank)
+
 abbrev pub wrong_length : Signature → ℕ → ℕ → List ℕ → Option Refusal
 wrong_length sig n member bytes =
     unless (given_len sig n member == length bytes) (BadLength (given_len sig n member) (length bytes))

@@ -7,7 +7,8 @@ use Rattle.std.proofs.lemmas.List.{length-map}
 use Rattle.std.proofs.lemmas.Option.{slice_get-map, slice_get_read, none-some}
 use Rattle.coll_kinds.specs.Puts.{put}
 use Rattle.coll_match.specs.declared.instance.Share.{Share}
-use Rattle.coll_match.specs.Held.{Held, Part, contribution_of, mail_in, put_mail, put_sent, sent_in, sent_of, slot_of}
+use Rattle.coll_sched.specs.Worlds.{put_mail}
+use Rattle.coll_match.specs.Held.{Held, Part, contribution_of, mail_in, put_sent, sent_in, sent_of, slot_of}
 use Rattle.coll_match.specs.Views.{held_of, part_of}
 use Rattle.coll_match.proofs.Puts.{cond_map, put_own, slice_get-set}
 

@@ -9,7 +9,8 @@ use Rattle.std.proofs.lemmas.Option.{same_Some, slice_get_past}
 use Rattle.coll_kinds.specs.Puts.{put}
 use Rattle.coll_kinds.proofs.Puts.{put_cases}
 use Rattle.coll_machine.specs.declared.key.Key.{Key}
-use Rattle.coll_match.specs.Held.{Held, IsOver, contribution_of, slot_of, given_in, mail_in, seat_in, put_mail}
+use Rattle.coll_sched.specs.Worlds.{put_mail}
+use Rattle.coll_match.specs.Held.{Held, IsOver, contribution_of, slot_of, given_in, mail_in, seat_in}
 use Rattle.coll_machine.specs.Changes.{put_in, put_key, same_key}
 use Rattle.coll_match.specs.Instances.{IsLast, LookUps, dissolved, left, look_ups, mailed, seated, given, given_of, mail, mail_of, members, members_of, seats, seats_of, size, standing}
 use Rattle.coll_match.proofs.Puts.{cond_map, eqb_sym, updated}

@@ -49,10 +49,6 @@ seat_in h member = slot_of (slice_get h.shares member)
 abbrev pub mail_in : Held → ℕ → ℕ → ℕ → Option (List ℕ)
 mail_in h from = sent_of (slice_get h.shares from)
 
--- messages with another one, or none, at one envelope
-abbrev pub put_mail : (ℕ → ℕ → ℕ → Option (List ℕ)) → ℕ → ℕ → ℕ → Option (List ℕ) → ℕ → ℕ → ℕ → Option (List ℕ)
-put_mail f from to round message a b c = cond ((a == from) && ((b == to) && (c == round))) message (f a b c)
-
 -- every member has given and has no active request
 abbrev pub IsOver : Held → Type 0
 IsOver h = AllHaveLeft (length h.shares) (given_in h) (λ member. seat_in h member ≡ None)

@@ -5,7 +5,8 @@ use Rattle.coll_kinds.specs.Puts.{put}
 use Rattle.coll_machine.specs.declared.key.Key.{Key}
 use Rattle.coll_machine.specs.Changes.{put_in, put_key, same_key}
 use Rattle.coll_machine.specs.Steps.{AllHaveLeft}
-use Rattle.coll_match.specs.Held.{Held, given_in, mail_in, put_mail, seat_in}
+use Rattle.coll_sched.specs.Worlds.{put_mail}
+use Rattle.coll_match.specs.Held.{Held, given_in, mail_in, seat_in}
 
 -- an entry is that instance's
 abbrev pub is_of : Key → Option (Key × Held) → Bool

@@ -4,7 +4,8 @@ ghost use Rattle.std.specs.Option.{option_copied};
 ghost use Rattle.coll_kinds.specs.declared.refusal.Refusal.TheVariants.{NoMemory};
 ghost use Rattle.coll_kinds.specs.declared.refusal.Refused.{Refused};
 ghost use Rattle.coll_kinds.specs.Puts.{put};
-ghost use Rattle.coll_match.specs.Held.{IsOver, given_in, mail_in, put_mail, seat_in};
+ghost use Rattle.coll_sched.specs.Worlds.{put_mail};
+ghost use Rattle.coll_match.specs.Held.{IsOver, given_in, mail_in, seat_in};
 
 use crate::envelope::Envelope;
 use crate::mailbox::{Mailbox, Message};
@@ -24,7 +25,7 @@ struct Share {
 
 /// The shares of an instance that is over, without anything. Their memory serves the next instance.
 #[derive(Debug, Drop)]
-pub(crate) struct Vacant {
+pub(crate) struct SpareShares {
     shares: Vec<Share>,
     ghost empty: { shares.items ≡ replicate (length shares.items) (record { given = None; slot = None; mailbox = [] }) },
 }
@@ -89,7 +90,7 @@ impl Share {
     }
 }
 
-impl Vacant {
+impl SpareShares {
     /// Whether there are that many shares.
     pub(crate) fn is_for(&self, members: u8) -> bool
         ensures { IsTrue result ↔ (length self.now.shares.items ≡ members) }
@@ -112,10 +113,10 @@ impl Vacant {
 
 impl Instance {
     /// The shares, while all that they have goes. It takes no memory.
-    pub(crate) fn into_vacant(self) -> Vacant {
+    pub(crate) fn into_spare(self) -> SpareShares {
         let mut shares = self.shares;
         empty_all(&mut shares);
-        Vacant { shares }
+        SpareShares { shares }
     }
 
     /// An instance of that many members, to which none has given.

@@ -5,7 +5,7 @@ ghost use Rattle.coll_match.specs.Held.{given_in, mail_in, seat_in};
 ghost use Rattle.coll_match.specs.Instances.{IsLast, dissolved, given, is_of, joined, left, look_ups, mail, mailed, nothing, roomed, seated, seats, size, standing};
 
 use crate::envelope::Envelope;
-use crate::instance::{Instance, Vacant};
+use crate::instance::{Instance, SpareShares};
 use crate::mailbox::Message;
 use coll_bytes::Bytes;
 use coll_kinds::{Refusal, Refused};
@@ -26,7 +26,7 @@ pub struct Matches {
     instances: IndexMap<Key, Instance>,
     /// The shares of the instance that went last, for the next one: to take memory and give it back for each costs more than
     /// what is put there.
-    vacant: Option<Vacant>,
+    spare: Option<SpareShares>,
 }
 
 impl Model for Matches {
@@ -39,10 +39,10 @@ impl Model for Matches {
     ghost view = { λ a. a.instances.entries };
 }
 
-/// What stays of an instance that goes.
-fn vacated(instance: Option<Instance>) -> Option<Vacant> {
+/// The shares of an instance that goes.
+fn shares_of(instance: Option<Instance>) -> Option<SpareShares> {
     match instance {
-        Some(instance) => Some(instance.into_vacant()),
+        Some(instance) => Some(instance.into_spare()),
         None => None,
     }
 }
@@ -58,7 +58,7 @@ impl Matches {
         Matches {
             alloc,
             instances: IndexMap::new(alloc),
-            vacant: None,
+            spare: None,
         }
     }
 
@@ -83,9 +83,9 @@ impl Matches {
         ensures seats { IfOk result (λ made. seat_in made ≡ (λ _. None)) }
         ensures mail { IfOk result (λ made. mail_in made ≡ (λ _ _ _. None)) }
     {
-        if let Some(vacant) = self.vacant.take() {
-            if vacant.is_for(n) {
-                return Ok(vacant.into_instance());
+        if let Some(spare) = self.spare.take() {
+            if spare.is_for(n) {
+                return Ok(spare.into_instance());
             }
         }
         Instance::new(self.alloc, n)
@@ -161,7 +161,7 @@ impl Matches {
     fn dissolve(&mut self, key: Key)
         ensures { look_ups self.new ≡ dissolved (look_ups self.old) key }
     {
-        self.vacant = vacated(self.instances.swap_remove(&key));
+        self.spare = shares_of(self.instances.swap_remove(&key));
     }
 
     /// Keeps a message of a member that has joined until it is taken, and answers the slot of the receiver's active

@@ -258,8 +258,8 @@ module _ (f : Family) (w : World) (r : ℕ) (p : Progress) (a : Action) (next : 
       no_outs (Recv of into) h = absurd h
 
 -- before a Send no message stands under its key
-pub no_letter : (f : Family) (w : World) (r : ℕ) (p : Progress) (to : ℕ) (from : Region) → EachFollows (actions_at f p.round r) → IsNext f w r p (Send to from) → Balanced f w → standing (w.mail r to p.round) ≡ 0
-no_letter f w r p to from follows next b =
+pub none_in_transit : (f : Family) (w : World) (r : ℕ) (p : Progress) (to : ℕ) (from : Region) → EachFollows (actions_at f p.round r) → IsNext f w r p (Send to from) → Balanced f w → standing (w.mail r to p.round) ≡ 0
+none_in_transit f w r p to from follows next b =
     let e1 : total (outs to) (done_at f w p.round r) ≡ total (outs to) (take p.index (actions_at f p.round r)) = ap (total (outs to)) (done_now f w r p (Send to from) next p.buf w.mail) in
     let e2 : total (outs to) (take p.index (actions_at f p.round r)) ≡ 0 = no_send_before (actions_at f p.round r) p.index to from follows next.1 in
     let e3 : standing (w.mail r to p.round) + total (ins r) (done_at f w p.round to) ≡ total (outs to) (done_at f w p.round r) = b r to p.round in
@@ -283,7 +283,7 @@ balanced_send f w r p to from bytes follows next b q s j = go (put_mail_cases w.
         let e2 : total (ins r) (done_at f v p.round to) ≡ total (ins r) (done_at f w p.round to) = no_in r to p.round in
         let e3 : total (outs to) (done_at f v p.round r) ≡ total (outs to) (done_at f w p.round r) + outs to (Send to from) = acted_here f w r p (Send to from) next p.buf (put_mail w.mail r to p.round (Some bytes)) (outs to) in
         let e4 : outs to (Send to from) ≡ 1 = cond-true (eqb to to) 1 0 (eq-eqb to to refl) in
-        let e5 : standing (w.mail r to p.round) ≡ 0 = no_letter f w r p to from follows next b in
+        let e5 : standing (w.mail r to p.round) ≡ 0 = none_in_transit f w r p to from follows next b in
         let e6 : standing (w.mail r to p.round) + total (ins r) (done_at f w p.round to) ≡ total (outs to) (done_at f w p.round r) = b r to p.round in
         omega arith
 

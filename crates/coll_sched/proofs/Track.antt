@@ -12,12 +12,12 @@ use Rattle.coll_kinds.specs.Elements.{AreBytes}
 use Rattle.coll_sched.specs.Actions.{wrote, IsLocal}
 use Rattle.coll_sched.specs.Families.{Family, read_at, actions_at, sent, laid_in, lock_step, messages, result_at, IsRecvOf, Receives, Heard, IsLawful}
 use Rattle.coll_kinds.specs.Puts.{put}
-use Rattle.coll_sched.specs.Worlds.{Progress, World, empty, put_mail, filled, joined, acted, turned, left, IsNext, Step, join, send, compute, receive, turn, leave, Reached, begun, went}
-use Rattle.coll_sched.specs.Tracks.{moment, OnTrack, IsLetter, Tracks}
+use Rattle.coll_sched.specs.Worlds.{Progress, World, empty, put_mail, filled, joined, acted, turned, left, IsNext, Step, join, send, compute, receive, turn, leave, Reached, begun, stepped}
+use Rattle.coll_sched.specs.Tracks.{moment, OnTrack, InTransit, Tracks}
 use Rattle.coll_sched.specs.Heart.{Holds, Heart}
 use Rattle.coll_sched.proofs.Rounds.{round_at, MessageFits, message_fits, length_lock_step, length_moment, GivenFits, out_link_at, reads_at_moment, moment_next, moment_end, moment_past, lock_step_agrees, moment_agrees}
 use Rattle.coll_sched.proofs.Each.{all_at}
-use Rattle.coll_sched.proofs.Counts.{no_letter, none_standing, standing_counts, put_same, put_other, put_cases, put_mail_cases, at_key, receives_next, balanced_join, balanced_turn, balanced_leave, balanced_compute, balanced_send, balanced_receive}
+use Rattle.coll_sched.proofs.Counts.{none_in_transit, none_standing, standing_counts, put_same, put_other, put_cases, put_mail_cases, at_key, receives_next, balanced_join, balanced_turn, balanced_leave, balanced_compute, balanced_send, balanced_receive}
 
 abbrev Given : Type 0
 Given = ℕ → Option (List ℕ)
@@ -47,8 +47,8 @@ module _ (f : Family) (given other : ℕ → Option (List ℕ)) (ext : Extends g
     buffer = t.buffer ∙ moment_agrees f (filled f given) (filled f other) p.round p.index r (λ s h. same_filled s (t.heard s h)) (λ q s a h. same_filled s (t.received q s a h));
   }
 
-  pub letter_extends : (q r j : ℕ) (bytes : List ℕ) → IsLetter f given q r j bytes → IsLetter f other q r j bytes
-  letter_extends q r j bytes l = record {
+  pub transit_extends : (q r j : ℕ) (bytes : List ℕ) → InTransit f given q r j bytes → InTransit f other q r j bytes
+  transit_extends q r j bytes l = record {
     is = l.is ∙ ap (sent r (actions_at f j q)) (lock_step_agrees f (filled f given) (filled f other) j q (λ s h. same_filled s (l.heard s h)));
     heard = λ s h. still s (l.heard s h);
   }
@@ -75,7 +75,7 @@ tracks_empty n f = record {
   lengths = λ r bytes e. absurd (none-some bytes e);
   bytes = λ r given e. absurd (none-some given e);
   members = λ r p e. absurd (none-some p e);
-  letters = λ q r j bytes e. absurd (none-some bytes e);
+  in_transit = λ q r j bytes e. absurd (none-some bytes e);
   balanced = λ q r j. refl;
 }
 
@@ -93,7 +93,7 @@ tracks_join n f w r bytes low none len are t = record {
   members = members_put n f (put w.given r (Some bytes)) w.progress r (Some (record { round = 0; index = 0; buf = laid_in (f r) bytes }))
       (λ p e. at_some (OnTrack n f (put w.given r (Some bytes)) r) (record { round = 0; index = 0; buf = laid_in (f r) bytes }) p start e)
       (λ s p e. track_extends f w.given (put w.given r (Some bytes)) ext n s p (t.members s p e));
-  letters = λ q s j bs e. letter_extends f w.given (put w.given r (Some bytes)) ext q s j bs (t.letters q s j bs e);
+  in_transit = λ q s j bs e. transit_extends f w.given (put w.given r (Some bytes)) ext q s j bs (t.in_transit q s j bs e);
   balanced = balanced_join f w r bytes (not_begun n f w r t none) none t.balanced;
 }
   where
@@ -124,7 +124,7 @@ tracks_turn n f w r p e i low t = record {
   bytes = t.bytes;
   members = members_put n f w.given w.progress r (Some (record { round = suc p.round; index = 0; buf = p.buf }))
       (λ q k. at_some (OnTrack n f w.given r) (record { round = suc p.round; index = 0; buf = p.buf }) q new k) t.members;
-  letters = t.letters;
+  in_transit = t.in_transit;
   balanced = balanced_turn f w r p e i t.balanced;
 }
   where
@@ -153,7 +153,7 @@ tracks_leave n f w r p e i t = record {
   lengths = t.lengths;
   bytes = t.bytes;
   members = members_put n f w.given w.progress r None (λ q k. absurd (none-some q k)) t.members;
-  letters = t.letters;
+  in_transit = t.in_transit;
   balanced = balanced_leave f w r p e ((t.members r p e).heard r (heard_self f p.round r)) i t.balanced;
 }
 
@@ -190,7 +190,7 @@ module _ (n : ℕ) (f : Family) (lawful : IsLawful n f) (w : World) (t : Tracks 
     members = members_put n f w.given w.progress r (Some (record { round = p.round; index = suc p.index; buf = wrote (λ q. []) p.buf a p.buf }))
         (λ q k. at_some (OnTrack n f w.given r) (record { round = p.round; index = suc p.index; buf = wrote (λ q. []) p.buf a p.buf }) q
         (acted_track n f w r p a (wrote (λ q. []) p.buf a p.buf) t next (λ q s h k. absurd (no_recv a loc q h)) (no_message a loc ∙ next_moment a next)) k) t.members;
-    letters = t.letters;
+    in_transit = t.in_transit;
     balanced = balanced_compute f w r p a next (wrote (λ q. []) p.buf a p.buf) w.mail loc (λ q s j. refl) t.balanced;
   }
     where
@@ -213,12 +213,12 @@ module _ (n : ℕ) (f : Family) (lawful : IsLawful n f) (w : World) (t : Tracks 
     members = members_put n f w.given w.progress r (Some (record { round = p.round; index = suc p.index; buf = p.buf }))
         (λ q k. at_some (OnTrack n f w.given r) (record { round = p.round; index = suc p.index; buf = p.buf }) q
         (acted_track n f w r p (Send to from) p.buf t next (λ q s h k. absurd h) (next_moment (Send to from) next)) k) t.members;
-    letters = λ q s j bs e. either q s j bs e (put_mail_cases w.mail r to p.round (Some (read_of p.buf from)) q s j);
+    in_transit = λ q s j bs e. either q s j bs e (put_mail_cases w.mail r to p.round (Some (read_of p.buf from)) q s j);
     balanced = balanced_send f w r p to from (read_of p.buf from) ((round_at (f r) (lawful.schedules r (t.members r p next.0).member) p.round).follows) next t.balanced;
   }
     where
-      letter : IsLetter f w.given r to p.round (read_of p.buf from)
-      letter =
+      message : InTransit f w.given r to p.round (read_of p.buf from)
+      message =
           let old : OnTrack n f w.given r p = t.members r p next.0 in
           record {
             is = ap (λ b. read_of b from) old.buffer
@@ -229,9 +229,9 @@ module _ (n : ℕ) (f : Family) (lawful : IsLawful n f) (w : World) (t : Tracks 
 
       either : (q s j : ℕ) (bs : List ℕ) → put_mail w.mail r to p.round (Some (read_of p.buf from)) q s j ≡ Some bs
           → ((q ≡ r) × (s ≡ to) × (j ≡ p.round) × (put_mail w.mail r to p.round (Some (read_of p.buf from)) q s j ≡ Some (read_of p.buf from))) ⊎ (((q ≡ r) × (s ≡ to) × (j ≡ p.round) → ⊥) × (put_mail w.mail r to p.round (Some (read_of p.buf from)) q s j ≡ w.mail q s j))
-          → IsLetter f w.given q s j bs
-      either q s j bs e (inl k) = at_key (λ q s j. IsLetter f w.given q s j bs) q s j r to p.round k.0 k.1 k.2 (at_some (IsLetter f w.given r to p.round) (read_of p.buf from) bs letter (sym k.3 ∙ e))
-      either q s j bs e (inr k) = t.letters q s j bs (sym k.1 ∙ e)
+          → InTransit f w.given q s j bs
+      either q s j bs e (inl k) = at_key (λ q s j. InTransit f w.given q s j bs) q s j r to p.round k.0 k.1 k.2 (at_some (InTransit f w.given r to p.round) (read_of p.buf from) bs message (sym k.3 ∙ e))
+      either q s j bs e (inr k) = t.in_transit q s j bs (sym k.1 ∙ e)
 
   pub tracks_receive : (of : ℕ) (into : Region) (bytes : List ℕ) → IsNext f w r p (Recv of into) → w.mail of r p.round ≡ Some bytes → Tracks n f (acted w r p (written p.buf into bytes) (put_mail w.mail of r p.round None))
   tracks_receive of into bytes next stands = record {
@@ -240,20 +240,20 @@ module _ (n : ℕ) (f : Family) (lawful : IsLawful n f) (w : World) (t : Tracks 
     members = members_put n f w.given w.progress r (Some (record { round = p.round; index = suc p.index; buf = written p.buf into bytes }))
         (λ q k. at_some (OnTrack n f w.given r) (record { round = p.round; index = suc p.index; buf = written p.buf into bytes }) q
         (acted_track n f w r p (Recv of into) (written p.buf into bytes) t next
-        (λ q s h k. letter.heard s (subst (λ i. Heard f p.round i s) (sym h) k))
-        (ap (λ b. written p.buf into b) letter.is ∙ next_moment (Recv of into) next)) k) t.members;
-    letters = λ q s j bs e. either q s j bs e (put_mail_cases w.mail of r p.round None q s j);
+        (λ q s h k. message.heard s (subst (λ i. Heard f p.round i s) (sym h) k))
+        (ap (λ b. written p.buf into b) message.is ∙ next_moment (Recv of into) next)) k) t.members;
+    in_transit = λ q s j bs e. either q s j bs e (put_mail_cases w.mail of r p.round None q s j);
     balanced = balanced_receive f w r p of into bytes (written p.buf into bytes) next stands t.balanced;
   }
     where
-      letter : IsLetter f w.given of r p.round bytes
-      letter = t.letters of r p.round bytes stands
+      message : InTransit f w.given of r p.round bytes
+      message = t.in_transit of r p.round bytes stands
 
       either : (q s j : ℕ) (bs : List ℕ) → put_mail w.mail of r p.round None q s j ≡ Some bs
           → ((q ≡ of) × (s ≡ r) × (j ≡ p.round) × (put_mail w.mail of r p.round None q s j ≡ None)) ⊎ (((q ≡ of) × (s ≡ r) × (j ≡ p.round) → ⊥) × (put_mail w.mail of r p.round None q s j ≡ w.mail q s j))
-          → IsLetter f w.given q s j bs
+          → InTransit f w.given q s j bs
       either q s j bs e (inl k) = absurd (none-some bs (sym k.3 ∙ e))
-      either q s j bs e (inr k) = t.letters q s j bs (sym k.1 ∙ e)
+      either q s j bs e (inr k) = t.in_transit q s j bs (sym k.1 ∙ e)
 
 pub keeps : (n : ℕ) (f : Family) → IsLawful n f → {w v : World} → Step n f w v → Tracks n f w → Tracks n f v
 keeps n f lawful (join {w = w} r bytes low none len are) t = tracks_join n f w r bytes low none len are t
@@ -265,7 +265,7 @@ keeps n f lawful (leave {w = w} r p e i) t = tracks_leave n f w r p e i t
 
 pub tracks : (n : ℕ) (f : Family) → IsLawful n f → {w : World} → Reached n f w → Tracks n f w
 tracks n f lawful begun = tracks_empty n f
-tracks n f lawful (went before step) = keeps n f lawful step (tracks n f lawful before)
+tracks n f lawful (stepped before step) = keeps n f lawful step (tracks n f lawful before)
 
 pub holds : (n : ℕ) (f : Family) → IsLawful n f → (w : World) → Tracks n f w → Holds n f w
 holds n f lawful w t = record {
@@ -273,13 +273,13 @@ holds n f lawful w t = record {
   operands = λ r p op ty a b into next. both_read r p op ty a b into next;
   sizes = λ r p e. ap length (t.members r p e).buffer ∙ length_moment n f lawful (filled f w.given) (filled_fits n f w t) p.round p.index r (t.members r p e).member;
   takes = λ r p of into bytes next e. fits r p of into bytes next e;
-  free = λ r p to from next. none_standing (w.mail r to p.round) (no_letter f w r p to from ((round_at (f r) (lawful.schedules r (t.members r p next.0).member) p.round).follows) next t.balanced);
+  free = λ r p to from next. none_standing (w.mail r to p.round) (none_in_transit f w r p to from ((round_at (f r) (lawful.schedules r (t.members r p next.0).member) p.round).follows) next t.balanced);
   standing_is = λ q r j bytes low e. standing_counts f w q r j bytes ((round_at (f q) (lawful.schedules q low) j).follows) t.balanced e;
 }
   where
     fits : (r : ℕ) (p : Progress) (of : ℕ) (into : Region) (bytes : List ℕ) → IsNext f w r p (Recv of into) → w.mail of r p.round ≡ Some bytes → length bytes ≡ into.len
     fits r p of into bytes next e =
-        ap length (t.letters of r p.round bytes e).is
+        ap length (t.in_transit of r p.round bytes e).is
         ∙ all_at (MessageFits (messages f (filled f w.given) p.round r)) (actions_at f p.round r) p.index (Recv of into)
         (message_fits n f lawful (filled f w.given) p.round r (t.members r p next.0).member (λ q h. length_lock_step n f lawful (filled f w.given) (filled_fits n f w t) p.round q h)) next.1
 

@@ -24,7 +24,7 @@ unbegun_tracks n f g w t none =
   where
     nothing : (q r j : ℕ) (o : Option (List ℕ)) → w.mail q r j ≡ o → w.mail q r j ≡ None
     nothing q r j None e = e
-    nothing q r j (Some bytes) e = absurd ((t.letters q r j bytes e).heard q (heard_self f j q) (none q))
+    nothing q r j (Some bytes) e = absurd ((t.in_transit q r j bytes e).heard q (heard_self f j q) (none q))
 
 pub tracked_finishes : TrackedFinishes
 tracked_finishes n f lawful w t all quiet r p e = all_done n f lawful w t all quiet r p e

@@ -9,11 +9,11 @@ use Rattle.coll_sched.specs.declared.action.Action.TheVariants.{Send, Copy, Comb
 use Rattle.coll_sched.specs.Actions.{IsAmong, Follows, EachFollows}
 use Rattle.coll_sched.specs.Families.{Family, actions_at, in_link, out_link, len_of, IsLawful}
 use Rattle.coll_kinds.specs.Puts.{put}
-use Rattle.coll_sched.specs.Worlds.{Progress, World, turned, Reached, begun, went, Step, join, send, compute, receive, turn, leave}
+use Rattle.coll_sched.specs.Worlds.{Progress, World, turned, Reached, begun, stepped, Step, join, send, compute, receive, turn, leave}
 use Rattle.coll_sched.specs.Tracks.{outs, ins, total, done_by, done_at, standing, Tracks}
 use Rattle.coll_sched.specs.Views.{Agrees, skipped, Skips, Empties}
 use Rattle.coll_sched.proofs.Counts.{put_same, put_other, balanced_same, later_outs, none_standing, total_zero}
-use Rattle.coll_sched.proofs.Track.{track_extends, letter_extends, tracks_turn, tracks}
+use Rattle.coll_sched.proofs.Track.{track_extends, transit_extends, tracks_turn, tracks}
 use Rattle.coll_sched.proofs.Rounds.{round_at}
 
 pub tracks_agrees : (n : ℕ) (f : Family) (w v : World) → Agrees w v → Tracks n f w → Tracks n f v
@@ -21,7 +21,7 @@ tracks_agrees n f w v a t = record {
   lengths = λ r bytes e. t.lengths r bytes (sym (a.given r) ∙ e);
   bytes = λ r given e. t.bytes r given (sym (a.given r) ∙ e);
   members = λ r p e. track_extends f w.given v.given (λ s h. a.given s) n r p (t.members r p (sym (a.progress r) ∙ e));
-  letters = λ q r j bytes e. letter_extends f w.given v.given (λ s h. a.given s) q r j bytes (t.letters q r j bytes (sym (a.mail q r j) ∙ e));
+  in_transit = λ q r j bytes e. transit_extends f w.given v.given (λ s h. a.given s) q r j bytes (t.in_transit q r j bytes (sym (a.mail q r j) ∙ e));
   balanced = balanced_same f w v a.mail (λ j s. ap (λ o. done_by o (v.given s) j (actions_at f j s)) (a.progress s) ∙ ap (λ g. done_by (w.progress s) g j (actions_at f j s)) (a.given s)) t.balanced;
 }
 
@@ -127,7 +127,7 @@ among n f lawful w t gone q r j hq hr =
 -- only members join
 pub joined_member : (n : ℕ) (f : Family) {w : World} → Reached n f w → (r : ℕ) → w.given r ≢ None → r < n
 joined_member n f begun r h = absurd (h refl)
-joined_member n f (went before step) r h = go step (λ k. joined_member n f before r k) h
+joined_member n f (stepped before step) r h = go step (λ k. joined_member n f before r k) h
   where
     go : {w v : World} → Step n f w v → (w.given r ≢ None → r < n) → v.given r ≢ None → r < n
     go (join {w = w} s bytes low none len are) old k = either (cases_eq r s)

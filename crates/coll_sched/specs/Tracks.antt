@@ -56,7 +56,7 @@ pub record OnTrack (n : ℕ) (f : Family) (given : ℕ → Option (List ℕ)) (r
   pub buffer : p.buf ≡ moment f (filled f given) p.round p.index r
 
 -- a message on its way
-pub record IsLetter (f : Family) (given : ℕ → Option (List ℕ)) (q r j : ℕ) (bytes : List ℕ) : Type 0 where
+pub record InTransit (f : Family) (given : ℕ → Option (List ℕ)) (q r j : ℕ) (bytes : List ℕ) : Type 0 where
   pub is : bytes ≡ messages f (filled f given) j r q
   pub heard : (s : ℕ) → Heard f j q s → given s ≢ None
 
@@ -70,5 +70,5 @@ pub record Tracks (n : ℕ) (f : Family) (w : World) : Type 0 where
   pub lengths : (r : ℕ) (bytes : List ℕ) → w.given r ≡ Some bytes → length bytes ≡ (f r).input.len
   pub bytes : (r : ℕ) (given : List ℕ) → w.given r ≡ Some given → AreBytes given
   pub members : (r : ℕ) (p : Progress) → w.progress r ≡ Some p → OnTrack n f w.given r p
-  pub letters : (q r j : ℕ) (bytes : List ℕ) → w.mail q r j ≡ Some bytes → IsLetter f w.given q r j bytes
+  pub in_transit : (q r j : ℕ) (bytes : List ℕ) → w.mail q r j ≡ Some bytes → InTransit f w.given q r j bytes
   pub balanced : Balanced f w

@@ -101,4 +101,4 @@ pub data Step (n : ℕ) (f : Family) : World → World → Type 0 where
 -- the worlds that lists of events lead to
 pub data Reached (n : ℕ) (f : Family) : World → Type 0 where
   begun : Reached n f empty
-  went : {w v : World} → Reached n f w → Step n f w v → Reached n f v
+  stepped : {w v : World} → Reached n f w → Step n f w v → Reached n f v

@@ -23,7 +23,7 @@ use Rattle.coll_tables.specs.Sound.{Owned, Base}
 use Rattle.coll_tables.specs.Changes.{joining, acting, leaving, dissolving, freeing, rehoming}
 use Rattle.coll_tables.specs.Calls.{Joining, IsLast}
 use Rattle.coll_tables.proofs.Keys.{split_key, at_key, off_key, in_cases, in_at, in_off}
-use Rattle.coll_tables.proofs.Changing.{Kin, Gifts, key_fields, base_changes, retracked}
+use Rattle.coll_tables.proofs.Changing.{Kin, Contributions, key_fields, base_changes, retracked}
 
 -- where nothing was given nothing is on the way
 pub unbegun : (n : ℕ) (f g : Family) (w : World) → Tracks n f w → ((m : ℕ) → w.given m ≡ None) → Tracks n g w
@@ -31,7 +31,7 @@ unbegun n f g w t none = tracks_agrees n g empty w (record { given = none; progr
   where
     nothing : (q r j : ℕ) (o : Option (List ℕ)) → w.mail q r j ≡ o → w.mail q r j ≡ None
     nothing q r j None e = e
-    nothing q r j (Some bytes) e = absurd ((t.letters q r j bytes e).heard q (heard_self f j q) (none q))
+    nothing q r j (Some bytes) e = absurd ((t.in_transit q r j bytes e).heard q (heard_self f j q) (none q))
 
 module _ (v : Tables) (paths : Paths) (b : Base v paths) (i : ℕ) (q : Live) (here : v.request i ≡ Some q) where
   -- the family of a live request is that of its own signature
@@ -204,7 +204,7 @@ base_dissolves v paths b k last = record {
   gave = λ i q e s x. b.gave i q e s (less (at q s) q.member x (split_key (at q s) k));
 }
   where
-    contributions : Gifts
+    contributions : Contributions
     contributions = put_key v.given k (λ m. None)
 
     messages : Key → Mail

@@ -27,17 +27,17 @@ pub record Kin (r q : Live) : Type 0 where
 kin_self : (q : Live) → Kin q q
 kin_self q = record { comm = refl; members = refl; member = refl; place = refl; sig = refl }
 
-abbrev pub Gifts : Type 0
-Gifts = Key → ℕ → Option (List ℕ)
+abbrev pub Contributions : Type 0
+Contributions = Key → ℕ → Option (List ℕ)
 
 abbrev pub Seats : Type 0
 Seats = Key → ℕ → Option ℕ
 
-abbrev pub changed : Tables → ℕ → Option Live → Gifts → Seats → (Key → Mail) → (ℕ → ℕ) → Tables
+abbrev pub changed : Tables → ℕ → Option Live → Contributions → Seats → (Key → Mail) → (ℕ → ℕ) → Tables
 changed v i o given seats mail home = record { setting = v.setting; generation = v.generation; request = put v.request i o; home = home; posts = v.posts; signed = v.signed; given = given; seats = seats; mail = mail }
 
 -- what becomes of slot i, where q was, at the key k of q's place
-pub record Changes (v : Tables) (paths : Paths) (i : ℕ) (q : Live) (k : Key) (o : Option Live) (given : Gifts) (seats : Seats) (mail : Key → Mail) (after : Paths) : Type 0 where
+pub record Changes (v : Tables) (paths : Paths) (i : ℕ) (q : Live) (k : Key) (o : Option Live) (given : Contributions) (seats : Seats) (mail : Key → Mail) (after : Paths) : Type 0 where
   pub here : v.request i ≡ Some q
   pub comm_is : k.comm ≡ q.comm
   pub place_is : k.place ≡ q.place
@@ -55,7 +55,7 @@ pub record Changes (v : Tables) (paths : Paths) (i : ℕ) (q : Live) (k : Key) (
 pub key_fields : (a b : Key) → a ≡ b → (a.comm ≡ b.comm) × (a.place ≡ b.place) × (a.start ≡ b.start)
 key_fields a b e = (ap (λ (k : Key). k.comm) e, ap (λ (k : Key). k.place) e, ap (λ (k : Key). k.start) e)
 
-module _ (v : Tables) (paths : Paths) (b : Base v paths) (i : ℕ) (q : Live) (k : Key) (o : Option Live) (given : Gifts) (seats : Seats) (mail : Key → Mail) (after : Paths) (c : Changes v paths i q k o given seats mail after) (home : ℕ → ℕ) where
+module _ (v : Tables) (paths : Paths) (b : Base v paths) (i : ℕ) (q : Live) (k : Key) (o : Option Live) (given : Contributions) (seats : Seats) (mail : Key → Mail) (after : Paths) (c : Changes v paths i q k o given seats mail after) (home : ℕ → ℕ) where
   abbrev new : Tables
   new = changed v i o given seats mail home
 
@@ -137,7 +137,7 @@ module _ (v : Tables) (paths : Paths) (b : Base v paths) (i : ℕ) (q : Live) (k
           go (inr y) = let f = key_fields (at r s) k y.0 in absurd (single j r h.0 h.1 f.0 f.1 y.1)
 
 -- the tracks of all instances, where one changes
-pub retracked : (v : Tables) (paths : Paths) → ((l : Key) → Tracks (size v.setting l.comm) (family_at v l) (world v paths l)) → (k : Key) (given : Gifts) (mail : Key → Mail) (after : Paths)
+pub retracked : (v : Tables) (paths : Paths) → ((l : Key) → Tracks (size v.setting l.comm) (family_at v l) (world v paths l)) → (k : Key) (given : Contributions) (mail : Key → Mail) (after : Paths)
     → ((l : Key) → l ≢ k → Agrees (world v paths l) (record { given = given l; progress = after l; mail = mail l }))
     → (w : World) → Tracks (size v.setting k.comm) (family_at v k) w → Agrees w (record { given = given k; progress = after k; mail = mail k })
     → (l : Key) → Tracks (size v.setting l.comm) (family_at v l) (record { given = given l; progress = after l; mail = mail l })

@@ -14,7 +14,7 @@ use Rattle.coll_plans.specs.Plans.{family}
 use Rattle.coll_arena.specs.Slots.{Slots, generation_of, home, record_in, weight_of}
 use Rattle.coll_queues.specs.Postings.{Postings, posts, signed}
 use Rattle.coll_machine.specs.declared.key.Key.{Key}
-use Rattle.coll_match.specs.Held.{put_mail}
+use Rattle.coll_sched.specs.Worlds.{put_mail}
 use Rattle.coll_machine.specs.Changes.{put_key}
 use Rattle.coll_match.specs.Instances.{mail}
 use Rattle.coll_machine.specs.Settings.{Setting, size}
@@ -121,12 +121,12 @@ module _ {R : Type 0} (shown : R → Live) (g : Setting) (a b : Slots R) (q : Po
     lowers = ap (λ (u : Tables). suc (actions_left u)) (acted mails e) ∙ acts_lower v t.slot p act o mails (home b) c.sound acts;
   }
 
-same_gifts : (m : Instances) → KeepsContributions m m
-same_gifts m = record { members = refl; given = refl; seats = refl }
+same_contributions : (m : Instances) → KeepsContributions m m
+same_contributions m = record { members = refl; given = refl; seats = refl }
 
 pub compute_core : {R : Type 0} → ComputeCore R
 compute_core {R} shown g a b q m t x y act o list c h loc buf =
-    let k = same_gifts m in
+    let k = same_contributions m in
     let both = compute_keeps (v shown g a b q m m t x y act o list c h k) t.slot (shown x) act o (home b) c.sound (acts shown g a b q m m t x y act o list c h k) loc buf (mine shown g a b q m m t x y act o list c h k (λ l. mail m l) refl) in
     once shown g a b q m m t x y act o list c h k (λ l. mail m l) refl both.0 both.1
 

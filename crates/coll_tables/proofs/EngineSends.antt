@@ -16,7 +16,7 @@ use Rattle.coll_plans.specs.Plans.{family}
 use Rattle.coll_arena.specs.Slots.{Slots, generation_of, home, record_in, weight_of}
 use Rattle.coll_queues.specs.Postings.{Postings, posts, signed}
 use Rattle.coll_machine.specs.declared.key.Key.{Key}
-use Rattle.coll_match.specs.Held.{put_mail}
+use Rattle.coll_sched.specs.Worlds.{put_mail}
 use Rattle.coll_machine.specs.Changes.{put_key}
 use Rattle.coll_match.specs.Instances.{mail}
 use Rattle.coll_machine.specs.Settings.{Setting, size}

@@ -11,7 +11,7 @@ use Rattle.coll_arena.specs.declared.list_name.ListName.TheVariants.{Ready}
 use Rattle.coll_arena.specs.ListNames.{number_of}
 use Rattle.coll_arena.specs.Slots.{Slots, home, record_in}
 use Rattle.coll_queues.specs.Postings.{Postings}
-use Rattle.coll_match.specs.Held.{put_mail}
+use Rattle.coll_sched.specs.Worlds.{put_mail}
 use Rattle.coll_machine.specs.Changes.{put_key}
 use Rattle.coll_match.specs.Instances.{mail}
 use Rattle.coll_machine.specs.Settings.{Setting}

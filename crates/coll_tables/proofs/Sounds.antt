@@ -90,8 +90,8 @@ module _ (v : Tables) (paths : Paths) (i : ℕ) (s : Besides v paths i) (o : Opt
 abbrev pub at_point : World → ℕ → Progress → World
 at_point w m p = record { given = w.given; progress = put w.progress m (Some p); mail = w.mail }
 
-pub went_over : (n : ℕ) (f : Family) (w : World) (m : ℕ) (p o : Progress) → o.buf ≡ p.buf → Over (f m) p.round p.index o.round o.index → Tracks n f (at_point w m p) → Tracks n f (at_point w m o)
-went_over n f w m p o b over t =
+pub advanced_over : (n : ℕ) (f : Family) (w : World) (m : ℕ) (p o : Progress) → o.buf ≡ p.buf → Over (f m) p.round p.index o.round o.index → Tracks n f (at_point w m p) → Tracks n f (at_point w m o)
+advanced_over n f w m p o b over t =
     subst (λ (g : ℕ → Option Progress). Tracks n f (record { given = w.given; progress = g; mail = w.mail }))
     (put_put w.progress m (Some p) (Some (record { round = o.round; index = o.index; buf = p.buf })) ∙ (λ z. put w.progress m (Some (record { round = o.round; index = o.index; buf = sym b z }))))
     (goes_over n f (at_point w m p) m p o.round o.index t (put_same w.progress m (Some p)) over)
@@ -149,7 +149,7 @@ module _ (v : Tables) (paths : Paths) (i : ℕ) (q : Live) (home : ℕ → ℕ) 
       same = λ z. record { setting = v.setting; generation = v.generation; request = λ j. put_put v.request i (Some (begun q p)) (Some (begun q o)) z j; home = home; posts = v.posts; signed = v.signed; given = new.given; seats = new.seats; mail = v.mail }
 
       tracked : Tracks (size v.setting q.comm) (family_at v (at q q.starts)) (record { given = new.given (at q q.starts); progress = put (ways (at q q.starts)) q.member (Some o); mail = v.mail (at q q.starts) })
-      tracked = went_over (size v.setting q.comm) (family_at v (at q q.starts)) (world new ways (at q q.starts)) q.member p o e
+      tracked = advanced_over (size v.setting q.comm) (family_at v (at q q.starts)) (world new ways (at q q.starts)) q.member p o e
           (subst (λ (f : Family). Over (f q.member) p.round p.index o.round o.index) (sym (family_own v paths s.base i q h.here)) over)
           (tracks_agrees (size v.setting q.comm) (family_at v (at q q.starts)) (world new ways (at q q.starts)) (at_point (world new ways (at q q.starts)) q.member p)
           (record { given = λ r. refl; progress = λ r. stays r (cases_eq r q.member); mail = λ x r j. refl }) (b.tracks (at q q.starts)))
@@ -222,7 +222,7 @@ module _ (v : Tables) (paths : Paths) (s : Sound v paths) (i : ℕ) (q : Live) (
       where
         tracked : track v.mail
         tracked = subst (λ (f : Family). Tracks (size v.setting q.comm) f (record { given = v.given (key q); progress = put (paths (key q)) q.member (Some o); mail = v.mail (key q) })) (sym (family_own v paths s.base i q here))
-            (went_over (size v.setting q.comm) (family q.sig (size v.setting q.comm)) (world v paths (key q)) q.member (record { round = q.round; index = suc q.index; buf = wrote (λ x. []) q.buf a q.buf }) o b over
+            (advanced_over (size v.setting q.comm) (family q.sig (size v.setting q.comm)) (world v paths (key q)) q.member (record { round = q.round; index = suc q.index; buf = wrote (λ x. []) q.buf a q.buf }) o b over
             (tracks_compute (size v.setting q.comm) (family q.sig (size v.setting q.comm)) (serves_own v paths s.base i q here).lawful (world v paths (key q)) (tracks_at v paths s.base i q here (key q).start) q.member (progress q) a (is_next a e) loc))
 
     -- a Recv whose message is there
@@ -238,7 +238,7 @@ module _ (v : Tables) (paths : Paths) (s : Sound v paths) (i : ℕ) (q : Live) (
         tracked : track (mailed v.mail (key q) of q.member q.round None)
         tracked = subst (λ (m : Mail). Tracks (size v.setting q.comm) (family_at v (key q)) (record { given = v.given (key q); progress = put (paths (key q)) q.member (Some o); mail = m })) (sym (at_key v.mail (key q) (put_mail (v.mail (key q)) of q.member q.round None) (key q) refl))
             (subst (λ (f : Family). Tracks (size v.setting q.comm) f (record { given = v.given (key q); progress = put (paths (key q)) q.member (Some o); mail = put_mail (v.mail (key q)) of q.member q.round None })) (sym (family_own v paths s.base i q here))
-            (went_over (size v.setting q.comm) (family q.sig (size v.setting q.comm)) (record { given = v.given (key q); progress = paths (key q); mail = put_mail (v.mail (key q)) of q.member q.round None }) q.member (record { round = q.round; index = suc q.index; buf = written q.buf into bytes }) o b over
+            (advanced_over (size v.setting q.comm) (family q.sig (size v.setting q.comm)) (record { given = v.given (key q); progress = paths (key q); mail = put_mail (v.mail (key q)) of q.member q.round None }) q.member (record { round = q.round; index = suc q.index; buf = written q.buf into bytes }) o b over
             (tracks_receive (size v.setting q.comm) (family q.sig (size v.setting q.comm)) (serves_own v paths s.base i q here).lawful (world v paths (key q)) (tracks_at v paths s.base i q here (key q).start) q.member (progress q) of into bytes (is_next (Recv of into) e) there)))
 
     -- a Send
@@ -261,7 +261,7 @@ module _ (v : Tables) (paths : Paths) (s : Sound v paths) (i : ℕ) (q : Live) (
         tracked : track messages
         tracked = subst (λ (m : Mail). Tracks (size v.setting q.comm) (family_at v (key q)) (record { given = v.given (key q); progress = put (paths (key q)) q.member (Some o); mail = m })) (sym (at_key v.mail (key q) (put_mail (v.mail (key q)) q.member to q.round (Some (read_of q.buf from))) (key q) refl))
             (subst (λ (f : Family). Tracks (size v.setting q.comm) f (record { given = v.given (key q); progress = put (paths (key q)) q.member (Some o); mail = put_mail (v.mail (key q)) q.member to q.round (Some (read_of q.buf from)) })) (sym (family_own v paths s.base i q here))
-            (went_over (size v.setting q.comm) (family q.sig (size v.setting q.comm)) (record { given = v.given (key q); progress = paths (key q); mail = put_mail (v.mail (key q)) q.member to q.round (Some (read_of q.buf from)) }) q.member (record { round = q.round; index = suc q.index; buf = q.buf }) o b over
+            (advanced_over (size v.setting q.comm) (family q.sig (size v.setting q.comm)) (record { given = v.given (key q); progress = paths (key q); mail = put_mail (v.mail (key q)) q.member to q.round (Some (read_of q.buf from)) }) q.member (record { round = q.round; index = suc q.index; buf = q.buf }) o b over
             (tracks_send (size v.setting q.comm) (family q.sig (size v.setting q.comm)) (serves_own v paths s.base i q here).lawful (world v paths (key q)) (tracks_at v paths s.base i q here (key q).start) q.member (progress q) to from (is_next (Send to from) e))))
 
         either : (j : ℕ) (r : Live) → j ≢ i → v.request j ≡ Some r

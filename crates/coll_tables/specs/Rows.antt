@@ -132,8 +132,8 @@ message_is_kept = refl
 message_is_taken : received_late.mail (key 0) 0 1 0 ≡ None
 message_is_taken = refl
 
-gift_is_kept : received_late.given (key 0) 0 ≡ Some both
-gift_is_kept = refl
+contribution_is_kept : received_late.given (key 0) 0 ≡ Some both
+contribution_is_kept = refl
 
 nothing_is_kept : over.given (key 0) 0 ≡ None
 nothing_is_kept = refl

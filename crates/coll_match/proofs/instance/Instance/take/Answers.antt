@@ -1,6 +1,7 @@
 use Rattle.std.proofs.Common.{◌∙◌, ◌<◌, length, ap, refl, arith, None}
 use Rattle.coll_match.specs.declared.instance.Share.{Share}
-use Rattle.coll_match.specs.Held.{contribution_of, given_in, mail_in, put_mail, seat_in, slot_of}
+use Rattle.coll_sched.specs.Worlds.{put_mail}
+use Rattle.coll_match.specs.Held.{contribution_of, given_in, mail_in, seat_in, slot_of}
 use Rattle.coll_match.proofs.Shares.{mail_sent, parts_kept}
 use Rattle.coll_match.proofs.instance.Instance.take.Goals as goal
 

@@ -4,7 +4,7 @@ use Rattle.coll_match.specs.declared.instance.Share.{Share}
 use Rattle.coll_match.specs.Held.{contribution_of, sent_of, slot_of}
 use Rattle.coll_match.specs.Views.{part_of}
 use Rattle.coll_match.proofs.Shares.{empty_part}
-use Rattle.coll_match.proofs.instance.Vacant.into_instance.Goals as goal
+use Rattle.coll_match.proofs.instance.SpareShares.into_instance.Goals as goal
 
 pub returns-clause-given : goal.returns-clause-given
 returns-clause-given c = λ z m. (ap (λ (shares : List Share). contribution_of (slice_get (map part_of shares) m)) c.args.self.empty ∙ empty_part contribution_of None refl refl (length c.args.self.shares.items) m) z
