@@ -7,7 +7,7 @@ use Rattle.std.proofs.Math.Seq.{take-length}
 use Rattle.coll_sched.specs.declared.region.Region.{Region}
 use Rattle.coll_sched.specs.Regions.{Apart, Inside, read_of, written}
 use Rattle.coll_sched.proofs.Buffers.{length_written, read_apart}
-use Rattle.coll_bytes.specs.declared.segments.Segment.{Segment}
+use Rattle.coll_bytes.specs.declared.segment.Segment.{Segment}
 use Rattle.coll_bytes.specs.Laid.{AllInside, laid, laid_over, place_of, Shows}
 use Rattle.coll_bytes.specs.Overlaps.{Within, seen_from}
 use Rattle.coll_bytes.proofs.Writes.{In, Outside, read-written, side, written_in, written_outside}

@@ -2,7 +2,7 @@
 use Rattle.std.specs.Prelude.{◌≡◌, ℕ, ◌<◌, List, All, fold, length, replicate, slice_index_or}
 use Rattle.coll_sched.specs.declared.region.Region.{Region}
 use Rattle.coll_sched.specs.Regions.{Inside, read_of, written}
-use Rattle.coll_bytes.specs.declared.segments.Segment.{Segment}
+use Rattle.coll_bytes.specs.declared.segment.Segment.{Segment}
 use Rattle.coll_bytes.specs.Overlaps.{Within, seen_from}
 
 -- where a segment lies

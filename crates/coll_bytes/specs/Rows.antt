@@ -1,7 +1,7 @@
 -- Worked rows, computed
 use Rattle.std.specs.Prelude.{◌≡◌, [], ◌∷◌, refl}
 use Rattle.coll_sched.specs.Regions.{read_of}
-use Rattle.coll_bytes.specs.declared.segments.Segment.{Segment}
+use Rattle.coll_bytes.specs.declared.segment.Segment.{Segment}
 use Rattle.coll_bytes.specs.Laid.{laid}
 use Rattle.coll_bytes.specs.Overlaps.{seen_from}
 

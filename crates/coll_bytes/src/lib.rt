@@ -6,9 +6,13 @@
 //! | `bytes` | `Bytes`, a few in place or a part of a block |
 //! | `shell` | `Shell`, in which bytes that are put together later count their owners |
 //! | `segments` | `Segments`, a schedule's buffer |
+//! | `segment` | one of its writes, and where a region lies beside it |
+//! | `composed` | a region that several of them have, put together |
 #![tactic(auto)]
 
 mod bytes;
+mod composed;
+mod segment;
 mod segments;
 mod shell;
 

@@ -1,10 +1,11 @@
-ghost use Rattle.std.specs.Prelude.{◌≡◌, ℕ, ◌+◌, ◌-◌, ◌<◌, ◌≤◌, ◌^◌, ◌↔◌, List, [], length, min, remove, replicate, IfNone, IfOk, IfSome, IsOk, IsTrue, OnErr, OnOk, vec_capacity, vec_len};
+ghost use Rattle.std.specs.Prelude.{◌≡◌, ℕ, ◌+◌, ◌<◌, ◌≤◌, ◌↔◌, List, [], length, remove, replicate, IfOk, IfSome, IsOk, IsTrue, OnErr, OnOk, vec_capacity, vec_len};
 ghost use Rattle.smallvec.specs.SmallVec.{HasRoomFor, small_vec_len};
-ghost use Rattle.coll_sched.specs.Regions.{Apart, Inside, read_of, written};
-ghost use Rattle.coll_bytes.specs.Laid.{AllInside, Shows, place_of, laid};
-ghost use Rattle.coll_bytes.specs.Overlaps.{IsCommon, Within, seen_from};
+ghost use Rattle.coll_sched.specs.Regions.{Inside, read_of, written};
+ghost use Rattle.coll_bytes.specs.Laid.{AllInside, Shows, laid};
 
 use crate::bytes::{Bytes, FEW};
+use crate::composed::{compose_in, composed, shows_bytes};
+use crate::segment::{Segment, is_within};
 use crate::shell::Shell;
 use coll_ops::are_same;
 use coll_sched::Region;
@@ -14,13 +15,6 @@ use std::marker::Model;
 
 /// So many writes need no memory, before any room is made.
 pub const WRITES_IN_PLACE: usize = 1;
-
-// Bytes at their place in a buffer.
-#[derive(Debug, Default, Drop)]
-struct Segment {
-    at: u32,
-    bytes: Bytes,
-}
 
 /// A schedule's buffer: what was written lies there as segments, a newer one over the older ones, and all of them over zeros. So a write
 /// copies nothing, and a region that was written as a whole is read without a copy. Contracts see the buffer's bytes, and how many writes
@@ -47,80 +41,6 @@ impl Model for Segments {
     ghost invariant = { λ b. AllInside b.size b.segments.items };
 }
 
-// Whether one region has all bytes of another.
-fn is_within(outer: Region, inner: Region) -> bool
-    ensures { IsTrue result ↔ Within outer inner }
-{
-    outer.at <= inner.at
-        && u64::from(inner.at) + u64::from(inner.len) <= u64::from(outer.at) + u64::from(outer.len)
-}
-
-// Where a region lies in another.
-fn seen_from(outer: Region, inner: Region) -> Region
-    requires { Within outer inner }
-    ensures { result ≡ seen_from outer inner }
-{
-    Region {
-        at: inner.at - outer.at,
-        len: inner.len,
-    }
-}
-
-// The bytes that two regions share, if there are any.
-fn common(first: Region, second: Region) -> Option<Region>
-    ensures common { IfSome result (IsCommon first second) }
-    ensures none { IfNone result (Apart first second) }
-{
-    if first.is_apart(second) {
-        return None;
-    }
-    let at = first.at.max(second.at);
-    let first_end = u64::from(first.at) + u64::from(first.len);
-    let second_end = u64::from(second.at) + u64::from(second.len);
-    let end = first_end.min(second_end);
-    if end <= u64::from(at) {
-        return None;
-    }
-    Some(Region {
-        at,
-        len: (end - u64::from(at)) as u32,
-    })
-}
-
-impl Segment {
-    fn place(&self) -> Region
-        ensures { result ≡ place_of self.now }
-    {
-        Region {
-            at: self.at,
-            len: self.bytes.len(),
-        }
-    }
-
-    // Where a region of the buffer lies in it.
-    fn inner(&self, from: Region) -> Region
-        requires { Within (place_of self.now) from }
-        ensures { result ≡ seen_from (place_of self.now) from }
-    {
-        seen_from(self.place(), from)
-    }
-
-    // Lays what it has of a region over the region's bytes.
-    fn lay_over(&self, from: Region, out: &mut [u8])
-        requires { length out.old ≡ from.len }
-        ensures { (buffer : List ℕ) → Inside (length buffer) (place_of self.now) → Inside (length buffer) from
-            → out.old ≡ read_of buffer from
-            → out.new ≡ read_of (written buffer (place_of self.now) self.now.bytes) from }
-    {
-        let place = self.place();
-        let Some(common) = common(place, from) else {
-            return;
-        };
-        let own = seen_from(place, common).read(self.bytes.as_slice());
-        seen_from(from, common).write(own, out);
-    }
-}
-
 // The index of the newest segment that has a byte of a region, if it has all of them.
 fn holder(segments: &[Segment], size: u32, from: Region) -> Option<usize>
     requires all { AllInside size segments.now }
@@ -140,124 +60,6 @@ fn holder(segments: &[Segment], size: u32, from: Region) -> Option<usize>
         }
     }
     None
-}
-
-// Lays a region over as many zeros.
-fn compose(segments: &[Segment], size: u32, from: Region, out: &mut [u8])
-    requires all { AllInside size segments.now }
-    requires inside { Inside size from }
-    requires zeros { out.old ≡ replicate from.len 0 }
-    ensures { out.new ≡ read_of (laid size segments.now) from }
-{
-    for segment in segments {
-        segment.lay_over(from, out);
-    }
-}
-
-// A region of a few bytes, put together in place.
-fn composed_few(segments: &[Segment], size: u32, from: Region) -> Bytes
-    requires all { AllInside size segments.now }
-    requires inside { Inside size from }
-    requires few { from.len ≤ FEW }
-    ensures { result ≡ read_of (laid size segments.now) from }
-{
-    let mut row = [0; FEW];
-    let out = &mut row[..from.len as usize];
-    compose(segments, size, from, out);
-    Bytes::few(out)
-}
-
-// A region, put together in an empty vector that has room for it.
-fn compose_in(segments: &[Segment], size: u32, from: Region, out: &mut Vec<u8>)
-    requires all { AllInside size segments.now }
-    requires inside { Inside size from }
-    requires empty { out.old.items ≡ [] }
-    requires none { vec_len out.old ≡ 0 }
-    requires room { from.len ≤ vec_capacity out.old }
-    ensures { out.new.items ≡ read_of (laid size segments.now) from }
-{
-    let Ok(()) = out.resize(from.len as usize, 0) else {
-        unreachable!()
-    };
-    compose(segments, size, from, out);
-}
-
-// A region, put together in the room that is given.
-fn composed_in(segments: &[Segment], size: u32, from: Region, room: Vec<u8>) -> Bytes
-    requires all { AllInside size segments.now }
-    requires inside { Inside size from }
-    requires empty { room.items ≡ [] }
-    requires none { vec_len room ≡ 0 }
-    requires room { from.len ≤ vec_capacity room }
-    ensures { result ≡ read_of (laid size segments.now) from }
-{
-    let mut out = room;
-    compose_in(segments, size, from, &mut out);
-    Bytes::from_vec(out)
-}
-
-// The part of a region of at most `FEW` bytes that begins behind so many of its bytes.
-fn few_behind(from: Region, done: u32) -> Region
-    requires low { done < from.len }
-    requires fits { from.at + from.len < 2 ^ 32 }
-    ensures { result ≡ record { at = from.at + done; len = min (from.len - done) FEW } }
-{
-    Region {
-        at: from.at + done,
-        len: (from.len - done).min(FEW as u32),
-    }
-}
-
-// Whether a region of a few bytes has these.
-fn shows_few(segments: &[Segment], size: u32, from: Region, bytes: &[u8]) -> bool
-    requires all { AllInside size segments.now }
-    requires inside { Inside size from }
-    requires few { from.len ≤ FEW }
-    ensures { IsTrue result ↔ (read_of (laid size segments.now) from ≡ bytes.now) }
-{
-    let few = composed_few(segments, size, from);
-    are_same(few.as_slice(), bytes)
-}
-
-// Whether a region has these bytes.
-fn shows_bytes(segments: &[Segment], size: u32, from: Region, bytes: &[u8]) -> bool
-    requires all { AllInside size segments.now }
-    requires inside { Inside size from }
-    requires same { length bytes.now ≡ from.len }
-    ensures { IsTrue result ↔ (read_of (laid size segments.now) from ≡ bytes.now) }
-{
-    let mut done = 0;
-    while done < from.len {
-        let part = few_behind(from, done);
-        let wanted = Region {
-            at: done,
-            len: part.len,
-        };
-        if !shows_few(segments, size, part, wanted.read(bytes)) {
-            return false;
-        }
-        done += part.len;
-    }
-    true
-}
-
-// A region, put together.
-fn composed(
-    alloc: Global,
-    segments: &[Segment],
-    size: u32,
-    from: Region,
-) -> Result<Bytes, AllocError>
-    requires all { AllInside size segments.now }
-    requires inside { Inside size from }
-    ensures ok { IfOk result (λ part. part ≡ read_of (laid size segments.now) from) }
-    ensures few { from.len ≤ FEW → IsOk result }
-{
-    if from.len as usize <= FEW {
-        return Ok(composed_few(segments, size, from));
-    }
-    let room = Vec::with_capacity(alloc, from.len as usize)?;
-    Ok(composed_in(segments, size, from, room))
 }
 
 // A region's bytes, which one segment has.

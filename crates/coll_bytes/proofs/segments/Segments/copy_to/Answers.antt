@@ -1,7 +1,7 @@
 use Rattle.std.proofs.Common.{◌∙◌, List, length, ap, arith}
 use Rattle.coll_sched.specs.declared.region.Region.{Region}
 use Rattle.coll_sched.specs.Regions.{read_of}
-use Rattle.coll_bytes.specs.declared.segments.Segment.{Segment}
+use Rattle.coll_bytes.specs.declared.segment.Segment.{Segment}
 use Rattle.coll_bytes.specs.Laid.{laid}
 use Rattle.coll_bytes.proofs.Laying.{length_laid, read_all}
 use Rattle.coll_bytes.proofs.segments.Segments.copy_to.Goals as goal

@@ -1,7 +1,7 @@
 use Rattle.std.proofs.Common.{refl}
 use Rattle.coll_bytes.specs.Laid.{place_of}
 use Rattle.coll_bytes.proofs.Writes.{missed, overlaid}
-use Rattle.coll_bytes.proofs.segments.Segment.lay_over.Goals as goal
+use Rattle.coll_bytes.proofs.segment.Segment.lay_over.Goals as goal
 
 pub returns-in_default : goal.returns-in_default
 returns-in_default c = λ buffer h inside was. missed buffer c.args.self.now.bytes c.args.out.now c.place-place.result (place_of c.args.self.now) c.args.from c.place-place.ensures h refl c.in_default.ensures.none inside was

@@ -1,7 +1,7 @@
 use Rattle.std.proofs.Common.{◌≡◌, take}
 use Rattle.coll_sched.specs.Regions.{read_of}
 use Rattle.coll_bytes.specs.Laid.{laid}
-use Rattle.coll_bytes.proofs.segments.compose.Given as goal
+use Rattle.coll_bytes.proofs.composed.compose.Given as goal
 
 -- the region as the segments so far have it
 abbrev pub invariant-loop-segment : goal.invariant-loop-segment

@@ -4,7 +4,7 @@ use Rattle.coll_bytes.specs.declared.bytes.TheConstants.{FEW}
 use Rattle.coll_bytes.specs.Laid.{laid}
 use Rattle.coll_bytes.proofs.Laying.{length_laid}
 use Rattle.coll_bytes.proofs.Comparing.{same_few, same_next, within_few}
-use Rattle.coll_bytes.proofs.segments.shows_bytes.Goals as goal
+use Rattle.coll_bytes.proofs.composed.shows_bytes.Goals as goal
 
 pub returns-then-not-shows_few : goal.returns-then-not-shows_few
 returns-then-not-shows_few c =

@@ -1,7 +1,7 @@
 use Rattle.std.proofs.Common.{◌≡◌, ◌≤◌, ◌-◌, take}
 use Rattle.coll_sched.specs.Regions.{read_of}
 use Rattle.coll_bytes.specs.Laid.{laid}
-use Rattle.coll_bytes.proofs.segments.shows_bytes.Given as goal
+use Rattle.coll_bytes.proofs.composed.shows_bytes.Given as goal
 
 -- the bytes so far are the same
 abbrev pub invariant-loop-done : goal.invariant-loop-done
