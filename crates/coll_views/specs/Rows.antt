@@ -1,10 +1,7 @@
 -- What each entry of a trace adds to the tables.
 use Rattle.std.specs.Prelude.{ℕ, ◌==◌, List, length, map, Option, Some, None, if◌then◌else◌}
-use Rattle.coll_kinds.specs.declared.datatype.Datatype.TheVariants.{Byte}
-use Rattle.coll_kinds.specs.declared.kind.Kind.TheVariants.{Barrier}
-use Rattle.coll_kinds.specs.declared.kind.Mode.TheVariants.{Once}
-use Rattle.coll_kinds.specs.declared.signature.Signature.{Signature}
 use Rattle.coll_kinds.specs.Lengths.{lent}
+use Rattle.coll_tables.specs.Tables.{no_signature}
 use Rattle.coll_machine.specs.Entries.{Entry, Posted, Inited, Started, Retired, Freed}
 use Rattle.coll_views.specs.declared.request.Named.{Named}
 use Rattle.coll_views.specs.declared.request.Request.{Request}
@@ -54,9 +51,6 @@ added p (Started rank t start bytes) = record (begun rank p bytes) { starts = 1 
 added p (Retired rank t comm place start bytes) =
     record (row_by rank p) { completed = 1; got = length bytes; returns = lent p.sig p.members p.member }
 added p (Freed rank t) = row_by rank p
-
-abbrev no_signature : Signature
-no_signature = record { kind = Barrier; mode = Once; root = 0; op = None; ty = Byte; count = 0; each = None }
 
 -- an entry that is about no request adds nothing
 abbrev pub nothing : Row

@@ -8,7 +8,7 @@ use Rattle.coll_sched.specs.Families.{family_exchanges}
 use Rattle.coll_plans.specs.Plans.{family}
 use Rattle.coll_views.specs.declared.request.Request.{Request}
 use Rattle.coll_views.specs.declared.row.Row.{Row}
-use Rattle.coll_views.specs.declared.tables.Cell.{Cell}
+use Rattle.coll_views.specs.declared.cell.Cell.{Cell}
 use Rattle.coll_views.specs.declared.totals.Totals.{Totals}
 use Rattle.coll_views.specs.Texts.{signature_text}
 use Rattle.coll_views.specs.Totals.{totals_of}

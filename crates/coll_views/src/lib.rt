@@ -12,6 +12,7 @@
 //! | `outcomes` | `outcomes_json`, a line for each completion |
 //! | `row` | `Row`, what an entry adds to a table |
 //! | `totals` | `Totals`, the sums of rows |
+//! | `cell` | the columns of a table's numbers |
 //! | `tables` | `tables_text`, by rank and by collective |
 //! | `lanes` | where bars are drawn |
 //! | `timeline` | `timeline_json`, in the format of trace events |
@@ -20,6 +21,7 @@
 #![tactic(auto)]
 
 mod begun;
+mod cell;
 mod elements;
 mod fault;
 mod lanes;

@@ -6,12 +6,13 @@ ghost use Rattle.coll_kinds.specs.Sameness.{same_signature};
 ghost use Rattle.coll_report.specs.Views.{groups_seen};
 ghost use Rattle.coll_sched.specs.Families.{family_exchanges};
 ghost use Rattle.coll_plans.specs.Plans.{family};
-ghost use Rattle.coll_views.specs.Tables.{added_once, aligned, all_comm_lines, asked_on, by_collective, by_rank, cell_text, cells_of, collective_line, collectives_text, comm_lines, each_once, head_of_collectives, head_of_ranks, is_on, label_of, line_of, numbers_text, rank_line, rank_lines, ranks_text, rows_on, tables_text};
+ghost use Rattle.coll_views.specs.Tables.{added_once, all_comm_lines, asked_on, by_collective, by_rank, collective_line, collectives_text, comm_lines, each_once, head_of_collectives, head_of_ranks, is_on, label_of, line_of, numbers_text, rank_line, rank_lines, ranks_text, rows_on, tables_text};
 
+use crate::cell::{cells_of, print_aligned, print_cells};
 use crate::fault::ViewFault;
 use crate::request::{Request, Requests};
 use crate::row::Row;
-use crate::totals::{Totals, totals_of};
+use crate::totals::totals_of;
 use crate::words::signature_text;
 use coll_draw::Drawing;
 use coll_kinds::Signature;
@@ -22,13 +23,6 @@ const HEAD_OF_RANKS: &str =
 
 const HEAD_OF_COLLECTIVES: &str =
     "\ncommunicator  members  times  exchanges each  posts  inits  starts  completed  bytes given  bytes got  most lent  messages  their bytes  combinations  collective\n";
-
-/// A number that stands at the right end of its column.
-#[derive(Clone, Copy, Debug, PartialEq, Eq)]
-pub(crate) struct Cell {
-    pub(crate) width: usize,
-    pub(crate) number: u64,
-}
 
 /// Two tables of so many ranks on these communicators: a line for each rank and one for all, and then one for each signature that
 /// was asked for on a communicator, in the order in which its first member did. The rows are those of the requests. Linear in the
@@ -349,85 +343,4 @@ fn print_numbers(alloc: Global, rows: &[Row], out: &mut Vec<u8>) -> Result<(), V
 {
     let totals = totals_of(alloc, rows)?;
     print_cells(alloc, &cells_of(totals), out)
-}
-
-fn print_cells(alloc: Global, cells: &[Cell], out: &mut Vec<u8>) -> Result<(), ViewFault>
-    ensures { OnOk result (out.new.items ≡ out.old.items ++ flat_map cell_text cells.now) }
-{
-    for cell in cells {
-        print_cell(alloc, cell, out)?;
-    }
-    Ok(())
-}
-
-/// The columns.
-#[tactic(auto, unfolding(crate::specs::Tables::cells_of))]
-fn cells_of(totals: Totals) -> [Cell; 10]
-    ensures { result ≡ cells_of totals }
-{
-    [
-        Cell {
-            width: 7,
-            number: totals.posts,
-        },
-        Cell {
-            width: 7,
-            number: totals.inits,
-        },
-        Cell {
-            width: 8,
-            number: totals.starts,
-        },
-        Cell {
-            width: 11,
-            number: totals.completed,
-        },
-        Cell {
-            width: 13,
-            number: totals.given,
-        },
-        Cell {
-            width: 11,
-            number: totals.got,
-        },
-        Cell {
-            width: 11,
-            number: totals.lent,
-        },
-        Cell {
-            width: 10,
-            number: totals.messages,
-        },
-        Cell {
-            width: 13,
-            number: totals.sent,
-        },
-        Cell {
-            width: 14,
-            number: totals.combinations,
-        },
-    ]
-}
-
-fn print_cell(alloc: Global, cell: &Cell, out: &mut Vec<u8>) -> Result<(), ViewFault>
-    ensures { OnOk result (out.new.items ≡ out.old.items ++ cell_text cell.now) }
-{
-    let number = cell.number;
-    let text = format!(in alloc; "{number}")?;
-    print_aligned(alloc, cell.width, text.as_bytes(), out)
-}
-
-/// Appends a text at the right end of a column that is so wide.
-fn print_aligned(
-    alloc: Global,
-    width: usize,
-    text: &[u8],
-    out: &mut Vec<u8>,
-) -> Result<(), ViewFault>
-    ensures { OnOk result (out.new.items ≡ out.old.items ++ aligned width text.now) }
-{
-    let spaces = vec![in alloc; b' '; width.saturating_sub(text.len())]?;
-    out.extend_from_slice(&spaces)?;
-    out.extend_from_slice(text)?;
-    Ok(())
 }

@@ -2,7 +2,9 @@
 
 ghost use Rattle.std.specs.Prelude.{◌≡◌, ◌++◌, ◌∷◌, [], ◌<◌, ◌^◌, List, count_by, flat_map, map, sum, IfOk, OnOk};
 ghost use Rattle.coll_sched.specs.declared.action.Action.{Action as AnAction};
-ghost use Rattle.coll_views.specs.Works.{actions_in, is_combine, is_send, sent_by, work_in};
+ghost use Rattle.coll_sched.specs.Families.{is_send};
+ghost use Rattle.coll_draw.specs.Counts.{is_combine, sent_len};
+ghost use Rattle.coll_views.specs.Works.{actions_in, work_in};
 
 use crate::fault::ViewFault;
 use coll_sched::{Action, Round};
@@ -26,7 +28,7 @@ pub(crate) fn work_of(alloc: Global, rounds: &[Round]) -> Result<Work, ViewFault
     let actions = all_actions(alloc, rounds)?;
     let sent: Vec<u64> = actions
         .iter()
-        .map(|action| sent_by(*action))
+        .map(|action| sent_len(*action))
         .collect(alloc)?;
     Ok(Work {
         messages: count_sends(&actions),
@@ -88,8 +90,8 @@ fn is_combine(action: Action) -> bool
 }
 
 /// The bytes that an action sends.
-fn sent_by(action: Action) -> u64
-    ensures { result ≡ sent_by action }
+fn sent_len(action: Action) -> u64
+    ensures { result ≡ sent_len action }
 {
     match action {
         Action::Send { from, .. } => u64::from(from.len),

@@ -66,7 +66,7 @@ fn taken(matches: &mut Matches, key: Key, from: u8, to: u8, round: usize) -> Opt
 }
 
 /// The byte that a member gave.
-fn gift(matches: &Matches, key: Key, member: u8) -> Option<u8> {
+fn contribution(matches: &Matches, key: Key, member: u8) -> Option<u8> {
     matches.given(key, member)?.first().copied()
 }
 
@@ -96,14 +96,14 @@ fn contributions_outlive_their_requests(rt: HostRuntime) -> Result<(), Fail> {
 
     assert!(rt; !leave(&mut matches, FIRST, 0));
     assert_eq!(rt; matches.seated(FIRST, 0), None);
-    assert_eq!(rt; gift(&matches, FIRST, 0), Some(10));
+    assert_eq!(rt; contribution(&matches, FIRST, 0), Some(10));
     assert!(rt; !leave(&mut matches, FIRST, 2));
-    assert_eq!(rt; gift(&matches, FIRST, 2), Some(12));
+    assert_eq!(rt; contribution(&matches, FIRST, 2), Some(12));
     assert!(rt; leave(&mut matches, FIRST, 1));
     for member in 0..3 {
-        assert_eq!(rt; gift(&matches, FIRST, member), None);
+        assert_eq!(rt; contribution(&matches, FIRST, member), None);
     }
-    assert_eq!(rt; gift(&matches, SECOND, 0), Some(20));
+    assert_eq!(rt; contribution(&matches, SECOND, 0), Some(20));
     Ok(())
 }
 

@@ -1,6 +1,6 @@
 use Rattle.coll_views.specs.Tables.{cell_text}
 use Rattle.coll_views.proofs.Loops.{flat_map-at}
-use Rattle.coll_views.proofs.tables.print_cells.Goals as goal
+use Rattle.coll_views.proofs.cell.print_cells.Goals as goal
 
 pub loop-cell-preserved : goal.loop-cell-preserved
 loop-cell-preserved c =

@@ -1,7 +1,7 @@
 use Rattle.std.proofs.Common.{◌≡◌, ◌++◌, drop}
 use Rattle.std.specs.Prelude.{flat_map}
 use Rattle.coll_views.specs.Tables.{cell_text}
-use Rattle.coll_views.proofs.tables.print_cells.Given as goal
+use Rattle.coll_views.proofs.cell.print_cells.Given as goal
 
 abbrev pub invariant-loop-cell : goal.invariant-loop-cell
 invariant-loop-cell l =
