@@ -1,9 +1,9 @@
 //! A run in which memory may be refused.
 
-use crate::run_tests::STARTS_OUT_OF_ORDER;
 use coll_job::run_job;
 use coll_script::JobFault;
 use coll_shared::NoGate;
+use script_rows::texts::STARTS_OUT_OF_ORDER;
 use std::alloc::Global;
 use std::sync::Wait;
 use std::test::Fail;

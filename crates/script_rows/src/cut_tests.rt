@@ -1,8 +1,8 @@
 //! Texts that were cut off.
 
 use crate::answering::answer_text;
-use crate::run_tests::STARTS_OUT_OF_ORDER;
 use crate::shown::{Row, first_misfit};
+use crate::texts::STARTS_OUT_OF_ORDER;
 use coll_script::JobFault;
 use std::alloc::Global;
 use std::test::Fail;
