@@ -1,3 +1,2 @@
--- texts whose lines have no fault, and what checking a text ends in
+-- texts whose lines have no fault
 pub mod Accepting
-pub mod Checked

@@ -2,13 +2,13 @@ use crate::patch::Patch;
 use std::alloc::{AllocError, Global};
 
 /// A text whose faulty lines are mended one after another, so that the lines behind them can be judged.
-#[derive(Debug, Drop)]
+#[derive(Drop)]
 pub(crate) struct Draft<'t> {
     lines: Vec<Line<'t>>,
 }
 
 /// A line of the text, or the lines in its place.
-#[derive(Debug, Drop)]
+#[derive(Drop)]
 enum Line<'t> {
     Written(&'t [u8]),
     Mended(Vec<u8>),
@@ -98,7 +98,7 @@ impl<'t> Draft<'t> {
 }
 
 /// For each line of a draft the line of the text in whose place it stands.
-#[derive(Debug, Drop)]
+#[derive(Drop)]
 pub(crate) struct Written {
     numbers: Vec<u32>,
 }

@@ -13,7 +13,7 @@ use coll_script::Cause;
 use std::alloc::{AllocError, Global};
 
 /// What is known of the fault, and by which patches the text can be read past it.
-#[derive(Debug, Drop)]
+#[derive(Drop)]
 pub(crate) struct Examined {
     pub detail: Detail,
     pub mending: Option<Mending>,

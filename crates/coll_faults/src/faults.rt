@@ -24,13 +24,12 @@ pub struct Faults {
 pub const MOST_FAULTS: u32 = 64;
 
 impl Faults {
-    ghost use Rattle.std.specs.Prelude.{◌≡◌, Err, IfOk, IfSome, IfNone};
-    ghost use Rattle.coll_diagnosis.specs.Explained.{HasMeaning};
+    ghost use Rattle.std.specs.Prelude.{◌≡◌, Err, IfOk, IfSome, IfNone, IsOk};
     ghost use Rattle.coll_script.specs.Meaning.{meaning};
 
     /// The faults of a text; nothing where it has none. For each fault the text is read again several times.
     pub fn of(alloc: Global, text: &[u8]) -> Result<Option<Faults>, AllocError>
-        ensures none { IfOk result (λ found. IfNone found (HasMeaning text.now)) }
+        ensures none { IfOk result (λ found. IfNone found (IsOk (meaning text.now))) }
         ensures first { IfOk result (λ found. IfSome found (λ faults. meaning text.now ≡ Err faults.first.fault)) }
     {
         let fault = match Script::read(alloc, text) {
@@ -70,7 +69,7 @@ impl Faults {
 }
 
 /// How far a text was judged.
-#[derive(Debug, Drop)]
+#[derive(Drop)]
 struct Search<'t> {
     alloc: Global,
     draft: Draft<'t>,

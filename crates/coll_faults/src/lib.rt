@@ -16,19 +16,14 @@
 //! | `mending` | what stands in place of a faulty line while those behind it are judged |
 //! | `postings`, `difference`, `place_faults` | requests at one place that don't belong together |
 //! | `finding`, `examining`, `faults` | `Faults`, all that is found in one text |
-//! | `excerpt`, `text_form`, `json_form` | faults as lines for a reader, and as JSON |
-//! | `checking` | `check_job`, from a reader to writers |
 #![tactic(auto)]
 
 mod accepting;
-mod checking;
 mod difference;
 mod draft;
 mod examining;
-mod excerpt;
 mod faults;
 mod finding;
-mod json_form;
 mod line_faults;
 mod mending;
 mod patch;
@@ -40,15 +35,14 @@ mod scene;
 mod signature_faults;
 mod site;
 mod suggestion;
-mod text_form;
 mod value_faults;
 mod vocabulary;
 mod words;
 
-pub use checking::{CheckForm, check_job};
 pub use difference::Difference;
 pub use faults::{Faults, MOST_FAULTS};
 pub use finding::{Detail, Finding, Marked};
 pub use patch::Patch;
 pub use place_faults::{Mismatch, MissingPlace, MissingStart, PlaceFault, Standing};
 pub use suggestion::Suggestion;
+pub use words::{shown, shown_as};

@@ -12,7 +12,7 @@ use coll_script::Cause;
 use std::alloc::{AllocError, Global};
 
 /// Patches by which a text can be read past a faulty line.
-#[derive(Debug, Drop)]
+#[derive(Drop)]
 pub(crate) struct Mending {
     pub patches: Vec<Patch>,
     /// Whether the line still posts and starts what it was surely meant to.

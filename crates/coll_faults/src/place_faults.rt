@@ -123,7 +123,7 @@ fn push_by_line(mismatches: &mut Vec<Mismatch>, mismatch: Mismatch) -> Result<()
 }
 
 /// A request at a place, as far as it is compared with the others there.
-#[derive(Clone, Copy, Debug)]
+#[derive(Clone, Copy)]
 struct Seat {
     rank: u8,
     line: u32,

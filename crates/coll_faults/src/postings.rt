@@ -5,7 +5,7 @@ use coll_kinds::Signature;
 use std::alloc::{AllocError, Global};
 
 /// A request, as it is compared with those of other members at its place.
-#[derive(Debug, Drop)]
+#[derive(Drop)]
 pub(crate) struct Posted {
     pub rank: u8,
     /// The line that made it.
@@ -17,7 +17,7 @@ pub(crate) struct Posted {
 }
 
 /// The posting list of a member.
-#[derive(Debug, Drop)]
+#[derive(Drop)]
 pub(crate) struct List {
     pub rank: u8,
     pub posted: Vec<Posted>,

@@ -2,7 +2,7 @@ use crate::patch::Patch;
 use std::alloc::{AllocError, Global};
 
 /// What is known of a faulty line.
-#[derive(Debug, Drop)]
+#[derive(Drop)]
 pub(crate) struct Remark {
     /// The index of the first word that is meant; that behind the last word where one is missing.
     pub word: usize,
@@ -15,7 +15,7 @@ pub(crate) struct Remark {
 }
 
 /// A change that hasn't been tried.
-#[derive(Debug, Drop)]
+#[derive(Drop)]
 pub(crate) struct Proposal {
     pub help: String,
     pub patches: Vec<Patch>,

@@ -6,7 +6,7 @@ use coll_kinds::{Mode, Signature, read_number};
 use std::alloc::{AllocError, Global};
 
 /// What the lines before a faulty one have said.
-#[derive(Debug, Drop)]
+#[derive(Drop)]
 pub(crate) struct Scene {
     history: History,
     /// The rank whose section stands open.
@@ -14,7 +14,7 @@ pub(crate) struct Scene {
 }
 
 /// A request of the rank whose section stands open.
-#[derive(Debug, Drop)]
+#[derive(Drop)]
 pub(crate) struct Made<'s> {
     /// The line that made it, in the mended text.
     pub line: u32,

@@ -12,7 +12,7 @@ use std::alloc::AllocError;
 const KIND: usize = 2;
 
 /// The fields of a signature, word by word.
-#[derive(Clone, Copy, Debug)]
+#[derive(Clone, Copy)]
 struct Fields {
     kind: Kind,
     root: Option<(usize, u128)>,

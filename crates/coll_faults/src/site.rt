@@ -9,7 +9,7 @@ use coll_kinds::{Signature, member_of, read_number};
 use std::alloc::{AllocError, Global};
 
 /// A faulty line, and what the lines before it have said.
-#[derive(Debug, Drop)]
+#[derive(Drop)]
 pub(crate) struct Site<'s> {
     pub alloc: Global,
     pub line: u32,
@@ -19,7 +19,7 @@ pub(crate) struct Site<'s> {
 }
 
 /// What a signature asks of the rank whose line has it.
-#[derive(Clone, Copy, Debug)]
+#[derive(Clone, Copy)]
 pub(crate) struct Due<'h> {
     pub sig: &'h Signature,
     /// The rank's number in the communicator.

@@ -8,7 +8,7 @@ use coll_kinds::{Datatype, read_element};
 use std::alloc::{AllocError, Global};
 
 /// Where the values of a line begin, and what is due there.
-#[derive(Clone, Copy, Debug)]
+#[derive(Clone, Copy)]
 struct Values<'h> {
     /// The index of the colon.
     colon: usize,
@@ -50,7 +50,7 @@ pub(crate) fn of_values(site: &Site<'_>, speak: ValueFault) -> Result<Option<Rem
 }
 
 /// What is wrong with the values of a line.
-#[derive(Clone, Copy, Debug)]
+#[derive(Clone, Copy)]
 pub(crate) enum ValueFault {
     /// The colon.
     Colon,

@@ -55,7 +55,7 @@ static FRACTIONS: [&str; 8] = [
 const LONGEST: usize = 32;
 
 /// What a word may be meant to be, and what a user is told of it.
-#[derive(Debug, Drop)]
+#[derive(Drop)]
 pub(crate) struct Meant {
     pub word: &'static str,
     pub help: String,

@@ -3,7 +3,7 @@
 use std::alloc::{AllocError, Global};
 
 /// A word of a line.
-#[derive(Clone, Copy, Debug)]
+#[derive(Clone, Copy)]
 pub(crate) struct Word<'l> {
     /// The bytes before it in its line.
     pub start: usize,
@@ -70,7 +70,7 @@ pub(crate) fn spliced(
 }
 
 /// Bytes as they are shown: one column each, what isn't printed so is a question mark.
-pub(crate) fn shown(alloc: Global, bytes: &[u8]) -> Result<String, AllocError> {
+pub fn shown(alloc: Global, bytes: &[u8]) -> Result<String, AllocError> {
     let mut shown = String::new(alloc);
     for byte in bytes {
         shown.push(shown_as(*byte))?;
@@ -79,7 +79,7 @@ pub(crate) fn shown(alloc: Global, bytes: &[u8]) -> Result<String, AllocError> {
 }
 
 /// How a byte is shown.
-pub(crate) fn shown_as(byte: u8) -> char {
+pub fn shown_as(byte: u8) -> char {
     match byte {
         b' '..=b'~' => char::from(byte),
         b'\t' | b'\r' => ' ',

@@ -1,8 +1,8 @@
 use Rattle.std.proofs.Common.{◌≡◌, ℕ, List, take, subst, sym}
 use Rattle.std.specs.Prelude.{IfSome}
 use Rattle.std.proofs.lemmas.Result.{err_from_is_err_and}
-use Rattle.coll_faults.proofs.Answering.{IsCheckStatus-read, IsCheckFault-read}
-use Rattle.coll_faults.proofs.checking.check_job.Goals as goal
+use Rattle.coll_check.proofs.Answering.{IsCheckStatus-read, IsCheckFault-read}
+use Rattle.coll_check.proofs.checking.check_job.Goals as goal
 
 pub returns-in_err-lines-clause-faults : goal.returns-in_err-lines-clause-faults
 returns-in_err-lines-clause-faults g c =

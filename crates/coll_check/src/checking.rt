@@ -7,12 +7,12 @@ ghost use Rattle.coll_script.specs.Plain.{HasCause};
 ghost use Rattle.coll_diagnosis.specs.Explained.{HasMeaning};
 ghost use Rattle.coll_diagnosis.specs.Explained as explained;
 ghost use Rattle.coll_diagnosis.specs.Verdicts.{IsStatus};
-ghost use Rattle.coll_faults.specs.Checked.{IsCheckStatus, IsFaultOf, IsCheckFault, IsSomeStatus, KeepsLines};
+ghost use Rattle.coll_check.specs.Checked.{IsCheckStatus, IsFaultOf, IsCheckFault, IsSomeStatus, KeepsLines};
 
-use crate::faults::Faults;
 use crate::json_form::{faultless_json, faults_json};
 use crate::text_form::{faultless_text, faults_text};
 use coll_diagnosis::{ExplainOptions, Form, explain_text};
+use coll_faults::Faults;
 use coll_script::{Counted, JobFault, Witnessed, read_text, write_lines};
 use std::alloc::Global;
 use std::io::{Read, Write};

@@ -6,8 +6,8 @@ use Rattle.coll_script.specs.declared.fault.JobFault.TheVariants.{Read, Write, T
 use Rattle.coll_script.specs.Meaning.{meaning}
 use Rattle.coll_diagnosis.specs.Explained.{HasMeaning}
 use Rattle.coll_diagnosis.specs.Verdicts.{IsStatus}
-use Rattle.coll_faults.specs.declared.checking.CheckForm.{CheckForm}
-use Rattle.coll_faults.specs.declared.checking.CheckForm.TheVariants as form
+use Rattle.coll_check.specs.declared.checking.CheckForm.{CheckForm}
+use Rattle.coll_check.specs.declared.checking.CheckForm.TheVariants as form
 
 -- the exit status of a text: 2 where it has a fault, and else that of an explanation
 abbrev pub IsCheckStatus : List ℕ → ℕ → Type 0

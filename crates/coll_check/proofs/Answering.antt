@@ -1,6 +1,6 @@
 -- What is read decides how it is checked.
-use Rattle.std.proofs.Common.{◌≡◌, ℕ, List, take, Option, Some, None, sym, subst, ◌∙◌}
-use Rattle.std.specs.Prelude.{IfSome, MatchResult, Result, Ok, Err}
+use Rattle.std.proofs.Common.{◌≡◌, ℕ, List, take, Option, Some, None, refl, sym, subst, ◌∙◌}
+use Rattle.std.specs.Prelude.{IfSome, IfNone, IsOk, MatchResult, Result, Ok, Err, true, is_ok}
 use Rattle.coll_history.specs.declared.fault.Fault.{Fault}
 use Rattle.coll_script.specs.declared.fault.JobFault.{JobFault}
 use Rattle.coll_script.specs.declared.fault.JobFault.TheVariants.{Read, Write, Text, Stalled, Refused, Memory, NoThread, Torn}
@@ -10,7 +10,19 @@ use Rattle.coll_diagnosis.specs.Explained.{HasMeaning}
 use Rattle.coll_diagnosis.specs.Explained as explained
 use Rattle.coll_diagnosis.specs.Verdicts.{IsStatus}
 use Rattle.coll_diagnosis.proofs.Answering.{HasMeaning-read}
-use Rattle.coll_faults.specs.Checked.{IsCheckStatus, IsFaultOf, IsCheckFault}
+use Rattle.coll_check.specs.Checked.{IsCheckStatus, IsFaultOf, IsCheckFault}
+
+-- what has a meaning has lines
+pub HasMeaning-from_ok : (text : List ℕ) → IsOk (meaning text) → HasMeaning text
+HasMeaning-from_ok text ok = go (meaning text) refl ok
+  where
+    go : (m : Result (List ℕ) Fault) → meaning text ≡ m → is_ok m ≡ true → HasMeaning text
+    go (Ok lines) is t = (lines, is)
+    go (Err fault) is f = absurd cc
+
+pub HasMeaning-none : {X : Type 0} (found : Option X) (text : List ℕ) → IfNone found (IsOk (meaning text)) → IfNone found (HasMeaning text)
+HasMeaning-none None text ok = HasMeaning-from_ok text ok
+HasMeaning-none (Some x) text ok = tt
 
 -- a text with a fault is told with status 2
 pub IsCheckStatus-fault : (text : List ℕ) (fault : Fault) (status : ℕ) → status ≡ 2 → meaning text ≡ Err fault → IsCheckStatus text status

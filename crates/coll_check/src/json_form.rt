@@ -1,120 +1,17 @@
 //! Faults as JSON, an object in each line.
 
-use crate::faults::Faults;
-use crate::finding::{Detail, Finding, Marked};
-use crate::place_faults::{Mismatch, MissingPlace, MissingStart, PlaceFault, Standing};
-use crate::suggestion::Suggestion;
-use crate::words::{shown, shown_as};
+use crate::objects::{
+    Checked, Differing, Lacking, Member, OfLine, OfMismatch, OfMissingPlace, OfMissingStart,
+    Posted, Replaced, Started,
+};
 use coll_diagnosis::Source;
+use coll_faults::{
+    Detail, Faults, Finding, Marked, Mismatch, MissingPlace, MissingStart, PlaceFault, Standing,
+    Suggestion, shown, shown_as,
+};
 use serde::Serialize;
 use serde_json::Error;
 use std::alloc::{AllocError, Global};
-
-/// A fault of a line, or one of which nothing more is known.
-#[derive(Drop, Serialize)]
-struct OfLine<'e> {
-    reason: &'static str,
-    line: u32,
-    cause: &'e str,
-    word: Option<usize>,
-    column: Option<usize>,
-    length: Option<usize>,
-    found: Option<&'e str>,
-    label: Option<&'e str>,
-    notes: Vec<&'e str>,
-    help: Vec<&'e str>,
-    replace: Vec<Replaced>,
-}
-
-/// Lines in place of one.
-#[derive(Drop, Serialize)]
-struct Replaced {
-    line: u32,
-    by: Vec<String>,
-}
-
-/// A place whose requests differ.
-#[derive(Drop, Serialize)]
-struct OfMismatch<'e> {
-    reason: &'static str,
-    line: u32,
-    cause: &'static str,
-    comm: usize,
-    place: usize,
-    first: Posted<'e>,
-    differs: Differing<'e>,
-    members: Vec<Member>,
-}
-
-/// A place that some members lack.
-#[derive(Drop, Serialize)]
-struct OfMissingPlace<'e> {
-    reason: &'static str,
-    line: u32,
-    cause: &'static str,
-    comm: usize,
-    place: usize,
-    first: Posted<'e>,
-    lacking: Vec<Lacking>,
-    help: Vec<&'e str>,
-    replace: Vec<Replaced>,
-}
-
-/// A place that is started differently often.
-#[derive(Drop, Serialize)]
-struct OfMissingStart<'e> {
-    reason: &'static str,
-    line: u32,
-    cause: &'static str,
-    comm: usize,
-    place: usize,
-    members: Vec<Started<'e>>,
-}
-
-#[derive(Drop, Serialize)]
-struct Posted<'e> {
-    rank: u8,
-    line: u32,
-    text: &'e str,
-}
-
-#[derive(Drop, Serialize)]
-struct Differing<'e> {
-    rank: u8,
-    line: u32,
-    text: &'e str,
-    #[serde(rename = "in")]
-    fields: Vec<&'static str>,
-}
-
-#[derive(Drop, Serialize)]
-struct Member {
-    rank: u8,
-    line: u32,
-    agrees: bool,
-}
-
-#[derive(Drop, Serialize)]
-struct Lacking {
-    rank: u8,
-    has: usize,
-}
-
-#[derive(Drop, Serialize)]
-struct Started<'e> {
-    rank: u8,
-    line: u32,
-    starts: &'e [u32],
-}
-
-/// The last line.
-#[derive(Drop, Serialize)]
-struct Checked {
-    reason: &'static str,
-    faults: usize,
-    cut: bool,
-    status: u8,
-}
 
 /// An object for each fault, and one for their number.
 pub(crate) fn faults_json(

@@ -1,0 +1,2 @@
+-- what checking a text ends in
+pub mod Checked
