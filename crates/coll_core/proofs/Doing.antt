@@ -17,7 +17,7 @@ use Rattle.coll_arena.specs.Sound.{IsSound}
 use Rattle.coll_arena.proofs.Sounds.{Named-names}
 use Rattle.coll_queues.specs.Postings.{Postings}
 use Rattle.coll_machine.specs.declared.key.Key.{Key}
-use Rattle.coll_match.specs.Held.{put_mail}
+use Rattle.coll_sched.specs.Worlds.{put_mail}
 use Rattle.coll_machine.specs.Changes.{put_key}
 use Rattle.coll_match.specs.Instances.{mail}
 use Rattle.coll_tables.specs.Shown.{Instances}

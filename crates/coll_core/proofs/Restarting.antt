@@ -39,10 +39,6 @@ pub read_as : (p : Parts) (rank : ℕ) (t : Ticket) (d bytes : List ℕ) (o : Op
     → o ≡ refusal (setting p) (seen p).state (Start rank t d) → o ≡ refusal (setting p) (seen p).state (Start rank t bytes)
 read_as p rank t d bytes o same e = subst (λ d. o ≡ refusal (setting p) (seen p).state (Start rank t d)) same e
 
-pub laid_as : (o : Option Request) (d bytes buf : List ℕ) → d ≡ bytes
-    → IfSome o (λ x. buf ≡ laid_in (schedule (shown x)) d) → IfSome o (λ x. buf ≡ laid_in (schedule (shown x)) bytes)
-laid_as o d bytes buf same h = subst (λ d. IfSome o (λ x. buf ≡ laid_in (schedule (shown x)) d)) same h
-
 pub refused_so : (p : Parts) (rank : ℕ) (t : Ticket) (bytes : List ℕ) (why : Refusal)
     → Some why ≡ refusal (setting p) (seen p).state (Start rank t bytes)
     → Refuses (setting p) (seen p) (Start rank t bytes) why

@@ -3,6 +3,7 @@ pub mod Configs
 pub mod Cores
 pub mod Phases
 pub mod Calls
+pub mod Contributions
 pub mod Posts
 pub mod Numbers
 pub mod Starts

@@ -17,7 +17,7 @@ planned p = record { sig = p.sig; n = p.n; member = p.member }
 
 -- the calls
 abbrev pub post_of : ℕ → ℕ → Offer → Call
-post_of rank comm offer = Post rank comm (planned offer.plan) offer.bytes.items
+post_of rank comm offer = Post rank comm (planned offer.plan) offer.bytes
 
 abbrev pub init_of : ℕ → ℕ → Plan → Call
 init_of rank comm plan = Init rank comm (planned plan)
@@ -38,5 +38,5 @@ pub record IsRoomy (p : Parts) (rank comm : ℕ) (plan : Plan) : Type 0 where
 -- the buffer of the plan's schedule with what is given laid in, if that has the right length
 abbrev pub IsLaid : Offer → List ℕ → Type 0
 IsLaid offer buffer =
-    length offer.bytes.items ≡ (family offer.plan.sig offer.plan.n offer.plan.member).input.len
-    → buffer ≡ laid_in (family offer.plan.sig offer.plan.n offer.plan.member) offer.bytes.items
+    length offer.bytes ≡ (family offer.plan.sig offer.plan.n offer.plan.member).input.len
+    → buffer ≡ laid_in (family offer.plan.sig offer.plan.n offer.plan.member) offer.bytes

@@ -8,6 +8,7 @@ ghost use Rattle.coll_sched.specs.Families.{laid_in};
 ghost use Rattle.coll_sched.specs.Regions.{Inside, read_of, written};
 
 use crate::combined::{combined, combined_few};
+use crate::contribution::Contribution;
 use coll_bytes::{Bytes, FEW, Segments, Shell};
 use coll_kinds::{Datatype, Op, Refusal};
 use coll_ops::are_same;
@@ -96,29 +97,12 @@ impl Buffer {
         }
     }
 
-    /// The schedule's buffer with the contribution laid in, and zeros elsewhere. Only NoMemory is refused.
+    /// The schedule's buffer with the contribution laid in, and zeros elsewhere. A long buffer shares the contribution. Only NoMemory is
+    /// refused.
     pub(crate) fn lay_in(
         alloc: Global,
         schedule: &Schedule,
-        bytes: &[u8],
-    ) -> Result<Buffer, Refusal>
-        requires { length bytes.now ≡ schedule.now.input.len }
-        ensures ok { IfOk result (λ buffer. buffer ≡ laid_in schedule.now bytes.now) }
-        ensures refusal { IsOkUnless result Refusal.NoMemory }
-    {
-        if schedule.size() <= SHORT {
-            return Buffer::lay_short(alloc, schedule, bytes);
-        }
-        let input = schedule.input();
-        let given = Bytes::copy(alloc, bytes)?;
-        Buffer::lay_long(alloc, schedule, input, given)
-    }
-
-    /// As `lay_in`, with the contribution's own memory where it is long.
-    pub(crate) fn lay_shared(
-        alloc: Global,
-        schedule: &Schedule,
-        given: &mut Bytes,
+        given: &mut Contribution,
     ) -> Result<Buffer, Refusal>
         requires { length given.old ≡ schedule.now.input.len }
         ensures ok { IfOk result (λ buffer. buffer ≡ laid_in schedule.now given.old) }
@@ -128,8 +112,9 @@ impl Buffer {
         if schedule.size() <= SHORT {
             return Buffer::lay_short(alloc, schedule, given.as_slice());
         }
+        let input = schedule.input();
         let shared = given.share(alloc)?;
-        Buffer::lay_long(alloc, schedule, schedule.input(), shared)
+        Buffer::lay_long(alloc, schedule, input, shared)
     }
 
     // A buffer whose bytes lie together from the beginning.

@@ -3,6 +3,7 @@
 //! | Module | Has |
 //! |---|---|
 //! | `config` | `Config`, what an engine is opened with |
+//! | `contribution` | `Contribution`, what a member gives to a collective |
 //! | `offer` | `Offer`, what a post hands in |
 //! | `phase` | `Phase`, how far a request is |
 //! | `about` | `About`, what a ticket names |
@@ -30,6 +31,7 @@ mod about;
 mod buffer;
 mod combined;
 mod config;
+mod contribution;
 mod engine;
 pub mod laws;
 mod offer;
@@ -44,6 +46,7 @@ mod work;
 pub use about::About;
 pub use buffer::Buffer;
 pub use config::Config;
+pub use contribution::Contribution;
 pub use engine::Core;
 pub use offer::Offer;
 pub use outcome::Outcome;

@@ -1,9 +1,9 @@
-ghost use Rattle.std.specs.Prelude.{◌≡◌, ◌<◌, ◌^◌, length, IfErr, IfOk};
+ghost use Rattle.std.specs.Prelude.{◌≡◌, IfErr, IfOk};
 ghost use Rattle.coll_core.specs.Posts.{IsLaid};
 ghost use Rattle.coll_core.specs.Numbers.{number_bytes};
 
 use crate::buffer::Buffer;
-use coll_bytes::Bytes;
+use crate::contribution::Contribution;
 use coll_kinds::Refusal;
 use coll_plans::Plan;
 use std::alloc::Global;
@@ -13,7 +13,7 @@ use std::alloc::Global;
 pub struct Offer {
     pub plan: Plan,
     /// As many bytes as the plan's member gives.
-    pub bytes: Vec<u8>,
+    pub bytes: Contribution,
 }
 
 impl Offer {
@@ -24,49 +24,35 @@ impl Offer {
     /// NoMemory. The plan is then gone; a member's plan can be made again at any time.
     pub fn of_i32s(alloc: Global, plan: Plan, numbers: &[i32]) -> Result<Offer, Refusal>
         ensures plan { IfOk result (λ offer. offer.plan ≡ plan) }
-        ensures bytes { IfOk result (λ offer. offer.bytes.items ≡ number_bytes numbers.now) }
+        ensures bytes { IfOk result (λ offer. offer.bytes ≡ number_bytes numbers.now) }
         ensures refused { IfErr result (λ why. why ≡ Refusal.NoMemory) }
     {
         let mut bytes = Vec::new(alloc);
         for number in numbers {
             bytes.extend_from_slice(&number.to_le_bytes())?;
         }
-        Ok(Offer { plan, bytes })
+        Ok(Offer {
+            plan,
+            bytes: Contribution::new(bytes),
+        })
     }
 
-    /// The schedule's buffer with the contribution laid in, which `Core::post_laid` takes. It needs no engine, so it can be made
-    /// before a lock is taken. Where the contribution hasn't the length that the plan's member gives, which a post refuses, it
-    /// has no bytes.
+    /// The schedule's buffer with the contribution laid in, which `Core::post_laid` takes. A long buffer shares it, and else copies it. It
+    /// needs no engine, so it can be made before a lock is taken. Where the contribution hasn't the length that the plan's member gives,
+    /// which a post refuses, the buffer has no bytes.
     ///
     /// # Errors
     ///
     /// NoMemory.
-    pub fn lay_in(&self, alloc: Global) -> Result<Buffer, Refusal>
-        ensures laid { IfOk result (λ buffer. IsLaid self.now buffer) }
+    pub fn lay_in(&mut self, alloc: Global) -> Result<Buffer, Refusal>
+        ensures laid { IfOk result (λ buffer. IsLaid self.old buffer) }
         ensures refused { IfErr result (λ why. why ≡ Refusal.NoMemory) }
+        ensures same { self.new ≡ self.old }
     {
         let schedule = self.plan.schedule();
         if self.bytes.len() != schedule.input().len as usize {
             return Ok(Buffer::empty(alloc));
         }
-        Buffer::lay_in(alloc, schedule, &self.bytes)
-    }
-
-    /// `lay_in` with a copy of the contribution that others have too, and that a long buffer shares.
-    ///
-    /// # Errors
-    ///
-    /// NoMemory.
-    pub fn lay_shared(&self, alloc: Global, given: &mut Bytes) -> Result<Buffer, Refusal>
-        requires { length self.now.bytes.items < 2 ^ 32 → given.old ≡ self.now.bytes.items }
-        ensures laid { IfOk result (λ buffer. IsLaid self.now buffer) }
-        ensures refused { IfErr result (λ why. why ≡ Refusal.NoMemory) }
-        ensures same { given.new ≡ given.old }
-    {
-        let schedule = self.plan.schedule();
-        if self.bytes.len() != schedule.input().len as usize {
-            return Ok(Buffer::empty(alloc));
-        }
-        Buffer::lay_shared(alloc, schedule, given)
+        Buffer::lay_in(alloc, schedule, &mut self.bytes)
     }
 }

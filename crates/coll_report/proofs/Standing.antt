@@ -49,7 +49,7 @@ pub record Gave (now : Requests) (rank : ℕ) (k : Key) (b : List ℕ) : Type 0 
 
 pub record Stands (g : Setting) (s : State) (now : Requests) (ts : Tickets) : Type 0 where
   pub lists : (c m : ℕ) → m < size g c → s.posts c m ≡ map (λ (x : Asked). x.sig) (on c (now (rank_of g c m)))
-  pub gifts : (k : Key) (m : ℕ) (b : List ℕ) → m < size g k.comm → s.given k m ≡ Some b → Gave now (rank_of g k.comm m) k b
+  pub contributions : (k : Key) (m : ℕ) (b : List ℕ) → m < size g k.comm → s.given k m ≡ Some b → Gave now (rank_of g k.comm m) k b
   pub known : (i : ℕ) (q : Request) → s.request i ≡ Some q → Known g now ts i (s.generation i) q
   pub old : (r n : ℕ) (t : Ticket) → slice_get (ts r) n ≡ Some t → t.generation ≤ s.generation t.slot
   pub apart : (r a b : ℕ) (t : Ticket) → slice_get (ts r) a ≡ Some t → slice_get (ts r) b ≡ Some t → a ≡ b
@@ -58,7 +58,7 @@ pub record Stands (g : Setting) (s : State) (now : Requests) (ts : Tickets) : Ty
 pub stands_nothing : (g : Setting) → Stands g nothing (λ r. []) (λ r. [])
 stands_nothing g = record {
   lists = λ c m lt. refl;
-  gifts = λ k m b lt e. absurd (none-some b e);
+  contributions = λ k m b lt e. absurd (none-some b e);
   known = λ i q e. absurd (none-some q e);
   old = λ r n t e. absurd (none-some t e);
   apart = λ r a b t e f. absurd (none-some t e);
@@ -244,7 +244,7 @@ module _ (g : Setting) (groups : AreGroups g) (s : State) (now : Requests) (ts :
   pub stands_created : Stands g (created s t q sig) now_new ts_new
   stands_created = record {
     lists = lists_new;
-    gifts = λ k m b lt e. gave_grows now now_new (rank_of g k.comm m) k b (grows_new (rank_of g k.comm m)) (h.gifts k m b lt e);
+    contributions = λ k m b lt e. gave_grows now now_new (rank_of g k.comm m) k b (grows_new (rank_of g k.comm m)) (h.contributions k m b lt e);
     known = known_new;
     old = old_new;
     apart = apart_new;
@@ -297,11 +297,11 @@ module _ (g : Setting) (groups : AreGroups g) (s : State) (now : Requests) (ts :
   key = key_of q q.starts
 
   -- of the two members' worth of rows, one is changed
-  gifts_started : (k : Key) (m : ℕ) (b : List ℕ) → m < size g k.comm → (started s slot q bytes).given k m ≡ Some b → Gave now_started (rank_of g k.comm m) k b
-  gifts_started k m b lt e = go (put_key_cases s.given key (put (s.given key) q.member (Some bytes)) k)
+  contributions_started : (k : Key) (m : ℕ) (b : List ℕ) → m < size g k.comm → (started s slot q bytes).given k m ≡ Some b → Gave now_started (rank_of g k.comm m) k b
+  contributions_started k m b lt e = go (put_key_cases s.given key (put (s.given key) q.member (Some bytes)) k)
     where
       was : s.given k m ≡ Some b → Gave now_started (rank_of g k.comm m) k b
-      was f = gave_grows now now_started (rank_of g k.comm m) k b (grows_started (rank_of g k.comm m)) (h.gifts k m b lt f)
+      was f = gave_grows now now_started (rank_of g k.comm m) k b (grows_started (rank_of g k.comm m)) (h.contributions k m b lt f)
 
       mine : (k ≡ key) → (m ≡ q.member) → bytes ≡ b → Gave now_started (rank_of g k.comm m) k b
       mine a d f =
@@ -359,7 +359,7 @@ module _ (g : Setting) (groups : AreGroups g) (s : State) (now : Requests) (ts :
   pub stands_started : Stands g (started s slot q bytes) now_started ts
   stands_started = record {
     lists = lists_started;
-    gifts = gifts_started;
+    contributions = contributions_started;
     known = known_started;
     old = h.old;
     apart = h.apart;
@@ -374,7 +374,7 @@ module _ (g : Setting) (groups : AreGroups g) (s : State) (now : Requests) (ts :
 
 -- the slot has another request of the same kind, or none
 pub stands_holding : (g : Setting) (s : State) (now : Requests) (ts : Tickets) (slot : ℕ) (o : Option Request) → Stands g s now ts → ((p : Request) → o ≡ Some p → Known g now ts slot (s.generation slot) p) → Stands g (holding s slot o) now ts
-stands_holding g s now ts slot o h new = record { lists = h.lists; gifts = h.gifts; known = λ i p e. go i p e (put_cases s.request slot o i); old = h.old; apart = h.apart; even = h.even }
+stands_holding g s now ts slot o h new = record { lists = h.lists; contributions = h.contributions; known = λ i p e. go i p e (put_cases s.request slot o i); old = h.old; apart = h.apart; even = h.even }
   where
     go : (i : ℕ) (p : Request) → put s.request slot o i ≡ Some p → ((i ≡ slot) × (put s.request slot o i ≡ o)) ⊎ ((i ≡ slot → ⊥) × (put s.request slot o i ≡ s.request i)) → Known g now ts i (s.generation i) p
     go i p e (inl a) = subst (λ i. Known g now ts i (s.generation i) p) (sym a.0) (new p (sym a.1 ∙ e))
@@ -382,7 +382,7 @@ stands_holding g s now ts slot o h new = record { lists = h.lists; gifts = h.gif
 
 -- contributions are given up
 pub stands_forgotten : (g : Setting) (s : State) (now : Requests) (ts : Tickets) (k : Key) → Stands g s now ts → Stands g (forgotten s k) now ts
-stands_forgotten g s now ts k h = record { lists = h.lists; gifts = λ j m b lt e. h.gifts j m b lt (go j m b e (put_key_cases s.given k (λ m. None) j)); known = h.known; old = h.old; apart = h.apart; even = h.even }
+stands_forgotten g s now ts k h = record { lists = h.lists; contributions = λ j m b lt e. h.contributions j m b lt (go j m b e (put_key_cases s.given k (λ m. None) j)); known = h.known; old = h.old; apart = h.apart; even = h.even }
   where
     go : (j : Key) (m : ℕ) (b : List ℕ) → put_key s.given k (λ m. None) j m ≡ Some b → ((j ≡ k) × (put_key s.given k (λ m. None) j ≡ λ m. None)) ⊎ ((j ≡ k → ⊥) × (put_key s.given k (λ m. None) j ≡ s.given j)) → s.given j m ≡ Some b
     go j m b e (inl a) = absurd (none-some b (ap (λ (f : ℕ → Option (List ℕ)). f m) (sym a.1) ∙ e))

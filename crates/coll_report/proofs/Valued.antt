@@ -68,15 +68,15 @@ module _ (g : Setting) (s : State) (now whole : Requests) (ts : Tickets) (h : St
   same_row : (p : ℕ) → needs sig n q.member p ≡ true → row_of (filled sig n (s.given key)) p ≡ row_of (contributions g whole key) p
   same_row p need =
       let low : p < n = ltb-true p n (and_parts (ltb p n) (needs_of sig.kind sig.root q.member p) need).0 in
-      let gift = some_given (s.given key p) (needed p need) in
-      let gave = h.gifts key p gift.0 low gift.1 in
+      let contribution = some_given (s.given key p) (needed p need) in
+      let gave = h.contributions key p contribution.0 low contribution.1 in
       let more = grows (rank_of g q.comm p) q.comm q.place gave.asked gave.is in
-      let left : row_of (filled sig n (s.given key)) p ≡ gift.0 =
+      let left : row_of (filled sig n (s.given key)) p ≡ contribution.0 =
       ap (λ (o : Option (List ℕ)). unwrap_or o []) (get_range (λ m. unwrap_or (s.given key m) (replicate (given_len sig n m) 0)) 0 n p low)
-      ∙ zeros (0 + p) p gift.0 (omega arith) gift.1 in
-      let right : row_of (contributions g whole key) p ≡ gift.0 =
+      ∙ zeros (0 + p) p contribution.0 (omega arith) contribution.1 in
+      let right : row_of (contributions g whole key) p ≡ contribution.0 =
       ap (λ (o : Option (List ℕ)). unwrap_or o []) (get_map (λ rank. given_by start (at_place (whole rank) q.comm q.place)) (group g q.comm) p (rank_of g q.comm p) (slice_get-get_or (group g q.comm) p 0 low))
-      ∙ (ap (given_by start) more.1 ∙ ap (λ (o : Option (List ℕ)). unwrap_or o []) (get_longer gave.asked.starts more.0 start gift.0 gave.given)) in
+      ∙ (ap (given_by start) more.1 ∙ ap (λ (o : Option (List ℕ)). unwrap_or o []) (get_longer gave.asked.starts more.0 start contribution.0 gave.given)) in
       left ∙ sym right
     where
       zeros : (i p : ℕ) (b : List ℕ) → i ≡ p → s.given key p ≡ Some b → unwrap_or (s.given key i) (replicate (given_len sig n i) 0) ≡ b

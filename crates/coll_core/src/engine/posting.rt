@@ -28,7 +28,6 @@ use crate::offer::Offer;
 use crate::request::Request;
 use coll_arena::laws::is_sound;
 use coll_arena::{ListName, Ticket};
-use coll_bytes::Bytes;
 use coll_kinds::laws::lengths_are_small;
 use coll_kinds::{Mode, Refusal, Refused, Signature, SignatureFault};
 use coll_match::Key;
@@ -96,7 +95,7 @@ impl Core {
     ///
     /// In this order, with the offer handed back and nothing changed: BadComm; NotMember; BadSignature; Mismatch where
     /// another member has another signature at the rank's next place; PlacesUsed; BadLength; Full; NoMemory.
-    pub fn post(&mut self, rank: u8, comm: u32, offer: Offer) -> Result<Ticket, Refused<Offer>>
+    pub fn post(&mut self, rank: u8, comm: u32, mut offer: Offer) -> Result<Ticket, Refused<Offer>>
         ensures setting { setting self.new ≡ setting self.old }
         ensures posted { IfOk result (λ ticket. StepsTo (setting self.old) (seen self.old) (post_of rank comm offer) (Ticketed ticket) (seen self.new)) }
         ensures begins { IfOk result (λ ticket. BeginsSchedule self.old self.new ticket.slot (family offer.plan.sig offer.plan.n offer.plan.member)) }
@@ -104,8 +103,11 @@ impl Core {
         ensures refused { IfErr result (λ refused. Refuses (setting self.old) (seen self.old) (post_of rank comm offer) refused.why) }
         ensures unchanged { OnErr result (Unchanged self.old self.new) }
     {
+        if let Err(why) = self.may_post(rank, comm, &offer) {
+            return Err(Refused { why, back: offer });
+        }
         let laid = offer.lay_in(self.alloc);
-        self.post_laid(rank, comm, offer, laid)
+        self.post_tested(rank, comm, offer, laid)
     }
 
     /// `post` with the schedule's buffer made before: `laid` is `Offer::lay_in` of the offer.
@@ -125,7 +127,7 @@ impl Core {
         ensures setting { setting self.new ≡ setting self.old }
         ensures posted { IfOk result (λ ticket. StepsTo (setting self.old) (seen self.old) (post_of rank comm offer) (Ticketed ticket) (seen self.new)) }
         ensures begins { IfOk result (λ ticket. BeginsSchedule self.old self.new ticket.slot (family offer.plan.sig offer.plan.n offer.plan.member)) }
-        ensures short { OnOk result (length offer.bytes.items < 2 ^ 32) }
+        ensures short { OnOk result (length offer.bytes < 2 ^ 32) }
         ensures back { IfErr result (λ refused. refused.back ≡ offer) }
         ensures refused { IfErr result (λ refused. Refuses (setting self.old) (seen self.old) (post_of rank comm offer) refused.why) }
         ensures unchanged { OnErr result (Unchanged self.old self.new) }
@@ -133,6 +135,27 @@ impl Core {
         if let Err(why) = self.may_post(rank, comm, &offer) {
             return Err(Refused { why, back: offer });
         }
+        self.post_tested(rank, comm, offer, laid)
+    }
+
+    /// Posts what isn't refused, but for want of memory.
+    fn post_tested(
+        &mut self,
+        rank: u8,
+        comm: u32,
+        offer: Offer,
+        laid: Result<Buffer, Refusal>,
+    ) -> Result<Ticket, Refused<Offer>>
+        requires accepted { refused_in self.old (post_of rank comm offer) ≡ None }
+        requires laid { IfOk laid (λ buffer. IsLaid offer buffer) }
+        requires short { IfErr laid (λ why. why ≡ Refusal.NoMemory) }
+        ensures setting { setting self.new ≡ setting self.old }
+        ensures posted { IfOk result (λ ticket. StepsTo (setting self.old) (seen self.old) (post_of rank comm offer) (Ticketed ticket) (seen self.new)) }
+        ensures begins { IfOk result (λ ticket. BeginsSchedule self.old self.new ticket.slot (family offer.plan.sig offer.plan.n offer.plan.member)) }
+        ensures back { IfErr result (λ refused. refused.back ≡ offer) }
+        ensures refused { IfErr result (λ refused. Refuses (setting self.old) (seen self.old) (post_of rank comm offer) refused.why) }
+        ensures unchanged { OnErr result (Unchanged self.old self.new) }
+    {
         let (sig, buffer) = match self.make_room(rank, comm, &offer, laid) {
             Ok(room) => room,
             Err(why) => return Err(Refused { why, back: offer }),
@@ -177,7 +200,7 @@ impl Core {
     /// A post isn't refused, but for want of memory.
     fn may_post(&self, rank: u8, comm: u32, offer: &Offer) -> Result<(), Refusal>
         ensures refused { result_err result ≡ refused_in self.now (post_of rank comm offer.now) }
-        ensures short { OnOk result (length offer.now.bytes.items < 2 ^ 32) }
+        ensures short { OnOk result (length offer.now.bytes < 2 ^ 32) }
     {
         is_sound(&self.arena);
         post_refused(&self.arena);
@@ -245,7 +268,7 @@ impl Core {
         ensures unchanged { Unchanged self.old self.new }
         ensures room { OnOk result (IsRoomy self.new rank comm offer.now.plan) }
         ensures sig { IfOk result (λ r. arc_value r.0 ≡ offer.now.plan.sig) }
-        ensures buffer { IfOk result (λ r. r.1 ≡ laid_in (family offer.now.plan.sig offer.now.plan.n offer.now.plan.member) offer.now.bytes.items) }
+        ensures buffer { IfOk result (λ r. r.1 ≡ laid_in (family offer.now.plan.sig offer.now.plan.n offer.now.plan.member) offer.now.bytes) }
         ensures refused { IfErr result (λ why. why ≡ Refusal.NoMemory) }
     {
         is_sound(&self.arena);
@@ -294,7 +317,7 @@ impl Core {
         requires accepted { refused_in self.old (post_of rank comm offer) ≡ None }
         requires room { IsRoomy self.old rank comm offer.plan }
         requires sig { arc_value sig ≡ offer.plan.sig }
-        requires buffer { buffer ≡ laid_in (family offer.plan.sig offer.plan.n offer.plan.member) offer.bytes.items }
+        requires buffer { buffer ≡ laid_in (family offer.plan.sig offer.plan.n offer.plan.member) offer.bytes }
         ensures setting { setting self.new ≡ setting self.old }
         ensures posted { StepsTo (setting self.old) (seen self.old) (post_of rank comm offer) (Ticketed result) (seen self.new) }
         ensures begins { BeginsSchedule self.old self.new result.slot (family offer.plan.sig offer.plan.n offer.plan.member) }
@@ -305,7 +328,7 @@ impl Core {
         new_core(&self.arena);
         post_core(&self.arena);
         let Offer { plan, bytes } = offer;
-        are_bytes(&bytes);
+        are_bytes(bytes.as_slice());
         let place = self.queues.offer(comm, rank, sig);
         let member = plan.member();
         let weight = plan.sig().lent(plan.n(), member) as u32;
@@ -321,7 +344,7 @@ impl Core {
             buffer,
         };
         let key = request.key();
-        let given = Bytes::from_vec(bytes);
+        let given = bytes.into_bytes();
         let hint = self.matches.join(key, member, given);
         request.hint = hint;
         request.pass_ends();

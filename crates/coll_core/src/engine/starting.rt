@@ -18,6 +18,7 @@ ghost use Rattle.coll_core.specs.Requests.{schedule, shown};
 ghost use Rattle.coll_core.specs.Starts.{Begins, Begun, CanBegin, next_instance};
 
 use crate::buffer::Buffer;
+use crate::contribution::Contribution;
 use crate::engine::Core;
 use crate::request::Request;
 use coll_arena::laws::is_sound;
@@ -39,27 +40,27 @@ impl Core {
         &mut self,
         rank: u8,
         ticket: Ticket,
-        bytes: Vec<u8>,
-    ) -> Result<(), Refused<Vec<u8>>>
+        mut bytes: Contribution,
+    ) -> Result<(), Refused<Contribution>>
         ensures setting { setting self.new ≡ setting self.old }
-        ensures starts { OnOk result (StepsTo (setting self.old) (seen self.old) (Start rank ticket bytes.items) Nothing (seen self.new)) }
+        ensures starts { OnOk result (StepsTo (setting self.old) (seen self.old) (Start rank ticket bytes) Nothing (seen self.new)) }
         ensures begins { OnOk result (IfSome (record_in self.old.arena ticket.slot) (λ x. BeginsSchedule self.old self.new ticket.slot (schedule (shown x)))) }
-        ensures short { OnOk result (length bytes.items < 2 ^ 32) }
+        ensures short { OnOk result (length bytes < 2 ^ 32) }
         ensures back { IfErr result (λ refused. refused.back ≡ bytes) }
-        ensures refused { IfErr result (λ refused. Refuses (setting self.old) (seen self.old) (Start rank ticket bytes.items) refused.why) }
+        ensures refused { IfErr result (λ refused. Refuses (setting self.old) (seen self.old) (Start rank ticket bytes) refused.why) }
         ensures unchanged { OnErr result (Unchanged self.old self.new) }
     {
-        if let Err(why) = self.may_start(rank, ticket, &bytes) {
+        if let Err(why) = self.may_start(rank, ticket, bytes.as_slice()) {
             return Err(Refused { why, back: bytes });
         }
-        let buffer = match self.make_start_room(ticket, &bytes) {
+        let buffer = match self.make_start_room(ticket, &mut bytes) {
             Ok(buffer) => buffer,
             Err(why) => return Err(Refused { why, back: bytes }),
         };
         is_sound(&self.arena);
         laws::start_core(&self.arena);
         laws::new_core(&self.arena);
-        let given = Bytes::from_vec(bytes);
+        let given = bytes.into_bytes();
         begin(&mut self.arena, &mut self.matches, ticket, given, buffer);
         Ok(())
     }
@@ -131,13 +132,18 @@ impl Core {
     }
 
     /// Makes room for all that a start takes, and the schedule's buffer with the contribution laid in.
-    fn make_start_room(&mut self, ticket: Ticket, bytes: &[u8]) -> Result<Buffer, Refusal>
+    fn make_start_room(
+        &mut self,
+        ticket: Ticket,
+        bytes: &mut Contribution,
+    ) -> Result<Buffer, Refusal>
         requires named { names self.old.arena ticket ≡ true }
-        requires long { IfSome (record_in self.old.arena ticket.slot) (λ x. length bytes.now ≡ given_len x.plan.sig x.plan.n x.plan.member) }
+        requires long { IfSome (record_in self.old.arena ticket.slot) (λ x. length bytes.old ≡ given_len x.plan.sig x.plan.n x.plan.member) }
+        ensures bytes { bytes.new ≡ bytes.old }
         ensures same { Unchanged self.old self.new }
         ensures arena { self.new.arena ≡ self.old.arena }
         ensures room { OnOk result (IfSome (record_in self.old.arena ticket.slot) (λ x. x.plan.member < size self.new.matches (next_instance x))) }
-        ensures buffer { IfOk result (λ buf. IfSome (record_in self.old.arena ticket.slot) (λ x. buf ≡ laid_in (schedule (shown x)) bytes.now)) }
+        ensures buffer { IfOk result (λ buf. IfSome (record_in self.old.arena ticket.slot) (λ x. buf ≡ laid_in (schedule (shown x)) bytes.old)) }
         ensures refused { IfErr result (λ why. why ≡ Refusal.NoMemory) }
     {
         let Ok(request) = self.arena.get(ticket) else {

@@ -21,7 +21,7 @@ pub returns-clause-buffer : goal.returns-clause-buffer
 returns-clause-buffer c =
     let p : Parts = record { ranks = c.self.inside.ranks; starts = c.self.inside.starts; trace = c.self.inside.trace; arena = c.self.inside.arena; queues = c.self.inside.queues; matches = c.self.inside.matches } in
     let plan = planned c.args.offer.now.plan in
-    let bytes = c.args.offer.now.bytes.items in
+    let bytes = c.args.offer.now.bytes in
     let accepted : refused_in p (Post c.args.rank c.args.comm plan bytes) ≡ None = accepted_from p c.args.self.now (Post c.args.rank c.args.comm plan bytes) c.self.view_is c.requires.accepted in
     let tested : MayEnter (setting p) p.arena p.queues c.args.rank c.args.comm Once plan × (length bytes ≡ given_len plan.sig plan.n plan.member) = (c.entry_core.ensures shown (setting p) p.arena p.queues p.matches c.args.rank c.args.comm plan c.self.invariant c.is_sound.ensures).0 bytes accepted in
     laid_for c.args.laid c.args.offer.now c.in_ok-buffer.buffer c.requires.laid c.in_ok-buffer.was (tested.1 ∙ sym (c.is_planned.ensures.serves.takes_given plan.member tested.0.low))
@@ -30,7 +30,7 @@ pub make_instance-requires : goal.make_instance-requires
 make_instance-requires c =
     let p : Parts = record { ranks = c.self.inside.ranks; starts = c.self.inside.starts; trace = c.self.inside.trace; arena = c.self.inside.arena; queues = c.self.inside.queues; matches = c.self.inside.matches } in
     let plan = planned c.args.offer.now.plan in
-    let bytes = c.args.offer.now.bytes.items in
+    let bytes = c.args.offer.now.bytes in
     let accepted : refused_in p (Post c.args.rank c.args.comm plan bytes) ≡ None = accepted_from p c.args.self.now (Post c.args.rank c.args.comm plan bytes) c.self.view_is c.requires.accepted in
     let tested : MayEnter (setting p) p.arena p.queues c.args.rank c.args.comm Once plan × (length bytes ≡ given_len plan.sig plan.n plan.member) = (c.entry_core.ensures shown (setting p) p.arena p.queues p.matches c.args.rank c.args.comm plan c.self.invariant c.is_sound.ensures).0 bytes accepted in
     c.n.ensures.n ∙ (tested.0.size_is ∙ (ap (λ (x : Parts). size (setting x) c.args.comm) c.self.view_is
@@ -43,7 +43,7 @@ pub returns-clause-room : goal.returns-clause-room
 returns-clause-room c =
     let p : Parts = record { ranks = c.self.inside.ranks; starts = c.self.inside.starts; trace = c.self.inside.trace; arena = c.self.inside.arena; queues = c.self.inside.queues; matches = c.self.inside.matches } in
     let plan = planned c.args.offer.now.plan in
-    let bytes = c.args.offer.now.bytes.items in
+    let bytes = c.args.offer.now.bytes in
     let accepted : refused_in p (Post c.args.rank c.args.comm plan bytes) ≡ None = accepted_from p c.args.self.now (Post c.args.rank c.args.comm plan bytes) c.self.view_is c.requires.accepted in
     let tested : MayEnter (setting p) p.arena p.queues c.args.rank c.args.comm Once plan × (length bytes ≡ given_len plan.sig plan.n plan.member) = (c.entry_core.ensures shown (setting p) p.arena p.queues p.matches c.args.rank c.args.comm plan c.self.invariant c.is_sound.ensures).0 bytes accepted in
     record {

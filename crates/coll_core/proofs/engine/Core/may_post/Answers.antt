@@ -11,7 +11,7 @@ use Rattle.coll_core.proofs.engine.Core.may_post.Goals as goal
 pub returns-in_err-may_enter-clause-refused : goal.returns-in_err-may_enter-clause-refused
 returns-in_err-may_enter-clause-refused c =
     let plan = planned c.args.offer.now.plan in
-    let bytes = c.args.offer.now.bytes.items in
+    let bytes = c.args.offer.now.bytes in
     let answers : result_err c.from_residual.result ≡ Some c.in_err-may_enter.field-0.0 = grind (arith, common_steps) in
     answers ∙ sym (post_tested _ c.args.self.now c.args.rank c.args.comm plan bytes c.self.view_is c.post_refused.ensures c.self.invariant c.is_sound.ensures
     ∙ stops_at_entry (entry_refusals c.args.self.now.queues c.args.rank c.args.comm Once plan) (wrong_length plan.sig plan.n plan.member bytes ∷ full_refusal c.self.inside.arena ∷ []) c.in_err-may_enter.field-0.0 (sym c.in_err-may_enter.ensures))
@@ -19,8 +19,8 @@ returns-in_err-may_enter-clause-refused c =
 pub returns-then-got-want-clause-refused : goal.returns-then-got-want-clause-refused
 returns-then-got-want-clause-refused c =
     let plan = planned c.args.offer.now.plan in
-    let bytes = c.args.offer.now.bytes.items in
-    let long : c.len-got.result ≡ length c.args.offer.now.bytes.items = omega arith in
+    let bytes = c.args.offer.now.bytes in
+    let long : c.len-got.result ≡ length c.args.offer.now.bytes = omega arith in
     sym (post_tested _ c.args.self.now c.args.rank c.args.comm plan bytes c.self.view_is c.post_refused.ensures c.self.invariant c.is_sound.ensures
     ∙ (enters (entry_refusals c.args.self.now.queues c.args.rank c.args.comm Once plan) (wrong_length plan.sig plan.n plan.member bytes ∷ full_refusal c.self.inside.arena ∷ []) (sym c.in_ok-may_enter.ensures)
     ∙ misses plan bytes c.want-want.result c.len-got.result c.want-want.ensures long (full_refusal c.self.inside.arena ∷ []) c.if-got-want.true))
@@ -28,8 +28,8 @@ returns-then-got-want-clause-refused c =
 pub returns-then-not-has_free-clause-refused : goal.returns-then-not-has_free-clause-refused
 returns-then-not-has_free-clause-refused c =
     let plan = planned c.args.offer.now.plan in
-    let bytes = c.args.offer.now.bytes.items in
-    let long : c.len-got.result ≡ length c.args.offer.now.bytes.items = omega arith in
+    let bytes = c.args.offer.now.bytes in
+    let long : c.len-got.result ≡ length c.args.offer.now.bytes = omega arith in
     sym (post_tested _ c.args.self.now c.args.rank c.args.comm plan bytes c.self.view_is c.post_refused.ensures c.self.invariant c.is_sound.ensures
     ∙ (enters (entry_refusals c.args.self.now.queues c.args.rank c.args.comm Once plan) (wrong_length plan.sig plan.n plan.member bytes ∷ full_refusal c.self.inside.arena ∷ []) (sym c.in_ok-may_enter.ensures)
     ∙ (right_length plan bytes c.want-want.result c.len-got.result c.want-want.ensures long (full_refusal c.self.inside.arena ∷ []) c.if-got-want.false
@@ -38,8 +38,8 @@ returns-then-not-has_free-clause-refused c =
 pub returns-clause-refused : goal.returns-clause-refused
 returns-clause-refused c =
     let plan = planned c.args.offer.now.plan in
-    let bytes = c.args.offer.now.bytes.items in
-    let long : c.len-got.result ≡ length c.args.offer.now.bytes.items = omega arith in
+    let bytes = c.args.offer.now.bytes in
+    let long : c.len-got.result ≡ length c.args.offer.now.bytes = omega arith in
     sym (post_tested _ c.args.self.now c.args.rank c.args.comm plan bytes c.self.view_is c.post_refused.ensures c.self.invariant c.is_sound.ensures
     ∙ (enters (entry_refusals c.args.self.now.queues c.args.rank c.args.comm Once plan) (wrong_length plan.sig plan.n plan.member bytes ∷ full_refusal c.self.inside.arena ∷ []) (sym c.in_ok-may_enter.ensures)
     ∙ (right_length plan bytes c.want-want.result c.len-got.result c.want-want.ensures long (full_refusal c.self.inside.arena ∷ []) c.if-got-want.false
