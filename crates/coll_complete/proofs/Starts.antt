@@ -1,16 +1,14 @@
 -- A list of requests that are started one after the other.
-use Rattle.std.proofs.Common.{◌≡◌, ℕ, zero, suc, ◌+◌, ◌<◌, ◌≤◌, List, [], ◌∷◌, Vec, length, get_or, set, take, Option, None, refl, sym, ap, subst, ◌∙◌, arith}
+use Rattle.std.proofs.Common.{◌≡◌, ℕ, zero, suc, ◌+◌, ◌<◌, ◌≤◌, List, [], ◌∷◌, length, get_or, set, take, Option, None, refl, sym, ap, subst, ◌∙◌, arith}
 use Rattle.std.specs.Prelude.{slice_index_or, slice_set}
-use Rattle.std.specs.Global.{Global}
 use Rattle.std.specs.List.{zip}
-use Rattle.std.proofs.lemmas.List.{get_or-map, length-map, map-set}
 use Rattle.std.proofs.lemmas.Option.{get_or_from_slice_get, slice_get-get_or}
 use Rattle.coll_kinds.specs.declared.refusal.Refusal.{Refusal}
 use Rattle.coll_kinds.specs.declared.ticket.Ticket.{Ticket}
 use Rattle.coll_machine.specs.Settings.{Setting}
 use Rattle.coll_machine.specs.Calls.{Call}
 use Rattle.coll_machine.specs.States.{Machine}
-use Rattle.coll_complete.specs.Starting.{Begun, DeniesAt, StartsAll, StartsAt, lists_of, unused}
+use Rattle.coll_complete.specs.Starting.{Begun, DeniesAt, StartsAll, StartsAt, unused}
 
 starts-take : (g : Setting) (rank : ℕ) (bs : List Begun) (i : ℕ) (d : Begun) (m n k : Machine) → i < length bs
     → StartsAll g rank m (take i bs) n → StartsAt g rank n (get_or bs i d) k → StartsAll g rank m (take (suc i) bs) k
@@ -49,38 +47,29 @@ get_or-unused [] i d lt = absurd (omega arith)
 get_or-unused (y ∷ ys) zero d lt = refl
 get_or-unused (y ∷ ys) (suc i) d lt = get_or-unused ys i d (omega arith)
 
-abbrev Bytes : Type 0
-Bytes = Vec ℕ Global
-
 -- the bytes at position i are still there
-pub given-at : (given now : List Bytes) (i : ℕ) (d : Bytes) → lists_of now ≡ unused i (lists_of given)
-    → i < length given → i < length now → (slice_index_or now i d).items ≡ slice_index_or (lists_of given) i []
-given-at given now i d is lt within =
-    let low : i < length (lists_of given) = rw length-map lt in
-    sym (get_or-map (λ (v : Bytes). v.items) now i d [] within)
-    ∙ (ap (λ (ys : List (List ℕ)). get_or ys i []) is ∙ get_or-unused (lists_of given) i [] low)
+pub given-at : (given now : List (List ℕ)) (i : ℕ) (d : List ℕ) → now ≡ unused i given → i < length given
+    → slice_index_or now i d ≡ slice_index_or given i []
+given-at given now i d is lt =
+    ap (λ (ys : List (List ℕ)). get_or ys i d) is
+    ∙ (get_or-unused given i d lt ∙ sym (get_or_from_slice_get given i (get_or given i d) [] (slice_get-get_or given i d lt)))
 
 -- and are taken
-pub given-set : (given now : List Bytes) (i : ℕ) (v : Bytes) → lists_of now ≡ unused i (lists_of given)
-    → i < length given → v.items ≡ [] → lists_of (slice_set now i v) ≡ unused (i + 1) (lists_of given)
+pub given-set : (given now : List (List ℕ)) (i : ℕ) (v : List ℕ) → now ≡ unused i given → i < length given → v ≡ []
+    → slice_set now i v ≡ unused (i + 1) given
 given-set given now i v is lt empty =
-    let low : i < length (lists_of given) = rw length-map lt in
     let e : suc i ≡ i + 1 = omega arith in
-    map-set (λ (v : Bytes). v.items) now i v
-    ∙ (ap (λ (ys : List (List ℕ)). set ys i v.items) is
-    ∙ (ap (λ (y : List ℕ). set (unused i (lists_of given)) i y) empty
-    ∙ (set-unused (lists_of given) i low ∙ ap (λ i. unused i (lists_of given)) e)))
+    ap (λ (ys : List (List ℕ)). set ys i v) is
+    ∙ (ap (λ (y : List ℕ). set (unused i given) i y) empty ∙ (set-unused given i lt ∙ ap (λ i. unused i given) e))
 
 -- what the loop reads at position i is the request and the bytes of that position
-pub begun-at : (list : List (Option Ticket)) (given now : List Bytes) (i : ℕ) (x : Option Ticket) (v : Bytes)
-    → lists_of now ≡ unused i (lists_of given) → length list ≡ length given → length now ≡ length given
-    → i < length list → x ≡ slice_index_or list i x → v ≡ slice_index_or now i v
-    → let read : Begun = (x, v.items) in read ≡ (slice_index_or list i None, slice_index_or (lists_of given) i [])
-begun-at list given now i x v is long_list long_now lt at_x at_v =
+pub begun-at : (list : List (Option Ticket)) (given now : List (List ℕ)) (i : ℕ) (x : Option Ticket) (v : List ℕ)
+    → now ≡ unused i given → length list ≡ length given → i < length list → x ≡ slice_index_or list i x → v ≡ slice_index_or now i v
+    → let read : Begun = (x, v) in read ≡ (slice_index_or list i None, slice_index_or given i [])
+begun-at list given now i x v is long lt at_x at_v =
     let first : x ≡ slice_index_or list i None =
     at_x ∙ sym (get_or_from_slice_get list i (get_or list i x) None (slice_get-get_or list i x lt)) in
-    let second : v.items ≡ slice_index_or (lists_of given) i [] =
-    ap (λ (v : Bytes). v.items) at_v ∙ given-at given now i v is (omega arith) (omega arith) in
+    let second : v ≡ slice_index_or given i [] = at_v ∙ given-at given now i v is (omega (arith, long, lt)) in
     λ k. (first k, second k)
 
 -- one start more; the engine's setting is written as before the call and as at the first

@@ -1,6 +1,5 @@
 -- Starts of a list of requests (MPI 4.1, 3.9).
-use Rattle.std.specs.Prelude.{◌≡◌, ℕ, List, [], ◌∷◌, ◌++◌, drop, map, replicate, Option, Some, None, Vec}
-use Rattle.std.specs.Global.{Global}
+use Rattle.std.specs.Prelude.{◌≡◌, ℕ, List, [], ◌∷◌, ◌++◌, drop, replicate, Option, Some, None}
 use Rattle.coll_kinds.specs.declared.refusal.Refusal.{Refusal}
 use Rattle.coll_kinds.specs.declared.refusal.Refusal.TheVariants.{Stale}
 use Rattle.coll_kinds.specs.declared.ticket.Ticket.{Ticket}
@@ -33,9 +32,6 @@ DeniesAt Denies rank (Some t, bytes) why = Denies (Start rank t bytes) why
 abbrev pub StartsAll : Setting → ℕ → Machine → List Begun → Machine → Type 0
 StartsAll g rank m [] n = m ≡ n
 StartsAll g rank m (b ∷ bs) n = (next : Machine) × StartsAt g rank m b next × StartsAll g rank next bs n
-
-abbrev pub lists_of : List (Vec ℕ Global) → List (List ℕ)
-lists_of vecs = map (λ v. v.items) vecs
 
 -- the lists of bytes, of which the first so many were used
 abbrev pub unused : ℕ → List (List ℕ) → List (List ℕ)

@@ -9,7 +9,7 @@ ghost use Rattle.coll_core.specs.Cores.{seen, setting};
 ghost use Rattle.coll_complete.specs.Anys.{completion_any, is_undefined, left_at, position_of};
 ghost use Rattle.coll_complete.specs.Completing.{CompletesDone, Pushes, completion_if, done_positions, freeing};
 ghost use Rattle.coll_complete.specs.Requests.{AreDistinct, free_refusal, is_active, is_done, is_pending, left_of, list_refusal, refusal_at};
-ghost use Rattle.coll_complete.specs.Starting.{RefusesAt, StartsAll, lists_of, unused};
+ghost use Rattle.coll_complete.specs.Starting.{RefusesAt, StartsAll, unused};
 
 use crate::all::test_all_on;
 use crate::any::{Any, test_any_on};
@@ -21,7 +21,7 @@ use crate::some::test_some_on;
 use crate::starting::start_all_on;
 use crate::tested::Tested;
 use crate::testing::test_on;
-use coll_core::{About, Core, Outcome, Phase};
+use coll_core::{About, Contribution, Core, Outcome, Phase};
 use coll_kinds::{Refusal, Refused, Ticket};
 
 impl Requests for Core {
@@ -65,8 +65,8 @@ impl Requests for Core {
         _own: &mut (),
         rank: u8,
         ticket: Ticket,
-        bytes: Vec<u8>,
-    ) -> Result<(), Refused<Vec<u8>>> {
+        bytes: Contribution,
+    ) -> Result<(), Refused<Contribution>> {
         match Core::start(self, rank, ticket, bytes) {
             Ok(()) => Ok(()),
             Err(refused) => Err(refused),
@@ -192,7 +192,7 @@ pub fn request_free(core: &mut Core, rank: u8, request: &mut Request) -> Result<
     request_free_on(core, &mut (), rank, request)
 }
 
-/// Starts the requests of a list in rising position, each with the bytes at its position (`MPI_Startall`; MPI 4.1, 3.9).
+/// Starts the requests of a list in rising position, each with the contribution at its position (`MPI_Startall`; MPI 4.1, 3.9).
 ///
 /// # Errors
 ///
@@ -202,15 +202,15 @@ pub fn start_all(
     core: &mut Core,
     rank: u8,
     requests: &[Request],
-    given: Vec<Vec<u8>>,
+    given: Vec<Contribution>,
 ) -> Result<(), Halted>
     requires { vec_len given ≡ length requests.now }
     ensures setting { setting core.new ≡ setting core.old }
-    ensures starts { OnOk result (StartsAll (setting core.old) rank (seen core.old) (zip requests.now (lists_of given.items)) (seen core.new)) }
+    ensures starts { OnOk result (StartsAll (setting core.old) rank (seen core.old) (zip requests.now given.items) (seen core.new)) }
     ensures within { IfErr result (λ halted. halted.at < length requests.now) }
-    ensures before { IfErr result (λ halted. StartsAll (setting core.old) rank (seen core.old) (take halted.at (zip requests.now (lists_of given.items))) (seen core.new)) }
-    ensures refused { IfErr result (λ halted. RefusesAt (setting core.old) rank (seen core.new) (slice_index_or requests.now halted.at None, slice_index_or (lists_of given.items) halted.at []) halted.why) }
-    ensures back { IfErr result (λ halted. lists_of halted.back.items ≡ unused halted.at (lists_of given.items)) }
+    ensures before { IfErr result (λ halted. StartsAll (setting core.old) rank (seen core.old) (take halted.at (zip requests.now given.items)) (seen core.new)) }
+    ensures refused { IfErr result (λ halted. RefusesAt (setting core.old) rank (seen core.new) (slice_index_or requests.now halted.at None, slice_index_or given.items halted.at []) halted.why) }
+    ensures back { IfErr result (λ halted. halted.back.items ≡ unused halted.at given.items) }
 {
     start_all_on(core, &mut (), rank, requests, given)
 }

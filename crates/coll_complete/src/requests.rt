@@ -1,4 +1,4 @@
-use coll_core::{About, Outcome, Phase};
+use coll_core::{About, Contribution, Outcome, Phase};
 use coll_kinds::{Refusal, Refused, Ticket};
 
 /// An engine whose requests are tested, completed, started and freed: a core, or a core that keeps more beside it. The calls over it
@@ -60,18 +60,18 @@ pub trait Requests {
         ensures setting { setting self.new ≡ setting self.old }
         ensures frees { OnOk result (Did self.old own.old (freeing rank (Some ticket)) self.new own.new) };
 
-    /// Starts a persistent request. Where it is refused, the bytes are handed back.
+    /// Starts a persistent request. Where it is refused, the contribution is handed back.
     fn start(
         &mut self,
         own: &mut Self::Own,
         rank: u8,
         ticket: Ticket,
-        bytes: Vec<u8>,
-    ) -> Result<(), Refused<Vec<u8>>>
+        bytes: Contribution,
+    ) -> Result<(), Refused<Contribution>>
         ensures setting { setting self.new ≡ setting self.old }
-        ensures starts { OnOk result (StepsTo (setting self.old) (machine self.old) (Start rank ticket bytes.items) Nothing (machine self.new)) }
+        ensures starts { OnOk result (StepsTo (setting self.old) (machine self.old) (Start rank ticket bytes) Nothing (machine self.new)) }
         ensures back { IfErr result (λ refused. refused.back ≡ bytes) }
-        ensures denied { IfErr result (λ refused. Denies self.new (Start rank ticket bytes.items) refused.why) }
+        ensures denied { IfErr result (λ refused. Denies self.new (Start rank ticket bytes) refused.why) }
         ensures unchanged { OnErr result (machine self.new ≡ machine self.old) };
 
     /// Nothing happened.

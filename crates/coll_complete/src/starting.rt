@@ -2,11 +2,12 @@
 
 ghost use Rattle.std.specs.Prelude.{◌≡◌, ◌<◌, [], IfErr, None, OnErr, OnOk, length, slice_index_or, take, vec_len};
 ghost use Rattle.std.specs.List.{zip};
-ghost use Rattle.coll_complete.specs.Starting.{DeniesAt, StartsAll, StartsAt, lists_of, unused};
+ghost use Rattle.coll_complete.specs.Starting.{DeniesAt, StartsAll, StartsAt, unused};
 
 use crate::halted::Halted;
 use crate::request::Request;
 use crate::requests::Requests;
+use coll_core::Contribution;
 use coll_kinds::Refusal;
 use std::mem;
 
@@ -16,20 +17,24 @@ fn start_one<C: Requests>(
     own: &mut C::Own,
     rank: u8,
     request: &Request,
-    bytes: &mut Vec<u8>,
+    bytes: &mut Contribution,
 ) -> Result<(), Refusal>
     ensures setting { C.setting core.new ≡ C.setting core.old }
-    ensures starts { OnOk result (StartsAt (C.setting core.old) rank (C.machine core.old) (request.now, bytes.old.items) (C.machine core.new)) }
-    ensures taken { OnOk result (bytes.new.items ≡ []) }
-    ensures refused { IfErr result (λ why. DeniesAt (C.Denies core.new) rank (request.now, bytes.old.items) why) }
+    ensures starts { OnOk result (StartsAt (C.setting core.old) rank (C.machine core.old) (request.now, bytes.old) (C.machine core.new)) }
+    ensures taken { OnOk result (bytes.new ≡ []) }
+    ensures refused { IfErr result (λ why. DeniesAt (C.Denies core.new) rank (request.now, bytes.old) why) }
     ensures err { OnErr result (C.machine core.new ≡ C.machine core.old) }
     ensures left { OnErr result (bytes.new ≡ bytes.old) }
 {
     let Some(ticket) = request.ticket() else {
         return Err(Refusal::Stale);
     };
-    let empty = Vec::new(*bytes.allocator());
-    match core.start(own, rank, ticket, mem::replace(bytes, empty)) {
+    match core.start(
+        own,
+        rank,
+        ticket,
+        mem::replace(bytes, Contribution::empty()),
+    ) {
         Ok(()) => Ok(()),
         Err(refused) => {
             *bytes = refused.back;
@@ -48,15 +53,15 @@ pub fn start_all_on<C: Requests>(
     own: &mut C::Own,
     rank: u8,
     requests: &[Request],
-    mut given: Vec<Vec<u8>>,
+    mut given: Vec<Contribution>,
 ) -> Result<(), Halted>
     requires { vec_len given ≡ length requests.now }
     ensures setting { C.setting core.new ≡ C.setting core.old }
-    ensures starts { OnOk result (StartsAll (C.setting core.old) rank (C.machine core.old) (zip requests.now (lists_of given.items)) (C.machine core.new)) }
+    ensures starts { OnOk result (StartsAll (C.setting core.old) rank (C.machine core.old) (zip requests.now given.items) (C.machine core.new)) }
     ensures within { IfErr result (λ halted. halted.at < length requests.now) }
-    ensures before { IfErr result (λ halted. StartsAll (C.setting core.old) rank (C.machine core.old) (take halted.at (zip requests.now (lists_of given.items))) (C.machine core.new)) }
-    ensures refused { IfErr result (λ halted. DeniesAt (C.Denies core.new) rank (slice_index_or requests.now halted.at None, slice_index_or (lists_of given.items) halted.at []) halted.why) }
-    ensures back { IfErr result (λ halted. lists_of halted.back.items ≡ unused halted.at (lists_of given.items)) }
+    ensures before { IfErr result (λ halted. StartsAll (C.setting core.old) rank (C.machine core.old) (take halted.at (zip requests.now given.items)) (C.machine core.new)) }
+    ensures refused { IfErr result (λ halted. DeniesAt (C.Denies core.new) rank (slice_index_or requests.now halted.at None, slice_index_or given.items halted.at []) halted.why) }
+    ensures back { IfErr result (λ halted. halted.back.items ≡ unused halted.at given.items) }
 {
     for (at, request) in requests.iter().enumerate() {
         if let Err(why) = start_one(core, own, rank, request, &mut given[at]) {

@@ -10,14 +10,13 @@ use Rattle.coll_kinds.specs.Checks.{broken}
 use Rattle.coll_kinds.specs.Groups.{member_of}
 use Rattle.coll_kinds.specs.declared.signature.Signature.{Signature}
 use Rattle.coll_machine.specs.Machines.{refuse}
-use Rattle.coll_machine.specs.Refusals.{first_of, refusal, refusals, unless}
-use Rattle.coll_machine.specs.Settings.{Setting, group, size}
+use Rattle.coll_machine.specs.Refusals.{first_of, refusal, refusals, unless, unseated}
+use Rattle.coll_machine.specs.Settings.{Setting, group, group_in, size}
 use Rattle.coll_machine.specs.States.{Machine, State}
 use Rattle.coll_kinds.specs.declared.ticket.Ticket.{Ticket}
 use Rattle.coll_machine.specs.Calls.{Start}
 use Rattle.coll_core.specs.Calls.{Refuses}
 use Rattle.coll_core.specs.Cores.{Parts, seen, setting}
-use Rattle.coll_engine.specs.Communicators.{members, unseated}
 use Rattle.coll_engine.specs.Calls.{Denies, DeniesStart, early_refusal, early_refusals, init_by, post_by}
 
 first_front : (xs ys : List (Option Refusal)) (why : Refusal) → first_of xs ≡ Some why → first_of (xs ++ ys) ≡ Some why
@@ -73,14 +72,14 @@ why_of x (Err w) = w
 err_same : {P : Type 0} (x y : Refusal) → IsErrOf {T = P} (Err x) y → x ≡ y
 err_same x y e = ap (why_of x) e
 
-pub plan_refused : {P : Type 0} (groups : List (List ℕ)) (g : Setting) (rank comm n : ℕ) (sig : Signature) (result : Result P Refusal) → groups ≡ g.groups → None ≡ unseated groups rank comm → n ≡ length (members groups comm)
+pub plan_refused : {P : Type 0} (groups : List (List ℕ)) (g : Setting) (rank comm n : ℕ) (sig : Signature) (result : Result P Refusal) → groups ≡ g.groups → None ≡ unseated groups rank comm → n ≡ length (group_in groups comm)
     → MatchOption (broken sig n) (IsOkUnless result NoMemory) (λ cause. IsErrOf result (BadSignature cause))
     → IfErr result (λ why. (early_refusal g rank comm sig ≡ Some why) ⊎ (why ≡ NoMemory))
 plan_refused groups g rank comm n sig (Ok plan) same seat size_is answer = tt
 plan_refused {P} groups g rank comm n sig (Err why) same seat size_is answer = go (broken sig (size g comm)) refl (subst (λ k. MatchOption (broken sig k) (IsOkUnless {T = P} (Err why) NoMemory) (λ cause. IsErrOf {T = P} (Err why) (BadSignature cause))) sizes answer)
   where
     sizes : n ≡ size g comm
-    sizes = size_is ∙ ap (λ (gs : List (List ℕ)). length (members gs comm)) same
+    sizes = size_is ∙ ap (λ (gs : List (List ℕ)). length (group_in gs comm)) same
 
     early : early_refusal g rank comm sig ≡ option_or (option_map BadSignature (broken sig (size g comm))) None
     early = first_two (unless (nat_lt comm (length g.groups)) (BadComm comm)) (unless (is_some (member_of rank (group g comm))) (NotMember rank)) (option_map BadSignature (broken sig (size g comm))) (same_front groups g rank comm same seat)

@@ -4,7 +4,9 @@ ghost use Rattle.std.specs.Prelude.{◌≡◌, ◌<◌, ◌≤◌, Some, length,
 ghost use Rattle.std.specs.Result.{result_err};
 ghost use Rattle.coll_kinds.specs.Groups.{member_of};
 ghost use Rattle.coll_core.specs.Configs.{IsConfig, setting_by};
-ghost use Rattle.coll_engine.specs.Communicators.{lists, members, unseated};
+ghost use Rattle.coll_machine.specs.Refusals.{unseated};
+ghost use Rattle.coll_machine.specs.Settings.{group_in};
+ghost use Rattle.coll_engine.specs.Communicators.{lists};
 
 use coll_core::Config;
 use coll_kinds::{Refusal, member_of};
@@ -43,7 +45,7 @@ fn copy_of(alloc: Global, groups: &[Vec<u8>]) -> Result<Vec<Vec<u8>>, Refusal>
 /// The members of a communicator.
 fn group_of(groups: &[Vec<u8>], comm: u32) -> &[u8]
     requires { comm < length groups.now }
-    ensures { result.now ≡ members (lists groups.now) comm }
+    ensures { result.now ≡ group_in (lists groups.now) comm }
 {
     &groups[comm as usize]
 }
@@ -69,8 +71,8 @@ impl Communicators {
     ///
     /// BadComm where there is no such communicator, then NotMember where the rank isn't in its group.
     pub fn seat(&self, comm: u32, rank: u8) -> Result<(u8, u8), Refusal>
-        ensures size { IfOk result (λ seat. seat.0 ≡ length (members self.now comm)) }
-        ensures member { IfOk result (λ seat. member_of rank (members self.now comm) ≡ Some seat.1) }
+        ensures size { IfOk result (λ seat. seat.0 ≡ length (group_in self.now comm)) }
+        ensures member { IfOk result (λ seat. member_of rank (group_in self.now comm) ≡ Some seat.1) }
         ensures low { IfOk result (λ seat. seat.1 < seat.0) }
         ensures few { IfOk result (λ seat. seat.0 ≤ 64) }
         ensures refused { result_err result ≡ unseated self.now rank comm }

@@ -3,7 +3,7 @@
 
 use crate::combination::Combination;
 use crate::engine::Engine;
-use coll_core::{Core, DoneWork, Offer, Outcome, Work};
+use coll_core::{Contribution, Core, DoneWork, Offer, Outcome, Work};
 use coll_plans::Plan;
 
 /// A type whose values may go to another thread.
@@ -21,6 +21,7 @@ pub fn cores_go() {
     goes::<Core>();
     goes::<Plan>();
     goes::<Offer>();
+    goes::<Contribution>();
     goes::<Outcome>();
     goes::<Work>();
     goes::<DoneWork>();

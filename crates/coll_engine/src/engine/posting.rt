@@ -13,7 +13,7 @@ ghost use Rattle.coll_engine.specs.Calls.{Denies, DeniesStart, InitsTo, PostsTo,
 
 use crate::engine::Engine;
 use coll_complete::{Request, request_free};
-use coll_core::Offer;
+use coll_core::{Contribution, Offer};
 use coll_kinds::{Refusal, Signature, Ticket};
 use coll_plans::{Plan, plan};
 
@@ -61,7 +61,7 @@ impl Engine {
             Err(why) => return Err(why),
         };
         let outcome_len = outcome_len(&plan);
-        let bytes = Vec::from_slice(self.alloc, bytes)?;
+        let bytes = Contribution::copy(self.alloc, bytes)?;
         match self.core.post(rank, comm, Offer { plan, bytes }) {
             Ok(ticket) => {
                 self.outcome_lengths[ticket.slot as usize] = outcome_len;
@@ -112,7 +112,7 @@ impl Engine {
         let Some(ticket) = request.ticket() else {
             return Err(Refusal::Stale);
         };
-        let bytes = Vec::from_slice(self.alloc, bytes)?;
+        let bytes = Contribution::copy(self.alloc, bytes)?;
         if let Err(refused) = self.core.start(rank, ticket, bytes) {
             return Err(refused.why);
         }

@@ -10,12 +10,12 @@ pub index_mut-requires : goal.index_mut-requires
 index_mut-requires c =
     let p = c.self.inside.core in
     let low : c.in-Ok-post.ticket.slot < length c.self.inside.outcome_lengths.items =
-    post_low (setting p) (seen p) (seen c.post.new.self) c.args.rank c.args.comm (planned c.in-Ok.plan) c.in_ok-bytes.bytes.items c.in-Ok-post.ticket c.self.inside.outcome_lengths.items c.in-Ok-post.ensures.posted c.self.invariant.measured in
+    post_low (setting p) (seen p) (seen c.post.new.self) c.args.rank c.args.comm (planned c.in-Ok.plan) c.in_ok-bytes.bytes c.in-Ok-post.ticket c.self.inside.outcome_lengths.items c.in-Ok-post.ensures.posted c.self.invariant.measured in
     omega (arith, low, c.self.inside.outcome_lengths.ok)
 
 pub invariant_of-self : goal.invariant_of-self
 invariant_of-self c =
-    kept_posted c.self.inside.core c.post.new.self c.self.inside.communicators c.self.inside.outcome_lengths.items c.args.rank c.args.comm (planned c.in-Ok.plan) c.in_ok-bytes.bytes.items c.in-Ok-post.ticket c.outcome_len-outcome_len.result
+    kept_posted c.self.inside.core c.post.new.self c.self.inside.communicators c.self.inside.outcome_lengths.items c.args.rank c.args.comm (planned c.in-Ok.plan) c.in_ok-bytes.bytes c.in-Ok-post.ticket c.outcome_len-outcome_len.result
     c.self.invariant c.in-Ok-post.ensures.setting c.in-Ok-post.ensures.posted c.outcome_len-outcome_len.ensures
 
 pub returns-in-Err-clause-refused : goal.returns-in-Err-clause-refused
