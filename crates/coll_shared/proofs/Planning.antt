@@ -6,7 +6,9 @@ use Rattle.coll_kinds.specs.declared.refusal.Refusal.TheVariants.{BadSignature, 
 use Rattle.coll_kinds.specs.declared.refusal.SignatureFault.{SignatureFault}
 use Rattle.coll_kinds.specs.declared.signature.Signature.{Signature}
 use Rattle.coll_kinds.specs.Checks.{broken}
-use Rattle.coll_shared.specs.Ports.{Holding, IsFault, IsUnplanned, group_at, unseated}
+use Rattle.coll_machine.specs.Refusals.{unseated}
+use Rattle.coll_machine.specs.Settings.{group_in}
+use Rattle.coll_shared.specs.Ports.{Holding, IsFault, IsUnplanned}
 
 is_fault : {T : Type 0} (b : Option SignatureFault) (r : Result T Refusal) (why : Refusal) → r ≡ Err why
     → MatchOption b (IsOkUnless r NoMemory) (λ cause. IsErrOf r (BadSignature cause)) → IsFault b why
@@ -16,7 +18,7 @@ is_fault (Some cause) r why is h = cc
 -- what the port has is told by the refusal
 pub unplanned : {T : Type 0} (p : Holding) (comm : ℕ) (sig : Signature) (r : Result T Refusal) (why : Refusal) → r ≡ Err why
     → IfSome (unseated p.groups p.rank comm) (λ w. IsErrOf r w)
-    → IfNone (unseated p.groups p.rank comm) (MatchOption (broken sig (length (group_at p.groups comm))) (IsOkUnless r NoMemory) (λ cause. IsErrOf r (BadSignature cause)))
+    → IfNone (unseated p.groups p.rank comm) (MatchOption (broken sig (length (group_in p.groups comm))) (IsOkUnless r NoMemory) (λ cause. IsErrOf r (BadSignature cause)))
     → IsUnplanned p comm sig why
 unplanned {T} p comm sig r why is seat fault = go (unseated p.groups p.rank comm) refl seat fault
   where
@@ -24,7 +26,7 @@ unplanned {T} p comm sig r why is seat fault = go (unseated p.groups p.rank comm
     same w e = cc
 
     go : (o : Option Refusal) → unseated p.groups p.rank comm ≡ o → IfSome o (λ w. IsErrOf r w)
-        → IfNone o (MatchOption (broken sig (length (group_at p.groups comm))) (IsOkUnless r NoMemory) (λ cause. IsErrOf r (BadSignature cause)))
+        → IfNone o (MatchOption (broken sig (length (group_in p.groups comm))) (IsOkUnless r NoMemory) (λ cause. IsErrOf r (BadSignature cause)))
         → IsUnplanned p comm sig why
     go (Some w) e s f = inl (e ∙ ap Some (same w s))
-    go None e s f = inr (e, is_fault (broken sig (length (group_at p.groups comm))) r why is f)
+    go None e s f = inr (e, is_fault (broken sig (length (group_in p.groups comm))) r why is f)

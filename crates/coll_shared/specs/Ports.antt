@@ -1,16 +1,15 @@
 -- What a caller sees of a port, and why no plan or post is made for it.
-use Rattle.std.specs.Prelude.{◌≡◌, ◌<◌, ◌≤◌, ◌⊎◌, ℕ, nat_lt, List, [], ◌∷◌, length, slice_get}
-use Rattle.std.specs.Prelude.{Option, Some, None, is_some, unwrap_or}
+use Rattle.std.specs.Prelude.{◌≡◌, ◌<◌, ◌≤◌, ◌⊎◌, ℕ, List, length, Option, Some, None}
 use Rattle.coll_kinds.specs.declared.refusal.Refusal.{Refusal}
-use Rattle.coll_kinds.specs.declared.refusal.Refusal.TheVariants.{BadComm, BadSignature, NoMemory, NotMember}
+use Rattle.coll_kinds.specs.declared.refusal.Refusal.TheVariants.{BadSignature, NoMemory}
 use Rattle.coll_kinds.specs.declared.signature.Signature.{Signature}
 use Rattle.coll_kinds.specs.declared.refusal.SignatureFault.{SignatureFault}
 use Rattle.coll_kinds.specs.Checks.{broken}
 use Rattle.coll_kinds.specs.Groups.{member_of}
 use Rattle.coll_core.specs.declared.offer.Offer.{Offer}
 use Rattle.coll_core.specs.Posts.{post_of}
-use Rattle.coll_machine.specs.Refusals.{first_of, unless}
-use Rattle.coll_machine.specs.Settings.{Setting}
+use Rattle.coll_machine.specs.Refusals.{unseated}
+use Rattle.coll_machine.specs.Settings.{Setting, group_in}
 use Rattle.coll_traced.specs.Denials.{IsDenied}
 
 pub record Holding : Type 0 where
@@ -18,23 +17,10 @@ pub record Holding : Type 0 where
   pub made : ℕ  -- the entries that it put into the trace
   pub groups : List (List ℕ)  -- the ranks of each communicator, in the order of their member numbers
 
--- a communicator's members; one that isn't there has none
-abbrev pub group_at : List (List ℕ) → ℕ → List ℕ
-group_at groups comm = unwrap_or (slice_get groups comm) []
-
 -- it is one of the engine's ranks, and no communicator has more members than there may be
 pub record IsPort (ranks : ℕ) (p : Holding) : Type 0 where
   pub low : p.rank < ranks
-  pub few : (comm : ℕ) → length (group_at p.groups comm) ≤ 64
-
--- why a rank has no place in a communicator: there is none, or it isn't a member
-abbrev pub unseated : List (List ℕ) → ℕ → ℕ → Option Refusal
-unseated groups rank comm =
-    first_of (
-    unless (nat_lt comm (length groups)) (BadComm comm)
-    ∷ unless (is_some (member_of rank (group_at groups comm))) (NotMember rank)
-    ∷ []
-    )
+  pub few : (comm : ℕ) → length (group_in p.groups comm) ≤ 64
 
 -- why a signature with this fault is planned by nobody; one without is refused for memory alone
 abbrev pub IsFault : Option SignatureFault → Refusal → Type 0
@@ -45,15 +31,15 @@ IsFault (Some cause) why = why ≡ BadSignature cause
 abbrev pub IsUnplanned : Holding → ℕ → Signature → Refusal → Type 0
 IsUnplanned p comm sig why =
     (unseated p.groups p.rank comm ≡ Some why)
-    ⊎ ((unseated p.groups p.rank comm ≡ None) × IsFault (broken sig (length (group_at p.groups comm))) why)
+    ⊎ ((unseated p.groups p.rank comm ≡ None) × IsFault (broken sig (length (group_in p.groups comm))) why)
 
 -- the post of these bytes by the port's plan of the signature was denied
 pub record DeniesBytes (g : Setting) (p : Holding) (comm : ℕ) (sig : Signature) (bytes : List ℕ) (why : Refusal) : Type 0 where
   pub offer : Offer
   pub sig_is : offer.plan.sig ≡ sig
-  pub n_is : offer.plan.n ≡ length (group_at p.groups comm)
-  pub member_is : member_of p.rank (group_at p.groups comm) ≡ Some offer.plan.member
-  pub bytes_are : offer.bytes.items ≡ bytes
+  pub n_is : offer.plan.n ≡ length (group_in p.groups comm)
+  pub member_is : member_of p.rank (group_in p.groups comm) ≡ Some offer.plan.member
+  pub bytes_are : offer.bytes ≡ bytes
   pub denied : IsDenied g (post_of p.rank comm offer) why
 
 -- a port of an engine that was just opened

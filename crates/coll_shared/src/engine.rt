@@ -6,7 +6,8 @@ ghost use Rattle.coll_core.specs.Configs.{Fits, IsUnopened, setting_by};
 ghost use Rattle.coll_kinds.specs.declared.refusal.ConfigField.TheVariants.{Slots, Places, Wear, Starts, Trace};
 ghost use Rattle.coll_report.specs.Views.{groups_seen};
 ghost use Rattle.coll_traced.specs.Awaiting.{IsSetback};
-ghost use Rattle.coll_shared.specs.Ports.{group_at, opened};
+ghost use Rattle.coll_machine.specs.Settings.{group_in};
+ghost use Rattle.coll_shared.specs.Ports.{opened};
 
 use crate::combiner::Combiner;
 use crate::gate::Gate;
@@ -128,7 +129,7 @@ fn ports_of<L: Entries>(
 ) -> Result<Vec<Port<L>>, Refusal>
     requires shares { (shares.parts ≡ ranks) × (shares.amount ≡ 0) }
     requires ranks { ranks ≡ L.setting.ranks }
-    requires groups { (comm : ℕ) → length (group_at (groups_seen groups.now) comm) ≤ 64 }
+    requires groups { (comm : ℕ) → length (group_in (groups_seen groups.now) comm) ≤ 64 }
     ensures ports { IfOk result (λ ports. ports.items ≡ map (opened (groups_seen groups.now)) (range_with_len 0 ranks)) }
     ensures refused { IfErr result (λ why. why ≡ Refusal.NoMemory) }
 {

@@ -8,7 +8,9 @@ ghost use Rattle.std.specs.Prelude.{◌≡◌, ◌<◌, ◌≤◌, ℕ, Some, le
 ghost use Rattle.coll_kinds.specs.Checks.{broken};
 ghost use Rattle.coll_kinds.specs.Groups.{member_of};
 ghost use Rattle.coll_report.specs.Views.{groups_seen};
-ghost use Rattle.coll_shared.specs.Ports.{group_at, opened, unseated};
+ghost use Rattle.coll_machine.specs.Refusals.{unseated};
+ghost use Rattle.coll_machine.specs.Settings.{group_in};
+ghost use Rattle.coll_shared.specs.Ports.{opened};
 
 use crate::combiner::Combiner;
 use crate::plans::Plans;
@@ -53,7 +55,7 @@ impl<L: Entries> Port<L> {
         tally: Tally<L>,
     ) -> Self
         requires rank { rank < L.setting.ranks }
-        requires groups { (comm : ℕ) → length (group_at (groups_seen groups.items) comm) ≤ 64 }
+        requires groups { (comm : ℕ) → length (group_in (groups_seen groups.items) comm) ≤ 64 }
         requires made { tally ≡ 0 }
         ensures { result ≡ opened (groups_seen groups.items) rank }
     {
@@ -93,10 +95,10 @@ impl<L: Entries> Port<L> {
     pub fn ready_plan(&mut self, comm: u32, sig: &Signature) -> Result<Plan, Refusal>
         ensures same { self.new ≡ self.old }
         ensures sig { IfOk result (λ plan. plan.sig ≡ sig.now) }
-        ensures n { IfOk result (λ plan. plan.n ≡ length (group_at self.old.groups comm)) }
-        ensures member { IfOk result (λ plan. member_of self.old.rank (group_at self.old.groups comm) ≡ Some plan.member) }
+        ensures n { IfOk result (λ plan. plan.n ≡ length (group_in self.old.groups comm)) }
+        ensures member { IfOk result (λ plan. member_of self.old.rank (group_in self.old.groups comm) ≡ Some plan.member) }
         ensures unseated { IfSome (unseated self.old.groups self.old.rank comm) (λ why. IsErrOf result why) }
-        ensures refused { IfNone (unseated self.old.groups self.old.rank comm) (MatchOption (broken sig.now (length (group_at self.old.groups comm)))
+        ensures refused { IfNone (unseated self.old.groups self.old.rank comm) (MatchOption (broken sig.now (length (group_in self.old.groups comm)))
             (IsOkUnless result Refusal.NoMemory)
             (λ cause. IsErrOf result (Refusal.BadSignature cause))) }
     {

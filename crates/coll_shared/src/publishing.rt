@@ -11,7 +11,7 @@ ghost use Rattle.coll_shared.specs.Publications.{IsExpected};
 use crate::combiner::{Combiner, Held};
 use crate::publication::{Content, Expected};
 use crate::record::PublicationRecord;
-use coll_core::Offer;
+use coll_core::{Contribution, Offer};
 use coll_kinds::{Refusal, Refused, Ticket};
 use coll_traced::{Entries, Operation, Prepared, Receipt, Tally};
 use std::alloc::Global;
@@ -62,10 +62,11 @@ impl<L: Entries> Combiner<L> {
         &self,
         alloc: Global,
         rank: u8,
-        offer: &Offer,
+        offer: &mut Offer,
     ) -> Option<(Held<'_, L>, Result<Prepared, Refusal>)>
-        ensures prepared { IfSome result (λ r. IfOk r.1 (IsPreparedFor offer.now)) }
+        ensures prepared { IfSome result (λ r. IfOk r.1 (IsPreparedFor offer.old)) }
         ensures refused { IfSome result (λ r. IfErr r.1 (λ why. why ≡ Refusal.NoMemory)) }
+        ensures same { offer.new ≡ offer.old }
     {
         if !self.record(rank)?.leads() {
             return None;
@@ -82,30 +83,30 @@ impl<L: Entries> Combiner<L> {
         alloc: Global,
         rank: u8,
         comm: u32,
-        offer: Offer,
+        mut offer: Offer,
         mut tally: Tally<L>,
     ) -> (Tally<L>, Result<(Ticket, Receipt), Refused<Offer>>)
         ensures counted { OnOk result.1 (result.0 ≡ tally + 1) }
-        ensures posted { IfOk result.1 (λ made. IsPosted rank (Some made.0) comm offer.plan.sig offer.bytes.items made.1) }
+        ensures posted { IfOk result.1 (λ made. IsPosted rank (Some made.0) comm offer.plan.sig offer.bytes made.1) }
         ensures err { OnErr result.1 (result.0 ≡ tally) }
         ensures refused { IfErr result.1 (λ refused. IsDenied L.setting (post_of rank comm offer) refused.why) }
         ensures back { IfErr result.1 (λ refused. refused.back ≡ offer) }
     {
-        let (mut held, prepared) = match self.lead_post(alloc, rank, &offer) {
+        let (mut held, prepared) = match self.lead_post(alloc, rank, &mut offer) {
             Some(lead) => lead,
             None => {
-                let operation = Operation::post(alloc, comm, &offer);
+                let operation = Operation::post(alloc, comm, &mut offer);
                 let expected = Expected::Post {
                     comm,
                     sig: offer.plan.sig(),
-                    bytes: &offer.bytes,
+                    bytes: offer.bytes.as_slice(),
                 };
                 let (back, made) = self.have_made(rt, alloc, rank, operation, expected, tally);
                 if let Some(made) = made {
                     return (back, Ok(made));
                 }
                 tally = back;
-                let prepared = Prepared::of(alloc, &offer);
+                let prepared = Prepared::of(alloc, &mut offer);
                 (self.enter(rt), prepared)
             }
         };
@@ -126,22 +127,22 @@ impl<L: Entries> Combiner<L> {
         alloc: Global,
         rank: u8,
         ticket: Ticket,
-        bytes: Vec<u8>,
+        mut bytes: Contribution,
         mut tally: Tally<L>,
-    ) -> (Tally<L>, Result<Receipt, Refused<Vec<u8>>>)
+    ) -> (Tally<L>, Result<Receipt, Refused<Contribution>>)
         ensures counted { OnOk result.1 (result.0 ≡ tally + 1) }
-        ensures started { IfOk result.1 (λ receipt. IsStarted rank (Some ticket) bytes.items receipt) }
+        ensures started { IfOk result.1 (λ receipt. IsStarted rank (Some ticket) bytes receipt) }
         ensures err { OnErr result.1 (result.0 ≡ tally) }
-        ensures refused { IfErr result.1 (λ refused. IsDenied L.setting (Start rank ticket bytes.items) refused.why) }
+        ensures refused { IfErr result.1 (λ refused. IsDenied L.setting (Start rank ticket bytes) refused.why) }
         ensures back { IfErr result.1 (λ refused. refused.back ≡ bytes) }
     {
         let mut held = match self.try_lead(rank) {
             Some(held) => held,
             None => {
-                let operation = Operation::start(alloc, ticket, &bytes);
+                let operation = Operation::start(alloc, ticket, &mut bytes);
                 let expected = Expected::Start {
                     ticket,
-                    bytes: &bytes,
+                    bytes: bytes.as_slice(),
                 };
                 let (back, made) = self.have_made(rt, alloc, rank, operation, expected, tally);
                 if let Some((_ticket, receipt)) = made {

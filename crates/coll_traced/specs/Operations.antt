@@ -14,12 +14,12 @@ use Rattle.coll_traced.specs.declared.operation.Operation.TheVariants as operati
 -- the call that it asks for
 abbrev pub call_of : Operation → ℕ → Call
 call_of (operation.Post post) rank = post_of rank post.comm post.offer
-call_of (operation.Start start) rank = Start rank start.ticket start.given.items
+call_of (operation.Start start) rank = Start rank start.ticket start.given
 
 -- the entry is of just that call of the rank's, for this request
 abbrev pub IsMade : Operation → ℕ → Ticket → Entry → Type 0
-IsMade (operation.Post post) rank t e = IsPosted rank (Some t) post.comm post.offer.plan.sig post.offer.bytes.items e
-IsMade (operation.Start start) rank t e = (t ≡ start.ticket) × IsStarted rank (Some t) start.given.items e
+IsMade (operation.Post post) rank t e = IsPosted rank (Some t) post.comm post.offer.plan.sig post.offer.bytes e
+IsMade (operation.Start start) rank t e = (t ≡ start.ticket) × IsStarted rank (Some t) start.given e
 
 -- what lay under the lock denied it
 pub record IsRefused (g : Setting) (o : Operation) (rank : ℕ) : Type 0 where

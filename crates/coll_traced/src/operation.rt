@@ -7,12 +7,12 @@ use crate::start_operation::StartOperation;
 use crate::tally::{Entries, Tally};
 use crate::trace::Appended;
 use crate::traced_core::TracedCore;
-use coll_core::Offer;
+use coll_core::{Contribution, Offer};
 use coll_kinds::Ticket;
 use coll_report::Entry;
 use std::alloc::Global;
 
-/// How many bytes an operation gives at most: to copy more takes longer than to wait for the engine.
+/// How many bytes an operation gives at most: its port compares those of the answer with its own, and with more it waits for the engine.
 const SHORT: usize = 64;
 
 /// A post or a start that one thread leaves to another, with all memory that it takes.
@@ -24,7 +24,9 @@ pub enum Operation {
 
 impl Operation {
     /// A post of the offer; none where it gives many bytes, or memory is short.
-    pub fn post(alloc: Global, comm: u32, offer: &Offer) -> Option<Operation> {
+    pub fn post(alloc: Global, comm: u32, offer: &mut Offer) -> Option<Operation>
+        ensures { offer.new ≡ offer.old }
+    {
         if offer.bytes.len() > SHORT {
             return None;
         }
@@ -33,11 +35,13 @@ impl Operation {
     }
 
     /// A start with these bytes; none where they are many, or memory is short.
-    pub fn start(alloc: Global, ticket: Ticket, bytes: &[u8]) -> Option<Operation> {
-        if bytes.len() > SHORT {
+    pub fn start(alloc: Global, ticket: Ticket, given: &mut Contribution) -> Option<Operation>
+        ensures { given.new ≡ given.old }
+    {
+        if given.len() > SHORT {
             return None;
         }
-        let operation = StartOperation::of(alloc, ticket, bytes)?;
+        let operation = StartOperation::of(alloc, ticket, given)?;
         Some(Operation::Start(operation))
     }
 

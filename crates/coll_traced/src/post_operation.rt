@@ -13,7 +13,7 @@ use crate::tally::{Entries, Tally};
 use crate::trace::Appended;
 use crate::traced_core::TracedCore;
 use coll_bytes::Bytes;
-use coll_core::Offer;
+use coll_core::{Contribution, Offer};
 use coll_kinds::{Signature, Ticket};
 use coll_plans::Plan;
 use coll_report::Entry;
@@ -26,12 +26,12 @@ pub struct PostOperation {
     comm: u32,
     offer: Offer,
     prepared: Prepared,
-    /// What is given once more, for the entry that comes back.
+    /// A second owner of what is given, for the entry that comes back.
     bytes: Bytes,
     /// The plan's signature, for that entry.
     sig: Arc<Signature>,
     ghost keeps: { IsPreparedFor offer prepared },
-    ghost copied: { bytes ≡ offer.bytes.items },
+    ghost shared: { bytes ≡ offer.bytes },
     ghost signed: { arc_value sig ≡ offer.plan.sig },
 }
 
@@ -46,15 +46,19 @@ fn shared(plan: &Plan) -> Option<(Plan, Arc<Signature>)>
 }
 
 impl PostOperation {
-    /// Of an offer, in copies; none where memory is short.
-    pub(crate) fn of(alloc: Global, comm: u32, offer: &Offer) -> Option<PostOperation>
-        requires { length offer.now.bytes.items < 2 ^ 32 }
+    /// Of an offer, which it shares; none where memory is short.
+    pub(crate) fn of(alloc: Global, comm: u32, own: &mut Offer) -> Option<PostOperation>
+        requires { length own.old.bytes < 2 ^ 32 }
+        ensures { own.new ≡ own.old }
     {
-        let given = Vec::from_slice(alloc, &offer.bytes).ok()?;
-        let bytes = Bytes::copy(alloc, &given).ok()?;
-        let (plan, sig) = shared(&offer.plan)?;
-        let offer = Offer { plan, bytes: given };
-        let prepared = Prepared::of(alloc, &offer).ok()?;
+        let (plan, sig) = shared(&own.plan)?;
+        let bytes = own.bytes.share(alloc).ok()?;
+        let given = own.bytes.share(alloc).ok()?;
+        let mut offer = Offer {
+            plan,
+            bytes: Contribution::of_bytes(given),
+        };
+        let prepared = Prepared::of(alloc, &mut offer).ok()?;
         Some(PostOperation {
             comm,
             offer,
@@ -72,7 +76,7 @@ impl PostOperation {
         rank: u8,
     ) -> Option<(Ticket, Appended)>
         ensures entry { IfSome result (λ r. traced.new.entries ≡ traced.old.entries ++ r.1 ∷ []) }
-        ensures posted { IfSome result (λ r. IsPosted rank (Some r.0) self.comm self.offer.plan.sig self.offer.bytes.items r.1) }
+        ensures posted { IfSome result (λ r. IsPosted rank (Some r.0) self.comm self.offer.plan.sig self.offer.bytes r.1) }
         ensures refused { IsNone result → (why : Refusal) × IsDenied L.setting (post_of rank self.comm self.offer) why }
         ensures counted { IfSome result (λ r. mine.new ≡ mine.old + 1) }
         ensures none { IsNone result → (traced.new.entries ≡ traced.old.entries) × (mine.new ≡ mine.old) }

@@ -2,36 +2,38 @@ ghost use Rattle.std.specs.Prelude.{◌≡◌, ◌<◌, ◌^◌, length, IfErr, 
 ghost use Rattle.coll_traced.specs.Prepared.{IsPreparedFor};
 
 use coll_bytes::Bytes;
-use coll_core::{Buffer, Offer};
+use coll_core::{Buffer, Contribution, Offer};
 use coll_kinds::Refusal;
 use std::alloc::Global;
 
-/// What a post keeps: a copy of what it gives for the trace, and the schedule's buffer with that laid in, which shares it where it is long.
+/// What a post keeps: a second owner of what it gives, for the trace, and the schedule's buffer with that laid in.
 #[derive(Drop)]
 pub struct Prepared {
     pub(crate) bytes: Bytes,
     pub(crate) laid: Buffer,
 }
 
-/// A copy for the trace of what is given. More than any collective takes isn't copied.
-pub(crate) fn copied(alloc: Global, bytes: &[u8]) -> Result<Bytes, Refusal>
-    ensures copied { IfOk result (λ copy. length bytes.now < 2 ^ 32 → copy ≡ bytes.now) }
+/// A second owner of what is given, for the trace. More than any collective takes has none.
+pub(crate) fn shared(alloc: Global, given: &mut Contribution) -> Result<Bytes, Refusal>
+    ensures shared { IfOk result (λ bytes. length given.old < 2 ^ 32 → bytes ≡ given.old) }
     ensures refused { IfErr result (λ why. why ≡ Refusal.NoMemory) }
+    ensures same { given.new ≡ given.old }
 {
-    if bytes.len() > u32::MAX as usize {
+    if given.len() > u32::MAX as usize {
         return Ok(Bytes::empty());
     }
-    Ok(Bytes::copy(alloc, bytes)?)
+    given.share(alloc)
 }
 
 impl Prepared {
     /// For a post. It is made before the lock is taken.
-    pub fn of(alloc: Global, offer: &Offer) -> Result<Prepared, Refusal>
-        ensures prepared { IfOk result (IsPreparedFor offer.now) }
+    pub fn of(alloc: Global, offer: &mut Offer) -> Result<Prepared, Refusal>
+        ensures prepared { IfOk result (IsPreparedFor offer.old) }
         ensures refused { IfErr result (λ why. why ≡ Refusal.NoMemory) }
+        ensures same { offer.new ≡ offer.old }
     {
-        let mut bytes = copied(alloc, &offer.bytes)?;
-        let laid = offer.lay_shared(alloc, &mut bytes)?;
+        let bytes = shared(alloc, &mut offer.bytes)?;
+        let laid = offer.lay_in(alloc)?;
         Ok(Prepared { bytes, laid })
     }
 }

@@ -9,6 +9,7 @@ use crate::tally::{Entries, Tally};
 use crate::trace::Appended;
 use crate::traced_core::TracedCore;
 use coll_bytes::Bytes;
+use coll_core::Contribution;
 use coll_kinds::Ticket;
 use coll_report::Entry;
 use std::alloc::Global;
@@ -17,19 +18,24 @@ use std::alloc::Global;
 #[derive(Drop)]
 pub struct StartOperation {
     ticket: Ticket,
-    given: Vec<u8>,
-    /// What is given once more, for the entry that comes back.
+    given: Contribution,
+    /// A second owner of what is given, for the entry that comes back.
     bytes: Bytes,
-    ghost copied: { bytes ≡ given.items },
+    ghost shared: { bytes ≡ given },
 }
 
 impl StartOperation {
-    /// With these bytes, in copies; none where memory is short.
-    pub(crate) fn of(alloc: Global, ticket: Ticket, bytes: &[u8]) -> Option<StartOperation>
-        requires { length bytes.now < 2 ^ 32 }
+    /// With these bytes, which it shares; none where memory is short.
+    pub(crate) fn of(
+        alloc: Global,
+        ticket: Ticket,
+        own: &mut Contribution,
+    ) -> Option<StartOperation>
+        requires { length own.old < 2 ^ 32 }
+        ensures { own.new ≡ own.old }
     {
-        let given = Vec::from_slice(alloc, bytes).ok()?;
-        let bytes = Bytes::copy(alloc, &given).ok()?;
+        let bytes = own.share(alloc).ok()?;
+        let given = Contribution::of_bytes(own.share(alloc).ok()?);
         Some(StartOperation {
             ticket,
             given,
@@ -45,9 +51,9 @@ impl StartOperation {
         rank: u8,
     ) -> Option<(Ticket, Appended)>
         ensures entry { IfSome result (λ r. traced.new.entries ≡ traced.old.entries ++ r.1 ∷ []) }
-        ensures started { IfSome result (λ r. IsStarted rank (Some self.ticket) self.given.items r.1) }
+        ensures started { IfSome result (λ r. IsStarted rank (Some self.ticket) self.given r.1) }
         ensures ticket { IfSome result (λ r. r.0 ≡ self.ticket) }
-        ensures refused { IsNone result → (why : Refusal) × IsDenied L.setting (Start rank self.ticket self.given.items) why }
+        ensures refused { IsNone result → (why : Refusal) × IsDenied L.setting (Start rank self.ticket self.given) why }
         ensures counted { IfSome result (λ r. mine.new ≡ mine.old + 1) }
         ensures none { IsNone result → (traced.new.entries ≡ traced.old.entries) × (mine.new ≡ mine.old) }
     {

@@ -11,7 +11,7 @@ ghost use Rattle.coll_traced.specs.Tests.{RefusesFree};
 
 use crate::port::Port;
 use coll_complete::Request;
-use coll_core::Offer;
+use coll_core::{Contribution, Offer};
 use coll_kinds::{Refusal, Refused, Signature};
 use coll_plans::Plan;
 use coll_traced::{Entries, Receipt};
@@ -33,7 +33,7 @@ impl<L: Entries> Port<L> {
         ensures rank { self.new.rank ≡ self.old.rank }
         ensures groups { self.new.groups ≡ self.old.groups }
         ensures made { OnOk result (self.new.made ≡ self.old.made + 1) }
-        ensures receipt { IfOk result (λ r. IsPosted self.old.rank r.0 comm offer.plan.sig offer.bytes.items r.1) }
+        ensures receipt { IfOk result (λ r. IsPosted self.old.rank r.0 comm offer.plan.sig offer.bytes r.1) }
         ensures err { OnErr result (self.new.made ≡ self.old.made) }
         ensures refused { IfErr result (λ refused. IsDenied L.setting (post_of self.old.rank comm offer) refused.why) }
         ensures back { IfErr result (λ refused. refused.back ≡ offer) }
@@ -55,20 +55,20 @@ impl<L: Entries> Port<L> {
     ///
     /// # Errors
     ///
-    /// Those of `ready_plan`, in its order; then those of `post`. The bytes are handed back.
+    /// Those of `ready_plan`, in its order; then those of `post`. The contribution is handed back.
     pub fn post_bytes<R: Wait>(
         &mut self,
         rt: &R,
         comm: u32,
         sig: &Signature,
-        bytes: Vec<u8>,
-    ) -> Result<(Request, Receipt), Refused<Vec<u8>>>
+        bytes: Contribution,
+    ) -> Result<(Request, Receipt), Refused<Contribution>>
         ensures rank { self.new.rank ≡ self.old.rank }
         ensures groups { self.new.groups ≡ self.old.groups }
         ensures made { OnOk result (self.new.made ≡ self.old.made + 1) }
-        ensures receipt { IfOk result (λ r. IsPosted self.old.rank r.0 comm sig.now bytes.items r.1) }
+        ensures receipt { IfOk result (λ r. IsPosted self.old.rank r.0 comm sig.now bytes r.1) }
         ensures err { OnErr result (self.new.made ≡ self.old.made) }
-        ensures refused { IfErr result (λ refused. IsUnplanned self.old comm sig.now refused.why ⊎ DeniesBytes L.setting self.old comm sig.now bytes.items refused.why) }
+        ensures refused { IfErr result (λ refused. IsUnplanned self.old comm sig.now refused.why ⊎ DeniesBytes L.setting self.old comm sig.now bytes refused.why) }
         ensures back { IfErr result (λ refused. refused.back ≡ bytes) }
     {
         let plan = match self.ready_plan(comm, sig) {

@@ -2,13 +2,14 @@
 
 ghost use Rattle.std.specs.Prelude.{◌≡◌, ◌+◌, ◌<◌, ◌≤◌, [], IfErr, IfOk, None, OnErr, OnOk, length, slice_index_or, take, vec_capacity, vec_len};
 ghost use Rattle.std.specs.List.{zip};
-ghost use Rattle.coll_complete.specs.Starting.{lists_of, unused};
+ghost use Rattle.coll_complete.specs.Starting.{unused};
 ghost use Rattle.coll_traced.specs.Calls.{IsStarted};
 ghost use Rattle.coll_traced.specs.Denials.{DeniesStart};
 ghost use Rattle.coll_shared.specs.Starts.{PushesStarts};
 
 use crate::port::Port;
 use coll_complete::{Halted, Request};
+use coll_core::Contribution;
 use coll_kinds::{Refusal, Refused};
 use coll_traced::{Entries, Receipt};
 use std::mem;
@@ -19,19 +20,19 @@ impl<L: Entries> Port<L> {
     ///
     /// # Errors
     ///
-    /// Stale where the request is null; then those of `TracedCore::start`, in its order. The bytes are handed back.
+    /// Stale where the request is null; then those of `TracedCore::start`, in its order. The contribution is handed back.
     pub fn start<R: Wait>(
         &mut self,
         rt: &R,
         request: &Request,
-        bytes: Vec<u8>,
-    ) -> Result<Receipt, Refused<Vec<u8>>>
+        bytes: Contribution,
+    ) -> Result<Receipt, Refused<Contribution>>
         ensures rank { self.new.rank ≡ self.old.rank }
         ensures groups { self.new.groups ≡ self.old.groups }
         ensures made { OnOk result (self.new.made ≡ self.old.made + 1) }
-        ensures receipt { IfOk result (λ receipt. IsStarted self.old.rank request.now bytes.items receipt) }
+        ensures receipt { IfOk result (λ receipt. IsStarted self.old.rank request.now bytes receipt) }
         ensures err { OnErr result (self.new.made ≡ self.old.made) }
-        ensures refused { IfErr result (λ refused. DeniesStart L.setting self.old.rank request.now bytes.items refused.why) }
+        ensures refused { IfErr result (λ refused. DeniesStart L.setting self.old.rank request.now bytes refused.why) }
         ensures back { IfErr result (λ refused. refused.back ≡ bytes) }
     {
         let Some(ticket) = request.ticket() else {
@@ -55,19 +56,18 @@ impl<L: Entries> Port<L> {
         &mut self,
         rt: &R,
         request: &Request,
-        bytes: &mut Vec<u8>,
+        bytes: &mut Contribution,
     ) -> Result<Receipt, Refusal>
         ensures rank { self.new.rank ≡ self.old.rank }
         ensures groups { self.new.groups ≡ self.old.groups }
         ensures made { OnOk result (self.new.made ≡ self.old.made + 1) }
-        ensures receipt { IfOk result (λ receipt. IsStarted self.old.rank request.now bytes.old.items receipt) }
-        ensures taken { OnOk result (bytes.new.items ≡ []) }
+        ensures receipt { IfOk result (λ receipt. IsStarted self.old.rank request.now bytes.old receipt) }
+        ensures taken { OnOk result (bytes.new ≡ []) }
         ensures err { OnErr result (self.new.made ≡ self.old.made) }
-        ensures refused { IfErr result (λ why. DeniesStart L.setting self.old.rank request.now bytes.old.items why) }
+        ensures refused { IfErr result (λ why. DeniesStart L.setting self.old.rank request.now bytes.old why) }
         ensures left { OnErr result (bytes.new ≡ bytes.old) }
     {
-        let empty = Vec::new(self.alloc);
-        match self.start(rt, request, mem::replace(bytes, empty)) {
+        match self.start(rt, request, mem::replace(bytes, Contribution::empty())) {
             Ok(receipt) => Ok(receipt),
             Err(refused) => {
                 *bytes = refused.back;
@@ -76,7 +76,7 @@ impl<L: Entries> Port<L> {
         }
     }
 
-    /// Starts the requests of a list in rising position, each with the bytes at its position (`MPI_Startall`; MPI 4.1, 3.9), and pushes
+    /// Starts the requests of a list in rising position, each with the contribution at its position (`MPI_Startall`; MPI 4.1, 3.9), and pushes
     /// what shows each start to `receipts`.
     ///
     /// # Errors
@@ -87,7 +87,7 @@ impl<L: Entries> Port<L> {
         &mut self,
         rt: &R,
         requests: &[Request],
-        mut given: Vec<Vec<u8>>,
+        mut given: Vec<Contribution>,
         receipts: &mut Vec<Receipt>,
     ) -> Result<(), Halted>
         requires given { vec_len given ≡ length requests.now }
@@ -95,12 +95,12 @@ impl<L: Entries> Port<L> {
         ensures rank { self.new.rank ≡ self.old.rank }
         ensures groups { self.new.groups ≡ self.old.groups }
         ensures made { OnOk result (self.new.made ≡ self.old.made + length requests.now) }
-        ensures starts { OnOk result (PushesStarts self.old.rank (zip requests.now (lists_of given.items)) receipts.old.items receipts.new.items) }
+        ensures starts { OnOk result (PushesStarts self.old.rank (zip requests.now given.items) receipts.old.items receipts.new.items) }
         ensures within { IfErr result (λ halted. halted.at < length requests.now) }
         ensures err { IfErr result (λ halted. self.new.made ≡ self.old.made + halted.at) }
-        ensures before { IfErr result (λ halted. PushesStarts self.old.rank (take halted.at (zip requests.now (lists_of given.items))) receipts.old.items receipts.new.items) }
-        ensures refused { IfErr result (λ halted. DeniesStart L.setting self.old.rank (slice_index_or requests.now halted.at None) (slice_index_or (lists_of given.items) halted.at []) halted.why) }
-        ensures back { IfErr result (λ halted. lists_of halted.back.items ≡ unused halted.at (lists_of given.items)) }
+        ensures before { IfErr result (λ halted. PushesStarts self.old.rank (take halted.at (zip requests.now given.items)) receipts.old.items receipts.new.items) }
+        ensures refused { IfErr result (λ halted. DeniesStart L.setting self.old.rank (slice_index_or requests.now halted.at None) (slice_index_or given.items halted.at []) halted.why) }
+        ensures back { IfErr result (λ halted. halted.back.items ≡ unused halted.at given.items) }
     {
         for (at, request) in requests.iter().enumerate() {
             match self.start_taking(rt, request, &mut given[at]) {

@@ -58,7 +58,7 @@ impl<L: Entries> TracedCore<L> {
         ensures waits { (self.new.waits ≡ self.old.waits) × (self.new.stalled ≡ self.old.stalled) }
         ensures posted { IfOk result (λ r. StepsTo (setting self.old.core) (seen self.old.core) (post_of rank comm offer) (Ticketed r.0) (seen self.new.core)) }
         ensures entry { IfOk result (λ r. self.new.entries ≡ self.old.entries ++ r.1 ∷ []) }
-        ensures receipt { IfOk result (λ r. (place : ℕ) × (r.1 ≡ Posted rank r.0 comm place offer.plan.sig offer.bytes.items)) }
+        ensures receipt { IfOk result (λ r. (place : ℕ) × (r.1 ≡ Posted rank r.0 comm place offer.plan.sig offer.bytes)) }
         ensures counted { OnOk result (mine.new ≡ mine.old + 1) }
         ensures back { IfErr result (λ refused. refused.back ≡ offer) }
         ensures refused { IfErr result (λ refused. Denies self.old (post_of rank comm offer) refused.why) }

@@ -3,7 +3,7 @@
 use crate::tally::{Entries, Tally};
 use crate::traced_core::TracedCore;
 use coll_complete::Requests;
-use coll_core::{About, Outcome, Phase};
+use coll_core::{About, Contribution, Outcome, Phase};
 use coll_kinds::{Refusal, Refused, Ticket};
 
 impl<L: Entries> Requests for TracedCore<L> {
@@ -54,8 +54,8 @@ impl<L: Entries> Requests for TracedCore<L> {
         own: &mut Tally<L>,
         rank: u8,
         ticket: Ticket,
-        bytes: Vec<u8>,
-    ) -> Result<(), Refused<Vec<u8>>> {
+        bytes: Contribution,
+    ) -> Result<(), Refused<Contribution>> {
         match TracedCore::start(self, own, rank, ticket, bytes) {
             Ok(_receipt) => Ok(()),
             Err(refused) => Err(refused),

@@ -10,10 +10,11 @@ ghost use Rattle.coll_tables.specs.Machines.{StepsTo};
 ghost use Rattle.coll_core.specs.Cores.{seen, setting};
 ghost use Rattle.coll_traced.specs.Traced.{Denies, Stays};
 
-use crate::prepared::copied;
+use crate::prepared::shared;
 use crate::tally::{Entries, Tally};
 use crate::trace::Receipt;
 use crate::traced_core::{TracedCore, live};
+use coll_core::Contribution;
 use coll_kinds::{Refusal, Refused, Ticket};
 use coll_report::Entry;
 
@@ -24,29 +25,29 @@ impl<L: Entries> TracedCore<L> {
     /// # Errors
     ///
     /// TraceFull where two entries more would pass the trace's limit; then NoMemory for them; then the errors of the
-    /// core's `start`, in its order. The bytes are handed back, and nothing changes.
+    /// core's `start`, in its order. The contribution is handed back, and nothing changes.
     pub fn start(
         &mut self,
         mine: &mut Tally<L>,
         rank: u8,
         ticket: Ticket,
-        bytes: Vec<u8>,
-    ) -> Result<Receipt, Refused<Vec<u8>>>
+        mut bytes: Contribution,
+    ) -> Result<Receipt, Refused<Contribution>>
         ensures setting { setting self.new.core ≡ setting self.old.core }
         ensures waits { (self.new.waits ≡ self.old.waits) × (self.new.stalled ≡ self.old.stalled) }
-        ensures starts { OnOk result (StepsTo (setting self.old.core) (seen self.old.core) (Start rank ticket bytes.items) Nothing (seen self.new.core)) }
+        ensures starts { OnOk result (StepsTo (setting self.old.core) (seen self.old.core) (Start rank ticket bytes) Nothing (seen self.new.core)) }
         ensures entry { IfOk result (λ receipt. self.new.entries ≡ self.old.entries ++ receipt ∷ []) }
-        ensures receipt { IfOk result (λ receipt. (start : ℕ) × (receipt ≡ Started rank ticket start bytes.items)) }
+        ensures receipt { IfOk result (λ receipt. (start : ℕ) × (receipt ≡ Started rank ticket start bytes)) }
         ensures counted { OnOk result (mine.new ≡ mine.old + 1) }
         ensures back { IfErr result (λ refused. refused.back ≡ bytes) }
-        ensures refused { IfErr result (λ refused. Denies self.old (Start rank ticket bytes.items) refused.why) }
+        ensures refused { IfErr result (λ refused. Denies self.old (Start rank ticket bytes) refused.why) }
         ensures unchanged { OnErr result (Stays self.old self.new) }
         ensures uncounted { OnErr result (mine.new ≡ mine.old) }
     {
         if let Err(why) = self.trace.make_room(self.config.trace) {
             return Err(Refused { why, back: bytes });
         }
-        let given = match copied(self.alloc, &bytes) {
+        let given = match shared(self.alloc, &mut bytes) {
             Ok(given) => given,
             Err(why) => return Err(Refused { why, back: bytes }),
         };

@@ -10,10 +10,10 @@ pub returns-clause-receipt : goal.returns-clause-receipt
 returns-clause-receipt g c =
     let offer = c.args.offer in
     let rank = ap (λ (p : Holding). p.rank) c.self.view_is in
-    let posted = subst (λ k. IfOk c.post-tally.result.1 (λ m. IsPosted k (Some m.0) c.args.comm offer.plan.sig offer.bytes.items m.1)) rank c.post-tally.ensures.posted in
+    let posted = subst (λ k. IfOk c.post-tally.result.1 (λ m. IsPosted k (Some m.0) c.args.comm offer.plan.sig offer.bytes m.1)) rank c.post-tally.ensures.posted in
     elim c.match-posted.branch [
       | in-Ok w ↦
-          held_told (λ q e. IsPosted c.args.self.now.rank q c.args.comm offer.plan.sig offer.bytes.items e) c.post-tally.result.1
+          held_told (λ q e. IsPosted c.args.self.now.rank q c.args.comm offer.plan.sig offer.bytes e) c.post-tally.result.1
           c.match-posted.result w.in-Ok.ticket w.in-Ok.receipt w.of.result posted w.in-Ok.is w.of.ensures w.result-is
       | in-Err w ↦ none_told _ c.match-posted.result _ w.result-is
     ]

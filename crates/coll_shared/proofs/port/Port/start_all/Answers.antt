@@ -1,6 +1,4 @@
 use Rattle.std.proofs.Common.{◌≡◌, ◌+◌, ◌<◌, length, vec_capacity, vec_len, arith, sym, subst, ◌∙◌}
-use Rattle.std.proofs.lemmas.List.{length-map}
-use Rattle.coll_complete.specs.Starting.{lists_of}
 use Rattle.coll_complete.proofs.Starts.{begun-at, given-set}
 use Rattle.coll_traced.specs.Calls.{IsStarted}
 use Rattle.coll_traced.specs.Denials.{DeniesStart}
@@ -20,12 +18,10 @@ loop-at-preserved g c =
     let was = c.loop-at.invariant in
     let told = c.in-Ok.ensures in
     let long : length list ≡ length given = sym c.requires.given ∙ c.args.given.ok.0 in
-    let same : length now ≡ length given = sym c.loop-at.given.ok.0 ∙ (was.long ∙ c.args.given.ok.0) in
-    let lists : length list ≡ length (lists_of given) = long ∙ sym (length-map given _) in
     let low : i < length given = omega (arith, long, c.loop-at-test.true) in
-    let begun = begun-at list given now i c.index-requests-at.result c.index_mut.result.now was.given long same c.loop-at-test.true
+    let begun = begun-at list given now i c.index-requests-at.result c.index_mut.result.now was.given long c.loop-at-test.true
     c.index-requests-at.is c.index_mut.ensures.value in
-    let started = subst (λ k. IsStarted k c.index-requests-at.result c.index_mut.result.now.items c.in-Ok.receipt) was.rank told.receipt in
+    let started = subst (λ k. IsStarted k c.index-requests-at.result c.index_mut.result.now c.in-Ok.receipt) was.rank told.receipt in
     record {
       rank = told.rank ∙ was.rank;
       groups = told.groups ∙ was.groups;
@@ -33,7 +29,7 @@ loop-at-preserved g c =
       given = given-set given now i c.start_taking.new.bytes was.given low told.taken;
       long = was.long;
       starts =
-          starts-more c.args.self.now.rank list (lists_of given) _ _ _ c.in-Ok.receipt i _ lists c.loop-at-test.true was.starts begun
+          starts-more c.args.self.now.rank list given _ _ _ c.in-Ok.receipt i _ long c.loop-at-test.true was.starts begun
           started c.push_reserved.ensures.items;
       room = c.push_reserved.ensures.capacity ∙ was.room;
       shown = omega (arith, c.push_reserved.ensures.len, was.shown);
@@ -46,15 +42,14 @@ returns-in-Err-clause-refused g c =
     let now = c.loop-at.given.items in
     let was = c.loop-at.invariant in
     let long : length list ≡ length given = sym c.requires.given ∙ c.args.given.ok.0 in
-    let same : length now ≡ length given = sym c.loop-at.given.ok.0 ∙ (was.long ∙ c.args.given.ok.0) in
-    let denied = subst (λ k. DeniesStart g.L.Entries.setting k c.index-requests-at.result c.index_mut.result.now.items c.in-Err.why) was.rank c.in-Err.ensures.refused in
+    let denied = subst (λ k. DeniesStart g.L.Entries.setting k c.index-requests-at.result c.index_mut.result.now c.in-Err.why) was.rank c.in-Err.ensures.refused in
     denies-at g.L.Entries.setting c.args.self.now.rank _ _ c.in-Err.why
-    (begun-at list given now c.loop-at.at c.index-requests-at.result c.index_mut.result.now was.given long same c.loop-at-test.true
+    (begun-at list given now c.loop-at.at c.index-requests-at.result c.index_mut.result.now was.given long c.loop-at-test.true
     c.index-requests-at.is c.index_mut.ensures.value) denied
 
 pub returns-clause-starts : goal.returns-clause-starts
 returns-clause-starts g c =
     let given = c.args.given.items in
     let list = c.args.requests.now in
-    let lists : length list ≡ length (lists_of given) = sym c.requires.given ∙ (c.args.given.ok.0 ∙ sym (length-map given _)) in
-    starts-all c.args.self.now.rank list (lists_of given) _ _ c.loop-at.at lists (omega arith) c.loop-at.invariant.starts
+    let long : length list ≡ length given = sym c.requires.given ∙ c.args.given.ok.0 in
+    starts-all c.args.self.now.rank list given _ _ c.loop-at.at long (omega arith) c.loop-at.invariant.starts
