@@ -1,6 +1,6 @@
 //! An engine with one collective that is posted, stepped and completed again and again.
 
-use coll_core::{Config, Core, DoneWork, Offer, Stepped, Work};
+use coll_core::{Config, Contribution, Core, DoneWork, Offer, Stepped, Work};
 use coll_kinds::{Datatype, Kind, Mode, Op, Refusal, Signature, Ticket};
 use coll_plans::plan;
 use std::alloc::Global;
@@ -120,7 +120,7 @@ fn waiting(alloc: Global) -> Result<Offer, Refusal> {
     let plan = plan(alloc, signature(Kind::Barrier, 2), 2, 0)?;
     Ok(Offer {
         plan,
-        bytes: Vec::new(alloc),
+        bytes: Contribution::empty(),
     })
 }
 
@@ -152,7 +152,10 @@ impl Bench {
         for member in 0..members {
             let plan = plan(self.alloc, self.sig, members, member)?;
             let bytes = vec![in self.alloc; 1; plan.given_len()]?;
-            self.offers.push(Offer { plan, bytes })?;
+            self.offers.push(Offer {
+                plan,
+                bytes: Contribution::new(bytes),
+            })?;
         }
         Ok(())
     }

@@ -3,7 +3,7 @@
 use crate::measure::Measure;
 use crate::running::Task;
 use coll_complete::Request;
-use coll_core::Offer;
+use coll_core::{Contribution, Offer};
 use coll_kinds::Refusal;
 use coll_shared::{NoGate, Port};
 use coll_traced::Entries;
@@ -21,7 +21,11 @@ fn post<L: Entries, R: Wait>(
 ) -> Result<Request, Refusal> {
     let plan = port.ready_plan(0, &measure.signature())?;
     let bytes = vec![in alloc; port.rank().wrapping_add(1); plan.given_len()]?;
-    match port.post(rt, 0, Offer { plan, bytes }) {
+    let offer = Offer {
+        plan,
+        bytes: Contribution::new(bytes),
+    };
+    match port.post(rt, 0, offer) {
         Ok((request, _receipt)) => Ok(request),
         Err(refused) => Err(refused.why),
     }
@@ -49,7 +53,7 @@ fn start<L: Entries, R: Wait>(
     len: usize,
 ) -> Result<(), Refusal> {
     let bytes = vec![in alloc; port.rank().wrapping_add(1); len]?;
-    match port.start(rt, request, bytes) {
+    match port.start(rt, request, Contribution::new(bytes)) {
         Ok(_receipt) => Ok(()),
         Err(refused) => Err(refused.why),
     }

@@ -11,7 +11,7 @@ use Rattle.coll_script.proofs.Answering.{meaning-read}
 use Rattle.coll_diagnosis.specs.Explained.{HasMeaning, IsExplainFault}
 use Rattle.coll_diagnosis.specs.Explained as explained
 use Rattle.coll_diagnosis.specs.Verdicts.{IsStatus}
-use Rattle.coll_faults.specs.Checked.{IsCheckFault, IsCheckStatus}
+use Rattle.coll_check.specs.Checked.{IsCheckFault, IsCheckStatus}
 use Rattle.coll_job.specs.Faults.{IsRunFault, IsThreadedFault}
 use Rattle.coll_job.specs.Tasks.{IsTextStatus}
 

@@ -3,8 +3,8 @@ use Rattle.std.specs.Prelude.{◌≡◌, ◌≢◌, ℕ, ◌≤◌, ◌⊎◌, �
 use Rattle.clap.specs.declared.error.kind.ErrorKind.{ErrorKind}
 use Rattle.clap.specs.declared.error.kind.ErrorKind.TheVariants.{DisplayHelp, DisplayVersion, OutOfMemory}
 use Rattle.coll_script.specs.Meaning.{meaning}
-use Rattle.coll_faults.specs.declared.checking.CheckForm.{CheckForm}
-use Rattle.coll_faults.specs.declared.checking.CheckForm.TheVariants.{Text, Json}
+use Rattle.coll_check.specs.declared.checking.CheckForm.{CheckForm}
+use Rattle.coll_check.specs.declared.checking.CheckForm.TheVariants.{Text, Json}
 use Rattle.coll_job.specs.declared.task.Way.{Way}
 use Rattle.coll_job.specs.declared.task.Way.TheVariants.{Plain, Run, Explain, Check, Draw, DrawRun}
 

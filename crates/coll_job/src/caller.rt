@@ -2,7 +2,7 @@ ghost use Rattle.std.specs.Prelude.{◌≡◌, ◌≤◌, IfOk, length, vec_len}
 
 use crate::spans::RankSpans;
 use coll_complete::{Request, are_distinct};
-use coll_core::{Offer, Outcome};
+use coll_core::{Contribution, Offer, Outcome};
 use coll_kinds::{Refusal, Signature};
 use coll_script::{Command, Named};
 use coll_shared::{Gate, Port};
@@ -68,10 +68,19 @@ impl<L: Entries> Caller<L> {
     ) -> Result<(), Refusal> {
         match command {
             Command::Post { comm, sig, given } => {
-                self.post(rt, u32::from(comm), sig.sig(), given.into_vec())
+                self.post(
+                    rt,
+                    u32::from(comm),
+                    sig.sig(),
+                    Contribution::new(given.into_vec()),
+                )
             }
             Command::Init { comm, sig } => self.init(rt, u32::from(comm), sig.sig()),
-            Command::Start { req, given } => self.start(rt, req as usize, given.into_vec()),
+            Command::Start { req, given } => self.start(
+                rt,
+                req as usize,
+                Contribution::new(given.into_vec()),
+            ),
             Command::Wait(req) => self.wait(rt, gate, req as usize),
             Command::Test(req) => self.test(rt, req as usize),
             Command::Free(req) => self.free(rt, req as usize),
@@ -102,7 +111,7 @@ impl<L: Entries> Caller<L> {
         rt: &R,
         comm: u32,
         sig: &Signature,
-        bytes: Vec<u8>,
+        bytes: Contribution,
     ) -> Result<(), Refusal> {
         self.requests.reserve(1)?;
         let plan = self.port.ready_plan(comm, sig)?;
@@ -125,7 +134,12 @@ impl<L: Entries> Caller<L> {
         Ok(())
     }
 
-    fn start<R: Wait>(&mut self, rt: &R, number: usize, bytes: Vec<u8>) -> Result<(), Refusal> {
+    fn start<R: Wait>(
+        &mut self,
+        rt: &R,
+        number: usize,
+        bytes: Contribution,
+    ) -> Result<(), Refusal> {
         let Some(request) = self.requests.get(number) else {
             return Err(Refusal::Stale);
         };

@@ -2,8 +2,8 @@
 
 use crate::drawing::Draft;
 use crate::views::Views;
+use coll_check::CheckForm;
 use coll_diagnosis::ExplainOptions;
-use coll_faults::CheckForm;
 
 /// Something that is done with a job text, or a drawing, which takes none.
 #[derive(Clone, Copy, Debug, PartialEq, Eq)]

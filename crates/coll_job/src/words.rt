@@ -8,8 +8,8 @@ use crate::task::{RunOptions, Task, Way};
 use crate::views::{views_of, with_views};
 use clap::builder::ValueParser;
 use clap::{Arg, ArgAction, ArgMatches, Command, Error};
+use coll_check::CheckForm;
 use coll_diagnosis::{ExplainOptions, Form};
-use coll_faults::CheckForm;
 use std::alloc::{AllocError, Global};
 
 const MAX_WORKERS: u8 = 8;

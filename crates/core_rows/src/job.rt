@@ -2,7 +2,7 @@
 
 use crate::random::Random;
 use crate::seat::{STARTS, Seat, Stage};
-use coll_core::{Config, Core, DoneWork, Offer, Outcome, Stepped, Work};
+use coll_core::{Config, Contribution, Core, DoneWork, Offer, Outcome, Stepped, Work};
 use coll_kinds::{Datatype, Kind, Mode, Op, Refusal, Signature, Ticket};
 use coll_plans::{Plan, plan};
 use plan_rows::plain::value_of;
@@ -330,7 +330,14 @@ fn plan_of(alloc: Global, seat: &Seat) -> Result<Plan, Refusal> {
 }
 
 fn post(core: &mut Core, seat: &Seat, plan: Plan, bytes: Vec<u8>) -> Result<Ticket, Refusal> {
-    match core.post(seat.rank, seat.comm, Offer { plan, bytes }) {
+    match core.post(
+        seat.rank,
+        seat.comm,
+        Offer {
+            plan,
+            bytes: Contribution::new(bytes),
+        },
+    ) {
         Ok(ticket) => Ok(ticket),
         Err(refused) => Err(refused.why),
     }
@@ -344,7 +351,7 @@ fn init(core: &mut Core, seat: &Seat, plan: Plan) -> Result<Ticket, Refusal> {
 }
 
 fn start(core: &mut Core, rank: u8, ticket: Ticket, bytes: Vec<u8>) -> Result<(), Refusal> {
-    match core.start(rank, ticket, bytes) {
+    match core.start(rank, ticket, Contribution::new(bytes)) {
         Ok(()) => Ok(()),
         Err(refused) => Err(refused.why),
     }

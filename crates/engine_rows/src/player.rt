@@ -5,7 +5,7 @@ use crate::command::Command;
 use crate::job::Job;
 use crate::pace::Pace;
 use coll_complete::Request;
-use coll_core::{Offer, Outcome};
+use coll_core::{Contribution, Offer, Outcome};
 use coll_kinds::{Refusal, member_of};
 use coll_shared::Port;
 use coll_traced::{Entries, Spent};
@@ -53,14 +53,15 @@ impl<L: Entries> Player<'_, L> {
     }
 
     /// What the rank gives to the next start of a collective.
-    fn given(&self, collective: &Collective, starts: u32) -> Result<Vec<u8>, Refusal> {
+    fn given(&self, collective: &Collective, starts: u32) -> Result<Contribution, Refusal> {
         let group = self
             .job
             .groups
             .get(collective.comm as usize)
             .ok_or(Refusal::Torn)?;
         let member = member_of(self.port.rank(), group).ok_or(Refusal::Torn)?;
-        collective.given(self.alloc, starts, u8::try_from(member).unwrap_or(0))
+        let member = u8::try_from(member).unwrap_or(0);
+        Ok(Contribution::new(collective.given(self.alloc, starts, member)?))
     }
 
     fn post<R: Wait>(&mut self, rt: &R, number: usize) -> Result<(), Refusal> {

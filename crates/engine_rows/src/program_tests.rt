@@ -3,7 +3,7 @@
 ghost use Rattle.std.specs.Prelude.{◌≡◌, IfOk};
 
 use coll_complete::Request;
-use coll_core::{Config, Outcome};
+use coll_core::{Config, Contribution, Outcome};
 use coll_kinds::{Datatype, Op, Refusal, Signature};
 use coll_shared::{NoGate, Port, RankProgram, roomy, run_ranks};
 use coll_traced::Entries;
@@ -41,7 +41,7 @@ fn number(alloc: Global, outcome: Option<Outcome>) -> Result<i32, Refusal> {
 fn posted<L: Entries, R: Wait>(
     rt: &R,
     port: &mut Port<L>,
-    bytes: Vec<u8>,
+    bytes: Contribution,
 ) -> Result<Request, Refusal> {
     match port.post_bytes(rt, 0, &sum(), bytes) {
         Ok((request, _receipt)) => Ok(request),
@@ -62,8 +62,8 @@ struct Adding {
 }
 
 impl Adding {
-    fn bytes(self) -> Result<Vec<u8>, Refusal> {
-        Ok(Vec::from_slice(self.alloc, &self.number.to_le_bytes())?)
+    fn bytes(self) -> Result<Contribution, Refusal> {
+        Contribution::copy(self.alloc, &self.number.to_le_bytes())
     }
 
     /// By a post and a wait each time.
@@ -127,7 +127,7 @@ impl RankProgram<Result<(), Refusal>> for Alone {
         if port.rank() == 2 {
             return Ok(());
         }
-        let bytes = Vec::from_slice(self.alloc, &[0u8; 4])?;
+        let bytes = Contribution::copy(self.alloc, &[0u8; 4])?;
         let mut request = posted(rt, port, bytes)?;
         match calls::wait(rt, &NoGate, port, &mut request) {
             Ok(_) => Err(Refusal::Torn),
@@ -155,7 +155,7 @@ impl RankProgram<Result<i32, Refusal>> for Late {
                 yield_now();
             }
         }
-        let bytes = Vec::from_slice(self.alloc, &7i32.to_le_bytes())?;
+        let bytes = Contribution::copy(self.alloc, &7i32.to_le_bytes())?;
         let mut request = posted(rt, port, bytes)?;
         number(self.alloc, calls::wait(rt, &NoGate, port, &mut request)?)
     }

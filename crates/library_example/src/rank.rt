@@ -1,6 +1,6 @@
 //! What one rank does.
 
-use coll_core::Outcome;
+use coll_core::{Contribution, Outcome};
 use coll_kinds::{Datatype, Op, Refusal, Signature};
 use coll_shared::{NoGate, Port, RankProgram};
 use coll_traced::Entries;
@@ -15,7 +15,7 @@ fn sum_of_all<L: Entries, R: Wait>(
     number: i32,
 ) -> Result<i32, Refusal> {
     let sum = Signature::allreduce(Op::Sum, Datatype::I32, 1);
-    let given = Vec::from_slice(alloc, &number.to_le_bytes())?;
+    let given = Contribution::copy(alloc, &number.to_le_bytes())?;
     let (mut request, _receipt) = match port.post_bytes(rt, 0, &sum, given) {
         Ok(posted) => posted,
         Err(refused) => return Err(refused.why),

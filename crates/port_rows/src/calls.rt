@@ -4,7 +4,7 @@ ghost use Rattle.std.specs.Prelude.{◌+◌, ◌≤◌, IfOk, OnOk, length, vec_
 ghost use Rattle.coll_complete.specs.Requests.{AreDistinct};
 
 use coll_complete::{Request, are_distinct};
-use coll_core::{Offer, Outcome};
+use coll_core::{Contribution, Offer, Outcome};
 use coll_kinds::Refusal;
 use coll_plans::Plan;
 use coll_shared::{Gate, Port};
@@ -40,7 +40,7 @@ pub fn start<L: Entries, R: Wait>(
     rt: &R,
     port: &mut Port<L>,
     request: &Request,
-    bytes: Vec<u8>,
+    bytes: Contribution,
 ) -> Result<(), Refusal> {
     match port.start(rt, request, bytes) {
         Ok(_receipt) => Ok(()),

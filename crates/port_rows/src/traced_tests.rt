@@ -48,8 +48,8 @@ fn posted<L: Entries>(
     rank: u8,
     value: i32,
 ) -> Result<Request, Refusal> {
-    let offer = number(alloc, rank, value)?;
-    let prepared = Prepared::of(alloc, &offer);
+    let mut offer = number(alloc, rank, value)?;
+    let prepared = Prepared::of(alloc, &mut offer);
     match traced.post(mine, rank, 0, offer, prepared) {
         Ok((ticket, _receipt)) => Ok(Request::of(ticket)),
         Err(refused) => Err(refused.why),

@@ -5,7 +5,7 @@ use coll_complete::{
     Any, Halted, Request, Tested, are_distinct, request_free, start_all, test, test_all, test_any,
     test_some,
 };
-use coll_core::{Core, Outcome};
+use coll_core::{Contribution, Core, Outcome};
 use coll_kinds::Refusal;
 use std::alloc::Global;
 
@@ -123,9 +123,9 @@ fn ask_some(
     }
 }
 
-fn note_back(back: &[Vec<u8>], noted: &mut Noted) -> Result<(), Refusal> {
+fn note_back(back: &[Contribution], noted: &mut Noted) -> Result<(), Refusal> {
     for (position, bytes) in back.iter().enumerate() {
-        noted.push((position, bytes.first().copied().unwrap_or(0)))?;
+        noted.push((position, bytes.as_slice().first().copied().unwrap_or(0)))?;
     }
     Ok(())
 }

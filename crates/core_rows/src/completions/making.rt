@@ -1,7 +1,7 @@
 //! An engine with requests as rows ask for them.
 
 use coll_complete::Request;
-use coll_core::{Config, Core, Offer, Phase};
+use coll_core::{Config, Contribution, Core, Offer, Phase};
 use coll_kinds::{Datatype, Kind, Mode, Op, Refusal, Signature, Ticket};
 use coll_plans::{Plan, plan};
 use std::alloc::Global;
@@ -41,10 +41,8 @@ fn plan_of(alloc: Global, mode: Mode, members: u8) -> Result<Plan, Refusal> {
 }
 
 /// One byte.
-pub(super) fn byte(alloc: Global, value: u8) -> Result<Vec<u8>, Refusal> {
-    let mut bytes = Vec::new(alloc);
-    bytes.push(value)?;
-    Ok(bytes)
+pub(super) fn byte(alloc: Global, value: u8) -> Result<Contribution, Refusal> {
+    Contribution::copy(alloc, &[value])
 }
 
 /// Two ranks: communicator 0 has both, 1 has rank 0 alone, 2 rank 1 alone.

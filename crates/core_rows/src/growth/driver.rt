@@ -4,7 +4,7 @@ use crate::growth::calls::Call;
 use crate::growth::flaw::Flaw;
 use crate::growth::requests::Part;
 use crate::growth::seen::{Piece, REQUESTS, Seen};
-use coll_core::{Config, Core, DoneWork, Offer, Outcome, Stepped, Work};
+use coll_core::{Config, Contribution, Core, DoneWork, Offer, Outcome, Stepped, Work};
 use coll_kinds::{Refusal, Refused, Ticket};
 use coll_plans::Plan;
 use scarce_memory::Memory;
@@ -151,14 +151,14 @@ impl Driver {
     }
 
     /// What a part's member gives, for which memory is granted.
-    fn bytes(&mut self, part: Part) -> Result<Vec<u8>, Refusal> {
+    fn bytes(&mut self, part: Part) -> Result<Contribution, Refusal> {
         let rest = self.memory.grant(self.alloc);
         let bytes = match part.bytes(self.alloc) {
             Ok(bytes) => Ok(bytes),
             Err(_) => part.bytes(self.alloc),
         };
         self.memory.close(rest);
-        bytes
+        Ok(Contribution::new(bytes?))
     }
 
     fn post(&mut self, part: Part) -> Result<(), Flaw> {
@@ -175,7 +175,7 @@ impl Driver {
                 Err(Refused { why, back }) => {
                     self.refusals.posts = self.refusals.posts.wrapping_add(1);
                     self.judge(why, before)?;
-                    if !part.is_plan(&back.plan) || !part.gives(&back.bytes) {
+                    if !part.is_plan(&back.plan) || !part.gives(back.bytes.as_slice()) {
                         return Err(Flaw::Back);
                     }
                     offer = back;
@@ -220,7 +220,7 @@ impl Driver {
                 Err(Refused { why, back }) => {
                     self.refusals.starts = self.refusals.starts.wrapping_add(1);
                     self.judge(why, before)?;
-                    if !part.gives(&back) {
+                    if !part.gives(back.as_slice()) {
                         return Err(Flaw::Back);
                     }
                     bytes = back;
@@ -348,8 +348,8 @@ fn start(
     core: &mut Core,
     rank: u8,
     ticket: Ticket,
-    bytes: Vec<u8>,
-) -> Result<(), Refused<Vec<u8>>> {
+    bytes: Contribution,
+) -> Result<(), Refused<Contribution>> {
     core.start(rank, ticket, bytes)
 }
 

@@ -2,7 +2,7 @@
 
 use crate::rows::answer::Answer;
 use crate::rows::setup::Setup;
-use coll_core::{Core, DoneWork, Offer, Stepped, Work};
+use coll_core::{Contribution, Core, DoneWork, Offer, Stepped, Work};
 use coll_kinds::{Refusal, Ticket};
 use coll_plans::Plan;
 use std::alloc::Global;
@@ -26,7 +26,7 @@ pub fn init(core: &mut Core, rank: u8, comm: u32, plan: Plan) -> Result<Ticket, 
     }
 }
 
-pub fn start(core: &mut Core, rank: u8, ticket: Ticket, bytes: Vec<u8>) -> Answer {
+pub fn start(core: &mut Core, rank: u8, ticket: Ticket, bytes: Contribution) -> Answer {
     match core.start(rank, ticket, bytes) {
         Ok(()) => Answer::Accepted,
         Err(refused) => Answer::Back(refused.why, refused.back.len()),

@@ -4,7 +4,7 @@ use crate::rows::answer::Answer;
 use crate::rows::call::Call;
 use crate::rows::calls;
 use crate::rows::setup::{PAIR, Setup};
-use coll_core::{Core, Offer, Work};
+use coll_core::{Contribution, Core, Offer, Work};
 use coll_kinds::{Refusal, Signature, Ticket};
 use coll_plans::{Plan, plan};
 use std::alloc::Global;
@@ -46,7 +46,10 @@ fn offer_of_bytes(
     for byte in 0..count {
         bytes.push(byte)?;
     }
-    Ok(Offer { plan, bytes })
+    Ok(Offer {
+        plan,
+        bytes: Contribution::new(bytes),
+    })
 }
 
 /// A member's plan; Torn where there is no such member.
@@ -58,7 +61,7 @@ fn plan_of(alloc: Global, sig: Signature, size: u8, member: u8) -> Result<Plan, 
 }
 
 /// The bytes of i32 values from 0 to 255.
-fn bytes_of(alloc: Global, values: &[u8]) -> Result<Vec<u8>, Refusal> {
+fn bytes_of(alloc: Global, values: &[u8]) -> Result<Contribution, Refusal> {
     let mut bytes = Vec::new(alloc);
     for value in values {
         bytes.push(*value)?;
@@ -66,7 +69,7 @@ fn bytes_of(alloc: Global, values: &[u8]) -> Result<Vec<u8>, Refusal> {
         bytes.push(0)?;
         bytes.push(0)?;
     }
-    Ok(bytes)
+    Ok(Contribution::new(bytes))
 }
 
 impl Driver {

@@ -3,7 +3,7 @@
 use super::act::Act;
 use super::site::Site;
 use coll_complete::Request;
-use coll_core::{Offer, Outcome};
+use coll_core::{Contribution, Offer, Outcome};
 use coll_kinds::{Datatype, Kind, Mode, Op, Refusal, Signature};
 use coll_shared::{Port, RankTask};
 use coll_traced::Entries;
@@ -65,7 +65,7 @@ impl<L: Entries, R: Wait + Clock> Actor<'_, L, R> {
     fn post(&mut self, comm: u32, sig: Signature, bytes: &[u8]) -> Result<bool, Refusal> {
         let port = self.port.as_mut().ok_or(Refusal::Torn)?;
         let plan = port.ready_plan(comm, &sig)?;
-        let bytes = Vec::from_slice(self.alloc, bytes)?;
+        let bytes = Contribution::copy(self.alloc, bytes)?;
         let offer = Offer { plan, bytes };
         let request = calls::post(self.site.rt, port, comm, offer)?;
         self.requests.push(request)?;

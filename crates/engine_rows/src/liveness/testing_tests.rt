@@ -6,7 +6,7 @@ ghost use Rattle.coll_core.specs.Configs.{setting_by};
 use super::act::{Act, Event};
 use super::scenario::{Scenario, first_misfit};
 use coll_complete::Request;
-use coll_core::{Config, Offer};
+use coll_core::{Config, Contribution, Offer};
 use coll_kinds::{Datatype, Kind, Mode, Op, Refusal, Signature};
 use coll_shared::{Port, open, roomy};
 use coll_traced::{Entries, ledger_for};
@@ -62,7 +62,7 @@ fn posted<L: Entries, R: Wait>(
         each: None,
     };
     let plan = port.ready_plan(0, &sum)?;
-    let bytes = Vec::from_slice(alloc, &[1u8, 0, 0, 0])?;
+    let bytes = Contribution::copy(alloc, &[1, 0, 0, 0])?;
     calls::post(rt, port, 0, Offer { plan, bytes })
 }
 

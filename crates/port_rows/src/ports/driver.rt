@@ -10,7 +10,7 @@ use crate::ports::closed::Closed;
 use crate::ports::noted::Bytes;
 use crate::ports::{Misfit, Row, completions};
 use coll_complete::Request;
-use coll_core::{Config, Offer, Outcome};
+use coll_core::{Config, Contribution, Offer, Outcome};
 use coll_kinds::{Refusal, Signature, Ticket};
 use coll_report::Report;
 use coll_shared::{Engine, NoGate, Port, close, open};
@@ -183,7 +183,7 @@ impl<L: Entries> Driver<L> {
         let plan = port.ready_plan(comm, &sig)?;
         let offer = Offer {
             plan,
-            bytes: Vec::from_slice(self.alloc, bytes)?,
+            bytes: Contribution::copy(self.alloc, bytes)?,
         };
         match port.post(rt, comm, offer) {
             Ok((request, _receipt)) => Ok(request),
@@ -215,7 +215,7 @@ impl<L: Entries> Driver<L> {
     ) -> Result<Answer, Refusal> {
         let port = self.ports.get_mut(usize::from(rank)).ok_or(Refusal::Torn)?;
         let request = self.requests.get(number).ok_or(Refusal::Torn)?;
-        let own = Vec::from_slice(self.alloc, bytes)?;
+        let own = Contribution::copy(self.alloc, bytes)?;
         match port.start(rt, request, own) {
             Ok(_receipt) => Ok(Answer::Accepted),
             Err(refused) if refused.back.as_slice() == bytes => Err(refused.why),

@@ -11,7 +11,7 @@ use crate::ports::driver::{Driver, NO_MEMORY};
 use crate::ports::noted::Noted;
 use crate::ports::setup::Setup;
 use crate::ports::{Misfit, Row};
-use coll_core::{Config, Offer};
+use coll_core::{Config, Contribution, Offer};
 use coll_kinds::{Refusal, Refused, Signature};
 use coll_plans::Plan;
 use coll_report::Report;
@@ -181,11 +181,11 @@ impl<L: Entries> Scarce<L> {
     }
 
     /// What a call hands in, for which memory is granted.
-    fn bytes(&mut self, bytes: &[u8]) -> Result<Vec<u8>, Refusal> {
+    fn bytes(&mut self, bytes: &[u8]) -> Result<Contribution, Refusal> {
         let rest = self.memory.grant(self.alloc);
-        let made = Vec::from_slice(self.alloc, bytes);
+        let made = Contribution::copy(self.alloc, bytes);
         self.memory.close(rest);
-        Ok(made?)
+        made
     }
 
     /// A port's plan, asked for until it isn't refused memory.
@@ -278,7 +278,7 @@ impl<L: Entries> Scarce<L> {
         rt: &R,
         rank: u8,
         number: usize,
-        own: Vec<u8>,
+        own: Contribution,
         bytes: &[u8],
     ) -> Result<Answer, Refusal> {
         let mut own = own;
