@@ -12,19 +12,23 @@ use std::rt::Clock;
 use std::sync::Wait;
 use std::time::Instant;
 
-/// Plans a measure's collective and posts it on communicator 0. Each rank gives bytes of its own, as programs do.
+/// What a rank gives in a turn: other bytes than the other ranks, and than in the turn before, as in programs.
+fn given(alloc: Global, rank: u8, turn: u32, len: usize) -> Result<Contribution, Refusal> {
+    let byte = rank.wrapping_add((turn % 256) as u8);
+    Ok(Contribution::new(vec![in alloc; byte; len]?))
+}
+
+/// Plans a measure's collective and posts it on communicator 0.
 fn post<L: Entries, R: Wait>(
     rt: &R,
     alloc: Global,
     port: &mut Port<L>,
     measure: Measure,
+    turn: u32,
 ) -> Result<Request, Refusal> {
     let plan = port.ready_plan(0, &measure.signature())?;
-    let bytes = vec![in alloc; port.rank().wrapping_add(1); plan.given_len()]?;
-    let offer = Offer {
-        plan,
-        bytes: Contribution::new(bytes),
-    };
+    let bytes = given(alloc, port.rank(), turn, plan.given_len())?;
+    let offer = Offer { plan, bytes };
     match port.post(rt, 0, offer) {
         Ok((request, _receipt)) => Ok(request),
         Err(refused) => Err(refused.why),
@@ -44,16 +48,14 @@ fn init<L: Entries, R: Wait>(
     }
 }
 
-/// Starts a persistent collective with so many bytes, which are the rank's own.
+/// Starts a persistent collective with what the rank gives in a turn.
 fn start<L: Entries, R: Wait>(
     rt: &R,
-    alloc: Global,
     port: &mut Port<L>,
     request: &Request,
-    len: usize,
+    bytes: Contribution,
 ) -> Result<(), Refusal> {
-    let bytes = vec![in alloc; port.rank().wrapping_add(1); len]?;
-    match port.start(rt, request, Contribution::new(bytes)) {
+    match port.start(rt, request, bytes) {
         Ok(_receipt) => Ok(()),
         Err(refused) => Err(refused.why),
     }
@@ -80,8 +82,8 @@ fn one_by_one<L: Entries, R: Wait>(
     measure: Measure,
     turns: u32,
 ) -> Result<(), Refusal> {
-    for _turn in 0..turns {
-        let mut request = post(rt, alloc, port, measure)?;
+    for turn in 0..turns {
+        let mut request = post(rt, alloc, port, measure, turn)?;
         wait(rt, port, &mut request)?;
     }
     Ok(())
@@ -96,8 +98,8 @@ fn all_at_once<L: Entries, R: Wait>(
     turns: u32,
 ) -> Result<(), Refusal> {
     let mut requests = Vec::with_capacity(alloc, turns as usize)?;
-    for _turn in 0..turns {
-        requests.push(post(rt, alloc, port, measure)?)?;
+    for turn in 0..turns {
+        requests.push(post(rt, alloc, port, measure, turn)?)?;
     }
     for request in requests.iter_mut() {
         wait(rt, port, request)?;
@@ -114,8 +116,9 @@ fn again_and_again<L: Entries, R: Wait>(
     len: usize,
     turns: u32,
 ) -> Result<(), Refusal> {
-    for _turn in 0..turns {
-        start(rt, alloc, port, request, len)?;
+    for turn in 0..turns {
+        let bytes = given(alloc, port.rank(), turn, len)?;
+        start(rt, port, request, bytes)?;
         wait(rt, port, request)?;
     }
     Ok(())
