@@ -8,12 +8,11 @@ pub trait Requests {
     ghost use Rattle.std.specs.Result.{result_err};
     ghost use Rattle.coll_kinds.specs.declared.refusal.Refusal.{Refusal as Why};
     ghost use Rattle.coll_machine.specs.Calls.{Call, Free, Nothing, Retire, Start};
-    ghost use Rattle.coll_machine.specs.Machines.{MachineStep};
+    ghost use Rattle.coll_machine.specs.Machines.{MachineStep, StepsTo};
     ghost use Rattle.coll_machine.specs.Refusals.{refusal};
     ghost use Rattle.coll_machine.specs.Runs.{Event, Runs};
     ghost use Rattle.coll_machine.specs.Settings.{Setting};
     ghost use Rattle.coll_machine.specs.States.{Machine};
-    ghost use Rattle.coll_tables.specs.Machines.{StepsTo};
     ghost use Rattle.coll_core.specs.Phases.{about_in, phase_in};
     ghost use Rattle.coll_complete.specs.Completing.{completion, freeing};
 

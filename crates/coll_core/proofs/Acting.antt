@@ -21,13 +21,12 @@ use Rattle.coll_match.specs.Instances.{mail}
 use Rattle.coll_machine.specs.Settings.{Setting}
 use Rattle.coll_machine.specs.States.{Machine}
 use Rattle.coll_machine.specs.Calls.{Finish, Nothing}
-use Rattle.coll_machine.specs.Machines.{MachineStep, finish}
+use Rattle.coll_machine.specs.Machines.{MachineStep, finish, MayFinish}
 use Rattle.coll_tables.specs.Requests.{Live, advanced, key}
 use Rattle.coll_tables.specs.Tables.{is_done, machine}
 use Rattle.coll_tables.specs.Shown.{Instances, tables}
 use Rattle.coll_tables.specs.Shown as tabled
 use Rattle.coll_tables.specs.Sound.{Stands}
-use Rattle.coll_tables.specs.Machines.{MayFinish}
 use Rattle.coll_tables.specs.Remaining.{actions_left}
 use Rattle.coll_tables.specs.Cores as tabled_core
 use Rattle.coll_tables.specs.Engines.{Advances}

@@ -13,7 +13,7 @@ use Rattle.coll_arena.specs.Slots.{Slots, home}
 use Rattle.coll_arena.proofs.Sounds.{free_first}
 use Rattle.coll_arena.specs.Sound.{IsSound as IsArena}
 use Rattle.coll_machine.specs.Calls.{Call, Planned, Post, Init, Ticketed}
-use Rattle.coll_machine.specs.Machines.{MachineStep, refuse, short, takes_memory}
+use Rattle.coll_machine.specs.Machines.{MachineStep, refuse, short, takes_memory, StepsTo}
 use Rattle.coll_machine.specs.Settings.{Setting}
 use Rattle.coll_machine.specs.declared.key.Key.{Key}
 use Rattle.coll_machine.specs.Changes.{put_key}
@@ -27,7 +27,6 @@ use Rattle.coll_tables.specs.Cores as tabled
 use Rattle.coll_tables.specs.Shown as tabled_parts
 use Rattle.coll_tables.specs.Engines.{Initialises, IsFree, IsJoined, IsOffered, Posts, made}
 use Rattle.coll_tables.specs.EngineLaws.{InitCore, PostCore}
-use Rattle.coll_tables.specs.Machines.{StepsTo}
 use Rattle.coll_tables.specs.OneSlots.{OneSlot}
 use Rattle.coll_tables.specs.Requests.{Live, advanced, key}
 use Rattle.coll_tables.specs.Shown.{Instances}

@@ -18,14 +18,13 @@ use Rattle.coll_machine.specs.Settings.{Setting, group, size}
 use Rattle.coll_machine.specs.States.{Machine, State, Request, signature_of, key_of}
 use Rattle.coll_machine.specs.Calls.{Call, Planned, Post, Init, Reply, Ticketed, Outcome, Nothing, Refused}
 use Rattle.coll_machine.specs.Changes.{new_request, created, started, once_more, rested, rested_by, holding}
-use Rattle.coll_machine.specs.Machines.{MachineStep, post, init, start, finish, retire, wait, free, refuse, short}
+use Rattle.coll_machine.specs.Machines.{MachineStep, post, init, start, finish, retire, wait, free, refuse, short, MayFinish, StepsTo}
 use Rattle.coll_machine.specs.Refusals.{refusal, refusals}
 use Rattle.coll_machine.specs.Steps.{Posts, Inits, Starts, Frees, Retires, Clears}
 use Rattle.coll_machine.proofs.Puts.{put2_same}
 use Rattle.coll_machine.proofs.Pushed.{get_pushed}
 use Rattle.coll_machine.proofs.Posted.{still_there}
 use Rattle.coll_machine.proofs.Accepted.{all_none, fits, found_is}
-use Rattle.coll_tables.specs.Machines.{MayFinish, StepsTo}
 use Rattle.coll_core.specs.Steps.{Finishings, none, more}
 use Rattle.coll_engine.specs.Lengths.{IsLength, IsMeasured, AreMeasured}
 use Rattle.coll_engine.proofs.Sets.{here, elsewhere, as_many}

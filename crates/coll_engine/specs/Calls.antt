@@ -7,12 +7,11 @@ use Rattle.coll_kinds.specs.declared.ticket.Ticket.{Ticket}
 use Rattle.coll_kinds.specs.Checks.{broken}
 use Rattle.coll_kinds.specs.Groups.{member_of}
 use Rattle.coll_machine.specs.Calls.{Call, Init, Planned, Post, Retire, Ticketed}
-use Rattle.coll_machine.specs.Machines.{MachineStep}
+use Rattle.coll_machine.specs.Machines.{MachineStep, StepsTo}
 use Rattle.coll_machine.specs.Refusals.{first_of, refusal, unless}
 use Rattle.coll_machine.specs.Runs.{Runs}
 use Rattle.coll_machine.specs.Settings.{Setting, group, size}
 use Rattle.coll_machine.specs.States.{Machine, State}
-use Rattle.coll_tables.specs.Machines.{StepsTo}
 use Rattle.coll_core.specs.Calls.{Refuses}
 use Rattle.coll_core.specs.Phases.{about_in}
 use Rattle.coll_core.specs.declared.about.About.{About}

@@ -1,5 +1,5 @@
 -- The machine: what each call answers and does.
-use Rattle.std.specs.Prelude.{◌≡◌, ℕ, Bool, true, false, List, None, Some}
+use Rattle.std.specs.Prelude.{◌≡◌, ◌⊎◌, ℕ, Bool, true, false, List, None, Some}
 use Rattle.coll_kinds.specs.declared.ticket.Ticket.{Ticket}
 use Rattle.coll_kinds.specs.declared.refusal.Refusal.{Refusal}
 use Rattle.coll_kinds.specs.declared.refusal.Refusal.TheVariants.{NoMemory}
@@ -57,3 +57,11 @@ pub data MachineStep (g : Setting) : Machine → Call → Reply → Machine → 
       → takes_memory call ≡ true
       → refusal g m.state call ≡ None
       → MachineStep g m call (Refused NoMemory) m
+
+-- no step, or one request becomes Done
+abbrev pub MayFinish : Setting → Machine → Machine → Type 0
+MayFinish g m n = (m ≡ n) ⊎ MachineStep g m Finish Nothing n
+
+-- the call's step, and then perhaps a request becomes Done
+abbrev pub StepsTo : Setting → Machine → Call → Reply → Machine → Type 0
+StepsTo g m call reply n = (mid : Machine) × MachineStep g m call reply mid × MayFinish g mid n

@@ -22,13 +22,12 @@ use Rattle.coll_match.specs.Instances.{given, mail, seats}
 use Rattle.coll_machine.specs.Settings.{Setting, group, size}
 use Rattle.coll_machine.specs.Calls.{Planned, Post, Init, Start, Free, Ticketed, Nothing}
 use Rattle.coll_machine.specs.Refusals.{refusal}
-use Rattle.coll_machine.specs.Machines.{MachineStep}
+use Rattle.coll_machine.specs.Machines.{MachineStep, StepsTo}
 use Rattle.coll_tables.specs.Requests.{Live, at, begun}
 use Rattle.coll_tables.specs.Tables.{Tables, machine, state}
 use Rattle.coll_tables.specs.Sound.{Stands, Lies, IsSound}
 use Rattle.coll_tables.specs.Changes.{posting, joining, freeing}
 use Rattle.coll_tables.specs.Calls.{Comes, Joining, New, newcomer, new_ticket, ticket}
-use Rattle.coll_tables.specs.Machines.{StepsTo}
 use Rattle.coll_tables.specs.Shown.{Instances, seen, listed, tables, weight}
 use Rattle.coll_tables.specs.Cores.{IsCore}
 use Rattle.coll_tables.specs.OneSlots.{OneSlot}

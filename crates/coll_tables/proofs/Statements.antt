@@ -17,13 +17,12 @@ use Rattle.coll_machine.specs.Settings.{Setting, size}
 use Rattle.coll_machine.specs.declared.key.Key.{Key}
 use Rattle.coll_machine.specs.Calls.{Planned, Post, Init, Start, Retire, Free, Ticketed, Outcome, Nothing}
 use Rattle.coll_machine.specs.Refusals.{refusal}
-use Rattle.coll_machine.specs.Machines.{MachineStep}
+use Rattle.coll_machine.specs.Machines.{MachineStep, MayFinish, StepsTo}
 use Rattle.coll_tables.specs.Requests.{Live, before, key, advanced}
 use Rattle.coll_tables.specs.Tables.{Mail, Tables, machine, state}
 use Rattle.coll_tables.specs.Sound.{IsSound, Lies, Stands}
 use Rattle.coll_tables.specs.Changes.{posting, joining, acting, leaving, dissolving, freeing, rehoming}
 use Rattle.coll_tables.specs.Calls.{Acts, Away, Comes, IsLast, Joining, New, Retiring, Wakes, delivered, new_ticket, newcomer, received, ticket}
-use Rattle.coll_tables.specs.Machines.{MayFinish, StepsTo}
 use Rattle.coll_tables.specs.Remaining.{actions_left}
 use Rattle.coll_tables.specs.Laws.{opened}
 

@@ -15,14 +15,13 @@ use Rattle.coll_machine.specs.Changes.{holding, created, new_request, started, r
 use Rattle.coll_machine.specs.Calls.{Planned, Post, Init, Start, Retire, Free, Finish, Nothing}
 use Rattle.coll_machine.specs.Refusals.{refusal}
 use Rattle.coll_machine.specs.Steps.{IsNew, Posts, Inits, Starts, Retires, Frees, Finishes, IsOver, IsReady, Clears}
-use Rattle.coll_machine.specs.Machines.{MachineStep, finish}
+use Rattle.coll_machine.specs.Machines.{MachineStep, finish, MayFinish}
 use Rattle.coll_plans.specs.Plans.{family}
 use Rattle.coll_tables.specs.Requests.{Live, before, at, key, advanced, begun, rests, rests_by, as_request}
 use Rattle.coll_tables.specs.Tables.{Mail, Tables, Paths, asked, is_done, state, machine}
 use Rattle.coll_tables.specs.Sound.{Base, Sound}
 use Rattle.coll_tables.specs.Changes.{posting, joining, acting, leaving, dissolving, freeing, rehoming}
 use Rattle.coll_tables.specs.Calls.{IsLast, ticket, new_ticket}
-use Rattle.coll_tables.specs.Machines.{MayFinish}
 use Rattle.coll_tables.proofs.Standing.{finished_there}
 use Rattle.coll_tables.proofs.Basing.{base_leaves}
 use Rattle.coll_tables.proofs.Holding.{map_put, put_self, counted, last_is_over, over_is_last, holding_value}

@@ -22,14 +22,13 @@ use Rattle.coll_match.specs.Instances.{given, mail, members, seats}
 use Rattle.coll_machine.specs.Settings.{Setting, AreGroups, size}
 use Rattle.coll_machine.specs.Calls.{Planned, Post, Init, Start, Retire, Free, Ticketed, Outcome, Nothing}
 use Rattle.coll_machine.specs.Lents.{lent_bytes}
-use Rattle.coll_machine.specs.Machines.{MachineStep}
+use Rattle.coll_machine.specs.Machines.{MachineStep, MayFinish, StepsTo}
 use Rattle.coll_machine.specs.Runs.{opened as machine_opened}
 use Rattle.coll_machine.specs.Refusals.{refusal}
 use Rattle.coll_tables.specs.Requests.{Live, at, before, key}
 use Rattle.coll_tables.specs.Tables.{machine, state}
 use Rattle.coll_tables.specs.Sound.{next}
 use Rattle.coll_tables.specs.FreeLocks.{NothingGoes}
-use Rattle.coll_tables.specs.Machines.{MayFinish, StepsTo}
 use Rattle.coll_tables.specs.Remaining.{actions_left}
 use Rattle.coll_tables.specs.Shown.{Instances, tables}
 use Rattle.coll_tables.specs.Cores.{IsCore}

@@ -6,7 +6,6 @@ pub mod EngineTests  -- the machine's refusals in those words, and what an accep
 pub mod Engines  -- what each call does to an arena, posting lists and instances
 pub mod FreeLocks  -- what callers can see whenever no call is under way
 pub mod Laws  -- what each call keeps, in the words of the tables
-pub mod Machines  -- how a call accounts for steps of the machine
 pub mod OneSlots  -- a change of one slot of an arena
 pub mod Remaining  -- the actions that are left
 pub mod Requests  -- a live request

@@ -10,13 +10,12 @@ use Rattle.coll_sched.specs.declared.action.Action.TheVariants.{Combine, Recv}
 use Rattle.coll_plans.specs.Plans.{family}
 use Rattle.coll_arena.specs.declared.list_name.ListName.TheVariants.{Free as FreeList, Ready, Running, Idle, Queue, Done}
 use Rattle.coll_machine.specs.Calls.{Init, Start, Retire, Free, Ticketed, Outcome, Nothing}
-use Rattle.coll_machine.specs.Machines.{MachineStep}
+use Rattle.coll_machine.specs.Machines.{MachineStep, MayFinish, StepsTo}
 use Rattle.coll_machine.specs.Rows.{two_ranks, plan, ticket, key}
 use Rattle.coll_tables.specs.Requests.{Live, begun, advanced}
 use Rattle.coll_tables.specs.Tables.{Tables, machine}
 use Rattle.coll_tables.specs.Changes.{posting, joining, acting, leaving, freeing, rehoming}
 use Rattle.coll_tables.specs.Calls.{newcomer, delivered, received}
-use Rattle.coll_tables.specs.Machines.{MayFinish, StepsTo}
 use Rattle.coll_tables.specs.Remaining.{actions_left}
 use Rattle.coll_tables.specs.Rows.{at, byte, moved, unused}
 use Rattle.coll_tables.specs.Sound.{IsSound, next}

@@ -7,7 +7,7 @@
 //! |---|---|
 //! | `Requests`, `Tables` | a live request; the tables, and what callers can know of them |
 //! | `Sound` | the condition: each collective runs on its track, each slot lies on the right list |
-//! | `Calls`, `Changes`, `Machines` | what a call makes sure of, the tables after it, and its steps |
+//! | `Calls`, `Changes` | what a call makes sure of, and the tables after it |
 //! | `FreeLocks`, `Remaining` | what callers can see between calls; the actions that are left |
 //! | `Laws` | the laws of the tables |
 //! | `Shown`, `Cores` | the tables that an arena, posting lists and instances show; an engine's condition |

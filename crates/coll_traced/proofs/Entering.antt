@@ -12,10 +12,9 @@ use Rattle.coll_machine.specs.States.{State, Machine, Request, found}
 use Rattle.coll_machine.specs.Calls.{Planned, Call}
 use Rattle.coll_machine.specs.Calls as calls
 use Rattle.coll_machine.specs.Changes.{new_request, once_more, created, started}
-use Rattle.coll_machine.specs.Machines.{MachineStep, post, init, start, finish, retire, wait, free, refuse, short}
+use Rattle.coll_machine.specs.Machines.{MachineStep, post, init, start, finish, retire, wait, free, refuse, short, MayFinish, StepsTo}
 use Rattle.coll_machine.specs.Steps.{Posts, Inits, Starts, Frees, Retires}
 use Rattle.coll_machine.proofs.Accepted.{found_is}
-use Rattle.coll_tables.specs.Machines.{MayFinish, StepsTo}
 
 pub record Completes (g : Setting) (m n : Machine) (rank : ℕ) (t : Ticket) (who comm place begin : ℕ) (bytes : List ℕ) : Type 0 where
   pub who_is : who ≡ rank

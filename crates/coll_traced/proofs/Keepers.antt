@@ -19,12 +19,11 @@ use Rattle.coll_machine.specs.States.{State, Machine, Request, found, nothing}
 use Rattle.coll_machine.specs.Calls.{Planned}
 use Rattle.coll_machine.specs.Calls as calls
 use Rattle.coll_machine.specs.Entries.{Entry, Posted, Inited, Started, Retired, Freed}
-use Rattle.coll_machine.specs.Machines.{MachineStep}
+use Rattle.coll_machine.specs.Machines.{MachineStep, StepsTo}
 use Rattle.coll_machine.specs.Steps.{Posts, Inits, Starts, Retires}
 use Rattle.coll_machine.specs.Traces.{Enters, Leads, LegalTrace, over_slots, reserved, reserved_for}
 use Rattle.coll_machine.specs.Laws.{HasRoom, Reserves}
 use Rattle.coll_machine.proofs.Rooms.{legal_goes_on, reserved_changes}
-use Rattle.coll_tables.specs.Machines.{StepsTo}
 use Rattle.coll_machine.specs.Changes.{new_request, once_more}
 use Rattle.coll_core.specs.Configs.{idle, setting_by, IsConfig, IsFullGroup}
 use Rattle.coll_core.specs.declared.config.Config.{Config}

@@ -3,8 +3,7 @@
 ghost use Rattle.std.specs.Prelude.{◌≡◌, ◌+◌, ℕ, [], ◌∷◌, ◌++◌, IfErr, IfOk, OnErr, OnOk};
 ghost use Rattle.coll_machine.specs.Calls.{Ticketed};
 ghost use Rattle.coll_machine.specs.Entries.{Posted, Inited};
-ghost use Rattle.coll_machine.specs.Machines.{MachineStep};
-ghost use Rattle.coll_tables.specs.Machines.{StepsTo};
+ghost use Rattle.coll_machine.specs.Machines.{MachineStep, StepsTo};
 ghost use Rattle.coll_core.specs.Cores.{seen, setting};
 ghost use Rattle.coll_core.specs.Posts.{init_of, post_of};
 ghost use Rattle.coll_traced.specs.Traced.{Denies, Stays};

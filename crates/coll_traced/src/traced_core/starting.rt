@@ -4,9 +4,8 @@ ghost use Rattle.std.specs.Prelude.{◌≡◌, ◌+◌, ℕ, [], ◌∷◌, ◌+
 ghost use Rattle.std.specs.Result.{result_err};
 ghost use Rattle.coll_machine.specs.Calls.{Free, Nothing, Start};
 ghost use Rattle.coll_machine.specs.Entries.{Freed, Started};
-ghost use Rattle.coll_machine.specs.Machines.{MachineStep};
+ghost use Rattle.coll_machine.specs.Machines.{MachineStep, StepsTo};
 ghost use Rattle.coll_machine.specs.Refusals.{refusal};
-ghost use Rattle.coll_tables.specs.Machines.{StepsTo};
 ghost use Rattle.coll_core.specs.Cores.{seen, setting};
 ghost use Rattle.coll_traced.specs.Traced.{Denies, Stays};
 

@@ -8,7 +8,7 @@ use Rattle.coll_kinds.specs.Elements.{AreBytes}
 use Rattle.coll_machine.specs.Calls.{Post, Ticketed}
 use Rattle.coll_queues.specs.Refusing.{judge_refusal}
 use Rattle.coll_tables.specs.EngineTests.{MayEnter}
-use Rattle.coll_tables.specs.Machines.{StepsTo}
+use Rattle.coll_machine.specs.Machines.{StepsTo}
 use Rattle.coll_core.specs.declared.request.Request.{Request}
 use Rattle.coll_plans.specs.Plans.{family}
 use Rattle.coll_arena.specs.Slots.{Slots}
