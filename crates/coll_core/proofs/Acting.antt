@@ -29,8 +29,8 @@ use Rattle.coll_tables.specs.Shown as tabled
 use Rattle.coll_tables.specs.Sound.{Stands}
 use Rattle.coll_tables.specs.Remaining.{actions_left}
 use Rattle.coll_tables.specs.Cores as tabled_core
-use Rattle.coll_tables.specs.Engines.{Advances}
-use Rattle.coll_tables.specs.EngineLaws.{ActsOnce}
+use Rattle.coll_tables.proofs.EngineChanges.{Advances}
+use Rattle.coll_tables.proofs.EngineStatements.{ActsOnce}
 use Rattle.coll_tables.proofs.Slots.{one_slot}
 use Rattle.coll_core.specs.declared.request.Request.{Request}
 use Rattle.coll_core.specs.Cores.{IsCore, Parts, setting}

@@ -21,8 +21,8 @@ use Rattle.coll_sched.specs.Worlds.{put_mail}
 use Rattle.coll_machine.specs.Changes.{put_key}
 use Rattle.coll_match.specs.Instances.{mail}
 use Rattle.coll_tables.specs.Shown.{Instances}
-use Rattle.coll_tables.specs.Engines.{KeepsContributions}
-use Rattle.coll_tables.specs.EngineLaws.{ActsOnce}
+use Rattle.coll_tables.proofs.EngineChanges.{KeepsContributions}
+use Rattle.coll_tables.proofs.EngineStatements.{ActsOnce}
 use Rattle.coll_tables.proofs.EngineActions.{compute_core, receive_core}
 use Rattle.coll_core.specs.declared.request.Request.{Request}
 use Rattle.coll_core.specs.Cores.{IsCore, Parts, setting}

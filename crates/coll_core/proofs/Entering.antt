@@ -16,7 +16,9 @@ use Rattle.coll_machine.specs.Calls.{Planned, Post, Init}
 use Rattle.coll_machine.specs.Refusals.{first_of, unless, wrong_length, plan_refusals}
 use Rattle.coll_queues.specs.Postings.{Postings, member_of, number_of, size}
 use Rattle.coll_queues.specs.Refusing.{judge_refusal, member_refusal}
-use Rattle.coll_tables.specs.EngineTests.{entry_refusals, full_refusal, InitRefused, PostRefused}
+use Rattle.coll_tables.specs.Engines.{entry_refusals}
+use Rattle.coll_tables.proofs.EngineStatements.{full_refusal}
+use Rattle.coll_tables.proofs.EngineTests.{init_refused, post_refused}
 use Rattle.coll_core.specs.declared.request.Request.{Request}
 use Rattle.coll_core.specs.Requests.{shown}
 use Rattle.coll_core.specs.Cores.{Parts, IsCore, setting}
@@ -86,20 +88,20 @@ post_tests q a rank comm plan bytes =
 abbrev pub init_tests : Postings → Slots Request → ℕ → ℕ → Planned → List (Option Refusal)
 init_tests q a rank comm plan = entry_refusals q rank comm Persistent plan ++ full_refusal a ∷ []
 
-pub post_tested : (p0 p : Parts) (rank comm : ℕ) (plan : Planned) (bytes : List ℕ) → p0 ≡ p → PostRefused Request → IsCore p0
+pub post_tested : (p0 p : Parts) (rank comm : ℕ) (plan : Planned) (bytes : List ℕ) → p0 ≡ p → IsCore p0
     → IsArena p0.arena
     → refused_in p (Post rank comm plan bytes) ≡ first_of (post_tests p.queues p0.arena rank comm plan bytes)
-post_tested p0 p rank comm plan bytes e law core sound =
+post_tested p0 p rank comm plan bytes e core sound =
     sym (ap (λ (x : Parts). refused_in x (Post rank comm plan bytes)) e)
-    ∙ (law shown (setting p0) p0.arena p0.queues p0.matches rank comm plan bytes core sound
+    ∙ (post_refused shown (setting p0) p0.arena p0.queues p0.matches rank comm plan bytes core sound
     ∙ ap (λ (x : Parts). first_of (post_tests x.queues p0.arena rank comm plan bytes)) e)
 
-pub init_tested : (p0 p : Parts) (rank comm : ℕ) (plan : Planned) → p0 ≡ p → InitRefused Request → IsCore p0
+pub init_tested : (p0 p : Parts) (rank comm : ℕ) (plan : Planned) → p0 ≡ p → IsCore p0
     → IsArena p0.arena
     → refused_in p (Init rank comm plan) ≡ first_of (init_tests p.queues p0.arena rank comm plan)
-init_tested p0 p rank comm plan e law core sound =
+init_tested p0 p rank comm plan e core sound =
     sym (ap (λ (x : Parts). refused_in x (Init rank comm plan)) e)
-    ∙ (law shown (setting p0) p0.arena p0.queues p0.matches rank comm plan core sound
+    ∙ (init_refused shown (setting p0) p0.arena p0.queues p0.matches rank comm plan core sound
     ∙ ap (λ (x : Parts). first_of (init_tests x.queues p0.arena rank comm plan)) e)
 
 pub stops_at_entry : (xs ys : List (Option Refusal)) (why : Refusal) → first_of xs ≡ Some why → first_of (xs ++ ys) ≡ Some why

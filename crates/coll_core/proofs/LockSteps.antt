@@ -6,7 +6,7 @@ use Rattle.coll_sched.specs.Regions.{read_of}
 use Rattle.coll_sched.specs.Worlds.{filled}
 use Rattle.coll_plans.specs.Plans.{family}
 use Rattle.coll_match.specs.Instances.{given}
-use Rattle.coll_tables.specs.EngineLaws.{AreOperands}
+use Rattle.coll_tables.proofs.EngineStatements.{AreOperands}
 use Rattle.coll_tables.specs.Requests.{key}
 use Rattle.coll_core.specs.Cores.{IsCore, Parts}
 use Rattle.coll_core.specs.LockSteps.{OfLockStep}

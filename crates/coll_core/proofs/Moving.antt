@@ -12,7 +12,7 @@ use Rattle.coll_tables.specs.Shown as tabled
 use Rattle.coll_tables.specs.Cores as tabled_core
 use Rattle.coll_tables.specs.Remaining.{actions_left}
 use Rattle.coll_tables.specs.Tables.{machine}
-use Rattle.coll_tables.specs.Engines.{Moves}
+use Rattle.coll_tables.proofs.EngineChanges.{Moves}
 use Rattle.coll_tables.proofs.EngineActions.{move_core}
 use Rattle.coll_tables.proofs.Slots.{one_shifted}
 use Rattle.coll_core.specs.declared.request.Request.{Request}

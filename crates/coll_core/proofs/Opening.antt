@@ -10,10 +10,10 @@ use Rattle.coll_match.specs.Instances.{members, given, seats, mail}
 use Rattle.coll_queues.specs.Postings.{groups_of, posts}
 use Rattle.coll_machine.specs.Runs.{opened as machine_opened}
 use Rattle.coll_machine.specs.Settings.{AreGroups}
-use Rattle.coll_tables.specs.EngineLaws.{OpenCore}
 use Rattle.coll_tables.specs.Cores as tabled
 use Rattle.coll_tables.specs.Shown.{tables}
 use Rattle.coll_tables.specs.Tables.{machine}
+use Rattle.coll_tables.proofs.EngineOpening.{open_core}
 use Rattle.coll_core.specs.declared.request.Request.{Request}
 use Rattle.coll_core.specs.Configs.{IsFullGroup}
 use Rattle.coll_core.specs.Cores.{IsCore, Parts, seen, setting}
@@ -49,7 +49,6 @@ again a slots comms wear n e same =
     (λ i. opened (counted a slots comms wear e i) (same i) (ap (λ (b : Slots Request). b.wear) e i)) ∙ sym e
 
 pub opened_core : (p : Parts) (slots comms wear : ℕ)
-    → OpenCore Request
     → p.arena ≡ opened slots comms wear
     → 0 < wear
     → length (groups_of p.queues) ≡ comms
@@ -60,10 +59,10 @@ pub opened_core : (p : Parts) (slots comms wear : ℕ)
     → seats p.matches ≡ (λ k member. None)
     → mail p.matches ≡ (λ k from to round. None)
     → IsCore p × (seen p ≡ machine_opened)
-opened_core p slots comms wear law e worn same groups posted joined gave sat sent =
+opened_core p slots comms wear e worn same groups posted joined gave sat sent =
     subst
     (λ a. tabled.IsCore shown (setting p) a p.queues p.matches
     × (machine (tables shown (setting p) a p.queues p.matches) ≡ machine_opened))
     (again p.arena slots comms wear (length (groups_of p.queues)) e same)
-    (law shown (setting p) p.queues p.matches (subst (λ n. 0 < n) (sym (ap (λ (b : Slots Request). b.wear) e)) worn)
+    (open_core shown (setting p) p.queues p.matches (subst (λ n. 0 < n) (sym (ap (λ (b : Slots Request). b.wear) e)) worn)
     groups refl refl posted joined gave sat sent)

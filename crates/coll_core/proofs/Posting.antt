@@ -25,8 +25,8 @@ use Rattle.coll_sched.specs.Points.{Over}
 use Rattle.coll_sched.specs.Worlds.{Progress}
 use Rattle.coll_tables.specs.Cores as tabled
 use Rattle.coll_tables.specs.Shown as tabled_parts
-use Rattle.coll_tables.specs.Engines.{Initialises, IsFree, IsJoined, IsOffered, Posts, made}
-use Rattle.coll_tables.specs.EngineLaws.{InitCore, PostCore}
+use Rattle.coll_tables.proofs.EngineChanges.{Initialises, IsFree, IsOffered, Posts, made}
+use Rattle.coll_tables.specs.Engines.{IsJoined}
 use Rattle.coll_tables.specs.OneSlots.{OneSlot}
 use Rattle.coll_tables.specs.Requests.{Live, advanced, key}
 use Rattle.coll_tables.specs.Shown.{Instances}
@@ -41,7 +41,7 @@ use Rattle.coll_core.specs.Calls.{Refuses}
 use Rattle.coll_kinds.specs.declared.refusal.Refusal.{Refusal}
 use Rattle.coll_kinds.specs.declared.refusal.Refusal.TheVariants.{NoMemory}
 use Rattle.coll_machine.specs.Refusals.{refusal}
-use Rattle.coll_tables.proofs.EngineCalls.{free_low, free_spare}
+use Rattle.coll_tables.proofs.EngineCalls.{free_low, free_spare, init_core, post_core}
 use Rattle.coll_tables.proofs.Lefts.{left_idle}
 use Rattle.coll_core.proofs.Progressing.{begins_schedule, keeps_progress, left_without, three_free, three_idle}
 use Rattle.coll_core.proofs.Rooming.{at_own_key}
@@ -113,7 +113,7 @@ parts_of p b r n = record {
 
 module _ (p : Parts) (b : Slots Request) (r : Postings) (j n : Instances) (t : Ticket) (rank comm : ℕ) (plan : Planned)
     (bytes : List ℕ) (sig : Signature) (k : Key) (place member weight list : ℕ) (x y : Request)
-    (law : PostCore Request) (core : IsCore p) (sound : IsArena p.arena)
+    (core : IsCore p) (sound : IsArena p.arena)
     (c : Calls p b r j n t rank comm plan bytes sig k place member weight list x y) where
   abbrev o : Progress
   o = record { round = y.round; index = y.index; buf = x.buffer }
@@ -152,7 +152,7 @@ module _ (p : Parts) (b : Slots Request) (r : Postings) (j n : Instances) (t : T
 
   both : tabled.IsCore shown (setting p) b r n
       × StepsTo (setting p) (seen p) (Post rank comm plan bytes) (Ticketed t) (machine (tabled_parts.tables shown (setting p) b r n))
-  both = law shown (setting p) p.arena b p.queues r p.matches n t rank comm plan bytes y o list core sound posts
+  both = post_core shown (setting p) p.arena b p.queues r p.matches n t rank comm plan bytes y o list core sound posts
 
   pub post_kept : IsCore (parts_of p b r n)
   post_kept = subst (λ (g : Setting). tabled.IsCore shown g b r n) (sym setting_same) both.0
@@ -187,7 +187,7 @@ initialised_as q rank comm place plan bytes e f =
     ∙ ap (λ l. made rank comm plan l 0 (record { round = 0; index = 0; buf = [] })) f
 
 module _ (p : Parts) (b : Slots Request) (r : Postings) (t : Ticket) (rank comm : ℕ) (plan : Planned) (y : Request)
-    (law : InitCore Request) (core : IsCore p) (sound : IsArena p.arena)
+    (core : IsCore p) (sound : IsArena p.arena)
     (h : Initialises shown (setting p) (seen p).state p.arena b p.queues r t rank comm plan y) where
   setting_kept : setting (parts_of p b r p.matches) ≡ setting p
   setting_kept = λ i. record {
@@ -203,7 +203,7 @@ module _ (p : Parts) (b : Slots Request) (r : Postings) (t : Ticket) (rank comm 
   initialised : tabled.IsCore shown (setting p) b r p.matches
       × MachineStep (setting p) (seen p) (Init rank comm plan) (Ticketed t)
       (machine (tabled_parts.tables shown (setting p) b r p.matches))
-  initialised = law shown (setting p) p.arena b p.queues r p.matches t rank comm plan y core sound h
+  initialised = init_core shown (setting p) p.arena b p.queues r p.matches t rank comm plan y core sound h
 
   pub init_kept : IsCore (parts_of p b r p.matches)
   init_kept = subst (λ (g : Setting). tabled.IsCore shown g b r p.matches) (sym setting_kept) initialised.0

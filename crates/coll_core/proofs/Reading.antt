@@ -7,11 +7,11 @@ use Rattle.coll_sched.specs.Actions.{Fits}
 use Rattle.coll_arena.specs.Lookups.{IsFirst}
 use Rattle.coll_arena.specs.Slots.{home, record_in}
 use Rattle.coll_match.specs.Instances.{mail}
-use Rattle.coll_tables.specs.EngineLaws as laws
+use Rattle.coll_tables.proofs.EngineStatements as statements
 use Rattle.coll_tables.specs.Shown.{listed}
 use Rattle.coll_tables.specs.Shown as tabled
 use Rattle.coll_tables.specs.Sound.{Doable}
-use Rattle.coll_tables.proofs.EngineReads.{acting_core, ready_core}
+use Rattle.coll_tables.proofs.EngineReads.{active_core, ready_core}
 use Rattle.std.specs.Prelude.{option_map}
 use Rattle.coll_core.specs.declared.request.Request.{Request}
 use Rattle.coll_core.specs.Cores.{IsCore, Parts, setting}
@@ -39,11 +39,11 @@ two_not_idle l c e f = omega (arith, e, f)
 three_not_idle : (l c : ℕ) → l ≡ 3 → l ≢ 4 + 3 * c
 three_not_idle l c e f = omega (arith, e, f)
 
-pub acting : (p : Parts) → IsCore p → (i : ℕ) (x : Request) → record_in p.arena i ≡ Some x → home p.arena i ≡ 2 → laws.IsActing shown (setting p) p.arena p.matches x
-acting p core i x here home_is = acting_core shown (setting p) p.arena p.queues p.matches i x core here (two_not_idle (home p.arena i) x.comm home_is)
+pub acting : (p : Parts) → IsCore p → (i : ℕ) (x : Request) → record_in p.arena i ≡ Some x → home p.arena i ≡ 2 → statements.IsActive shown (setting p) p.arena p.matches x
+acting p core i x here home_is = active_core shown (setting p) p.arena p.queues p.matches i x core here (two_not_idle (home p.arena i) x.comm home_is)
 
-pub running_acting : (p : Parts) → IsCore p → (i : ℕ) (x : Request) → record_in p.arena i ≡ Some x → home p.arena i ≡ 3 → laws.IsActing shown (setting p) p.arena p.matches x
-running_acting p core i x here home_is = acting_core shown (setting p) p.arena p.queues p.matches i x core here (three_not_idle (home p.arena i) x.comm home_is)
+pub running_acting : (p : Parts) → IsCore p → (i : ℕ) (x : Request) → record_in p.arena i ≡ Some x → home p.arena i ≡ 3 → statements.IsActive shown (setting p) p.arena p.matches x
+running_acting p core i x here home_is = active_core shown (setting p) p.arena p.queues p.matches i x core here (three_not_idle (home p.arena i) x.comm home_is)
 
 at_first : (p : Parts) (t : Ticket) (x : Request) (a : Action) → IsCore p → IsFirst p.arena 2 t
     → record_in p.arena t.slot ≡ Some x → next_of (shown x) ≡ Some a → Fits (schedule (shown x)).size a
@@ -61,7 +61,7 @@ at_first p t x a core first here next fits = record {
   comm_in = have_lists p core t.slot x here;
 }
   where
-    acts : laws.IsActing shown (setting p) p.arena p.matches x
+    acts : statements.IsActive shown (setting p) p.arena p.matches x
     acts = acting p core t.slot x here first.home_is
 
     does : (b : Action) × (next_of (shown x) ≡ Some b) × Doable (mail p.matches (key (shown x))) (shown x) b

@@ -16,12 +16,13 @@ use Rattle.coll_machine.specs.Calls.{Nothing, Start}
 use Rattle.coll_machine.specs.Machines.{refuse, short, StepsTo}
 use Rattle.coll_machine.specs.Refusals.{refusal}
 use Rattle.coll_tables.specs.Cores as tabled
-use Rattle.coll_tables.specs.EngineLaws.{NewCore, StartCore}
 use Rattle.coll_tables.specs.Requests.{Live, begun as begun_at}
 use Rattle.coll_tables.specs.Shown.{Instances, listed}
 use Rattle.coll_tables.specs.Sound.{Stands}
 use Rattle.coll_tables.proofs.Accepting.{start_passed}
 use Rattle.coll_tables.specs.Tables.{Tables, machine}
+use Rattle.coll_tables.proofs.EngineCalls.{start_core}
+use Rattle.coll_tables.proofs.EngineReads.{new_core}
 use Rattle.coll_core.specs.declared.request.Request.{Request}
 use Rattle.coll_core.specs.Calls.{Refuses}
 use Rattle.coll_core.specs.Cores.{IsCore, Parts, seen, setting, tables, Unchanged}
@@ -68,19 +69,18 @@ module _ (p o w : Parts) (view : p ≡ w) (same : Unchanged o w) (arena : w.aren
   found : record_in p.arena t.slot ≡ Some x
   found = ap (λ a. record_in a t.slot) arena_is ∙ was
 
-  pub can_begin : NewCore Request
-      → IfSome (record_in o.arena t.slot) (λ x. suc x.starts < 2 ^ 32)
+  pub can_begin : IfSome (record_in o.arena t.slot) (λ x. suc x.starts < 2 ^ 32)
       → IfSome (record_in o.arena t.slot) (λ x. x.plan.member < size w.matches (next_instance x))
       → IfSome (record_in p.arena t.slot) (CanBegin p.arena p.matches)
-  can_begin law low room = if_some (CanBegin p.arena p.matches) (record_in p.arena t.slot) x found (record {
+  can_begin low room = if_some (CanBegin p.arena p.matches) (record_in p.arena t.slot) x found (record {
     comm_in = comm_in p t.slot x core found;
     short = the_one (λ x. suc x.starts < 2 ^ 32) (record_in o.arena t.slot) x was low;
     room = subst (λ w. x.plan.member < size w.matches (next_instance x)) (sym view)
         (the_one (λ x. x.plan.member < size w.matches (next_instance x)) (record_in o.arena t.slot) x was room);
-    new = (law shown (setting p) p.arena p.queues p.matches core).1 t.slot x found;
+    new = (new_core shown (setting p) p.arena p.queues p.matches core).1 t.slot x found;
   })
 
-  module _ (b : Slots Request) (n : Instances) (rank : ℕ) (bytes buf : List ℕ) (law : StartCore Request)
+  module _ (b : Slots Request) (n : Instances) (rank : ℕ) (bytes buf : List ℕ)
       (accepted : None ≡ refusal (setting o) (seen o).state (Start rank t bytes)) (live : names o.arena t ≡ true) (are : AreBytes bytes)
       (laid : IfSome (record_in o.arena t.slot) (λ x. buf ≡ laid_in (schedule (shown x)) bytes))
       (begun : IfSome (record_in p.arena t.slot) (λ x. Begun p.arena b p.matches n t x bytes buf)) where
@@ -88,7 +88,7 @@ module _ (p o w : Parts) (view : p ≡ w) (same : Unchanged o w) (arena : w.aren
     now = the_one (λ x. Begun p.arena b p.matches n t x bytes buf) (record_in p.arena t.slot) x found begun
 
     done : tabled.IsCore shown (setting p) b p.queues n × StepsTo (setting p) (seen p) (Start rank t bytes) Nothing (seen (with p b n))
-    done = law shown (setting p) p.arena b p.queues p.matches n t rank bytes x now.to
+    done = start_core shown (setting p) p.arena b p.queues p.matches n t rank bytes x now.to
         (record { round = now.to.round; index = now.to.index; buf = buf }) _ core (record {
           accepted = (λ z. refusal (setting_is z) (machine (tables_is z)).state (Start rank t bytes)) ∙ sym accepted;
           are = are;

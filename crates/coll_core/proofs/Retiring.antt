@@ -23,8 +23,9 @@ use Rattle.coll_machine.specs.Calls.{Nothing, Outcome, Retire}
 use Rattle.coll_machine.specs.Machines.{MachineStep, wait}
 use Rattle.coll_machine.specs.Refusals.{refusal}
 use Rattle.coll_tables.specs.Cores as tabled
-use Rattle.coll_tables.specs.Engines.{IsLeft, Rests, given_up}
-use Rattle.coll_tables.specs.EngineLaws.{ActingCore, IsActing, RetireCore}
+use Rattle.coll_tables.proofs.EngineChanges.{IsLeft}
+use Rattle.coll_tables.specs.Engines.{Rests, given_up}
+use Rattle.coll_tables.proofs.EngineStatements.{IsActive}
 use Rattle.coll_tables.specs.Requests.{Live, before, advanced, key}
 use Rattle.coll_tables.specs.Remaining.{left_by}
 use Rattle.coll_tables.specs.Shown.{Instances, listed}
@@ -34,6 +35,8 @@ use Rattle.coll_tables.specs.OneSlots.{OneSlot}
 use Rattle.coll_tables.proofs.Lefts.{left_done, left_idle}
 use Rattle.coll_tables.proofs.Slots.{home_here, one_written, then_reweighed, then_shifted}
 use Rattle.coll_tables.proofs.Standing.{finished_there}
+use Rattle.coll_tables.proofs.EngineEnds.{retire_core}
+use Rattle.coll_tables.proofs.EngineReads.{active_core}
 use Rattle.coll_core.specs.Progress.{KeepsProgress}
 use Rattle.coll_core.proofs.Progressing.{has_left, keeps_progress, three_done, three_given_up, three_idle}
 use Rattle.coll_core.specs.declared.request.Request.{Request}
@@ -120,9 +123,9 @@ not_idle : (l comm : ℕ) → l ≡ 6 + 3 * comm → l ≢ 4 + 3 * comm
 not_idle l comm e f = omega arith
 
 module _ (p : Parts) (rank : ℕ) (t : Ticket) (x : Request) (core : IsCore p) (owns : Owns p rank t x)
-    (on : home p.arena t.slot ≡ 6 + 3 * x.comm) (law : ActingCore Request) where
-  pub acting : IsActing shown (setting p) p.arena p.matches x
-  acting = law shown (setting p) p.arena p.queues p.matches t.slot x core owns.found (not_idle (home p.arena t.slot) x.comm on)
+    (on : home p.arena t.slot ≡ 6 + 3 * x.comm) where
+  pub acting : IsActive shown (setting p) p.arena p.matches x
+  acting = active_core shown (setting p) p.arena p.queues p.matches t.slot x core owns.found (not_idle (home p.arena t.slot) x.comm on)
 
   pub gives_up : IfSome (record_in p.arena t.slot) (GivesUp p.arena)
   gives_up = if_some (GivesUp p.arena) (record_in p.arena t.slot) x owns.found (record {
@@ -174,7 +177,7 @@ pub the_one : {A : Type 0} (P : A → Type 0) (o : Option A) (x : A) → o ≡ S
 the_one P o x e h = subst (λ o. IfSome o P) e h
 
 module _ (p : Parts) (b : Slots Request) (n : Instances) (t : Ticket) (rank : ℕ) (x : Request) (bytes : List ℕ) (last : Bool)
-    (k : Key) (member : ℕ) (law : RetireCore Request) (core : IsCore p) (owns : Owns p rank t x)
+    (k : Key) (member : ℕ) (core : IsCore p) (owns : Owns p rank t x)
     (on : home p.arena t.slot ≡ 6 + 3 * x.comm)
     (bytes_is : IfSome (record_in p.arena t.slot) (λ x. bytes ≡ read_of x.buffer (schedule (shown x)).output))
     (left_there : IfSome (record_in p.arena t.slot) (λ x. Rests shown x.plan.sig.mode p.arena b t x))
@@ -184,7 +187,7 @@ module _ (p : Parts) (b : Slots Request) (n : Instances) (t : Ticket) (rank : �
 
   completed : tabled.IsCore shown (setting p) b p.queues n
       × MachineStep (setting p) (seen p) (Retire rank t) (Outcome rank x.comm x.place (before x.starts) bytes) (seen (with p b n))
-  completed = law shown (setting p) p.arena b p.queues p.matches n t rank x bytes last core (record {
+  completed = retire_core shown (setting p) p.arena b p.queues p.matches n t rank x bytes last core (record {
     accepted = owns.accepted;
     found = record { here = owns.found; generation_is = generation_named p.arena t owns.named };
     on_done = on;

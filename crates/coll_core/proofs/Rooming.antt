@@ -11,10 +11,10 @@ use Rattle.coll_match.specs.Instances.{LookUps, given, look_ups, mail, members, 
 use Rattle.coll_match.specs.Instances as instances
 use Rattle.coll_queues.specs.Postings.{Postings}
 use Rattle.coll_tables.specs.Cores as tabled
-use Rattle.coll_tables.specs.Engines.{HasMade}
-use Rattle.coll_tables.specs.EngineLaws.{RoomCore}
+use Rattle.coll_tables.proofs.EngineChanges.{HasMade}
 use Rattle.coll_tables.specs.Shown.{Instances}
 use Rattle.coll_tables.specs.Shown as tabled_parts
+use Rattle.coll_tables.proofs.EngineEnds.{room_core}
 use Rattle.coll_core.specs.declared.request.Request.{Request}
 use Rattle.coll_core.specs.Requests.{shown}
 use Rattle.coll_core.specs.Cores.{Parts, IsCore, setting, tables, Unchanged}
@@ -32,7 +32,7 @@ with_room p r n = record {
 pub unchanged_from : (p q r : Parts) → p ≡ q → Unchanged p r → Unchanged q r
 unchanged_from p q r e u = subst (λ (x : Parts). Unchanged x r) e u
 
-module _ (p : Parts) (r : Postings) (n : Instances) (k : Key) (law : RoomCore Request) (core : IsCore p)
+module _ (p : Parts) (r : Postings) (n : Instances) (k : Key) (core : IsCore p)
     (made : HasMade p.queues r p.matches n k (size (setting p) k.comm)) where
   setting_same : setting (with_room p r n) ≡ setting p
   setting_same = λ i. record {
@@ -48,12 +48,12 @@ module _ (p : Parts) (r : Postings) (n : Instances) (k : Key) (law : RoomCore Re
   pub room_kept : IsCore (with_room p r n)
   room_kept =
       subst (λ (g : Setting). tabled.IsCore shown g p.arena r n) (sym setting_same)
-      (law shown (setting p) p.arena p.queues r p.matches n k core made).0
+      (room_core shown (setting p) p.arena p.queues r p.matches n k core made).0
 
   tables_same : tables (with_room p r n) ≡ tables p
   tables_same =
       ap (λ (g : Setting). tabled_parts.tables shown g p.arena r n) setting_same
-      ∙ (law shown (setting p) p.arena p.queues r p.matches n k core made).1
+      ∙ (room_core shown (setting p) p.arena p.queues r p.matches n k core made).1
 
   pub room_unchanged : Unchanged p (with_room p r n)
   room_unchanged = record { setting_is = setting_same; tables_is = tables_same; arena_is = refl }

@@ -19,8 +19,9 @@ use Rattle.coll_machine.specs.Changes.{put_key}
 use Rattle.coll_match.specs.Instances.{given, mail}
 use Rattle.coll_match.proofs.Standing.{put_key_at}
 use Rattle.coll_tables.specs.Tables.{is_done}
-use Rattle.coll_tables.specs.Engines.{Delivers, KeepsContributions, Wakens}
-use Rattle.coll_tables.specs.EngineLaws.{ActsOnce}
+use Rattle.coll_tables.specs.Engines.{Delivers, Wakes}
+use Rattle.coll_tables.proofs.EngineChanges.{KeepsContributions}
+use Rattle.coll_tables.proofs.EngineStatements.{ActsOnce}
 use Rattle.coll_tables.specs.Shown.{Instances}
 use Rattle.coll_tables.specs.Shown as tabled
 use Rattle.coll_tables.proofs.EngineSends.{send_core}
@@ -53,7 +54,7 @@ module _ (b d : Slots Request) (n : Instances) (k : Key) (to : ℕ) where
   ready_not_done : (l c : ℕ) → l ≡ 2 → (l == 6 + 3 * c) ≡ false
   ready_not_done l c e = ne_eqb l (6 + 3 * c) (λ f. absurd (omega (arith, e, f)))
 
-  woken_same : (u : Ticket) (r : Request) → Wakens shown b d n k to u r → (i : ℕ) → (i ≡ u.slot) ⊎ (i ≡ u.slot → ⊥) → done_in d i ≡ done_in b i
+  woken_same : (u : Ticket) (r : Request) → Wakes shown b d n k to u r → (i : ℕ) → (i ≡ u.slot) ⊎ (i ≡ u.slot → ⊥) → done_in d i ≡ done_in b i
   woken_same u r w i (inl e) = ap (done_in d) e
       ∙ ((done_by d u.slot r there ∙ ready_not_done (home d u.slot) r.comm (ap (λ (f : ℕ → ℕ). f u.slot) w.puts.homes ∙ put_same (home b) u.slot 2))
       ∙ (sym (done_by b u.slot r w.found.here ∙ queue_not_done (home b u.slot) r.comm w.waits) ∙ ap (done_in b) (sym e)))

@@ -28,9 +28,9 @@ use Rattle.coll_core.proofs.Found.{found_some}
 use Rattle.coll_core.proofs.Standings.{live}
 use Rattle.coll_tables.specs.Cores as tabled
 use Rattle.coll_tables.specs.Engines.{given_up}
-use Rattle.coll_tables.specs.EngineLaws.{FreeCore}
 use Rattle.coll_tables.proofs.Accepting.{free_passed}
 use Rattle.coll_tables.proofs.Slots.{one_slot}
+use Rattle.coll_tables.proofs.EngineCalls.{free_core}
 use Rattle.coll_core.specs.declared.request.Request.{Request}
 use Rattle.coll_core.specs.Cores.{IsCore, Parts, seen, setting, tables}
 use Rattle.coll_core.specs.Requests.{shown}
@@ -38,13 +38,13 @@ use Rattle.coll_core.specs.Progress.{KeepsProgress}
 use Rattle.coll_core.proofs.Progressing.{idle_by, keeps_progress, left_inactive, three_given_up, three_idle}
 use Rattle.coll_core.proofs.Retiring.{generation_named, setting_with, with}
 
-module _ (p o : Parts) (same : p ≡ o) (b : Slots Request) (t : Ticket) (rank : ℕ) (x : Request) (law : FreeCore Request) (core : IsCore p)
+module _ (p o : Parts) (same : p ≡ o) (b : Slots Request) (t : Ticket) (rank : ℕ) (x : Request) (core : IsCore p)
     (accepted : None ≡ refusal (setting o) (seen o).state (Free rank t)) (named : names o.arena t ≡ true)
     (found : record_in p.arena t.slot ≡ Some x)
     (puts : PutsSlot p.arena b t.slot t.generation 0 None (given_up p.arena.wear t.generation)) where
   freed : tabled.IsCore shown (setting p) b p.queues p.matches
       × MachineStep (setting p) (seen p) (Free rank t) Nothing (seen (with p b p.matches))
-  freed = law shown (setting p) p.arena b p.queues p.matches t rank x core (record {
+  freed = free_core shown (setting p) p.arena b p.queues p.matches t rank x core (record {
     accepted = subst (λ p. refusal (setting p) (seen p).state (Free rank t) ≡ None) (sym same) (sym accepted);
     found = record { here = found; generation_is = generation_named p.arena t (subst (λ p. names p.arena t ≡ true) (sym same) named) };
     puts = one_slot p.arena b t.slot t.generation 0 (given_up p.arena.wear t.generation) None puts;

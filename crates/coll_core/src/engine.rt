@@ -33,7 +33,6 @@ use coll_arena::{Arena, ListName, Ticket};
 use coll_kinds::Refusal;
 use coll_match::Matches;
 use coll_queues::Queues;
-use coll_tables::laws;
 use std::alloc::Global;
 use std::marker::Model;
 
@@ -77,7 +76,6 @@ impl Core {
         let comms = config.groups.len() as u32;
         let arena = Arena::open(alloc, config.slots, comms, config.wear)?;
         let queues = Queues::open(alloc, config.groups, config.places)?;
-        laws::open_core(&arena);
         Ok(Core {
             alloc,
             ranks: config.ranks,
@@ -147,7 +145,6 @@ impl Core {
         ensures { result ≡ lent_bytes (setting self.now) (seen self.now).state }
     {
         is_sound(&self.arena);
-        laws::lent_core(&self.arena);
         self.arena.lent()
     }
 
@@ -198,6 +195,5 @@ impl Core {
         ensures { IsQuiet self.now → NothingGoes (tables self.now) }
     {
         is_sound(&self.arena);
-        laws::quiet_core(&self.arena);
     }
 }

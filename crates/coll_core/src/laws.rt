@@ -14,7 +14,6 @@ ghost use Rattle.coll_core.specs.Works.{Piece};
 use crate::engine::Core;
 use coll_arena::{ListName, laws as arena_laws};
 use coll_lists::Columns;
-use coll_tables::laws;
 
 /// Between calls, in the words of the machine and of the lists: each slot stands once on one list, which tells its request's
 /// phase and what that waits for; any two posting lists agree, and live requests stand for their entries; what is Done
@@ -37,7 +36,6 @@ pub fn is_well_linked(core: &Core, list: ListName) -> &Columns
 pub fn lock_is_free(core: &Core)
     ensures { FreeLock (tables core.now) }
 {
-    laws::lock_is_free();
     core.check();
 }
 
@@ -54,7 +52,6 @@ pub fn operands_are_of_lock_step(core: &Core)
 pub fn quiet_is_finished(core: &Core)
     ensures { IsQuiet core.now → IsFinished core.now }
 {
-    laws::quiet_is_finished();
     core.check();
     core.check_quiet();
 }

@@ -14,7 +14,7 @@ use Rattle.coll_tables.specs.Sound.{Stands, ready, running, idle, queued, done, 
 use Rattle.coll_machine.specs.Changes.{put_in}
 use Rattle.coll_tables.specs.Changes.{acting, rehoming}
 use Rattle.coll_machine.specs.Machines.{MayFinish}
-use Rattle.coll_tables.specs.Calls.{Away, Acts, received, delivered, Wakes}
+use Rattle.coll_tables.specs.Calls.{Away, Acting, received, delivered, Waking}
 use Rattle.coll_tables.proofs.Sounds.{all_stand, Sent, sound_compute, sound_receive, sent, none_called, delivered as wakened}
 use Rattle.coll_tables.proofs.Stepping.{done_changes, may_finish, acted_state, acted_steps, woken_same}
 use Rattle.coll_sched.specs.declared.region.Region.{Region}
@@ -47,7 +47,7 @@ not_both n l mail q (queued of into t e nx none) h = h.came (subst (λ x. mail x
     same_of : {a b : ℕ} {g k : Region} → Recv a g ≡ Recv b k → a ≡ b
     same_of e = cc
 
-module _ (v : Tables) (i : ℕ) (q : Live) (a : Action) (o : Progress) (home : ℕ → ℕ) (s : IsSound v) (h : Acts v i q a o home) where
+module _ (v : Tables) (i : ℕ) (q : Live) (a : Action) (o : Progress) (home : ℕ → ℕ) (s : IsSound v) (h : Acting v i q a o home) where
   moves : q.active ≡ true
   moves = going (size v.setting q.comm) (v.home i) (v.mail (key q)) q h.list (s.sound.stands i q h.here)
 
@@ -81,13 +81,13 @@ send_keeps v i q to from o home s h b mine = (λ none. let x = still none in (re
     gone : Sent w after (key q) to
     gone = sent v s.paths s.sound i q h.here (moves v i q (Send to from) o home s h) o home h.away to from h.next_is b h.over mine
 
-    still : ((j : ℕ) → Wakes w (key q) to j → ⊥) → Sound w after
+    still : ((j : ℕ) → Waking w (key q) to j → ⊥) → Sound w after
     still none = none_called w after (key q) to gone (λ j r seat is called. none j (record { req = r; seat = seat; is = is; called = called }))
 
     here : put v.request i (Some (advanced q o)) i ≡ Some (advanced q o)
     here = put_same v.request i (Some (advanced q o))
 
-    woken : (j : ℕ) (later : ℕ → ℕ) → Wakes w (key q) to j → later j ≡ 2 → Away w j later → IsSound (rehoming w later) × MayFinish v.setting (machine v) (machine (rehoming w later))
+    woken : (j : ℕ) (later : ℕ → ℕ) → Waking w (key q) to j → later j ≡ 2 → Away w j later → IsSound (rehoming w later) × MayFinish v.setting (machine v) (machine (rehoming w later))
     woken j later x two away = (record { paths = after; sound = sound }, may_finish (rehoming w later) after sound i (advanced q o) here (machine v) (sym (acted_state v i q h.here o (delivered v q to from) home)) pending now)
       where
         sound : Sound (rehoming w later) after

@@ -21,14 +21,14 @@ use Rattle.coll_tables.specs.Requests.{Live, key, advanced}
 use Rattle.coll_tables.specs.Tables.{Mail, Tables, machine}
 use Rattle.coll_tables.specs.Sound.{next, Doable, Stands, ready, running, idle, queued, done, Called, IsSound}
 use Rattle.coll_tables.specs.Changes.{acting, rehoming}
-use Rattle.coll_tables.specs.Calls.{Acts, Away, Wakes, delivered, received}
+use Rattle.coll_tables.specs.Calls.{Acting, Away, Waking, delivered, received}
 use Rattle.coll_machine.specs.Machines.{MayFinish}
 use Rattle.coll_tables.specs.Remaining.{actions_left}
 use Rattle.coll_tables.specs.Shown.{Instances, seen, listed, tables, weight, weight_by}
 use Rattle.coll_tables.specs.Cores.{IsCore}
-use Rattle.coll_tables.specs.Engines.{Advances, IsCalled, KeepsContributions, Wakens}
-use Rattle.coll_tables.specs.EngineLaws.{ActsOnce}
-use Rattle.coll_tables.proofs.EngineStatements.{ComputeCore, ReceiveCore, MoveCore}
+use Rattle.coll_tables.proofs.EngineChanges.{Advances, KeepsContributions}
+use Rattle.coll_tables.specs.Engines.{IsCalled, Wakes}
+use Rattle.coll_tables.proofs.EngineStatements.{ActsOnce, ComputeCore, ReceiveCore, MoveCore}
 use Rattle.coll_tables.proofs.Holding.{put_self}
 use Rattle.coll_tables.proofs.Actions.{going, compute_keeps, receive_keeps, send_keeps, rehome_keeps}
 use Rattle.coll_tables.proofs.Remainders.{acts_lower}
@@ -96,7 +96,7 @@ module _ {R : Type 0} (shown : R → Live) (g : Setting) (a b : Slots R) (q : Po
         (subst (λ l. Stands p.members (mail n (key p)) l (advanced p o)) (sym (home_here a b t.slot t.generation (weight_of a t.slot) list (Some y) h.puts))
         (subst (λ (r : Live). Stands p.members (mail n (key p)) list r) h.is h.stands)))
 
-  pub acts : Acts v t.slot p act o (home b)
+  pub acts : Acting v t.slot p act o (home b)
   acts = record {
     here = here;
     list = h.from;
@@ -173,11 +173,11 @@ module _ {R : Type 0} (shown : R → Live) (g : Setting) (a b : Slots R) (q : Po
   is_after : tables shown g b q n ≡ after
   is_after = acted shown g a b q m n t x y (Send to from) o list c h k messages mails_are
 
-  actions : Acts before t.slot (shown x) (Send to from) o (home b)
+  actions : Acting before t.slot (shown x) (Send to from) o (home b)
   actions = acts shown g a b q m n t x y (Send to from) o list c h k
 
-  both : (((j : ℕ) → Wakes after (key (shown x)) to j → ⊥) → IsSound after × MayFinish g (machine before) (machine after))
-      × ((j : ℕ) (later : ℕ → ℕ) → Wakes after (key (shown x)) to j → later j ≡ 2 → Away after j later → IsSound (rehoming after later) × MayFinish g (machine before) (machine (rehoming after later)))
+  both : (((j : ℕ) → Waking after (key (shown x)) to j → ⊥) → IsSound after × MayFinish g (machine before) (machine after))
+      × ((j : ℕ) (later : ℕ → ℕ) → Waking after (key (shown x)) to j → later j ≡ 2 → Away after j later → IsSound (rehoming after later) × MayFinish g (machine before) (machine (rehoming after later)))
   both = send_keeps before t.slot (shown x) to from o (home b) c.sound actions buf (mine shown g a b q m n t x y (Send to from) o list c h k messages mails_are)
 
   still_sized : (j : ℕ) (r : Live) → put before.request t.slot (Some (advanced (shown x) o)) j ≡ Some r → r.members ≡ size g r.comm
@@ -188,9 +188,9 @@ module _ {R : Type 0} (shown : R → Live) (g : Setting) (a b : Slots R) (q : Po
       go (inr z) = c.sound.sound.base.sized j r z.1
 
   -- whom the tables call the arena calls
-  calls : (j : ℕ) → Wakes after (key (shown x)) to j → (r : R) × IsCalled shown b n (key (shown x)) to j r
+  calls : (j : ℕ) → Waking after (key (shown x)) to j → (r : R) × IsCalled shown b n (key (shown x)) to j r
   calls j w =
-      let there : Wakes (tables shown g b q n) (key (shown x)) to j = subst (λ (u : Tables). Wakes u (key (shown x)) to j) (sym is_after) w in
+      let there : Waking (tables shown g b q n) (key (shown x)) to j = subst (λ (u : Tables). Waking u (key (shown x)) to j) (sym is_after) w in
       let fits : there.req.members ≡ size g there.req.comm = still_sized j there.req (ap (λ (u : Tables). u.request j) (sym is_after) ∙ there.is) in
       let s = seen_some shown (home b j) (record_in b j) there.req there.is in (
         s.0,
@@ -207,7 +207,7 @@ module _ {R : Type 0} (shown : R → Live) (g : Setting) (a b : Slots R) (q : Po
       let s = both.0 (λ j w. let r = calls j w in none j r.0 r.1) in
       once shown g a b q m n t x y (Send to from) o list c h k messages mails_are s.0 s.1
 
-  module _ (d : Slots R) (u : Ticket) (r : R) (w : Wakens shown b d n (key (shown x)) to u r) where
+  module _ (d : Slots R) (u : Ticket) (r : R) (w : Wakes shown b d n (key (shown x)) to u r) where
     awake : (shown r).active ≡ true
     awake = going (shown r).members 2 (mail n (key (shown r))) (shown r) (inl refl) w.ready
 
@@ -241,7 +241,7 @@ module _ {R : Type 0} (shown : R → Live) (g : Setting) (a b : Slots R) (q : Po
               (subst (λ s. Stands s (mail m (key (shown r))) (home a u.slot) (shown r)) (sym fits) (c.sound.sound.stands u.slot (shown r) is)),
         )
 
-    wakes : Wakes after (key (shown x)) to u.slot
+    wakes : Waking after (key (shown x)) to u.slot
     wakes =
         let old = stood (cases_eq u.slot t.slot) in
         let called : Called (shown r).members (mail n (key (shown r))) (home b u.slot) (shown r) = queue_called (shown r).members (home b u.slot) old.0 (mail n (key (shown r))) (shown r) w.waits old.1 w.ready in

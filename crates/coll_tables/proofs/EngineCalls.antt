@@ -27,12 +27,13 @@ use Rattle.coll_tables.specs.Requests.{Live, at, begun}
 use Rattle.coll_tables.specs.Tables.{Tables, machine, state}
 use Rattle.coll_tables.specs.Sound.{Stands, Lies, IsSound}
 use Rattle.coll_tables.specs.Changes.{posting, joining, freeing}
-use Rattle.coll_tables.specs.Calls.{Comes, Joining, New, newcomer, new_ticket, ticket}
+use Rattle.coll_tables.specs.Calls.{Starting, Joining, New, newcomer, new_ticket, ticket}
 use Rattle.coll_tables.specs.Shown.{Instances, seen, listed, tables, weight}
 use Rattle.coll_tables.specs.Cores.{IsCore}
 use Rattle.coll_tables.specs.OneSlots.{OneSlot}
-use Rattle.coll_tables.specs.Engines.{IsFound, IsFree, IsOffered, given_up}
-use Rattle.coll_tables.specs.EngineLaws.{InitCore, PostCore, StartCore, FreeCore}
+use Rattle.coll_tables.specs.Engines.{IsFound, given_up}
+use Rattle.coll_tables.proofs.EngineChanges.{IsFree, IsOffered}
+use Rattle.coll_tables.proofs.EngineStatements.{InitCore, PostCore, StartCore, FreeCore}
 use Rattle.coll_tables.proofs.Holding.{put_self}
 use Rattle.coll_tables.proofs.Whole.{init_keeps, post_keeps, start_keeps, free_keeps}
 use Rattle.coll_tables.proofs.Accepting.{Passed, inited_passed, posted_passed, accepted_init, accepted_post, accepted_start}
@@ -174,7 +175,7 @@ post_core {R} shown g a b q r m n t rank comm plan bytes y o list c s h = (core,
     joins : Joining (posting v t.slot nq (home b)) t.slot nq bytes from
     joins = record { here = put_same v.request t.slot (Some nq); inactive = refl; long = new.1; are = h.are; start = refl }
 
-    comes : Comes (posting v t.slot nq (home b)) t.slot nq bytes o (home b)
+    comes : Starting (posting v t.slot nq (home b)) t.slot nq bytes o (home b)
     comes = record {
       from = from;
       joining = joins;
@@ -260,7 +261,7 @@ start_core {R} shown g a b q m n t rank bytes x y o list c h = (core, step)
     sits : home b t.slot ≡ list
     sits = home_here a b t.slot t.generation w list (Some y) h.puts
 
-    comes : Comes v t.slot p bytes o (home b)
+    comes : Starting v t.slot p bytes o (home b)
     comes = record {
       from = record { round = 0; index = 0; buf = laid_in (family p.sig (size g p.comm) p.member) bytes };
       joining = accepted_start v t.slot p rank bytes c.sound here h.are accepted;

@@ -27,8 +27,9 @@ use Rattle.coll_tables.specs.Calls.{IsLast, LeftAt, Retiring, ticket}
 use Rattle.coll_tables.specs.Shown.{Instances, seen, listed, tables, weight_by}
 use Rattle.coll_tables.specs.Cores.{IsCore}
 use Rattle.coll_tables.specs.OneSlots.{OneSlot}
-use Rattle.coll_tables.specs.Engines.{Completes, Rests, given_up}
-use Rattle.coll_tables.specs.EngineLaws.{RetireCore, RoomCore}
+use Rattle.coll_tables.proofs.EngineChanges.{Completes}
+use Rattle.coll_tables.specs.Engines.{Rests, given_up}
+use Rattle.coll_tables.proofs.EngineStatements.{RetireCore, RoomCore}
 use Rattle.coll_tables.proofs.Holding.{has_given}
 use Rattle.coll_tables.proofs.Keys.{split_key, at_key, off_key}
 use Rattle.coll_tables.proofs.Standing.{finished_there}

@@ -12,11 +12,10 @@ use Rattle.coll_machine.specs.Refusals.{first_there}
 use Rattle.coll_queues.specs.Postings.{size as size_in}
 use Rattle.coll_machine.specs.declared.key.Key.{Key}
 use Rattle.coll_tables.specs.Requests.{Live}
-use Rattle.coll_tables.specs.Tables.{Tables, asked, is_done}
+use Rattle.coll_tables.specs.Tables.{Tables, asked, is_done, opened}
 use Rattle.coll_tables.specs.Sound.{IsSound}
 use Rattle.coll_tables.specs.Shown.{seen, tables, weight_by}
-use Rattle.coll_tables.specs.Laws.{opened}
-use Rattle.coll_tables.specs.EngineLaws.{OpenCore}
+use Rattle.coll_tables.proofs.EngineStatements.{OpenCore}
 use Rattle.coll_tables.proofs.Finished.{open_keeps}
 
 replicate_default : {X : Type 0} (n i : ℕ) (x : X) → get_or (replicate n x) i x ≡ x

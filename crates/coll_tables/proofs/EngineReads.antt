@@ -32,8 +32,7 @@ use Rattle.coll_tables.specs.Tables.{Mail, Tables, asked, state, world}
 use Rattle.coll_tables.specs.Sound.{next, Doable, Stands, ready, running, idle, queued, done}
 use Rattle.coll_tables.specs.Shown.{seen, listed, tables, weight, weight_by, setting_of}
 use Rattle.coll_tables.specs.Cores.{IsCore}
-use Rattle.coll_tables.specs.EngineLaws.{ActingCore, AreOperands, LentCore, NewCore, QuietCore}
-use Rattle.coll_tables.proofs.EngineStatements.{ReadyCore}
+use Rattle.coll_tables.proofs.EngineStatements.{ActiveCore, AreOperands, LentCore, NewCore, QuietCore, ReadyCore}
 use Rattle.coll_tables.proofs.Accepting.{posted_passed}
 use Rattle.coll_tables.proofs.Basing.{not_given, serves_own, tracks_at}
 use Rattle.coll_tables.proofs.Holding.{has_given}
@@ -68,8 +67,8 @@ new_core {R} shown g a q m c = (of_post, of_start)
 
 -- ---- active requests
 
-pub acting_core : {R : Type 0} → ActingCore R
-acting_core {R} shown g a q m i x c e off = record {
+pub active_core : {R : Type 0} → ActiveCore R
+active_core {R} shown g a q m i x c e off = record {
   round_in = subst (λ s. p.round ≤ length (family p.sig s p.member).rounds) (sym sized) on.round_in;
   index_in = subst (λ s. p.index ≤ length (actions_of (family p.sig s p.member) p.round)) (sym sized) on.index_in;
   filled = subst (λ s. length p.buf ≡ (family p.sig s p.member).size) (sym sized) (held.sizes p.member (progress p) way);

@@ -23,14 +23,14 @@ use Rattle.coll_tables.specs.Requests.{Live, key, advanced}
 use Rattle.coll_tables.specs.Tables.{Mail, Tables, machine}
 use Rattle.coll_tables.specs.Sound.{next, Stands, Called, IsSound}
 use Rattle.coll_tables.specs.Changes.{acting, rehoming}
-use Rattle.coll_tables.specs.Calls.{Acts, Wakes, delivered}
+use Rattle.coll_tables.specs.Calls.{Acting, Waking, delivered}
 use Rattle.coll_machine.specs.Machines.{MayFinish}
 use Rattle.coll_tables.specs.Remaining.{actions_left}
 use Rattle.coll_tables.specs.Shown.{Instances, seen, listed, tables, weight, weight_by}
 use Rattle.coll_tables.specs.Cores.{IsCore}
-use Rattle.coll_tables.specs.Engines.{Advances, IsCalled, KeepsContributions, Wakens}
-use Rattle.coll_tables.specs.EngineLaws.{ActsOnce}
-use Rattle.coll_tables.proofs.EngineStatements.{SendCore}
+use Rattle.coll_tables.proofs.EngineChanges.{Advances, KeepsContributions}
+use Rattle.coll_tables.specs.Engines.{IsCalled, Wakes}
+use Rattle.coll_tables.proofs.EngineStatements.{ActsOnce, SendCore}
 use Rattle.coll_tables.proofs.Holding.{put_self}
 use Rattle.coll_tables.proofs.Actions.{going, not_both, send_keeps}
 use Rattle.coll_tables.proofs.Remainders.{acts_lower}
@@ -74,7 +74,7 @@ module _ {R : Type 0} (shown : R → Live) (g : Setting) (a c : Slots R) (q : Po
 -- ---- one request is woken
 
 module _ {R : Type 0} (shown : R → Live) (g : Setting) (a b c : Slots R) (q : Postings) (m n : Instances) (t u : Ticket) (x y r : R) (to : ℕ) (from : Region) (o : Progress) (list : ℕ)
-    (s : IsCore shown g a q m) (w : Wakens shown a b n (key (shown x)) to u r) (h : Advances shown b c n t x y (Send to from) o list) (k : KeepsContributions m n)
+    (s : IsCore shown g a q m) (w : Wakes shown a b n (key (shown x)) to u r) (h : Advances shown b c n t x y (Send to from) o list) (k : KeepsContributions m n)
     (mails : mail n ≡ put_key (mail m) (key (shown x)) (put_mail (mail m (key (shown x))) (shown x).member to (shown x).round (Some (read_of (shown x).buf from))))
     (buf : o.buf ≡ (shown x).buf) where
   abbrev v : Tables
@@ -132,7 +132,7 @@ module _ {R : Type 0} (shown : R → Live) (g : Setting) (a b c : Slots R) (q : 
   abbrev homes : ℕ → ℕ
   homes = put (home a) t.slot list
 
-  acts : Acts v t.slot p (Send to from) o homes
+  acts : Acting v t.slot p (Send to from) o homes
   acts = record {
     here = here;
     list = lay;
@@ -153,7 +153,7 @@ module _ {R : Type 0} (shown : R → Live) (g : Setting) (a b c : Slots R) (q : 
   other : u.slot ≢ t.slot
   other e = apart (sym e)
 
-  wakes : Wakes after (key p) to u.slot
+  wakes : Waking after (key p) to u.slot
   wakes = record {
     req = shown r;
     seat = sym (ap (λ (f : Key → ℕ → Option ℕ). f (key p) to) k.seats) ∙ w.seat;

@@ -19,7 +19,8 @@ use Rattle.coll_tables.specs.Requests.{Live}
 use Rattle.coll_tables.specs.Tables.{Tables, state}
 use Rattle.coll_tables.specs.Shown.{Instances, listed, tables}
 use Rattle.coll_tables.specs.Cores.{IsCore}
-use Rattle.coll_tables.specs.EngineTests.{EntryCore, MayEnter, entry_refusals, full_refusal}
+use Rattle.coll_tables.proofs.EngineStatements.{EntryCore, MayEnter, full_refusal}
+use Rattle.coll_tables.specs.Engines.{entry_refusals}
 use Rattle.coll_tables.proofs.Accepting.{Passed, Startable, inited_passed, posted_passed, start_passed}
 use Rattle.coll_tables.proofs.EngineCalls.{few, found_here, number_is, ticket_is}
 use Rattle.coll_tables.proofs.EngineTests.{init_refused, post_refused}

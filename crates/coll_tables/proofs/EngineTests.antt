@@ -31,7 +31,7 @@ use Rattle.coll_tables.specs.Requests.{Live, as_request}
 use Rattle.coll_tables.specs.Tables.{Tables, asked, state}
 use Rattle.coll_tables.specs.Shown.{Instances, listed, seen, tables}
 use Rattle.coll_tables.specs.Cores.{IsCore}
-use Rattle.coll_tables.specs.EngineTests.{InitRefused, PostRefused, full_refusal}
+use Rattle.coll_tables.proofs.EngineStatements.{InitRefused, PostRefused, full_refusal}
 use Rattle.coll_tables.proofs.EngineCalls.{none_of}
 
 -- ---- full

@@ -14,10 +14,9 @@ use Rattle.coll_machine.specs.Settings.{size}
 use Rattle.coll_machine.specs.declared.key.Key.{Key}
 use Rattle.coll_plans.specs.Plans.{family}
 use Rattle.coll_tables.specs.Requests.{Live, before, key, progress}
-use Rattle.coll_tables.specs.Tables.{Mail, Tables, Paths, family_at, world}
+use Rattle.coll_tables.specs.Tables.{Mail, Tables, Paths, family_at, opened, world}
 use Rattle.coll_tables.specs.Sound.{Stands, ready, running, idle, queued, done, Sound}
-use Rattle.coll_tables.specs.Laws.{opened, QuietIsFinished}
-use Rattle.coll_tables.proofs.Statements.{OpenKeeps}
+use Rattle.coll_tables.proofs.Statements.{QuietIsFinished, OpenKeeps}
 use Rattle.coll_tables.specs.FreeLocks.{NothingGoes}
 use Rattle.coll_tables.proofs.Basing.{family_own, serves_own, tracks_at}
 

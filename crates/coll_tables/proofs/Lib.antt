@@ -4,6 +4,7 @@ pub mod Basing
 pub mod Changing
 pub mod EngineActions
 pub mod EngineCalls
+pub mod EngineChanges
 pub mod EngineEnds
 pub mod EngineOpening
 pub mod EngineReads

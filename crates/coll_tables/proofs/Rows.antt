@@ -17,7 +17,7 @@ use Rattle.coll_machine.specs.Rows.{two_ranks, plan, key}
 use Rattle.coll_tables.specs.Requests.{advanced}
 use Rattle.coll_tables.specs.Tables.{Tables}
 use Rattle.coll_tables.specs.Changes.{posting, leaving}
-use Rattle.coll_tables.specs.Calls.{Acts, Away, Comes, IsLast, New, Retiring, Wakes}
+use Rattle.coll_tables.specs.Calls.{Acting, Away, Starting, IsLast, New, Retiring, Waking}
 use Rattle.coll_tables.specs.Sound.{IsSound, ready, done, next}
 use Rattle.coll_tables.specs.Rows.{scatter, both, laid, kept, at, byte, moved, unused, root, posted, sender, sent, copier, copied, left, late, posted_late, receiver, received_late, RootPosts, RootSends, RootCopies, RootLeaves, OtherPosts, OtherReceives, OtherLeaves, RowsAreSound}
 use Rattle.coll_tables.proofs.Accepting.{accepted_post}
@@ -92,7 +92,7 @@ new_root =
     accepted_post unused 0 0 0 (plan scatter 0) both opens (omega arith) refl (omega arith) (omega arith) refl
 
 root_comes :
-    Comes (posting unused 0 root (moved unused 0 Ready)) 0 root both (at 0 0 laid) (moved unused 0 Ready)
+    Starting (posting unused 0 root (moved unused 0 Ready)) 0 root both (at 0 0 laid) (moved unused 0 Ready)
 root_comes = record {
   from = at 0 0 (laid_in (family scatter 2 0) both);
   joining = record { here = refl; inactive = refl; long = new_root.1; are = two_bytes; start = refl };
@@ -107,12 +107,12 @@ root_posts =
     post_keeps unused 0 root 0 (plan scatter 0) both (at 0 0 laid) (moved unused 0 Ready) opens
     new_root.0 refl (away unused 0 Ready) root_comes
 
-root_sends_one : Acts posted 0 sender (Send 1 (byte 2)) (at 0 1 laid) (moved posted 0 Ready)
+root_sends_one : Acting posted 0 sender (Send 1 (byte 2)) (at 0 1 laid) (moved posted 0 Ready)
 root_sends_one =
     record { here = refl; list = inl refl; next_is = sends; over = inl (refl, refl); away = away posted 0 Ready }
 
 -- no slot is noted for rank 1 yet
-nobody_waits : (j : ℕ) → Wakes sent (key 0) 1 j → ⊥
+nobody_waits : (j : ℕ) → Waking sent (key 0) 1 j → ⊥
 nobody_waits j h = none-some j h.seat
 
 root_sends : RootSends
@@ -120,7 +120,7 @@ root_sends =
     (send_keeps posted 0 sender 1 (byte 2) (at 0 1 laid) (moved posted 0 Ready) root_posts.0 root_sends_one refl
     (ready (Copy (byte 1) (byte 0)) refl refl copies tt)).0 nobody_waits
 
-root_copies_one : Acts sent 0 copier (Copy (byte 1) (byte 0)) (at 1 0 kept) (moved sent 0 (Done 0))
+root_copies_one : Acting sent 0 copier (Copy (byte 1) (byte 0)) (at 1 0 kept) (moved sent 0 (Done 0))
 root_copies_one =
     record { here = refl; list = inl refl; next_is = copies; over = copied_all; away = away sent 0 (Done 0) }
 
@@ -154,7 +154,7 @@ new_late : New left 0 late 1 Once (plan scatter 1) × (0 ≡ given_len scatter 2
 new_late =
     accepted_post left 0 0 1 (plan scatter 1) [] root_leaves.0 (omega arith) refl (omega arith) (omega arith) refl
 
-late_comes : Comes (posting left 0 late (moved left 0 Ready)) 0 late [] (at 0 0 (0 ∷ [])) (moved left 0 Ready)
+late_comes : Starting (posting left 0 late (moved left 0 Ready)) 0 late [] (at 0 0 (0 ∷ [])) (moved left 0 Ready)
 late_comes = record {
   from = at 0 0 (laid_in (family scatter 2 1) []);
   joining = record { here = refl; inactive = refl; long = new_late.1; are = no_bytes; start = refl };
@@ -169,7 +169,7 @@ other_posts =
     post_keeps left 0 late 1 (plan scatter 1) [] (at 0 0 (0 ∷ [])) (moved left 0 Ready) root_leaves.0 new_late.0 refl
     (away left 0 Ready) late_comes
 
-other_receives_one : Acts posted_late 0 receiver (Recv 0 (byte 0)) (at 1 0 (8 ∷ [])) (moved posted_late 0 (Done 0))
+other_receives_one : Acting posted_late 0 receiver (Recv 0 (byte 0)) (at 1 0 (8 ∷ [])) (moved posted_late 0 (Done 0))
 other_receives_one = record {
   here = refl;
   list = inl refl;

@@ -13,10 +13,10 @@ use Rattle.coll_plans.specs.Plans.{family}
 use Rattle.coll_arena.specs.declared.list_name.ListName.TheVariants.{Free as FreeList, Ready, Running, Idle, Queue, Done}
 use Rattle.coll_machine.specs.Rows.{plan, key}
 use Rattle.coll_tables.specs.Requests.{advanced}
-use Rattle.coll_tables.specs.Calls.{Acts, Comes, IsLast, Joining, New, Retiring, Wakes}
+use Rattle.coll_tables.specs.Calls.{Acting, Starting, IsLast, Joining, New, Retiring, Waking}
 use Rattle.coll_tables.specs.Sound.{ready, running, queued, done, next}
 use Rattle.coll_tables.specs.Rows.{at, byte, moved, unused}
-use Rattle.coll_tables.specs.StartRows.{sums, first, inited_one, second, inited, given, laid, kept, started, sender, sent, copier, waiting, other_given, other_laid, filled, both_started, other, answered, woken, waiter, told, combined_to, out, combiner, combined, left, InitsFirst, InitsSecond, Frees, Starts, Sends, Waits, OtherStarts, Wakens, Receives, GoesOut, Combines, Rests, StartRowsAreSound}
+use Rattle.coll_tables.specs.StartRows.{sums, first, inited_one, second, inited, given, laid, kept, started, sender, sent, copier, waiting, other_given, other_laid, filled, both_started, other, answered, woken, waiter, has_received, combined_to, out, combiner, combined, left, InitsFirst, InitsSecond, SecondFrees, WaiterStarts, WaiterSends, WaiterWaits, OtherStarts, WaiterWakes, WaiterReceives, CombineGoesOut, WaiterCombines, WaiterRetires, StartRowsAreSound}
 use Rattle.coll_tables.proofs.Accepting.{accepted_init, accepted_start}
 use Rattle.coll_tables.proofs.Actions.{compute_keeps, receive_keeps, send_keeps, rehome_keeps}
 use Rattle.coll_tables.proofs.Rows.{away, opens}
@@ -101,7 +101,7 @@ inits_second =
     init_keeps inited_one 1 second 1 (plan sums 1) (moved inited_one 1 (Idle 0)) inits_first.0 new_second refl
     (away inited_one 1 (Idle 0)) refl
 
-frees : Frees
+frees : SecondFrees
 frees =
     free_keeps inited 1 second 1 (moved inited 1 FreeList) inits_second.0 refl refl (away inited 1 FreeList)
     (inl (refl, omega arith))
@@ -111,7 +111,7 @@ frees =
 joins : Joining inited 0 first given (at 0 0 (laid_in (family sums 2 0) given))
 joins = accepted_start inited 0 first 0 given inits_second.0 refl bytes refl
 
-comes : Comes inited 0 first given (at 0 0 laid) (moved inited 0 Ready)
+comes : Starting inited 0 first given (at 0 0 laid) (moved inited 0 Ready)
 comes = record {
   from = at 0 0 (laid_in (family sums 2 0) given);
   joining = joins;
@@ -121,23 +121,23 @@ comes = record {
   stands = ready (Send 1 (byte 1)) refl refl first_sends tt;
 }
 
-starts : Starts
+starts : WaiterStarts
 starts = start_keeps inited 0 first 0 given (at 0 0 laid) (moved inited 0 Ready) inits_second.0 refl comes
 
-sends_one : Acts started 0 sender (Send 1 (byte 1)) (at 0 1 laid) (moved started 0 Ready)
+sends_one : Acting started 0 sender (Send 1 (byte 1)) (at 0 1 laid) (moved started 0 Ready)
 sends_one =
     record { here = refl; list = inl refl; next_is = first_sends; over = inl (refl, refl); away = away started 0 Ready }
 
 -- no slot is noted for rank 1 yet
-nobody_waits : (j : ℕ) → Wakes sent (key 0) 1 j → ⊥
+nobody_waits : (j : ℕ) → Waking sent (key 0) 1 j → ⊥
 nobody_waits j h = none-some j h.seat
 
-sends : Sends
+sends : WaiterSends
 sends =
     (send_keeps started 0 sender 1 (byte 1) (at 0 1 laid) (moved started 0 Ready) starts.0 sends_one refl
     (ready (Copy (byte 0) (byte 2)) refl refl first_copies tt)).0 nobody_waits
 
-copies_one : Acts sent 0 copier (Copy (byte 0) (byte 2)) (at 0 2 kept) (moved sent 0 (Queue 0))
+copies_one : Acting sent 0 copier (Copy (byte 0) (byte 2)) (at 0 2 kept) (moved sent 0 (Queue 0))
 copies_one = record {
   here = refl;
   list = inl refl;
@@ -146,7 +146,7 @@ copies_one = record {
   away = away sent 0 (Queue 0);
 }
 
-waits : Waits
+waits : WaiterWaits
 waits =
     compute_keeps sent 0 copier (Copy (byte 0) (byte 2)) (at 0 2 kept) (moved sent 0 (Queue 0)) sends.0 copies_one tt
     refl (queued 1 (byte 3) refl refl first_receives refl)
@@ -156,7 +156,7 @@ waits =
 other_joins : Joining waiting 1 second other_given (at 0 0 (laid_in (family sums 2 1) other_given))
 other_joins = accepted_start waiting 1 second 1 other_given waits.0 refl other_bytes refl
 
-other_comes : Comes waiting 1 second other_given (at 0 0 other_laid) (moved waiting 1 Ready)
+other_comes : Starting waiting 1 second other_given (at 0 0 other_laid) (moved waiting 1 Ready)
 other_comes = record {
   from = at 0 0 (laid_in (family sums 2 1) other_given);
   joining = other_joins;
@@ -170,7 +170,7 @@ other_starts : OtherStarts
 other_starts =
     start_keeps waiting 1 second 1 other_given (at 0 0 other_laid) (moved waiting 1 Ready) waits.0 refl other_comes
 
-answers_one : Acts both_started 1 other (Send 0 (byte 0)) (at 0 1 other_laid) (moved both_started 1 Ready)
+answers_one : Acting both_started 1 other (Send 0 (byte 0)) (at 0 1 other_laid) (moved both_started 1 Ready)
 answers_one = record {
   here = refl;
   list = inl refl;
@@ -180,7 +180,7 @@ answers_one = record {
 }
 
 -- rank 0's request is noted, lies on its Queue, and its message is there
-wakes : Wakes answered (key 0) 0 0
+wakes : Waking answered (key 0) 0 0
 wakes = record {
   req = waiter;
   seat = refl;
@@ -195,7 +195,7 @@ wakes = record {
   };
 }
 
-wakens : Wakens
+wakens : WaiterWakes
 wakens =
     (send_keeps both_started 1 other 0 (byte 0) (at 0 1 other_laid) (moved both_started 1 Ready) other_starts.0
     answers_one refl (ready (Copy (byte 1) (byte 3)) refl refl other_copies tt)).1 0 (moved answered 0 Ready) wakes refl
@@ -203,27 +203,27 @@ wakens =
 
 -- ---- rank 0 goes on
 
-receives_one : Acts woken 0 waiter (Recv 1 (byte 3)) (at 1 0 filled) (moved woken 0 Ready)
+receives_one : Acting woken 0 waiter (Recv 1 (byte 3)) (at 1 0 filled) (moved woken 0 Ready)
 receives_one =
     record { here = refl; list = inl refl; next_is = first_receives; over = round_ends; away = away woken 0 Ready }
 
-receives : Receives
+receives : WaiterReceives
 receives =
     receive_keeps woken 0 waiter 1 (byte 3) (10 ∷ []) (at 1 0 filled) (moved woken 0 Ready) wakens.0 receives_one
     refl refl (ready (Combine Sum U8 (byte 2) (byte 3) (byte 2)) refl refl first_combines tt)
 
-goes_out : GoesOut
+goes_out : CombineGoesOut
 goes_out =
-    rehome_keeps told 0 combiner (moved told 0 Running) receives.0 refl (λ (e : 2 ≡ 6). omega arith)
-    (λ (e : 3 ≡ 6). omega arith) (away told 0 Running)
+    rehome_keeps has_received 0 combiner (moved has_received 0 Running) receives.0 refl (λ (e : 2 ≡ 6). omega arith)
+    (λ (e : 3 ≡ 6). omega arith) (away has_received 0 Running)
     (running Sum U8 (byte 2) (byte 3) (byte 2) refl refl first_combines)
 
 combines_one :
-    Acts out 0 combiner (Combine Sum U8 (byte 2) (byte 3) (byte 2)) (at 2 0 combined_to) (moved out 0 (Done 0))
+    Acting out 0 combiner (Combine Sum U8 (byte 2) (byte 3) (byte 2)) (at 2 0 combined_to) (moved out 0 (Done 0))
 combines_one =
     record { here = refl; list = inr refl; next_is = first_combines; over = all_ends; away = away out 0 (Done 0) }
 
-combines : Combines
+combines : WaiterCombines
 combines =
     compute_keeps out 0 combiner (Combine Sum U8 (byte 2) (byte 3) (byte 2)) (at 2 0 combined_to) (moved out 0 (Done 0))
     goes_out.0 combines_one tt refl (done refl refl two_rounds)
@@ -242,7 +242,7 @@ retires = record {
 not_last : IsLast left (key 0) → ⊥
 not_last h = none-some 1 (sym ((h 1 (omega arith)).1))
 
-rests : Rests
+rests : WaiterRetires
 rests =
     retire_keeps combined 0 (advanced combiner (at 2 0 combined_to)) 0 (11 ∷ []) (moved combined 0 (Idle 0)) combines.0
     retires not_last

@@ -19,12 +19,12 @@ use Rattle.coll_machine.specs.Calls.{Planned, Post, Init, Start, Retire, Free, T
 use Rattle.coll_machine.specs.Refusals.{refusal}
 use Rattle.coll_machine.specs.Machines.{MachineStep, MayFinish, StepsTo}
 use Rattle.coll_tables.specs.Requests.{Live, before, key, advanced}
-use Rattle.coll_tables.specs.Tables.{Mail, Tables, machine, state}
+use Rattle.coll_tables.specs.Tables.{Mail, Tables, machine, opened, state}
 use Rattle.coll_tables.specs.Sound.{IsSound, Lies, Stands}
 use Rattle.coll_tables.specs.Changes.{posting, joining, acting, leaving, dissolving, freeing, rehoming}
-use Rattle.coll_tables.specs.Calls.{Acts, Away, Comes, IsLast, Joining, New, Retiring, Wakes, delivered, new_ticket, newcomer, received, ticket}
+use Rattle.coll_tables.specs.Calls.{Acting, Away, Starting, IsLast, Joining, New, Retiring, Waking, delivered, new_ticket, newcomer, received, ticket}
 use Rattle.coll_tables.specs.Remaining.{actions_left}
-use Rattle.coll_tables.specs.Laws.{opened}
+use Rattle.coll_tables.specs.FreeLocks.{FreeLock, NothingGoes}
 
 abbrev pub OpenKeeps : Type 0
 OpenKeeps =
@@ -52,7 +52,7 @@ PostKeeps =
     → New v i q rank Once plan
     → refusal v.setting (state v) (Post rank q.comm plan bytes) ≡ None
     → Away v i home
-    → Comes (posting v i q home) i q bytes o home
+    → Starting (posting v i q home) i q bytes o home
     → IsSound (joining (posting v i q home) i q bytes o home)
     × StepsTo v.setting (machine v) (Post rank q.comm plan bytes) (Ticketed (new_ticket v i))
     (machine (joining (posting v i q home) i q bytes o home))
@@ -62,7 +62,7 @@ StartKeeps =
     (v : Tables) (i : ℕ) (q : Live) (rank : ℕ) (bytes : List ℕ) (o : Progress) (home : ℕ → ℕ)
     → IsSound v
     → refusal v.setting (state v) (Start rank (ticket v i) bytes) ≡ None
-    → Comes v i q bytes o home
+    → Starting v i q bytes o home
     → IsSound (joining v i q bytes o home)
     × StepsTo v.setting (machine v) (Start rank (ticket v i) bytes) Nothing (machine (joining v i q bytes o home))
 
@@ -140,7 +140,7 @@ abbrev pub ComputeKeeps : Type 0
 ComputeKeeps =
     (v : Tables) (i : ℕ) (q : Live) (a : Action) (o : Progress) (home : ℕ → ℕ)
     → IsSound v
-    → Acts v i q a o home
+    → Acting v i q a o home
     → IsLocal a
     → o.buf ≡ wrote (λ x. []) q.buf a q.buf
     → Stands (size v.setting q.comm) (v.mail (key q)) (home i) (advanced q o)
@@ -151,7 +151,7 @@ abbrev pub ReceiveKeeps : Type 0
 ReceiveKeeps =
     (v : Tables) (i : ℕ) (q : Live) (of : ℕ) (into : Region) (bytes : List ℕ) (o : Progress) (home : ℕ → ℕ)
     → IsSound v
-    → Acts v i q (Recv of into) o home
+    → Acting v i q (Recv of into) o home
     → v.mail (key q) of q.member q.round ≡ Some bytes
     → o.buf ≡ written q.buf into bytes
     → Stands (size v.setting q.comm) (received v q of (key q)) (home i) (advanced q o)
@@ -162,13 +162,13 @@ abbrev pub SendKeeps : Type 0
 SendKeeps =
     (v : Tables) (i : ℕ) (q : Live) (to : ℕ) (from : Region) (o : Progress) (home : ℕ → ℕ)
     → IsSound v
-    → Acts v i q (Send to from) o home
+    → Acting v i q (Send to from) o home
     → o.buf ≡ q.buf
     → Stands (size v.setting q.comm) (delivered v q to from (key q)) (home i) (advanced q o)
     → (let w = acting v i q o (delivered v q to from) home in
-    (((j : ℕ) → Wakes w (key q) to j → ⊥) → IsSound w × MayFinish v.setting (machine v) (machine w))
+    (((j : ℕ) → Waking w (key q) to j → ⊥) → IsSound w × MayFinish v.setting (machine v) (machine w))
     × ((j : ℕ) (later : ℕ → ℕ)
-    → Wakes w (key q) to j
+    → Waking w (key q) to j
     → later j ≡ number_of Ready
     → Away w j later
     → IsSound (rehoming w later) × MayFinish v.setting (machine v) (machine (rehoming w later))))
@@ -190,8 +190,25 @@ abbrev pub ActsLower : Type 0
 ActsLower =
     (v : Tables) (i : ℕ) (q : Live) (a : Action) (o : Progress) (mail : Key → Mail) (home : ℕ → ℕ)
     → IsSound v
-    → Acts v i q a o home
+    → Acting v i q a o home
     → suc (actions_left (acting v i q o mail home)) ≡ actions_left v
 
 abbrev pub LittleLeft : Type 0
 LittleLeft = (v : Tables) → IsSound v → actions_left v ≤ most_actions * v.setting.slots
+
+-- ---- between the calls
+
+abbrev pub LockIsFree : Type 0
+LockIsFree = (v : Tables) → IsSound v → FreeLock v
+
+-- where nothing can go on, each start to which all have given is Done at each member that works on it
+abbrev pub QuietIsFinished : Type 0
+QuietIsFinished =
+    (v : Tables)
+    → IsSound v
+    → NothingGoes v
+    → (i : ℕ) (q : Live)
+    → v.request i ≡ Some q
+    → q.active ≡ true
+    → ((m : ℕ) → m < size v.setting q.comm → v.given (key q) m ≢ None)
+    → v.home i ≡ number_of (Done q.comm)

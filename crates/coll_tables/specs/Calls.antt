@@ -85,7 +85,7 @@ pub record Joining (v : Tables) (i : ℕ) (q : Live) (bytes : List ℕ) (p : Pro
   pub start : p ≡ record { round = 0; index = 0; buf = laid_in (family q.sig (size v.setting q.comm) q.member) bytes }
 
 -- the bytes enter, and the request lies where its first action puts it
-pub record Comes (v : Tables) (i : ℕ) (q : Live) (bytes : List ℕ) (o : Progress) (home : ℕ → ℕ) : Type 0 where
+pub record Starting (v : Tables) (i : ℕ) (q : Live) (bytes : List ℕ) (o : Progress) (home : ℕ → ℕ) : Type 0 where
   pub from : Progress
   pub joining : Joining v i q bytes from
   pub buf : o.buf ≡ from.buf
@@ -115,7 +115,7 @@ pub record Retiring (v : Tables) (i : ℕ) (q : Live) (rank : ℕ) (bytes : List
 -- ---- actions
 
 -- the slot's request is on Ready or Running, and goes one action on, and over the ends of rounds behind it
-pub record Acts (v : Tables) (i : ℕ) (q : Live) (a : Action) (o : Progress) (home : ℕ → ℕ) : Type 0 where
+pub record Acting (v : Tables) (i : ℕ) (q : Live) (a : Action) (o : Progress) (home : ℕ → ℕ) : Type 0 where
   pub here : v.request i ≡ Some q
   pub list : (v.home i ≡ number_of Ready) ⊎ (v.home i ≡ number_of Running)
   pub next_is : next (size v.setting q.comm) q ≡ Some a
@@ -130,7 +130,7 @@ abbrev pub delivered : Tables → Live → ℕ → Region → Key → Mail
 delivered v q to from = mailed v.mail (key q) q.member to q.round (Some (read_of q.buf from))
 
 -- the request of that member waits for this message
-pub record Wakes (w : Tables) (k : Key) (to : ℕ) (j : ℕ) : Type 0 where
+pub record Waking (w : Tables) (k : Key) (to : ℕ) (j : ℕ) : Type 0 where
   pub req : Live
   pub seat : w.seats k to ≡ Some j
   pub is : w.request j ≡ Some req

@@ -95,8 +95,8 @@ woken = rehoming answered (moved answered 0 Ready)
 abbrev pub waiter : Live
 waiter = advanced copier (at 0 2 kept)
 
-abbrev pub told : Tables
-told = acting woken 0 waiter (at 1 0 filled) (received woken waiter 1) (moved woken 0 Ready)
+abbrev pub has_received : Tables
+has_received = acting woken 0 waiter (at 1 0 filled) (received woken waiter 1) (moved woken 0 Ready)
 
 -- ---- its combination goes out and comes back, and it completes its start
 
@@ -104,7 +104,7 @@ abbrev pub combined_to : List ℕ
 combined_to = 1 ∷ 2 ∷ 11 ∷ 10 ∷ []
 
 abbrev pub out : Tables
-out = rehoming told (moved told 0 Running)
+out = rehoming has_received (moved has_received 0 Running)
 
 abbrev pub combiner : Live
 combiner = advanced waiter (at 1 0 filled)
@@ -158,50 +158,50 @@ InitsSecond =
     IsSound inited
     × MachineStep two_ranks (machine inited_one) (Init 1 0 (plan sums 1)) (Ticketed (ticket 1 1)) (machine inited)
 
-abbrev pub Frees : Type 0
-Frees = IsSound freed × MachineStep two_ranks (machine inited) (Free 1 (ticket 1 1)) Nothing (machine freed)
+abbrev pub SecondFrees : Type 0
+SecondFrees = IsSound freed × MachineStep two_ranks (machine inited) (Free 1 (ticket 1 1)) Nothing (machine freed)
 
-abbrev pub Starts : Type 0
-Starts = IsSound started × StepsTo two_ranks (machine inited) (Start 0 (ticket 0 1) given) Nothing (machine started)
+abbrev pub WaiterStarts : Type 0
+WaiterStarts = IsSound started × StepsTo two_ranks (machine inited) (Start 0 (ticket 0 1) given) Nothing (machine started)
 
-abbrev pub Sends : Type 0
-Sends = IsSound sent × MayFinish two_ranks (machine started) (machine sent)
+abbrev pub WaiterSends : Type 0
+WaiterSends = IsSound sent × MayFinish two_ranks (machine started) (machine sent)
 
-abbrev pub Waits : Type 0
-Waits = IsSound waiting × MayFinish two_ranks (machine sent) (machine waiting)
+abbrev pub WaiterWaits : Type 0
+WaiterWaits = IsSound waiting × MayFinish two_ranks (machine sent) (machine waiting)
 
 abbrev pub OtherStarts : Type 0
 OtherStarts =
     IsSound both_started
     × StepsTo two_ranks (machine waiting) (Start 1 (ticket 1 1) other_given) Nothing (machine both_started)
 
-abbrev pub Wakens : Type 0
-Wakens = IsSound woken × MayFinish two_ranks (machine both_started) (machine woken)
+abbrev pub WaiterWakes : Type 0
+WaiterWakes = IsSound woken × MayFinish two_ranks (machine both_started) (machine woken)
 
-abbrev pub Receives : Type 0
-Receives = IsSound told × MayFinish two_ranks (machine woken) (machine told)
+abbrev pub WaiterReceives : Type 0
+WaiterReceives = IsSound has_received × MayFinish two_ranks (machine woken) (machine has_received)
 
-abbrev pub GoesOut : Type 0
-GoesOut = IsSound out × (machine out ≡ machine told)
+abbrev pub CombineGoesOut : Type 0
+CombineGoesOut = IsSound out × (machine out ≡ machine has_received)
 
-abbrev pub Combines : Type 0
-Combines = IsSound combined × MayFinish two_ranks (machine out) (machine combined)
+abbrev pub WaiterCombines : Type 0
+WaiterCombines = IsSound combined × MayFinish two_ranks (machine out) (machine combined)
 
-abbrev pub Rests : Type 0
-Rests =
+abbrev pub WaiterRetires : Type 0
+WaiterRetires =
     IsSound left
     × MachineStep two_ranks (machine combined) (Retire 0 (ticket 0 1)) (Outcome 0 0 0 0 (11 ∷ [])) (machine left)
 
 pub record StartRowsAreSound : Type 0 where
   pub inits_first : InitsFirst
   pub inits_second : InitsSecond
-  pub frees : Frees
-  pub starts : Starts
-  pub sends : Sends
-  pub waits : Waits
+  pub frees : SecondFrees
+  pub starts : WaiterStarts
+  pub sends : WaiterSends
+  pub waits : WaiterWaits
   pub other_starts : OtherStarts
-  pub wakens : Wakens
-  pub receives : Receives
-  pub goes_out : GoesOut
-  pub combines : Combines
-  pub rests : Rests
+  pub wakens : WaiterWakes
+  pub receives : WaiterReceives
+  pub goes_out : CombineGoesOut
+  pub combines : WaiterCombines
+  pub rests : WaiterRetires

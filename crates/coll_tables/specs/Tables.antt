@@ -1,5 +1,5 @@
 -- The engine's tables as functions, and what callers can know of them.
-use Rattle.std.specs.Prelude.{ℕ, ◌==◌, Bool, false, List, unwrap_or, Option, Some, None}
+use Rattle.std.specs.Prelude.{ℕ, ◌==◌, Bool, false, List, [], unwrap_or, Option, Some, None}
 use Rattle.coll_kinds.specs.declared.datatype.Datatype.TheVariants.{Byte}
 use Rattle.coll_kinds.specs.declared.kind.Kind.TheVariants.{Barrier}
 use Rattle.coll_kinds.specs.declared.kind.Mode.TheVariants.{Once}
@@ -43,6 +43,21 @@ family_at v k = family (unwrap_or (v.signed k.comm k.place) no_signature) (size 
 -- one collective as it runs
 abbrev pub world : Tables → Paths → Key → World
 world v paths k = record { given = v.given k; progress = paths k; mail = v.mail k }
+
+-- ---- an engine just opened
+
+abbrev pub opened : Setting → (ℕ → ℕ) → Tables
+opened g home = record {
+  setting = g;
+  generation = λ i. 0;
+  request = λ i. None;
+  home = home;
+  posts = λ c m. [];
+  signed = λ c p. None;
+  given = λ k m. None;
+  seats = λ k m. None;
+  mail = λ k from to round. None;
+}
 
 -- ---- what callers can know
 

@@ -15,7 +15,7 @@ ghost use Rattle.coll_plans.specs.Plans.{family, IsPlanned};
 ghost use Rattle.coll_queues.specs.Postings.{HasRoom};
 ghost use Rattle.coll_queues.specs.Refusing.{member_refusal};
 ghost use Rattle.coll_sched.specs.Families.{laid_in};
-ghost use Rattle.coll_tables.specs.EngineTests.{entry_refusals};
+ghost use Rattle.coll_tables.specs.Engines.{entry_refusals};
 ghost use Rattle.coll_core.specs.Calls.{Refuses};
 ghost use Rattle.coll_core.specs.Cores.{seen, setting, Unchanged};
 ghost use Rattle.coll_core.specs.Progress.{BeginsSchedule, KeepsProgress};
@@ -31,9 +31,6 @@ use coll_kinds::laws::lengths_are_small;
 use coll_kinds::{Mode, Refusal, Refused, Signature, SignatureFault};
 use coll_match::Key;
 use coll_plans::Plan;
-use coll_tables::laws::{
-    entry_core, init_core, init_refused, new_core, post_core, post_refused, room_core,
-};
 use std::sync::Arc;
 
 /// The signature breaks no rule among so many members. Among as many as the plan is for, it was tested when the plan was made.
@@ -202,7 +199,6 @@ impl Core {
         ensures short { OnOk result (length offer.now.bytes < 2 ^ 32) }
     {
         is_sound(&self.arena);
-        post_refused(&self.arena);
         self.may_enter(rank, comm, &offer.plan, Mode::Once)?;
         let want = want(&offer.plan);
         let got = offer.bytes.len();
@@ -220,7 +216,6 @@ impl Core {
         ensures { result_err result ≡ refused_in self.now (init_of rank comm plan.now) }
     {
         is_sound(&self.arena);
-        init_refused(&self.arena);
         self.may_enter(rank, comm, plan, Mode::Persistent)?;
         if !self.arena.has_free() {
             return Err(Refusal::Full);
@@ -235,7 +230,6 @@ impl Core {
         ensures room { OnOk result (HasRoom self.new.queues comm rank) }
         ensures refused { IfErr result (λ why. why ≡ Refusal.NoMemory) }
     {
-        room_core(&self.arena);
         self.queues.room(comm, rank)
     }
 
@@ -248,7 +242,6 @@ impl Core {
         ensures room { OnOk result (n ≡ instances.size self.new.matches key) }
         ensures refused { IfErr result (λ why. why ≡ Refusal.NoMemory) }
     {
-        room_core(&self.arena);
         self.matches.room(key, n)
     }
 
@@ -271,7 +264,6 @@ impl Core {
         ensures refused { IfErr result (λ why. why ≡ Refusal.NoMemory) }
     {
         is_sound(&self.arena);
-        entry_core(&self.arena);
         is_planned(&offer.plan);
         let buffer = laid?;
         self.make_place(rank, comm)?;
@@ -299,7 +291,6 @@ impl Core {
         ensures refused { IfErr result (λ why. why ≡ Refusal.NoMemory) }
     {
         is_sound(&self.arena);
-        entry_core(&self.arena);
         self.make_place(rank, comm)?;
         plan.shared_sig()
     }
@@ -323,9 +314,6 @@ impl Core {
     {
         is_sound(&self.arena);
         lengths_are_small();
-        entry_core(&self.arena);
-        new_core(&self.arena);
-        post_core(&self.arena);
         let Offer { plan, bytes } = offer;
         are_bytes(bytes.as_slice());
         let place = self.queues.offer(comm, rank, sig);
@@ -367,8 +355,6 @@ impl Core {
         ensures progress { KeepsProgress self.old self.new result.slot }
     {
         is_sound(&self.arena);
-        entry_core(&self.arena);
-        init_core(&self.arena);
         let place = self.queues.offer(comm, rank, sig);
         let request = Request {
             rank,

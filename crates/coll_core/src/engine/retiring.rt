@@ -23,7 +23,6 @@ use coll_arena::laws::is_sound;
 use coll_arena::{Arena, ListName, Ticket};
 use coll_bytes::Bytes;
 use coll_kinds::{Mode, Refusal};
-use coll_tables::laws;
 use std::alloc::Global;
 
 impl Core {
@@ -94,8 +93,6 @@ impl Core {
         ensures progress { IfOk result (λ found. IfSome found (λ r. KeepsProgress self.old self.new ticket.slot)) }
     {
         is_sound(&self.arena);
-        laws::retire_core(&self.arena);
-        laws::acting_core(&self.arena);
         let request = self.named(rank, ticket)?;
         if !self.arena.is_on(ticket, ListName::Done(request.comm)) {
             return Ok(None);

@@ -26,7 +26,6 @@ use coll_bytes::Bytes;
 use coll_kinds::laws::lengths_are_small;
 use coll_kinds::{Mode, Refusal, Refused};
 use coll_match::{Key, Matches};
-use coll_tables::laws;
 
 impl Core {
     /// Starts a persistent request (`MPI_Start`; MPI 4.1, 3.9).
@@ -57,8 +56,6 @@ impl Core {
             Err(why) => return Err(Refused { why, back: bytes }),
         };
         is_sound(&self.arena);
-        laws::start_core(&self.arena);
-        laws::new_core(&self.arena);
         let given = bytes.into_bytes();
         begin(&mut self.arena, &mut self.matches, ticket, given, buffer);
         Ok(())
@@ -78,7 +75,6 @@ impl Core {
         ensures progress { OnOk result (KeepsProgress self.old self.new ticket.slot) }
     {
         is_sound(&self.arena);
-        laws::free_core(&self.arena);
         self.may_free(rank, ticket)?;
         let Ok(_) = self.arena.retire(ticket) else {
             unreachable!()

@@ -18,13 +18,13 @@ pub give_up-bytes-requires-clause-can : goal.give_up-bytes-requires-clause-can
 give_up-bytes-requires-clause-can c =
     let owns = owned _ c.args.self.now c.args.rank c.args.ticket c.in_ok-request.request.now c.self.view_is c.in_ok-request.ensures.refused c.in_ok-request.ensures.named c.in_ok-request.ensures.found in
     let on = on_done c.self.inside.arena c.args.ticket (6 + 3 * c.in_ok-request.request.now.comm) c.if-not-is_on.ensures in
-    gives_up _ c.args.rank c.args.ticket c.in_ok-request.request.now c.self.invariant owns on c.acting_core.ensures
+    gives_up _ c.args.rank c.args.ticket c.in_ok-request.request.now c.self.invariant owns on
 
 pub leave-is_over-requires : goal.leave-is_over-requires
 leave-is_over-requires c =
     let owns = owned _ c.args.self.now c.args.rank c.args.ticket c.in_ok-request.request.now c.self.view_is c.in_ok-request.ensures.refused c.in_ok-request.ensures.named c.in_ok-request.ensures.found in
     let on = on_done c.self.inside.arena c.args.ticket (6 + 3 * c.in_ok-request.request.now.comm) c.if-not-is_on.ensures in
-    seated _ c.args.rank c.args.ticket c.in_ok-request.request.now c.self.invariant owns on c.acting_core.ensures
+    seated _ c.args.rank c.args.ticket c.in_ok-request.request.now c.self.invariant owns on
     c.key-key.result c.member-member.result c.key-key.ensures c.member-member.ensures.member
 
 pub invariant_of-self : goal.invariant_of-self
@@ -32,7 +32,7 @@ invariant_of-self c =
     let owns = owned _ c.args.self.now c.args.rank c.args.ticket c.in_ok-request.request.now c.self.view_is c.in_ok-request.ensures.refused c.in_ok-request.ensures.named c.in_ok-request.ensures.found in
     let on = on_done c.self.inside.arena c.args.ticket (6 + 3 * c.in_ok-request.request.now.comm) c.if-not-is_on.ensures in
     kept _ c.give_up-bytes.new.arena c.leave-is_over.new.self c.args.ticket c.args.rank c.in_ok-request.request.now c.give_up-bytes.result.0 c.leave-is_over.result
-    c.key-key.result c.member-member.result c.retire_core.ensures c.self.invariant owns on
+    c.key-key.result c.member-member.result c.self.invariant owns on
     c.give_up-bytes.ensures.bytes c.give_up-bytes.ensures.rests c.key-key.ensures c.member-member.ensures.member
     (record {
       last_is = c.leave-is_over.ensures.last;
@@ -47,7 +47,7 @@ returns-clause-completes c =
     let owns = owned _ c.args.self.now c.args.rank c.args.ticket c.in_ok-request.request.now c.self.view_is c.in_ok-request.ensures.refused c.in_ok-request.ensures.named c.in_ok-request.ensures.found in
     let on = on_done c.self.inside.arena c.args.ticket (6 + 3 * c.in_ok-request.request.now.comm) c.if-not-is_on.ensures in
     completes _ c.give_up-bytes.new.arena c.leave-is_over.new.self c.args.ticket c.args.rank c.in_ok-request.request.now c.give_up-bytes.result.0 c.leave-is_over.result
-    c.key-key.result c.member-member.result c.retire_core.ensures c.self.invariant owns on
+    c.key-key.result c.member-member.result c.self.invariant owns on
     c.give_up-bytes.ensures.bytes c.give_up-bytes.ensures.rests c.key-key.ensures c.member-member.ensures.member
     (record {
       last_is = c.leave-is_over.ensures.last;
@@ -63,7 +63,7 @@ returns-clause-progress c =
     let owns = owned _ c.args.self.now c.args.rank c.args.ticket c.in_ok-request.request.now c.self.view_is c.in_ok-request.ensures.refused c.in_ok-request.ensures.named c.in_ok-request.ensures.found in
     let on = on_done c.self.inside.arena c.args.ticket (6 + 3 * c.in_ok-request.request.now.comm) c.if-not-is_on.ensures in
     retires_alone _ c.give_up-bytes.new.arena c.leave-is_over.new.self c.args.ticket c.args.rank c.in_ok-request.request.now c.give_up-bytes.result.0 c.leave-is_over.result
-    c.key-key.result c.member-member.result c.retire_core.ensures c.self.invariant owns on
+    c.key-key.result c.member-member.result c.self.invariant owns on
     c.give_up-bytes.ensures.bytes c.give_up-bytes.ensures.rests c.key-key.ensures c.member-member.ensures.member
     (record {
       last_is = c.leave-is_over.ensures.last;

@@ -7,7 +7,7 @@ use Rattle.coll_kinds.specs.declared.signature.Signature.{Signature}
 use Rattle.coll_kinds.specs.Elements.{AreBytes}
 use Rattle.coll_machine.specs.Calls.{Post, Ticketed}
 use Rattle.coll_queues.specs.Refusing.{judge_refusal}
-use Rattle.coll_tables.specs.EngineTests.{MayEnter}
+use Rattle.coll_tables.proofs.EngineStatements.{MayEnter}
 use Rattle.coll_machine.specs.Machines.{StepsTo}
 use Rattle.coll_core.specs.declared.request.Request.{Request}
 use Rattle.coll_plans.specs.Plans.{family}
@@ -23,6 +23,8 @@ use Rattle.coll_kinds.specs.Lengths.{given_len}
 use Rattle.coll_kinds.specs.Limits.{max_len}
 use Rattle.coll_machine.specs.declared.key.Key.{Key}
 use Rattle.coll_tables.specs.Shown.{Instances}
+use Rattle.coll_tables.proofs.EngineTested.{entry_core}
+use Rattle.coll_tables.proofs.EngineReads.{new_core}
 use Rattle.coll_core.proofs.engine.Core.enter.Goals as goal
 
 short : (len given : ℕ) → len ≡ given → given ≤ max_len → len < 2 ^ 32
@@ -34,7 +36,7 @@ offer-place-requires-clause-judged c =
     let plan = planned c.args.offer.plan in
     let bytes = c.args.offer.bytes in
     let accepted : refused_in p (Post c.args.rank c.args.comm plan bytes) ≡ None = accepted_from p c.args.self.now (Post c.args.rank c.args.comm plan bytes) c.self.view_is c.requires.accepted in
-    let tested : MayEnter (setting p) p.arena p.queues c.args.rank c.args.comm Once plan = ((c.entry_core.ensures shown (setting p) p.arena p.queues p.matches c.args.rank c.args.comm plan c.self.invariant c.is_sound.ensures).0 bytes accepted).0 in
+    let tested : MayEnter (setting p) p.arena p.queues c.args.rank c.args.comm Once plan = ((entry_core shown (setting p) p.arena p.queues p.matches c.args.rank c.args.comm plan c.self.invariant c.is_sound.ensures).0 bytes accepted).0 in
     ap (λ (s : Signature). judge_refusal c.self.inside.queues c.args.comm c.args.rank s) c.requires.sig ∙ tested.judged
 
 pub into_bytes-given-requires : goal.into_bytes-given-requires
@@ -43,7 +45,7 @@ into_bytes-given-requires c =
     let plan = planned c.args.offer.plan in
     let bytes = c.args.offer.bytes in
     let accepted : refused_in p (Post c.args.rank c.args.comm plan bytes) ≡ None = accepted_from p c.args.self.now (Post c.args.rank c.args.comm plan bytes) c.self.view_is c.requires.accepted in
-    let tested : MayEnter (setting p) p.arena p.queues c.args.rank c.args.comm Once plan × (length bytes ≡ given_len plan.sig plan.n plan.member) = (c.entry_core.ensures shown (setting p) p.arena p.queues p.matches c.args.rank c.args.comm plan c.self.invariant c.is_sound.ensures).0 bytes accepted in
+    let tested : MayEnter (setting p) p.arena p.queues c.args.rank c.args.comm Once plan × (length bytes ≡ given_len plan.sig plan.n plan.member) = (entry_core shown (setting p) p.arena p.queues p.matches c.args.rank c.args.comm plan c.self.invariant c.is_sound.ensures).0 bytes accepted in
     short (length bytes) (given_len plan.sig plan.n plan.member) tested.1 (c.lengths_are_small.ensures plan.sig plan.n plan.member tested.0.checked tested.0.low).0
 
 pub join-hint-requires-clause-new : goal.join-hint-requires-clause-new
@@ -55,7 +57,7 @@ join-hint-requires-clause-new c =
     let key_is : c.key-key.result ≡ record { comm = c.args.comm; place = c.offer-place.result; start = 0 } = c.key-key.ensures in
     let instance_is : c.key-key.result ≡ next_instance p.queues c.args.rank c.args.comm = key_is ∙ ap (λ l. record { comm = c.args.comm; place = l; start = 0 }) c.offer-place.ensures.place in
     not_given p.matches c.key-key.result (next_instance p.queues c.args.rank c.args.comm) c.member-member.result plan.member instance_is c.member-member.ensures.member
-    ((c.new_core.ensures shown (setting p) p.arena p.queues p.matches c.self.invariant).0 c.args.rank c.args.comm plan bytes accepted)
+    ((new_core shown (setting p) p.arena p.queues p.matches c.self.invariant).0 c.args.rank c.args.comm plan bytes accepted)
 
 gave : (n m : Instances) (k : Key) (member : ℕ) (given bytes : List ℕ) → look_ups n ≡ joined (look_ups m) k member given → given ≡ bytes → look_ups n ≡ joined (look_ups m) k member bytes
 gave n m k member given bytes e same = e ∙ ap (λ (b : List ℕ). joined (look_ups m) k member b) same
@@ -90,7 +92,7 @@ invariant_of-self c =
       taken_is = ap (λ (a : Slots Request). a.lists) c.in-Ok.ensures.taken;
       apart = λ e. list_low c.pass_ends.new.self.comm c.list-list.result c.list-list.ensures.list (sym e);
     } in
-    post_kept p c.take.new.self c.offer-place.new.self c.join-hint.new.self c.seat.new.self c.in-Ok.ticket c.args.rank c.args.comm plan bytes (arc_value c.args.sig) c.key-key.result c.offer-place.result c.member-member.result c.lent-weight.result (number_of c.list-list.result) x c.pass_ends.new.self c.post_core.ensures c.self.invariant c.is_sound.ensures calls
+    post_kept p c.take.new.self c.offer-place.new.self c.join-hint.new.self c.seat.new.self c.in-Ok.ticket c.args.rank c.args.comm plan bytes (arc_value c.args.sig) c.key-key.result c.offer-place.result c.member-member.result c.lent-weight.result (number_of c.list-list.result) x c.pass_ends.new.self c.self.invariant c.is_sound.ensures calls
 
 pub unreachable-requires : goal.unreachable-requires
 unreachable-requires c =
@@ -98,7 +100,7 @@ unreachable-requires c =
     let plan = planned c.args.offer.plan in
     let bytes = c.args.offer.bytes in
     let accepted : refused_in p (Post c.args.rank c.args.comm plan bytes) ≡ None = accepted_from p c.args.self.now (Post c.args.rank c.args.comm plan bytes) c.self.view_is c.requires.accepted in
-    let tested : MayEnter (setting p) p.arena p.queues c.args.rank c.args.comm Once plan = ((c.entry_core.ensures shown (setting p) p.arena p.queues p.matches c.args.rank c.args.comm plan c.self.invariant c.is_sound.ensures).0 bytes accepted).0 in
+    let tested : MayEnter (setting p) p.arena p.queues c.args.rank c.args.comm Once plan = ((entry_core shown (setting p) p.arena p.queues p.matches c.args.rank c.args.comm plan c.self.invariant c.is_sound.ensures).0 bytes accepted).0 in
     emptied (length (sequence p.arena.lists 0)) c.in-Err.ensures.full tested.free
 
 pub returns-clause-posted : goal.returns-clause-posted
@@ -129,7 +131,7 @@ returns-clause-posted c =
       apart = λ e. list_low c.pass_ends.new.self.comm c.list-list.result c.list-list.ensures.list (sym e);
     } in
     subst (λ (v : Parts). StepsTo (setting v) (seen v) (Post c.args.rank c.args.comm plan bytes) (Ticketed c.in-Ok.ticket) (seen (parts_of p c.take.new.self c.offer-place.new.self c.seat.new.self))) c.self.view_is
-    (post_steps p c.take.new.self c.offer-place.new.self c.join-hint.new.self c.seat.new.self c.in-Ok.ticket c.args.rank c.args.comm plan bytes (arc_value c.args.sig) c.key-key.result c.offer-place.result c.member-member.result c.lent-weight.result (number_of c.list-list.result) x c.pass_ends.new.self c.post_core.ensures c.self.invariant c.is_sound.ensures calls)
+    (post_steps p c.take.new.self c.offer-place.new.self c.join-hint.new.self c.seat.new.self c.in-Ok.ticket c.args.rank c.args.comm plan bytes (arc_value c.args.sig) c.key-key.result c.offer-place.result c.member-member.result c.lent-weight.result (number_of c.list-list.result) x c.pass_ends.new.self c.self.invariant c.is_sound.ensures calls)
 
 pub returns-clause-begins : goal.returns-clause-begins
 returns-clause-begins c =
@@ -159,4 +161,4 @@ returns-clause-begins c =
       apart = λ e. list_low c.pass_ends.new.self.comm c.list-list.result c.list-list.ensures.list (sym e);
     } in
     subst (λ (v : Parts). BeginsSchedule v (parts_of p c.take.new.self c.offer-place.new.self c.seat.new.self) c.in-Ok.ticket.slot (family plan.sig plan.n plan.member)) c.self.view_is
-    (post_begins p c.take.new.self c.offer-place.new.self c.join-hint.new.self c.seat.new.self c.in-Ok.ticket c.args.rank c.args.comm plan bytes (arc_value c.args.sig) c.key-key.result c.offer-place.result c.member-member.result c.lent-weight.result (number_of c.list-list.result) x c.pass_ends.new.self c.post_core.ensures c.self.invariant c.is_sound.ensures calls)
+    (post_begins p c.take.new.self c.offer-place.new.self c.join-hint.new.self c.seat.new.self c.in-Ok.ticket c.args.rank c.args.comm plan bytes (arc_value c.args.sig) c.key-key.result c.offer-place.result c.member-member.result c.lent-weight.result (number_of c.list-list.result) x c.pass_ends.new.self c.self.invariant c.is_sound.ensures calls)

@@ -8,8 +8,9 @@ use Rattle.coll_kinds.specs.declared.signature.Signature.{Signature}
 use Rattle.coll_machine.specs.Calls.{Init, Ticketed}
 use Rattle.coll_machine.specs.Machines.{MachineStep}
 use Rattle.coll_queues.specs.Refusing.{judge_refusal}
-use Rattle.coll_tables.specs.Engines.{Initialises}
-use Rattle.coll_tables.specs.EngineTests.{MayEnter}
+use Rattle.coll_tables.proofs.EngineChanges.{Initialises}
+use Rattle.coll_tables.proofs.EngineStatements.{MayEnter}
+use Rattle.coll_tables.proofs.EngineTested.{entry_core}
 use Rattle.coll_core.specs.declared.request.Request.{Request}
 use Rattle.coll_arena.specs.Slots.{Slots}
 use Rattle.coll_core.specs.Progress.{KeepsProgress}
@@ -24,7 +25,7 @@ offer-place-requires-clause-judged c =
     let p : Parts = record { ranks = c.self.inside.ranks; starts = c.self.inside.starts; trace = c.self.inside.trace; arena = c.self.inside.arena; queues = c.self.inside.queues; matches = c.self.inside.matches } in
     let plan = planned c.args.plan in
     let accepted : refused_in p (Init c.args.rank c.args.comm plan) ≡ None = accepted_from p c.args.self.now (Init c.args.rank c.args.comm plan) c.self.view_is c.requires.accepted in
-    let tested : MayEnter (setting p) p.arena p.queues c.args.rank c.args.comm Persistent plan = (c.entry_core.ensures shown (setting p) p.arena p.queues p.matches c.args.rank c.args.comm plan c.self.invariant c.is_sound.ensures).1 accepted in
+    let tested : MayEnter (setting p) p.arena p.queues c.args.rank c.args.comm Persistent plan = (entry_core shown (setting p) p.arena p.queues p.matches c.args.rank c.args.comm plan c.self.invariant c.is_sound.ensures).1 accepted in
     ap (λ (s : Signature). judge_refusal c.self.inside.queues c.args.comm c.args.rank s) c.requires.sig ∙ tested.judged
 
 pub unreachable-requires : goal.unreachable-requires
@@ -32,7 +33,7 @@ unreachable-requires c =
     let p : Parts = record { ranks = c.self.inside.ranks; starts = c.self.inside.starts; trace = c.self.inside.trace; arena = c.self.inside.arena; queues = c.self.inside.queues; matches = c.self.inside.matches } in
     let plan = planned c.args.plan in
     let accepted : refused_in p (Init c.args.rank c.args.comm plan) ≡ None = accepted_from p c.args.self.now (Init c.args.rank c.args.comm plan) c.self.view_is c.requires.accepted in
-    let tested : MayEnter (setting p) p.arena p.queues c.args.rank c.args.comm Persistent plan = (c.entry_core.ensures shown (setting p) p.arena p.queues p.matches c.args.rank c.args.comm plan c.self.invariant c.is_sound.ensures).1 accepted in
+    let tested : MayEnter (setting p) p.arena p.queues c.args.rank c.args.comm Persistent plan = (entry_core shown (setting p) p.arena p.queues p.matches c.args.rank c.args.comm plan c.self.invariant c.is_sound.ensures).1 accepted in
     emptied (length (sequence p.arena.lists 0)) c.in-Err.ensures.full tested.free
 
 pub invariant_of-self : goal.invariant_of-self
@@ -48,7 +49,7 @@ invariant_of-self c =
       puts = one_slot p.arena c.take.new.self c.in-Ok.ticket.slot c.in-Ok.ticket.generation 0 0 (Some y) (number_of (Idle c.args.comm)) refl c.in-Ok.ensures.puts;
       is = initialised_as p.queues c.args.rank c.args.comm c.offer-place.result plan c.empty.result c.empty.ensures c.offer-place.ensures.place;
     } in
-    init_kept p c.take.new.self c.offer-place.new.self c.in-Ok.ticket c.args.rank c.args.comm plan y c.init_core.ensures c.self.invariant c.is_sound.ensures h
+    init_kept p c.take.new.self c.offer-place.new.self c.in-Ok.ticket c.args.rank c.args.comm plan y c.self.invariant c.is_sound.ensures h
 
 pub returns-clause-made : goal.returns-clause-made
 returns-clause-made c =
@@ -64,7 +65,7 @@ returns-clause-made c =
       is = initialised_as p.queues c.args.rank c.args.comm c.offer-place.result plan c.empty.result c.empty.ensures c.offer-place.ensures.place;
     } in
     subst (λ (v : Parts). MachineStep (setting v) (seen v) (Init c.args.rank c.args.comm plan) (Ticketed c.in-Ok.ticket) (seen (parts_of p c.take.new.self c.offer-place.new.self p.matches))) c.self.view_is
-    (init_steps p c.take.new.self c.offer-place.new.self c.in-Ok.ticket c.args.rank c.args.comm plan y c.init_core.ensures c.self.invariant c.is_sound.ensures h)
+    (init_steps p c.take.new.self c.offer-place.new.self c.in-Ok.ticket c.args.rank c.args.comm plan y c.self.invariant c.is_sound.ensures h)
 
 pub returns-clause-progress : goal.returns-clause-progress
 returns-clause-progress c =
@@ -80,5 +81,5 @@ returns-clause-progress c =
       is = initialised_as p.queues c.args.rank c.args.comm c.offer-place.result plan c.empty.result c.empty.ensures c.offer-place.ensures.place;
     } in
     subst (λ (v : Parts). KeepsProgress v (parts_of p c.take.new.self c.offer-place.new.self p.matches) c.in-Ok.ticket.slot) c.self.view_is
-    (init_progress p c.take.new.self c.offer-place.new.self c.in-Ok.ticket c.args.rank c.args.comm plan y c.init_core.ensures c.self.invariant c.is_sound.ensures h
+    (init_progress p c.take.new.self c.offer-place.new.self c.in-Ok.ticket c.args.rank c.args.comm plan y c.self.invariant c.is_sound.ensures h
     (ap (λ (a : Slots Request). a.lists) c.in-Ok.ensures.taken))

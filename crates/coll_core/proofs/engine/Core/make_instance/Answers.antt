@@ -1,6 +1,6 @@
 use Rattle.std.proofs.Common.{◌≡◌, ◌∙◌, ap, sym, subst}
 use Rattle.coll_machine.specs.Settings.{size}
-use Rattle.coll_tables.specs.Engines.{HasMade}
+use Rattle.coll_tables.proofs.EngineChanges.{HasMade}
 use Rattle.coll_core.specs.Cores.{Parts, setting}
 use Rattle.coll_core.proofs.Rooming.{made_by, room_kept, room_unchanged, unchanged_from, roomy}
 use Rattle.coll_core.proofs.engine.Core.make_instance.Goals as goal
@@ -12,7 +12,7 @@ invariant_of-self c =
     let made : HasMade p.queues p.queues p.matches c.room.new.self c.args.key (size (setting p) c.args.key.comm) =
     subst (λ s. HasMade p.queues p.queues p.matches c.room.new.self c.args.key s) n_is
     (made_by c.room.result p.queues p.matches c.room.new.self c.args.key c.args.n c.room.ensures.room c.room.ensures.err) in
-    room_kept p p.queues c.room.new.self c.args.key c.room_core.ensures c.self.invariant made
+    room_kept p p.queues c.room.new.self c.args.key c.self.invariant made
 
 pub returns-clause-unchanged : goal.returns-clause-unchanged
 returns-clause-unchanged c =
@@ -21,7 +21,7 @@ returns-clause-unchanged c =
     let made : HasMade p.queues p.queues p.matches c.room.new.self c.args.key (size (setting p) c.args.key.comm) =
     subst (λ s. HasMade p.queues p.queues p.matches c.room.new.self c.args.key s) n_is
     (made_by c.room.result p.queues p.matches c.room.new.self c.args.key c.args.n c.room.ensures.room c.room.ensures.err) in
-    unchanged_from p c.args.self.now _ c.self.view_is (room_unchanged p p.queues c.room.new.self c.args.key c.room_core.ensures c.self.invariant made)
+    unchanged_from p c.args.self.now _ c.self.view_is (room_unchanged p p.queues c.room.new.self c.args.key c.self.invariant made)
 
 pub returns-clause-room : goal.returns-clause-room
 returns-clause-room c =

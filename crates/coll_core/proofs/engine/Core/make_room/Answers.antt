@@ -5,7 +5,8 @@ use Rattle.coll_machine.specs.Calls.{Post}
 use Rattle.coll_machine.specs.Settings.{Setting, size}
 use Rattle.coll_match.specs.Instances as instances
 use Rattle.coll_queues.specs.Postings.{Postings, HasRoom, place_of}
-use Rattle.coll_tables.specs.EngineTests.{MayEnter}
+use Rattle.coll_tables.proofs.EngineStatements.{MayEnter}
+use Rattle.coll_tables.proofs.EngineTested.{entry_core}
 use Rattle.coll_core.specs.Requests.{shown}
 use Rattle.coll_core.specs.Cores.{Parts, setting}
 use Rattle.coll_core.specs.declared.offer.Offer.{Offer}
@@ -23,7 +24,7 @@ returns-clause-buffer c =
     let plan = planned c.args.offer.now.plan in
     let bytes = c.args.offer.now.bytes in
     let accepted : refused_in p (Post c.args.rank c.args.comm plan bytes) ≡ None = accepted_from p c.args.self.now (Post c.args.rank c.args.comm plan bytes) c.self.view_is c.requires.accepted in
-    let tested : MayEnter (setting p) p.arena p.queues c.args.rank c.args.comm Once plan × (length bytes ≡ given_len plan.sig plan.n plan.member) = (c.entry_core.ensures shown (setting p) p.arena p.queues p.matches c.args.rank c.args.comm plan c.self.invariant c.is_sound.ensures).0 bytes accepted in
+    let tested : MayEnter (setting p) p.arena p.queues c.args.rank c.args.comm Once plan × (length bytes ≡ given_len plan.sig plan.n plan.member) = (entry_core shown (setting p) p.arena p.queues p.matches c.args.rank c.args.comm plan c.self.invariant c.is_sound.ensures).0 bytes accepted in
     laid_for c.args.laid c.args.offer.now c.in_ok-buffer.buffer c.requires.laid c.in_ok-buffer.was (tested.1 ∙ sym (c.is_planned.ensures.serves.takes_given plan.member tested.0.low))
 
 pub make_instance-requires : goal.make_instance-requires
@@ -32,7 +33,7 @@ make_instance-requires c =
     let plan = planned c.args.offer.now.plan in
     let bytes = c.args.offer.now.bytes in
     let accepted : refused_in p (Post c.args.rank c.args.comm plan bytes) ≡ None = accepted_from p c.args.self.now (Post c.args.rank c.args.comm plan bytes) c.self.view_is c.requires.accepted in
-    let tested : MayEnter (setting p) p.arena p.queues c.args.rank c.args.comm Once plan × (length bytes ≡ given_len plan.sig plan.n plan.member) = (c.entry_core.ensures shown (setting p) p.arena p.queues p.matches c.args.rank c.args.comm plan c.self.invariant c.is_sound.ensures).0 bytes accepted in
+    let tested : MayEnter (setting p) p.arena p.queues c.args.rank c.args.comm Once plan × (length bytes ≡ given_len plan.sig plan.n plan.member) = (entry_core shown (setting p) p.arena p.queues p.matches c.args.rank c.args.comm plan c.self.invariant c.is_sound.ensures).0 bytes accepted in
     c.n.ensures.n ∙ (tested.0.size_is ∙ (ap (λ (x : Parts). size (setting x) c.args.comm) c.self.view_is
     ∙ sym (ap (λ (g : Setting). size g c.args.comm) c.make_place.ensures.unchanged.setting_is)))
 
@@ -45,7 +46,7 @@ returns-clause-room c =
     let plan = planned c.args.offer.now.plan in
     let bytes = c.args.offer.now.bytes in
     let accepted : refused_in p (Post c.args.rank c.args.comm plan bytes) ≡ None = accepted_from p c.args.self.now (Post c.args.rank c.args.comm plan bytes) c.self.view_is c.requires.accepted in
-    let tested : MayEnter (setting p) p.arena p.queues c.args.rank c.args.comm Once plan × (length bytes ≡ given_len plan.sig plan.n plan.member) = (c.entry_core.ensures shown (setting p) p.arena p.queues p.matches c.args.rank c.args.comm plan c.self.invariant c.is_sound.ensures).0 bytes accepted in
+    let tested : MayEnter (setting p) p.arena p.queues c.args.rank c.args.comm Once plan × (length bytes ≡ given_len plan.sig plan.n plan.member) = (entry_core shown (setting p) p.arena p.queues p.matches c.args.rank c.args.comm plan c.self.invariant c.is_sound.ensures).0 bytes accepted in
     record {
       posting = subst (λ (q : Postings). HasRoom q c.args.comm c.args.rank) (sym c.make_instance.ensures.queues) c.in_ok-make_place.ensures.room;
       sharing = subst (λ place. plan.member < instances.size c.make_instance.new.self.matches (record { comm = c.args.comm; place = place; start = 0 }))

@@ -22,7 +22,7 @@ begun : (c : goal.After-new) → IsCore (parts c) × (seen (parts c) ≡ opened)
 begun c =
     let fits = c.in_ok-check.ensures.ok in
     let groups = c.in_ok-queues.ensures.groups in
-    opened_core (parts c) c.args.config.slots c.len-comms.result c.args.config.wear c.open_core.ensures
+    opened_core (parts c) c.args.config.slots c.len-comms.result c.args.config.wear
     c.in_ok-arena.ensures.opened fits.wear
     (ap length groups
     ∙ (length-map c.args.config.groups.items (λ (group : Vec ℕ Global). group.items) ∙ (sym c.args.config.groups.ok.0 ∙ sym c.len-comms.ensures)))

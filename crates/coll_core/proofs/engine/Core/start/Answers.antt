@@ -22,14 +22,14 @@ begin-requires-clause-can c =
     let r = the_record _ c.in_default.ensures.found in
     can_begin
     _ c.args.self.now c.make_start_room.new.self c.self.view_is c.in-Ok.ensures.same c.in-Ok.ensures.arena c.args.ticket c.self.invariant r.0 r.1
-    c.new_core.ensures c.in_default.ensures.low c.in-Ok.ensures.room
+    c.in_default.ensures.low c.in-Ok.ensures.room
 
 pub invariant_of-self : goal.invariant_of-self
 invariant_of-self c =
     let r = the_record _ c.in_default.ensures.found in
     started_core
     _ c.args.self.now c.make_start_room.new.self c.self.view_is c.in-Ok.ensures.same c.in-Ok.ensures.arena c.args.ticket c.self.invariant r.0 r.1
-    c.begin.new.arena c.begin.new.matches c.args.rank c.args.bytes c.in-Ok.buffer c.start_core.ensures
+    c.begin.new.arena c.begin.new.matches c.args.rank c.args.bytes c.in-Ok.buffer
     (read_as c.args.self.now c.args.rank c.args.ticket c.as_slice.result.now c.args.bytes _ c.as_slice.ensures c.in_default.ensures.refused)
     c.in_default.ensures.named (subst AreBytes c.as_slice.ensures c.in_default.ensures.bytes)
     c.in-Ok.ensures.buffer
@@ -40,7 +40,7 @@ returns-clause-starts c =
     let r = the_record _ c.in_default.ensures.found in
     starts
     _ c.args.self.now c.make_start_room.new.self c.self.view_is c.in-Ok.ensures.same c.in-Ok.ensures.arena c.args.ticket c.self.invariant r.0 r.1
-    c.begin.new.arena c.begin.new.matches c.args.rank c.args.bytes c.in-Ok.buffer c.start_core.ensures
+    c.begin.new.arena c.begin.new.matches c.args.rank c.args.bytes c.in-Ok.buffer
     (read_as c.args.self.now c.args.rank c.args.ticket c.as_slice.result.now c.args.bytes _ c.as_slice.ensures c.in_default.ensures.refused)
     c.in_default.ensures.named (subst AreBytes c.as_slice.ensures c.in_default.ensures.bytes)
     c.in-Ok.ensures.buffer
@@ -51,7 +51,7 @@ returns-clause-begins c =
     let r = the_record _ c.in_default.ensures.found in
     started_begins
     _ c.args.self.now c.make_start_room.new.self c.self.view_is c.in-Ok.ensures.same c.in-Ok.ensures.arena c.args.ticket c.self.invariant r.0 r.1
-    c.begin.new.arena c.begin.new.matches c.args.rank c.args.bytes c.in-Ok.buffer c.start_core.ensures
+    c.begin.new.arena c.begin.new.matches c.args.rank c.args.bytes c.in-Ok.buffer
     (read_as c.args.self.now c.args.rank c.args.ticket c.as_slice.result.now c.args.bytes _ c.as_slice.ensures c.in_default.ensures.refused)
     c.in_default.ensures.named (subst AreBytes c.as_slice.ensures c.in_default.ensures.bytes)
     c.in-Ok.ensures.buffer (subst (λ (bytes : List ℕ). IfSome (record_in c.self.inside.arena c.args.ticket.slot) (λ x. Begun c.self.inside.arena c.begin.new.arena c.self.inside.matches c.begin.new.matches c.args.ticket x bytes c.in-Ok.buffer)) (c.into_bytes-given.ensures ∙ c.in-Ok.ensures.bytes) c.begin.ensures) c.is_sound.ensures
