@@ -4,7 +4,7 @@ use Rattle.std.specs.List.{list_any, list_all}
 use Rattle.coll_history.specs.declared.command.Command.{Command}
 use Rattle.coll_history.specs.declared.command.Command.TheVariants.{Post, Init, Start, Wait, Test, Free}
 use Rattle.coll_history.specs.declared.command.Command.TheVariants.{WaitAny, WaitSome, WaitAll}
-use Rattle.coll_history.specs.declared.command.Told.{Told}
+use Rattle.coll_history.specs.declared.issued_command.IssuedCommand.{IssuedCommand}
 use Rattle.coll_diagnosis.specs.declared.cure.Move.{Move}
 use Rattle.coll_diagnosis.specs.declared.standstill.Lack.{Lack}
 use Rattle.coll_diagnosis.specs.declared.standstill.Pending.{Pending}
@@ -36,29 +36,29 @@ waits (WaitSome qs) = true
 waits (WaitAll qs) = true
 
 -- the rank starts a request in that line
-abbrev pub joins_in : ℕ → ℕ → Told → Bool
+abbrev pub joins_in : ℕ → ℕ → IssuedCommand → Bool
 joins_in rank line t = t.line == line && t.rank == rank && joins t.command
 
 -- the rank waits in that line
-abbrev pub waits_in : ℕ → ℕ → Told → Bool
+abbrev pub waits_in : ℕ → ℕ → IssuedCommand → Bool
 waits_in rank line t = t.line == line && t.rank == rank && waits t.command
 
 -- the member that lacks starts a request in the line that is told, behind a line in which it waits
-abbrev pub lack_holds : List Told → Lack → Bool
-lack_holds told lack =
+abbrev pub lack_holds : List IssuedCommand → Lack → Bool
+lack_holds issued lack =
     nat_lt lack.behind lack.line
-    && list_any (joins_in lack.rank lack.line) told
-    && list_any (waits_in lack.rank lack.behind) told
+    && list_any (joins_in lack.rank lack.line) issued
+    && list_any (waits_in lack.rank lack.behind) issued
 
 -- of the members for whom a request waits there are some, and all are told truly
-abbrev pub pending_holds : List Told → Pending → Bool
-pending_holds told pending =
-    not (length pending.lacks.items == 0) && list_all (lack_holds told) pending.lacks.items
+abbrev pub pending_holds : List IssuedCommand → Pending → Bool
+pending_holds issued pending =
+    not (length pending.lacks.items == 0) && list_all (lack_holds issued) pending.lacks.items
 
 -- likewise of the requests for which a rank waits
-abbrev pub stuck_holds : List Told → Stuck → Bool
-stuck_holds told stuck =
-    not (length stuck.requests.items == 0) && list_all (pending_holds told) stuck.requests.items
+abbrev pub stuck_holds : List IssuedCommand → Stuck → Bool
+stuck_holds issued stuck =
+    not (length stuck.requests.items == 0) && list_all (pending_holds issued) stuck.requests.items
 
 -- a rank of these is lacked
 abbrev pub lacks_one : List ℕ → Pending → Bool
@@ -74,13 +74,13 @@ circle_holds circle stuck =
     not (length circle == 0) && list_all (λ rank. list_any (waits_for_one circle rank) stuck) circle
 
 -- all ranks that wait are told truly, and some of them wait for one another
-abbrev pub standstill_holds : List Told → Standstill → Bool
-standstill_holds told standstill =
-    list_all (stuck_holds told) standstill.stuck.items
+abbrev pub standstill_holds : List IssuedCommand → Standstill → Bool
+standstill_holds issued standstill =
+    list_all (stuck_holds issued) standstill.stuck.items
     && circle_holds standstill.circle.items standstill.stuck.items
 
-abbrev pub IsStandstill : List Told → Standstill → Type 0
-IsStandstill told standstill = standstill_holds told standstill ≡ true
+abbrev pub IsStandstill : List IssuedCommand → Standstill → Type 0
+IsStandstill issued standstill = standstill_holds issued standstill ≡ true
 
 -- the line is moved behind a later one
 abbrev pub IsLater : Move → Type 0

@@ -41,7 +41,7 @@ impl Explanation {
     /// Judges a text without a fault. No run is searched for: each course lets all ranks go on while they can.
     pub fn of(alloc: Global, text: &[u8], script: &Script) -> Result<Explanation, Refusal>
         // What is shown is true of the commands of the text.
-        ensures shown { IfOk result (λ e. IfSome e.shown (λ shown. IsStandstill script.now.told shown.standstill)) }
+        ensures shown { IfOk result (λ e. IfSome e.shown (λ shown. IsStandstill script.now.commands shown.standstill)) }
         ensures never { IfOk result (λ e. e.verdict ≡ Never → e.shown ≡ None) }
         ensures cure { IfOk result (λ e. IfSome e.cure IsLater) }
         ensures uncured { IfOk result (λ e. is_always_here e.verdict ≡ false → e.cure ≡ None) }
@@ -78,13 +78,13 @@ fn stall_among(
     job: &Job,
     waiting: Waiting,
 ) -> Result<Option<Shown>, Refusal>
-    ensures { IfOk result (λ found. IfSome found (λ shown. IsStandstill script.now.told shown.standstill)) }
+    ensures { IfOk result (λ found. IfSome found (λ shown. IsStandstill script.now.commands shown.standstill)) }
 {
     for choice in [Choice::Best, Choice::First, Choice::Last] {
         let course = Course::of(alloc, job, waiting, choice)?;
         if course.is_stuck() {
             let standstill = Standstill::of(alloc, &course)?;
-            if !standstill.holds(script.history().told()) {
+            if !standstill.holds(script.history().commands()) {
                 return Err(Refusal::Torn);
             }
             return Ok(Some(Shown {

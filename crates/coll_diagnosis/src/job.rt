@@ -125,9 +125,9 @@ fn sections(alloc: Global, script: &Script) -> Result<Vec<Section>, AllocError> 
     for _ in 0..script.history().ranks() {
         sections.push(Section::new(alloc))?;
     }
-    for told in script.history().told() {
-        if let Some(section) = sections.get_mut(usize::from(told.rank)) {
-            section.say(alloc, told.line, &told.command)?;
+    for issued in script.history().commands() {
+        if let Some(section) = sections.get_mut(usize::from(issued.rank)) {
+            section.say(alloc, issued.line, &issued.command)?;
         }
     }
     end_all(&mut sections)?;

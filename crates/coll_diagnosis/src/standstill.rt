@@ -6,7 +6,7 @@ use crate::course::Course;
 use crate::place::{Peer, Place};
 use crate::section::Made;
 use crate::step::Act;
-use coll_history::{Command, Told};
+use coll_history::{Command, IssuedCommand};
 use coll_kinds::{MAX_RANKS, Mode};
 use serde::Serialize;
 use std::alloc::{AllocError, Global};
@@ -102,17 +102,17 @@ impl Standstill {
 
     /// Whether all that is told is true of these commands, and some ranks wait for one another. For each member that lacks
     /// the cost is linear in the commands.
-    pub fn holds(&self, told: &[Told]) -> bool
-        ensures { result ≡ standstill_holds told.now self.now }
+    pub fn holds(&self, issued: &[IssuedCommand]) -> bool
+        ensures { result ≡ standstill_holds issued.now self.now }
     {
-        self.all_hold(told) && self.circle_holds()
+        self.all_hold(issued) && self.circle_holds()
     }
 
     /// Whether what is told of each rank that waits is true.
-    fn all_hold(&self, told: &[Told]) -> bool
-        ensures { result ≡ list_all (stuck_holds told.now) self.now.stuck.items }
+    fn all_hold(&self, issued: &[IssuedCommand]) -> bool
+        ensures { result ≡ list_all (stuck_holds issued.now) self.now.stuck.items }
     {
-        self.stuck.iter().all(|stuck| stuck.holds(told))
+        self.stuck.iter().all(|stuck| stuck.holds(issued))
     }
 
     /// Whether there are ranks in the circle, and each of them waits for one of them.
@@ -142,16 +142,16 @@ impl Stuck {
     ghost use Rattle.std.specs.List.{list_any, list_all};
     ghost use Rattle.coll_diagnosis.specs.Standing.{stuck_holds, pending_holds, lacks_one};
 
-    fn holds(&self, told: &[Told]) -> bool
-        ensures { result ≡ stuck_holds told.now self.now }
+    fn holds(&self, issued: &[IssuedCommand]) -> bool
+        ensures { result ≡ stuck_holds issued.now self.now }
     {
-        !self.requests.is_empty() && self.all_hold(told)
+        !self.requests.is_empty() && self.all_hold(issued)
     }
 
-    fn all_hold(&self, told: &[Told]) -> bool
-        ensures { result ≡ list_all (pending_holds told.now) self.now.requests.items }
+    fn all_hold(&self, issued: &[IssuedCommand]) -> bool
+        ensures { result ≡ list_all (pending_holds issued.now) self.now.requests.items }
     {
-        self.requests.iter().all(|request| request.holds(told))
+        self.requests.iter().all(|request| request.holds(issued))
     }
 
     fn waits_for_one(&self, circle: &[u8]) -> bool
@@ -168,16 +168,16 @@ impl Pending {
     ghost use Rattle.std.specs.List.{list_all};
     ghost use Rattle.coll_diagnosis.specs.Standing.{pending_holds, lack_holds, lacks_one};
 
-    fn holds(&self, told: &[Told]) -> bool
-        ensures { result ≡ pending_holds told.now self.now }
+    fn holds(&self, issued: &[IssuedCommand]) -> bool
+        ensures { result ≡ pending_holds issued.now self.now }
     {
-        !self.lacks.is_empty() && self.all_hold(told)
+        !self.lacks.is_empty() && self.all_hold(issued)
     }
 
-    fn all_hold(&self, told: &[Told]) -> bool
-        ensures { result ≡ list_all (lack_holds told.now) self.now.lacks.items }
+    fn all_hold(&self, issued: &[IssuedCommand]) -> bool
+        ensures { result ≡ list_all (lack_holds issued.now) self.now.lacks.items }
     {
-        self.lacks.iter().all(|lack| lack.holds(told))
+        self.lacks.iter().all(|lack| lack.holds(issued))
     }
 
     fn lacks_one(&self, circle: &[u8]) -> bool
@@ -192,24 +192,28 @@ impl Lack {
     ghost use Rattle.std.specs.List.{list_any};
     ghost use Rattle.coll_diagnosis.specs.Standing.{lack_holds, joins_in, waits_in};
 
-    fn holds(&self, told: &[Told]) -> bool
-        ensures { result ≡ lack_holds told.now self.now }
+    fn holds(&self, issued: &[IssuedCommand]) -> bool
+        ensures { result ≡ lack_holds issued.now self.now }
     {
-        self.behind < self.line && self.joins(told) && self.waits(told)
+        self.behind < self.line && self.joins(issued) && self.waits(issued)
     }
 
-    fn joins(&self, told: &[Told]) -> bool
-        ensures { result ≡ list_any (joins_in self.now.rank self.now.line) told.now }
+    fn joins(&self, issued: &[IssuedCommand]) -> bool
+        ensures { result ≡ list_any (joins_in self.now.rank self.now.line) issued.now }
     {
         let (rank, line) = (self.rank, self.line);
-        told.iter().any(|told| told.line == line && told.rank == rank && joins(&told.command))
+        issued.iter().any(|issued| issued.line == line
+            && issued.rank == rank
+            && joins(&issued.command))
     }
 
-    fn waits(&self, told: &[Told]) -> bool
-        ensures { result ≡ list_any (waits_in self.now.rank self.now.behind) told.now }
+    fn waits(&self, issued: &[IssuedCommand]) -> bool
+        ensures { result ≡ list_any (waits_in self.now.rank self.now.behind) issued.now }
     {
         let (rank, line) = (self.rank, self.behind);
-        told.iter().any(|told| told.line == line && told.rank == rank && waits(&told.command))
+        issued.iter().any(|issued| issued.line == line
+            && issued.rank == rank
+            && waits(&issued.command))
     }
 
     fn is_among(&self, circle: &[u8]) -> bool

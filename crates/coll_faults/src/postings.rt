@@ -29,9 +29,9 @@ fn all_posted(alloc: Global, history: &History) -> Result<Vec<Vec<Posted>>, Allo
     for _ in 0..history.ranks() {
         ranks.push(Vec::new(alloc))?;
     }
-    for told in history.told() {
-        if let Some(posted) = ranks.get_mut(usize::from(told.rank)) {
-            note(alloc, posted, told.rank, told.line, &told.command)?;
+    for issued in history.commands() {
+        if let Some(posted) = ranks.get_mut(usize::from(issued.rank)) {
+            note(alloc, posted, issued.rank, issued.line, &issued.command)?;
         }
     }
     Ok(ranks)

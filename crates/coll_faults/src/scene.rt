@@ -74,9 +74,9 @@ impl Scene {
     /// requests that it names.
     pub(crate) fn made(&self, alloc: Global) -> Result<Vec<Made<'_>>, AllocError> {
         let mut made = Vec::new(alloc);
-        for told in self.history.told() {
-            if self.rank == Some(told.rank) {
-                note(&mut made, told.line, &told.command)?;
+        for issued in self.history.commands() {
+            if self.rank == Some(issued.rank) {
+                note(&mut made, issued.line, &issued.command)?;
             }
         }
         Ok(made)

@@ -163,7 +163,7 @@ const LONGEST: usize = 80;
 
 /// What the last command asks, where it is an `init`.
 pub(crate) fn last_signed(history: &History) -> Option<(u8, &Signature)> {
-    match &history.told().last()?.command {
+    match &history.commands().last()?.command {
         Command::Init { comm, sig } => Some((*comm, sig.sig())),
         _ => None,
     }

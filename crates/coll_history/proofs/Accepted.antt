@@ -12,7 +12,7 @@ use Rattle.coll_history.specs.declared.command.Command.TheVariants.{Post, Init, 
 use Rattle.coll_history.specs.Cutting.{words_of}
 use Rattle.coll_history.specs.Reading.{Reading, and_then, ◌>>=◌, give, fault, known, must, end, numbers}
 use Rattle.coll_history.specs.Histories.{History, beginning, postings, total}
-use Rattle.coll_history.specs.Lines.{number_within, rank_in, next, command_of, ranks, comm, section, tell, command, line_by, line}
+use Rattle.coll_history.specs.Lines.{number_within, rank_in, next, command_of, ranks, comm, section, issue, command, line_by, line}
 use Rattle.coll_history.specs.Judging.{in_line, judged}
 use Rattle.coll_history.specs.Writing.{Writes, Says, skipped_line, ranks_line, comm_line, rank_line, command_line, Tells}
 use Rattle.coll_history.specs.Laws.{CanBeSaid}
@@ -66,17 +66,17 @@ section-told number n h known_ranks few words a e =
 command-told : (number n : ℕ) (h : History) → h.ranks ≡ Some n → IsSmall h → (w : List ℕ) (words : List (List ℕ)) (a : History × List (List ℕ)) → command number w h words ≡ Ok a → CanTell number h a.0
 unfolding command
 command-told number n h known_ranks small w words a e =
-    let first = bind-is (known (command_of w) UnknownCommand) (λ read. known h.opened OutOfPlace >>= λ rank. read h rank >>= λ said. give (tell number rank said h)) words a e in
+    let first = bind-is (known (command_of w) UnknownCommand) (λ read. known h.opened OutOfPlace >>= λ rank. read h rank >>= λ issued. give (issue number rank issued h)) words a e in
     let read = first.0.0 in
-    let second = bind-is (known h.opened OutOfPlace) (λ rank. read h rank >>= λ said. give (tell number rank said h)) first.0.1 a first.2 in
+    let second = bind-is (known h.opened OutOfPlace) (λ rank. read h rank >>= λ issued. give (issue number rank issued h)) first.0.1 a first.2 in
     let rank = second.0.0 in
-    let third = bind-is (read h rank) (λ said. give (tell number rank said h)) second.0.1 a second.2 in
-    let said = third.0.0 in
-    let same : tell number rank said h ≡ a.0 = cc in
+    let third = bind-is (read h rank) (λ issued. give (issue number rank issued h)) second.0.1 a second.2 in
+    let issued = third.0.0 in
+    let same : issue number rank issued h ≡ a.0 = cc in
     let opened : h.opened ≡ Some rank = known-is h.opened OutOfPlace first.0.1 second.0 second.1 in
     let found : command_of w ≡ Some read = known-is (command_of w) UnknownCommand words first.0 first.1 in
     let can = command-sayable h rank small w read found second.0.1 third.0 third.1 in
-    subst (CanTell number h) same (can.0, command_line n rank said can.0 known_ranks opened can.1)
+    subst (CanTell number h) same (can.0, command_line n rank issued can.0 known_ranks opened can.1)
 
 -- one of two steps was taken
 chosen : (number : ℕ) (h : History) (b : Bool) (step other : Reading History) (words : List (List ℕ)) (a : History × List (List ℕ)) → (step words ≡ Ok a → CanTell number h a.0) → (other words ≡ Ok a → CanTell number h a.0) → cond b step other words ≡ Ok a → CanTell number h a.0
@@ -108,26 +108,26 @@ line-told number h last (w ∷ words) small e =
 
 -- ---- a history stays small
 
-command-small : (number rank : ℕ) (c : Command) (h : History) (words : List (List ℕ)) → Writes h rank c words → IsSmall h → total h.told + length (postings (c ∷ [])) ≤ 4096
+command-small : (number rank : ℕ) (c : Command) (h : History) (words : List (List ℕ)) → Writes h rank c words → IsSmall h → total h.commands + length (postings (c ∷ [])) ≤ 4096
 command-small number rank (Post comm sig given) h words w small = omega (arith, w.0.room)
 command-small number rank (Init comm sig) h words w small = omega (arith, w.0.room)
-command-small number rank (Start q given) h words w small = omega (arith, small.told)
-command-small number rank (Wait q) h words w small = omega (arith, small.told)
-command-small number rank (Test q) h words w small = omega (arith, small.told)
-command-small number rank (Free q) h words w small = omega (arith, small.told)
-command-small number rank (WaitAny qs) h words w small = omega (arith, small.told)
-command-small number rank (WaitSome qs) h words w small = omega (arith, small.told)
-command-small number rank (WaitAll qs) h words w small = omega (arith, small.told)
+command-small number rank (Start q given) h words w small = omega (arith, small.commands)
+command-small number rank (Wait q) h words w small = omega (arith, small.commands)
+command-small number rank (Test q) h words w small = omega (arith, small.commands)
+command-small number rank (Free q) h words w small = omega (arith, small.commands)
+command-small number rank (WaitAny qs) h words w small = omega (arith, small.commands)
+command-small number rank (WaitSome qs) h words w small = omega (arith, small.commands)
+command-small number rank (WaitAll qs) h words w small = omega (arith, small.commands)
 
 says-small : (number : ℕ) (h : History) (words : List (List ℕ)) (next : History) → Says number h words next → IsSmall h → IsSmall next
 says-small number h words next (skipped_line all are skipped) small = small
-says-small number h words next (ranks_line n none low high) small = record { ranks = high; groups = omega arith; told = small.told }
+says-small number h words next (ranks_line n none low high) small = record { ranks = high; groups = omega arith; commands = small.commands }
 says-small number h words next (comm_line n group known_ranks few closed room some are none) small =
-    record { ranks = small.ranks; groups = (let long = length-append h.groups (group ∷ []) in omega (arith, long, room)); told = small.told }
-says-small number h words next (rank_line n rank known_ranks few lt) small = record { ranks = small.ranks; groups = small.groups; told = small.told }
+    record { ranks = small.ranks; groups = (let long = length-append h.groups (group ∷ []) in omega (arith, long, room)); commands = small.commands }
+says-small number h words next (rank_line n rank known_ranks few lt) small = record { ranks = small.ranks; groups = small.groups; commands = small.commands }
 says-small number h words next (command_line n rank c w known_ranks opened writes) small =
-    let sum = total-more h.told (record { line = number; rank = rank; command = c }) in
-    record { ranks = small.ranks; groups = small.groups; told = omega (arith, sum, command-small number rank c h w writes small) }
+    let sum = total-more h.commands (record { line = number; rank = rank; command = c }) in
+    record { ranks = small.ranks; groups = small.groups; commands = omega (arith, sum, command-small number rank c h w writes small) }
 
 -- ---- texts
 
@@ -160,5 +160,5 @@ said-by (first ∷ lines) h tells = record { first = first; others = lines; tell
 -- what is accepted could have been said
 pub accepted-said : (lines : List (List ℕ)) (h : History) → judged 1 beginning lines ≡ Ok h → CanBeSaid h
 accepted-said lines h e =
-    let told = judged-told 1 beginning h lines (record { ranks = omega arith; groups = omega arith; told = omega arith }) e in
+    let told = judged-told 1 beginning h lines (record { ranks = omega arith; groups = omega arith; commands = omega arith }) e in
     said-by told.lines h told.tells

@@ -23,9 +23,9 @@ use Rattle.coll_history.specs.declared.command.Command.TheVariants.{Post, Init, 
 use Rattle.coll_history.specs.declared.verb.Verb.{Verb}
 use Rattle.coll_history.specs.declared.verb.Verb.TheVariants as verb
 use Rattle.coll_history.specs.Reading.{Reading, and_then, ◌>>=◌, give, known, must, end, numbers_from}
-use Rattle.coll_history.specs.Histories.{History, Posting, posting, group_of, said_by, is_startable, total}
+use Rattle.coll_history.specs.Histories.{History, Posting, posting, group_of, issued_by, is_startable, total}
 use Rattle.coll_history.specs.Lines.{next, request_in, communicator, fields, signature, due, colon, values, room, post, init, made, startable, start, free, one, some, all, wait, test, waitany, waitsome, waitall}
-use Rattle.coll_history.specs.Sound.{IsPosting, MaySay}
+use Rattle.coll_history.specs.Sound.{IsPosting, MayIssue}
 use Rattle.coll_history.specs.Code.{read_by}
 use Rattle.coll_history.proofs.Contributions.{given_len-whole}
 
@@ -125,17 +125,17 @@ signature-checked mode n words a e =
 
 -- there is room for one more request
 abbrev pub HasRoom : History → Command → Type 0
-HasRoom h c = IfSome (posting c) (λ p. total h.told < 4096)
+HasRoom h c = IfSome (posting c) (λ p. total h.commands < 4096)
 
 abbrev pub Allows : History → ℕ → Command → Type 0
-Allows h rank c = MaySay h.groups rank (said_by rank h.told) c × HasRoom h c
+Allows h rank c = MayIssue h.groups rank (issued_by rank h.commands) c × HasRoom h c
 
 last-is : (b : Bool) (cause : Cause) (c : Command) (words : List (List ℕ)) (a : Command × List (List ℕ)) → (must b cause >>= λ fits. give c) words ≡ Ok a → (b ≡ true) × (c ≡ a.0)
 last-is true cause c words a e = (refl, cc)
 last-is false cause c words a e = absurd cc
 
-pub room-is : (h : History) (c : Command) (words : List (List ℕ)) (a : Command × List (List ℕ)) → (room h >>= λ fits. give c) words ≡ Ok a → (c ≡ a.0) × (total h.told < 4096)
-room-is h c words a e = let last = last-is (ltb (total h.told) 4096) TooManyRequests c words a e in (last.1, ltb-true (total h.told) 4096 last.0)
+pub room-is : (h : History) (c : Command) (words : List (List ℕ)) (a : Command × List (List ℕ)) → (room h >>= λ fits. give c) words ≡ Ok a → (c ≡ a.0) × (total h.commands < 4096)
+room-is h c words a e = let last = last-is (ltb (total h.commands) 4096) TooManyRequests c words a e in (last.1, ltb-true (total h.commands) 4096 last.0)
 
 post-allowed : (h : History) (rank : ℕ) (words : List (List ℕ)) (a : Command × List (List ℕ)) → post h rank words ≡ Ok a → Allows h rank a.0
 unfolding post
@@ -169,17 +169,17 @@ init-allowed h rank words a e =
 -- the request that is read was posted so, and may be started
 abbrev pub IsStartable : History → ℕ → ℕ × Posting → Type 0
 IsStartable h rank it =
-    (slice_get (made h rank) it.0 ≡ Some it.1) × (is_startable it.0 it.1 (said_by rank h.told) ≡ true)
+    (slice_get (made h rank) it.0 ≡ Some it.1) × (is_startable it.0 it.1 (issued_by rank h.commands) ≡ true)
 
 pub startable-is : (h : History) (rank : ℕ) (words : List (List ℕ)) (a : (ℕ × Posting) × List (List ℕ))
     → startable h rank words ≡ Ok a → IsStartable h rank a.0
 unfolding startable
 startable-is h rank words a e =
-    let first = bind-is (next (request_in (length (made h rank)))) (λ q. known (slice_get (made h rank) q) UnknownRequest >>= λ p. must (is_startable q p (said_by rank h.told)) NotStartable >>= λ fits. give (q, p)) words a e in
+    let first = bind-is (next (request_in (length (made h rank)))) (λ q. known (slice_get (made h rank) q) UnknownRequest >>= λ p. must (is_startable q p (issued_by rank h.commands)) NotStartable >>= λ fits. give (q, p)) words a e in
     let q = first.0.0 in
-    let second = bind-is (known (slice_get (made h rank) q) UnknownRequest) (λ p. must (is_startable q p (said_by rank h.told)) NotStartable >>= λ fits. give (q, p)) first.0.1 a first.2 in
+    let second = bind-is (known (slice_get (made h rank) q) UnknownRequest) (λ p. must (is_startable q p (issued_by rank h.commands)) NotStartable >>= λ fits. give (q, p)) first.0.1 a first.2 in
     let p = second.0.0 in
-    let third = bind-is (must (is_startable q p (said_by rank h.told)) NotStartable) (λ fits. give (q, p)) second.0.1 a second.2 in
+    let third = bind-is (must (is_startable q p (issued_by rank h.commands)) NotStartable) (λ fits. give (q, p)) second.0.1 a second.2 in
     let same : (q, p) ≡ a.0 = cc in
     let there : slice_get (made h rank) q ≡ Some p = known-is _ UnknownRequest first.0.1 second.0 second.1 in
     subst (IsStartable h rank) same (there, must-is _ NotStartable second.0.1 third.0 third.1)

@@ -5,9 +5,9 @@ use Rattle.std.specs.List.{cons_option}
 use Rattle.std.proofs.lemmas.List.{length-append, length-map, length-take}
 use Rattle.std.proofs.lemmas.List.Elements.{filter_map-append}
 use Rattle.coll_history.specs.declared.command.Command.{Command}
-use Rattle.coll_history.specs.declared.command.Told.{Told}
-use Rattle.coll_history.specs.Histories.{posting, postings, said_by}
-use Rattle.coll_history.proofs.Keeping.{said-own, said-other}
+use Rattle.coll_history.specs.declared.issued_command.IssuedCommand.{IssuedCommand}
+use Rattle.coll_history.specs.Histories.{posting, postings, issued_by}
+use Rattle.coll_history.proofs.Keeping.{issued-own, issued-other}
 use Rattle.coll_history.proofs.Soundly.{take-next}
 
 length-filter_map : {X Y : Type 0} (f : X → Option Y) (xs : List X) → length (filter_map f xs) ≤ length xs
@@ -26,29 +26,29 @@ length-filter {X} p (x ∷ xs) = turn (p x) (length-filter p xs)
     turn true le = omega (arith, le)
     turn false le = omega (arith, le)
 
-pub length-made : (rank : ℕ) (told : List Told) → length (postings (said_by rank told)) ≤ length told
-length-made rank told =
-    let made = length-filter_map posting (said_by rank told) in
-    let said = length-map (filter (λ t. eqb t.rank rank) told) (λ (t : Told). t.command) in
-    let kept = length-filter (λ (t : Told). eqb t.rank rank) told in
-    omega (arith, made, said, kept)
+pub length-made : (rank : ℕ) (issued : List IssuedCommand) → length (postings (issued_by rank issued)) ≤ length issued
+length-made rank issued =
+    let made = length-filter_map posting (issued_by rank issued) in
+    let mapped = length-map (filter (λ t. eqb t.rank rank) issued) (λ (t : IssuedCommand). t.command) in
+    let kept = length-filter (λ (t : IssuedCommand). eqb t.rank rank) issued in
+    omega (arith, made, mapped, kept)
 
-pub length-made-take : (rank : ℕ) (told : List Told) (i : ℕ) → length (postings (said_by rank (take i told))) ≤ i
-length-made-take rank told i =
-    let made = length-made rank (take i told) in
-    let short = length-take i told in
+pub length-made-take : (rank : ℕ) (issued : List IssuedCommand) (i : ℕ) → length (postings (issued_by rank (take i issued))) ≤ i
+length-made-take rank issued i =
+    let made = length-made rank (take i issued) in
+    let short = length-take i issued in
     omega (arith, made, short)
 
 pub length-one : (c : Command) → length (postings (c ∷ [])) ≤ 1
 length-one c = length-filter_map posting (c ∷ [])
 
-pub said-next-own : (told : List Told) (i : ℕ) (t : Told) (rank : ℕ) → i < length told → t ≡ get_or told i t → t.rank ≡ rank → said_by rank (take (i + 1) told) ≡ said_by rank (take i told) ++ t.command ∷ []
-said-next-own told i t rank lt is own =
-    ap (said_by rank) (take-next told i t lt is) ∙ ap (λ r. said_by r (take i told ++ t ∷ [])) (sym own) ∙ said-own (take i told) t
-    ∙ ap (λ r. said_by r (take i told) ++ t.command ∷ []) own
+pub issued-next-own : (issued : List IssuedCommand) (i : ℕ) (t : IssuedCommand) (rank : ℕ) → i < length issued → t ≡ get_or issued i t → t.rank ≡ rank → issued_by rank (take (i + 1) issued) ≡ issued_by rank (take i issued) ++ t.command ∷ []
+issued-next-own issued i t rank lt is own =
+    ap (issued_by rank) (take-next issued i t lt is) ∙ ap (λ r. issued_by r (take i issued ++ t ∷ [])) (sym own) ∙ issued-own (take i issued) t
+    ∙ ap (λ r. issued_by r (take i issued) ++ t.command ∷ []) own
 
-pub said-next-other : (told : List Told) (i : ℕ) (t : Told) (rank : ℕ) → i < length told → t ≡ get_or told i t → (t.rank ≡ rank → ⊥) → said_by rank (take (i + 1) told) ≡ said_by rank (take i told)
-said-next-other told i t rank lt is ne = ap (said_by rank) (take-next told i t lt is) ∙ said-other rank (take i told) t (λ e. ne (sym e))
+pub issued-next-other : (issued : List IssuedCommand) (i : ℕ) (t : IssuedCommand) (rank : ℕ) → i < length issued → t ≡ get_or issued i t → (t.rank ≡ rank → ⊥) → issued_by rank (take (i + 1) issued) ≡ issued_by rank (take i issued)
+issued-next-other issued i t rank lt is ne = ap (issued_by rank) (take-next issued i t lt is) ∙ issued-other rank (take i issued) t (λ e. ne (sym e))
 
 pub made-next : (commands : List Command) (c : Command) → length (postings (commands ++ c ∷ [])) ≡ length (postings commands) + length (postings (c ∷ []))
 made-next commands c = ap length (filter_map-append posting commands (c ∷ [])) ∙ length-append (postings commands) (postings (c ∷ []))

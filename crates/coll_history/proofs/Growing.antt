@@ -10,12 +10,12 @@ use Rattle.coll_history.specs.declared.cause.Cause.{Cause}
 use Rattle.coll_history.specs.declared.cause.Cause.TheVariants.{MissingRanks, UnknownCommand, OutOfPlace, BadNumber, BadRank, BadCommunicator}
 use Rattle.coll_history.specs.declared.command.Command.{Command}
 use Rattle.coll_history.specs.declared.command.Command.TheVariants.{Post, Init, Start, Wait, Test, Free, WaitAny, WaitSome, WaitAll}
-use Rattle.coll_history.specs.declared.command.Told.{Told}
+use Rattle.coll_history.specs.declared.issued_command.IssuedCommand.{IssuedCommand}
 use Rattle.coll_history.specs.Cutting.{words_of}
 use Rattle.coll_history.specs.Reading.{Reading, and_then, ◌>>=◌, give, fault, known, must, end, numbers}
 use Rattle.coll_history.specs.Histories.{History, Posting}
 use Rattle.coll_history.specs.Requests.{Request, request, requests_after, requests_of, changed_at, started}
-use Rattle.coll_history.specs.Lines.{number_within, rank_in, next, command_of, ranks, comm, section, tell, command, later, line_by, line}
+use Rattle.coll_history.specs.Lines.{number_within, rank_in, next, command_of, ranks, comm, section, issue, command, later, line_by, line}
 use Rattle.coll_history.specs.Judging.{in_line, judged}
 
 -- once a section stands open, ranks and communicators stay as they are
@@ -25,22 +25,22 @@ pub record IsSettled (old new : History) : Type 0 where
   pub opened : is_some new.opened ≡ true
 
 pub record Grows (old new : History) : Type 0 where
-  pub more : List Told
-  pub told : new.told ≡ old.told ++ more
+  pub more : List IssuedCommand
+  pub commands : new.commands ≡ old.commands ++ more
   pub settled : is_some old.ranks ≡ true → is_some old.opened ≡ true → IsSettled old new
-  pub early : (is_some old.opened ≡ false → old.told ≡ []) → is_some new.opened ≡ false → new.told ≡ []
+  pub early : (is_some old.opened ≡ false → old.commands ≡ []) → is_some new.opened ≡ false → new.commands ≡ []
   pub begun : (is_some old.ranks ≡ false → is_some old.opened ≡ false) → is_some new.ranks ≡ false → is_some new.opened ≡ false
 
 settled-then : (a b c : History) → IsSettled a b → IsSettled b c → IsSettled a c
 settled-then a b c x y = record { groups = y.groups ∙ x.groups; ranks = y.ranks ∙ x.ranks; opened = y.opened }
 
 Grows-none : (h : History) → Grows h h
-Grows-none h = record { more = []; told = sym (append-nil h.told); settled = λ r o. record { groups = refl; ranks = refl; opened = o }; early = λ f e. f e; begun = λ f e. f e }
+Grows-none h = record { more = []; commands = sym (append-nil h.commands); settled = λ r o. record { groups = refl; ranks = refl; opened = o }; early = λ f e. f e; begun = λ f e. f e }
 
 Grows-then : (a b c : History) → Grows a b → Grows b c → Grows a c
 Grows-then a b c x y = record {
   more = x.more ++ y.more;
-  told = y.told ∙ ap (λ (t : List Told). t ++ y.more) x.told ∙ append_assoc a.told x.more y.more;
+  commands = y.commands ∙ ap (λ (t : List IssuedCommand). t ++ y.more) x.commands ∙ append_assoc a.commands x.more y.more;
   settled = λ r o. (let one = x.settled r o in settled-then a b c one (y.settled (ap is_some one.ranks ∙ r) one.opened));
   early = λ f e. y.early (x.early f) e;
   begun = λ f e. y.begun (x.begun f) e;
@@ -95,7 +95,7 @@ abbrev ranked : History → ℕ → History
 ranked h n = record h { ranks = Some n; groups = range_with_len 0 n ∷ [] }
 
 ranked-grows : (h : History) (n : ℕ) → h.ranks ≡ None → Grows h (ranked h n)
-ranked-grows h n none = record { more = []; told = sym (append-nil h.told); settled = λ r o. absurd (none-not h.ranks none r); early = λ f e. f e; begun = λ f e. absurd (some-not (Some n) n refl e) }
+ranked-grows h n none = record { more = []; commands = sym (append-nil h.commands); settled = λ r o. absurd (none-not h.ranks none r); early = λ f e. f e; begun = λ f e. absurd (some-not (Some n) n refl e) }
 
 ranks-grows : (h : History) → h.ranks ≡ None → GivesMore h (ranks h)
 unfolding ranks
@@ -107,7 +107,7 @@ abbrev grouped : History → List ℕ → History
 grouped h group = record h { groups = h.groups ++ group ∷ [] }
 
 grouped-grows : (h : History) (group : List ℕ) → is_none h.opened ≡ true → Grows h (grouped h group)
-grouped-grows h group none = record { more = []; told = sym (append-nil h.told); settled = λ r o. absurd (is_some-not h.opened o none); early = λ f e. f e; begun = λ f e. f e }
+grouped-grows h group none = record { more = []; commands = sym (append-nil h.commands); settled = λ r o. absurd (is_some-not h.opened o none); early = λ f e. f e; begun = λ f e. f e }
 
 comm-grows : (n : ℕ) (h : History) → GivesMore h (comm n h)
 unfolding comm
@@ -122,7 +122,7 @@ open_at h rank = record h { opened = Some rank }
 opened-grows : (h : History) (n rank : ℕ) → h.ranks ≡ Some n → Grows h (open_at h rank)
 opened-grows h n rank some = record {
   more = [];
-  told = sym (append-nil h.told);
+  commands = sym (append-nil h.commands);
   settled = λ r o. record { groups = refl; ranks = refl; opened = refl };
   early = λ f e. absurd (some-not (Some rank) rank refl e);
   begun = λ f e. absurd (some-not h.ranks n some e);
@@ -134,10 +134,10 @@ section-grows n h some =
     bind {A = ℕ} h (next (rank_in n)) (λ rank. end >>= λ ended. give (open_at h rank))
     (λ rank. bind {A = Unit {0}} h end (λ ended. give (open_at h rank)) (λ ended. gives h (open_at h rank) (opened-grows h n rank some)))
 
-tell-grows : (number rank : ℕ) (said : Command) (h : History) → h.opened ≡ Some rank → Grows h (tell number rank said h)
-tell-grows number rank said h some = record {
-  more = record { line = number; rank = rank; command = said } ∷ [];
-  told = refl;
+issue-grows : (number rank : ℕ) (issued : Command) (h : History) → h.opened ≡ Some rank → Grows h (issue number rank issued h)
+issue-grows number rank issued h some = record {
+  more = record { line = number; rank = rank; command = issued } ∷ [];
+  commands = refl;
   settled = λ r o. record { groups = refl; ranks = refl; opened = o };
   early = λ f e. absurd (some-not h.opened rank some e);
   begun = λ f e. f e;
@@ -146,9 +146,9 @@ tell-grows number rank said h some = record {
 command-grows : (number : ℕ) (first : List ℕ) (h : History) → GivesMore h (command number first h)
 unfolding command
 command-grows number first h =
-    bind {A = History → ℕ → Reading Command} h (known (command_of first) UnknownCommand) (λ read. known h.opened OutOfPlace >>= λ rank. read h rank >>= λ said. give (tell number rank said h))
-    (λ read. known-then {A = ℕ} h h.opened OutOfPlace (λ rank. read h rank >>= λ said. give (tell number rank said h))
-    (λ rank some. bind {A = Command} h (read h rank) (λ said. give (tell number rank said h)) (λ said. gives h (tell number rank said h) (tell-grows number rank said h some))))
+    bind {A = History → ℕ → Reading Command} h (known (command_of first) UnknownCommand) (λ read. known h.opened OutOfPlace >>= λ rank. read h rank >>= λ issued. give (issue number rank issued h))
+    (λ read. known-then {A = ℕ} h h.opened OutOfPlace (λ rank. read h rank >>= λ issued. give (issue number rank issued h))
+    (λ rank some. bind {A = Command} h (read h rank) (λ issued. give (issue number rank issued h)) (λ issued. gives h (issue number rank issued h) (issue-grows number rank issued h some))))
 
 later-grows : (number n : ℕ) (first : List ℕ) (h : History) → h.ranks ≡ Some n → GivesMore h (later number n first h)
 later-grows number n first h some =
@@ -217,14 +217,14 @@ after-adds groups line rank (WaitAny qs) requests = same-adds requests requests 
 after-adds groups line rank (WaitSome qs) requests = same-adds requests requests refl
 after-adds groups line rank (WaitAll qs) requests = same-adds requests requests refl
 
-fold-adds : (groups : List (List ℕ)) (told : List Told) (requests : List Request) → AddsTo requests (fold (λ rs t. requests_after groups t.line t.rank t.command rs) requests told)
+fold-adds : (groups : List (List ℕ)) (issued : List IssuedCommand) (requests : List Request) → AddsTo requests (fold (λ rs t. requests_after groups t.line t.rank t.command rs) requests issued)
 fold-adds groups [] requests = same-adds requests requests refl
-fold-adds groups (t ∷ told) requests =
+fold-adds groups (t ∷ issued) requests =
     let next = requests_after groups t.line t.rank t.command requests in
-    adds-then requests next (fold (λ rs u. requests_after groups u.line u.rank u.command rs) next told) (after-adds groups t.line t.rank t.command requests) (fold-adds groups told next)
+    adds-then requests next (fold (λ rs u. requests_after groups u.line u.rank u.command rs) next issued) (after-adds groups t.line t.rank t.command requests) (fold-adds groups issued next)
 
-pub requests-add : (groups : List (List ℕ)) (rank : ℕ) (told more : List Told) → AddsTo (requests_of groups rank told) (requests_of groups rank (told ++ more))
-requests-add groups rank told more =
-    let step = λ (rs : List Request) (t : Told). requests_after groups t.line t.rank t.command rs in
-    let mine = λ (t : Told). eqb t.rank rank in
-    subst (AddsTo (requests_of groups rank told)) (sym (ap (fold step []) (filter-append mine told more) ∙ fold-append step [] (filter mine told) (filter mine more))) (fold-adds groups (filter mine more) (requests_of groups rank told))
+pub requests-add : (groups : List (List ℕ)) (rank : ℕ) (issued more : List IssuedCommand) → AddsTo (requests_of groups rank issued) (requests_of groups rank (issued ++ more))
+requests-add groups rank issued more =
+    let step = λ (rs : List Request) (t : IssuedCommand). requests_after groups t.line t.rank t.command rs in
+    let mine = λ (t : IssuedCommand). eqb t.rank rank in
+    subst (AddsTo (requests_of groups rank issued)) (sym (ap (fold step []) (filter-append mine issued more) ∙ fold-append step [] (filter mine issued) (filter mine more))) (fold-adds groups (filter mine more) (requests_of groups rank issued))

@@ -14,9 +14,9 @@ use Rattle.coll_history.specs.declared.command.Command.TheVariants.{Post, Init, 
 use Rattle.coll_history.specs.declared.section.Entry.{Entry}
 use Rattle.coll_history.specs.declared.section.Section.{Section}
 use Rattle.coll_kinds.specs.Groups.{is_among}
-use Rattle.coll_history.specs.Histories.{Posting, posting, postings, said_by, starts, frees, waits_for, may_be_active}
+use Rattle.coll_history.specs.Histories.{Posting, posting, postings, issued_by, starts, frees, waits_for, may_be_active}
 use Rattle.coll_history.specs.Code.{posting_view, IsKeptOf, IsKept}
-use Rattle.coll_history.specs.declared.command.Told.{Told}
+use Rattle.coll_history.specs.declared.issued_command.IssuedCommand.{IssuedCommand}
 
 -- ---- no command
 
@@ -325,12 +325,12 @@ kept-later next commands section is = record {
   unmade = is.unmade;
 }
 
-pub said-own : (told : List Told) (t : Told) → said_by t.rank (told ++ t ∷ []) ≡ said_by t.rank told ++ t.command ∷ []
-said-own told t =
+pub issued-own : (issued : List IssuedCommand) (t : IssuedCommand) → issued_by t.rank (issued ++ t ∷ []) ≡ issued_by t.rank issued ++ t.command ∷ []
+issued-own issued t =
     let own : filter (λ u. eqb u.rank t.rank) (t ∷ []) ≡ t ∷ [] = rw (eqb-self t.rank) refl in
-    ap (map (λ (u : Told). u.command)) (filter-append (λ u. eqb u.rank t.rank) told (t ∷ []) ∙ ap (λ (us : List Told). filter (λ u. eqb u.rank t.rank) told ++ us) own) ∙ map-append _ (filter (λ u. eqb u.rank t.rank) told) (t ∷ [])
+    ap (map (λ (u : IssuedCommand). u.command)) (filter-append (λ u. eqb u.rank t.rank) issued (t ∷ []) ∙ ap (λ (us : List IssuedCommand). filter (λ u. eqb u.rank t.rank) issued ++ us) own) ∙ map-append _ (filter (λ u. eqb u.rank t.rank) issued) (t ∷ [])
 
-pub said-other : (rank : ℕ) (told : List Told) (t : Told) → rank ≢ t.rank → said_by rank (told ++ t ∷ []) ≡ said_by rank told
-said-other rank told t ne =
+pub issued-other : (rank : ℕ) (issued : List IssuedCommand) (t : IssuedCommand) → rank ≢ t.rank → issued_by rank (issued ++ t ∷ []) ≡ issued_by rank issued
+issued-other rank issued t ne =
     let other : filter (λ u. eqb u.rank rank) (t ∷ []) ≡ [] = rw (ne_eqb t.rank rank (λ e. ne (sym e))) refl in
-    ap (map (λ (u : Told). u.command)) (filter-append (λ u. eqb u.rank rank) told (t ∷ []) ∙ ap (λ (us : List Told). filter (λ u. eqb u.rank rank) told ++ us) other ∙ append-nil _)
+    ap (map (λ (u : IssuedCommand). u.command)) (filter-append (λ u. eqb u.rank rank) issued (t ∷ []) ∙ ap (λ (us : List IssuedCommand). filter (λ u. eqb u.rank rank) issued ++ us) other ∙ append-nil _)

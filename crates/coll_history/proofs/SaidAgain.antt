@@ -15,17 +15,17 @@ use Rattle.coll_history.specs.declared.command.Command.{Command}
 use Rattle.coll_history.specs.declared.command.Command.TheVariants.{Post, Init, Start, Wait, Test, Free, WaitAny, WaitSome, WaitAll}
 use Rattle.coll_history.specs.Reading.{and_then}
 use Rattle.coll_history.specs.Histories.{History, group_of, Posting, total}
-use Rattle.coll_history.specs.Lines.{communicator, signature, due, made, post, init, startable, start, free, some, all, command, tell, line}
+use Rattle.coll_history.specs.Lines.{communicator, signature, due, made, post, init, startable, start, free, some, all, command, issue, line}
 use Rattle.coll_history.specs.Writing.{AreValues, value_words, signature_words, members, MayPost, MayStart, IsMade, MayName, IsSome, Writes}
 use Rattle.coll_history.proofs.Again.{number-again, request-again, numbers-again, values-again, signature-again}
 
 -- what the words behind the first one are read as, a line is read as
 module _ (number rank n : ℕ) (h : History) (ranks : h.ranks ≡ Some n) (opened : h.opened ≡ Some rank) where
-  pub wait-line : (q : ℕ) → IsMade h rank q → line number h (codes "wait" ∷ decimal q ∷ []) ≡ Ok (tell number rank (Wait q) h)
+  pub wait-line : (q : ℕ) → IsMade h rank q → line number h (codes "wait" ∷ decimal q ∷ []) ≡ Ok (issue number rank (Wait q) h)
   unfolding line command
   wait-line q is = rw (ranks, opened, request-again (length (made h rank)) q is.0 is.1) refl
 
-  pub test-line : (q : ℕ) → IsMade h rank q → line number h (codes "test" ∷ decimal q ∷ []) ≡ Ok (tell number rank (Test q) h)
+  pub test-line : (q : ℕ) → IsMade h rank q → line number h (codes "test" ∷ decimal q ∷ []) ≡ Ok (issue number rank (Test q) h)
   unfolding line command
   test-line q is = rw (ranks, opened, request-again (length (made h rank)) q is.0 is.1) refl
 
@@ -37,19 +37,19 @@ module _ (number rank n : ℕ) (h : History) (ranks : h.ranks ≡ Some n) (opene
   all-again [] one may = absurd one
   all-again (q ∷ qs) one may = some-again (q ∷ qs) one may
 
-  pub waitany-line : (qs : List ℕ) → IsSome qs → MayName h rank qs → line number h (codes "waitany" ∷ map decimal qs) ≡ Ok (tell number rank (WaitAny qs) h)
+  pub waitany-line : (qs : List ℕ) → IsSome qs → MayName h rank qs → line number h (codes "waitany" ∷ map decimal qs) ≡ Ok (issue number rank (WaitAny qs) h)
   unfolding line command
   waitany-line qs one may = rw (ranks, opened, some-again qs one may) refl
 
-  pub waitsome-line : (qs : List ℕ) → IsSome qs → MayName h rank qs → line number h (codes "waitsome" ∷ map decimal qs) ≡ Ok (tell number rank (WaitSome qs) h)
+  pub waitsome-line : (qs : List ℕ) → IsSome qs → MayName h rank qs → line number h (codes "waitsome" ∷ map decimal qs) ≡ Ok (issue number rank (WaitSome qs) h)
   unfolding line command
   waitsome-line qs one may = rw (ranks, opened, some-again qs one may) refl
 
-  pub waitall-line : (qs : List ℕ) → IsSome qs → MayName h rank qs → line number h (codes "waitall" ∷ map decimal qs) ≡ Ok (tell number rank (WaitAll qs) h)
+  pub waitall-line : (qs : List ℕ) → IsSome qs → MayName h rank qs → line number h (codes "waitall" ∷ map decimal qs) ≡ Ok (issue number rank (WaitAll qs) h)
   unfolding line command
   waitall-line qs one may = rw (ranks, opened, all-again qs one may) refl
 
-  pub waitall-bare : line number h (codes "waitall" ∷ []) ≡ Ok (tell number rank (WaitAll (range_with_len 0 (length (made h rank)))) h)
+  pub waitall-bare : line number h (codes "waitall" ∷ []) ≡ Ok (issue number rank (WaitAll (range_with_len 0 (length (made h rank)))) h)
   unfolding line command
   waitall-bare = rw (ranks, opened) refl
 
@@ -57,12 +57,12 @@ module _ (number rank n : ℕ) (h : History) (ranks : h.ranks ≡ Some n) (opene
   unfolding startable
   startable-again q p rest may = rw (request-again (length (made h rank)) q may.small (slice_get_within (made h rank) q p may.posted), may.posted, may.startable) refl
 
-  pub free-line : (q : ℕ) (p : Posting) → MayStart h rank q p → line number h (codes "free" ∷ decimal q ∷ []) ≡ Ok (tell number rank (Free q) h)
+  pub free-line : (q : ℕ) (p : Posting) → MayStart h rank q p → line number h (codes "free" ∷ decimal q ∷ []) ≡ Ok (issue number rank (Free q) h)
   unfolding line command free startable
   free-line q p may = rw (ranks, opened, startable-again q p [] may) refl
 
   pub start-line : (q : ℕ) (p : Posting) (elements : List Element) (given : List ℕ) → MayStart h rank q p → AreValues p.sig.ty (due h.groups rank p.comm p.sig / width p.sig.ty) elements given
-      → line number h (codes "start" ∷ decimal q ∷ value_words elements) ≡ Ok (tell number rank (Start q given) h)
+      → line number h (codes "start" ∷ decimal q ∷ value_words elements) ≡ Ok (issue number rank (Start q given) h)
   unfolding line command start startable
   start-line q p elements given may are =
       rw (ranks, opened, startable-again q p (value_words elements) may, values-again p.sig.ty (due h.groups rank p.comm p.sig / width p.sig.ty) elements given are) refl
@@ -77,10 +77,10 @@ module _ (number rank n : ℕ) (h : History) (ranks : h.ranks ≡ Some n) (opene
       subst (λ (m : Mode). signature m (length (group_of h.groups comm)) (signature_words (members h comm) sig ++ rest) ≡ Ok (sig, rest)) may.mode_is here
 
   pub post-line : (comm : ℕ) (sig : Signature) (elements : List Element) (given : List ℕ) → MayPost h rank Once comm sig → AreValues sig.ty (due h.groups rank comm sig / width sig.ty) elements given
-      → line number h (codes "post" ∷ decimal comm ∷ (signature_words (members h comm) sig ++ value_words elements)) ≡ Ok (tell number rank (Post comm sig given) h)
+      → line number h (codes "post" ∷ decimal comm ∷ (signature_words (members h comm) sig ++ value_words elements)) ≡ Ok (issue number rank (Post comm sig given) h)
   unfolding line command post
   post-line comm sig elements given may are =
-      let room : nat_lt (total h.told) 4096 ≡ true = lt-ltb (total h.told) 4096 may.room in
+      let room : nat_lt (total h.commands) 4096 ≡ true = lt-ltb (total h.commands) 4096 may.room in
       rw (
         ranks,
         opened,
@@ -90,16 +90,16 @@ module _ (number rank n : ℕ) (h : History) (ranks : h.ranks ≡ Some n) (opene
         room,
       ) refl
 
-  pub init-line : (comm : ℕ) (sig : Signature) → MayPost h rank Persistent comm sig → line number h (codes "init" ∷ decimal comm ∷ signature_words (members h comm) sig) ≡ Ok (tell number rank (Init comm sig) h)
+  pub init-line : (comm : ℕ) (sig : Signature) → MayPost h rank Persistent comm sig → line number h (codes "init" ∷ decimal comm ∷ signature_words (members h comm) sig) ≡ Ok (issue number rank (Init comm sig) h)
   unfolding line command init
   init-line comm sig may =
-      let room : nat_lt (total h.told) 4096 ≡ true = lt-ltb (total h.told) 4096 may.room in
+      let room : nat_lt (total h.commands) 4096 ≡ true = lt-ltb (total h.commands) 4096 may.room in
       let sig-is : signature Persistent (length (group_of h.groups comm)) (signature_words (members h comm) sig) ≡ Ok (sig, []) =
       ap (signature Persistent (length (group_of h.groups comm))) (sym (append-nil (signature_words (members h comm) sig))) ∙ sig-again Persistent comm sig [] may in
       rw (ranks, opened, communicator-again Persistent comm sig (signature_words (members h comm) sig) may, sig-is, room) refl
 
   -- what is written is read
-  pub command-again : (c : Command) (words : List (List ℕ)) → Writes h rank c words → line number h words ≡ Ok (tell number rank c h)
+  pub command-again : (c : Command) (words : List (List ℕ)) → Writes h rank c words → line number h words ≡ Ok (issue number rank c h)
   command-again (Post comm sig given) words w = rw w.3 (post-line comm sig w.1 given w.0 w.2)
   command-again (Init comm sig) words w = rw w.1 (init-line comm sig w.0)
   command-again (Start q given) words w = rw w.4 (start-line q w.0 w.2 given w.1 w.3)

@@ -38,10 +38,10 @@ use Rattle.coll_history.proofs.Readers.{count-le}
 pub record IsSmall (h : History) : Type 0 where
   pub ranks : unwrap_or h.ranks 0 ≤ 64
   pub groups : length h.groups ≤ 16
-  pub told : total h.told ≤ 4096
+  pub commands : total h.commands ≤ 4096
 
 few-made : (h : History) (rank : ℕ) → IsSmall h → length (made h rank) ≤ 4096
-few-made h rank small = omega (arith, small.told, count-le rank h.told)
+few-made h rank small = omega (arith, small.commands, count-le rank h.commands)
 
 -- ---- numbers
 
@@ -281,7 +281,7 @@ signature-is mode n words a e =
 abbrev pub CanSay : History → ℕ → Command → Type 0
 CanSay h rank c = (words : List (List ℕ)) × Writes h rank c words
 
-may-post : (h : History) (rank : ℕ) (mode : Mode) (comm : ℕ) (sig : Signature) → IsSmall h → IsPosting h.groups rank comm sig → IsWritten mode (members h comm) sig → total h.told < 4096 → MayPost h rank mode comm sig
+may-post : (h : History) (rank : ℕ) (mode : Mode) (comm : ℕ) (sig : Signature) → IsSmall h → IsPosting h.groups rank comm sig → IsWritten mode (members h comm) sig → total h.commands < 4096 → MayPost h rank mode comm sig
 may-post h rank mode comm sig small is written room = record {
   small = (let within = slice_get_within h.groups comm is.group is.known in omega (arith, within, small.groups));
   group = is.group;

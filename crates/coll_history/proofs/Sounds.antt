@@ -7,15 +7,15 @@ use Rattle.std.proofs.lemmas.List.Elements.{filter_map-append}
 use Rattle.coll_kinds.specs.Groups.{IsGroup}
 use Rattle.coll_kinds.proofs.Members.{IsGroup-range}
 use Rattle.coll_history.specs.declared.command.Command.{Command}
-use Rattle.coll_history.specs.declared.command.Told.{Told}
-use Rattle.coll_history.specs.Histories.{History, Posting, posting, postings, said_by, total, beginning}
-use Rattle.coll_history.specs.Lines.{tell}
-use Rattle.coll_history.specs.Sound.{MaySay, AreSaid, IsHistory}
+use Rattle.coll_history.specs.declared.issued_command.IssuedCommand.{IssuedCommand}
+use Rattle.coll_history.specs.Histories.{History, Posting, posting, postings, issued_by, total, beginning}
+use Rattle.coll_history.specs.Lines.{issue}
+use Rattle.coll_history.specs.Sound.{MayIssue, AreAllowed, IsHistory}
 use Rattle.coll_history.specs.Code.{begun}
 use Rattle.coll_history.proofs.Lists.{AllByRecursion-push, AllByRecursion-weaker}
 
 pub IsHistory-beginning : IsHistory 1 beginning
-IsHistory-beginning = record { few_ranks = omega arith; few_groups = omega arith; groups = tt; begun = λ e. refl; opened = tt; early = λ e. refl; said = tt; few_told = omega arith; few = omega arith }
+IsHistory-beginning = record { few_ranks = omega arith; few_groups = omega arith; groups = tt; begun = λ e. refl; opened = tt; early = λ e. refl; allowed = tt; few_commands = omega arith; few = omega arith }
 
 pub IsHistory-later : (number more : ℕ) (h : History) → number ≤ more → IsHistory number h → IsHistory more h
 IsHistory-later number more h le is = record {
@@ -25,8 +25,8 @@ IsHistory-later number more h le is = record {
   begun = is.begun;
   opened = is.opened;
   early = is.early;
-  said = is.said;
-  few_told = omega (arith, is.few_told, le);
+  allowed = is.allowed;
+  few_commands = omega (arith, is.few_commands, le);
   few = is.few;
 }
 
@@ -39,22 +39,22 @@ few-members n groups are = AllByRecursion-weaker (IsGroup n) (λ group. length g
 pub IsHistory-begun : (number n : ℕ) (h : History) → IsHistory number h → h.ranks ≡ None → n ≤ 64 → IsHistory (number + 1) (begun n h)
 IsHistory-begun number n h is none few =
     let closed : h.opened ≡ None = is.begun none in
-    let told : h.told ≡ [] = is.early closed in
+    let issued : h.commands ≡ [] = is.early closed in
     record {
       few_ranks = few;
       few_groups = omega arith;
       groups = (IsGroup-range n few, tt);
       begun = λ e. absurd cc;
       opened = rw closed tt;
-      early = λ e. told;
-      said = rw told tt;
-      few_told = omega (arith, is.few_told);
+      early = λ e. issued;
+      allowed = rw issued tt;
+      few_commands = omega (arith, is.few_commands);
       few = is.few;
     }
 
 pub IsHistory-group : (number n : ℕ) (group : List ℕ) (h : History) → IsHistory number h → h.ranks ≡ Some n → h.opened ≡ None → IsGroup n group → length h.groups < 16 → IsHistory (number + 1) (record h { groups = h.groups ++ group ∷ [] })
 IsHistory-group number n group h is ranks closed fits room =
-    let told : h.told ≡ [] = is.early closed in
+    let issued : h.commands ≡ [] = is.early closed in
     record {
       few_ranks = is.few_ranks;
       few_groups = omega (arith, length-append h.groups (group ∷ []), room);
@@ -62,8 +62,8 @@ IsHistory-group number n group h is ranks closed fits room =
       begun = is.begun;
       opened = is.opened;
       early = is.early;
-      said = rw told tt;
-      few_told = omega (arith, is.few_told);
+      allowed = rw issued tt;
+      few_commands = omega (arith, is.few_commands);
       few = is.few;
     }
 
@@ -75,37 +75,37 @@ IsHistory-section number n rank h is ranks lt = record {
   begun = λ none. absurd (let both : None ≡ Some n = sym none ∙ ranks in cc);
   opened = rw ranks lt;
   early = λ e. absurd cc;
-  said = is.said;
-  few_told = omega (arith, is.few_told);
+  allowed = is.allowed;
+  few_commands = omega (arith, is.few_commands);
   few = is.few;
 }
 
 -- ---- commands
 
-AreSaid-push : (n : ℕ) (groups : List (List ℕ)) (before told : List Told) (t : Told) → AreSaid n groups before told → (t.rank < n) × MaySay groups t.rank (said_by t.rank (before ++ told)) t.command
-    → AreSaid n groups before (told ++ t ∷ [])
-AreSaid-push n groups before [] t said may = (subst (λ (ts : List Told). (t.rank < n) × MaySay groups t.rank (said_by t.rank ts) t.command) (append-nil before) may, tt)
-AreSaid-push n groups before (u ∷ told) t said may =
-    (said.0, AreSaid-push n groups (before ++ u ∷ []) told t said.1 (subst (λ (ts : List Told). (t.rank < n) × MaySay groups t.rank (said_by t.rank ts) t.command) (sym (append_assoc before (u ∷ []) told)) may))
+AreAllowed-push : (n : ℕ) (groups : List (List ℕ)) (before issued : List IssuedCommand) (t : IssuedCommand) → AreAllowed n groups before issued → (t.rank < n) × MayIssue groups t.rank (issued_by t.rank (before ++ issued)) t.command
+    → AreAllowed n groups before (issued ++ t ∷ [])
+AreAllowed-push n groups before [] t allowed may = (subst (λ (ts : List IssuedCommand). (t.rank < n) × MayIssue groups t.rank (issued_by t.rank ts) t.command) (append-nil before) may, tt)
+AreAllowed-push n groups before (u ∷ issued) t allowed may =
+    (allowed.0, AreAllowed-push n groups (before ++ u ∷ []) issued t allowed.1 (subst (λ (ts : List IssuedCommand). (t.rank < n) × MayIssue groups t.rank (issued_by t.rank ts) t.command) (sym (append_assoc before (u ∷ []) issued)) may))
 
 -- a command makes one request or none
 length-made : (c : Command) (o : Option Posting) → posting c ≡ o → length (postings (c ∷ [])) ≡ length (filter_map (λ (p : Option Posting). p) (o ∷ []))
 length-made c None e = rw e refl
 length-made c (Some p) e = rw e refl
 
-pub total-more : (told : List Told) (t : Told) → total (told ++ t ∷ []) ≡ total told + length (postings (t.command ∷ []))
-total-more told t =
-    ap length (ap postings (map-append (λ (u : Told). u.command) told (t ∷ [])) ∙ filter_map-append posting (map (λ (u : Told). u.command) told) (t.command ∷ []))
-    ∙ length-append (postings (map (λ (u : Told). u.command) told)) (postings (t.command ∷ []))
+pub total-more : (issued : List IssuedCommand) (t : IssuedCommand) → total (issued ++ t ∷ []) ≡ total issued + length (postings (t.command ∷ []))
+total-more issued t =
+    ap length (ap postings (map-append (λ (u : IssuedCommand). u.command) issued (t ∷ [])) ∙ filter_map-append posting (map (λ (u : IssuedCommand). u.command) issued) (t.command ∷ []))
+    ∙ length-append (postings (map (λ (u : IssuedCommand). u.command) issued)) (postings (t.command ∷ []))
 
-few-more : (told : List Told) (t : Told) (o : Option Posting) → posting t.command ≡ o → total told ≤ 4096 → IfSome o (λ p. total told < 4096) → total (told ++ t ∷ []) ≤ 4096
-few-more told t None e few room = let made : length (postings (t.command ∷ [])) ≡ 0 = length-made t.command None e in omega (arith, total-more told t, made, few)
-few-more told t (Some p) e few room = let made : length (postings (t.command ∷ [])) ≡ 1 = length-made t.command (Some p) e in omega (arith, total-more told t, made, room)
+few-more : (issued : List IssuedCommand) (t : IssuedCommand) (o : Option Posting) → posting t.command ≡ o → total issued ≤ 4096 → IfSome o (λ p. total issued < 4096) → total (issued ++ t ∷ []) ≤ 4096
+few-more issued t None e few room = let made : length (postings (t.command ∷ [])) ≡ 0 = length-made t.command None e in omega (arith, total-more issued t, made, few)
+few-more issued t (Some p) e few room = let made : length (postings (t.command ∷ [])) ≡ 1 = length-made t.command (Some p) e in omega (arith, total-more issued t, made, room)
 
-pub IsHistory-told : (number rank : ℕ) (c : Command) (h : History) → IsHistory number h → h.opened ≡ Some rank → rank < unwrap_or h.ranks 0 → MaySay h.groups rank (said_by rank h.told) c → IfSome (posting c) (λ p. total h.told < 4096)
-    → IsHistory (number + 1) (tell number rank c h)
-IsHistory-told number rank c h is opened lt may room =
-    let t : Told = record { line = number; rank = rank; command = c } in
+pub IsHistory-issued : (number rank : ℕ) (c : Command) (h : History) → IsHistory number h → h.opened ≡ Some rank → rank < unwrap_or h.ranks 0 → MayIssue h.groups rank (issued_by rank h.commands) c → IfSome (posting c) (λ p. total h.commands < 4096)
+    → IsHistory (number + 1) (issue number rank c h)
+IsHistory-issued number rank c h is opened lt may room =
+    let t : IssuedCommand = record { line = number; rank = rank; command = c } in
     record {
       few_ranks = is.few_ranks;
       few_groups = is.few_groups;
@@ -113,7 +113,7 @@ IsHistory-told number rank c h is opened lt may room =
       begun = is.begun;
       opened = is.opened;
       early = λ none. absurd (let both : None ≡ Some rank = sym none ∙ opened in cc);
-      said = AreSaid-push (unwrap_or h.ranks 0) h.groups [] h.told t is.said (lt, may);
-      few_told = omega (arith, is.few_told, length-append h.told (t ∷ []));
-      few = few-more h.told t (posting c) refl is.few room;
+      allowed = AreAllowed-push (unwrap_or h.ranks 0) h.groups [] h.commands t is.allowed (lt, may);
+      few_commands = omega (arith, is.few_commands, length-append h.commands (t ∷ []));
+      few = few-more h.commands t (posting c) refl is.few room;
     }

@@ -16,7 +16,7 @@ use Rattle.coll_history.specs.declared.reader.Reader.{Reader}
 use Rattle.coll_history.specs.declared.request.Request as rust_request
 use Rattle.coll_history.specs.declared.section.Entry.{Entry}
 use Rattle.coll_history.specs.declared.section.Section.{Section}
-use Rattle.coll_history.specs.Histories.{History, Posting, postings, said_by, may_be_active, frees, total}
+use Rattle.coll_history.specs.Histories.{History, Posting, postings, issued_by, may_be_active, frees, total}
 use Rattle.coll_history.specs.Requests.{Request}
 use Rattle.coll_history.specs.Reading.{Reading}
 use Rattle.coll_history.specs.Lines.{post, init, start, wait, test, free, waitany, waitsome, waitall}
@@ -52,7 +52,7 @@ posting_view p = record { comm = p.comm; sig = p.sig }
 
 -- the history that a reader has read: its counters and stamps are left out
 abbrev pub history_of : Reader → History
-history_of r = record { ranks = r.ranks; groups = rows_view r.groups.items; opened = r.opened; told = r.told.items }
+history_of r = record { ranks = r.ranks; groups = rows_view r.groups.items; opened = r.opened; commands = r.commands.items }
 
 -- ---- what was read
 
@@ -174,8 +174,8 @@ pub record IsReader (next : ℕ) (r : Reader) : Type 0 where
   pub history : IsHistory next (history_of r)
   pub members : AllByRecursion (λ group. length group ≤ 64) (rows_view r.groups.items)
   pub sections : length r.sections.items ≡ unwrap_or r.ranks 0
-  pub kept : (rank : ℕ) → IfSome (slice_get r.sections.items rank) (IsKept next (said_by rank r.told.items))
-  pub total : r.total ≡ total r.told.items
+  pub kept : (rank : ℕ) → IfSome (slice_get r.sections.items rank) (IsKept next (issued_by rank r.commands.items))
+  pub total : r.total ≡ total r.commands.items
 
 -- the stamps kept beside a history: a list for each rank, of lines before the next one
 pub record IsStamped (next : ℕ) (r : Reader) : Type 0 where
@@ -183,13 +183,13 @@ pub record IsStamped (next : ℕ) (r : Reader) : Type 0 where
   pub each :
       (rank : ℕ)
       → IfSome (slice_get r.stamps.items rank)
-      (λ stamps. AreStamps next (length (postings (said_by rank r.told.items))) stamps.items)
+      (λ stamps. AreStamps next (length (postings (issued_by rank r.commands.items))) stamps.items)
 
 -- only stamps were written
 pub record SameButStamps (old new : Reader) : Type 0 where
   pub ranks : new.ranks ≡ old.ranks
   pub groups : new.groups ≡ old.groups
   pub opened : new.opened ≡ old.opened
-  pub told : new.told ≡ old.told
+  pub commands : new.commands ≡ old.commands
   pub sections : new.sections ≡ old.sections
   pub total : new.total ≡ old.total

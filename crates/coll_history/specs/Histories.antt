@@ -7,7 +7,7 @@ use Rattle.coll_kinds.specs.declared.kind.Mode.TheVariants.{Once, Persistent}
 use Rattle.coll_kinds.specs.declared.signature.Signature.{Signature}
 use Rattle.coll_history.specs.declared.command.Command.{Command}
 use Rattle.coll_history.specs.declared.command.Command.TheVariants.{Post, Init, Start, Wait, Free, WaitAll}
-use Rattle.coll_history.specs.declared.command.Told.{Told}
+use Rattle.coll_history.specs.declared.issued_command.IssuedCommand.{IssuedCommand}
 use Rattle.coll_kinds.specs.Groups.{is_among}
 
 -- what the lines so far have said
@@ -15,11 +15,11 @@ pub record History : Type 0 where
   pub ranks : Option ℕ  -- the number of ranks, once it is said
   pub groups : List (List ℕ)  -- the group of each communicator, by its number
   pub opened : Option ℕ  -- the rank whose section stands open
-  pub told : List Told  -- the commands, in the order of their lines
+  pub commands : List IssuedCommand  -- the commands of all ranks, in the order of their lines
 
 -- before the first line
 abbrev pub beginning : History
-beginning = record { ranks = None; groups = []; opened = None; told = [] }
+beginning = record { ranks = None; groups = []; opened = None; commands = [] }
 
 -- ---- groups
 
@@ -68,9 +68,9 @@ waits_for q command = false
 
 -- ---- what a section says of its requests
 
--- the commands of a rank, in the order of their lines
-abbrev pub said_by : ℕ → List Told → List Command
-said_by rank told = map (λ t. t.command) (filter (λ t. t.rank == rank) told)
+-- the commands that a rank issues, in the order of their lines
+abbrev pub issued_by : ℕ → List IssuedCommand → List Command
+issued_by rank issued = map (λ t. t.command) (filter (λ t. t.rank == rank) issued)
 
 -- its requests: they are numbered from 0, in the order of these lines
 abbrev pub postings : List Command → List Posting
@@ -95,8 +95,8 @@ is_startable q p commands =
 
 -- the commands of a rank, and behind the last line of its section an unwritten `waitall` of all its requests
 abbrev pub commands_of : History → ℕ → List Command
-commands_of h rank = said_by rank h.told ++ WaitAll (range_with_len 0 (length (postings (said_by rank h.told)))) ∷ []
+commands_of h rank = issued_by rank h.commands ++ WaitAll (range_with_len 0 (length (postings (issued_by rank h.commands)))) ∷ []
 
 -- how many requests there are in all
-abbrev pub total : List Told → ℕ
-total told = length (postings (map (λ t. t.command) told))
+abbrev pub total : List IssuedCommand → ℕ
+total issued = length (postings (map (λ t. t.command) issued))

@@ -27,7 +27,7 @@ use Rattle.coll_history.specs.declared.command.Command.TheVariants.{WaitAny, Wai
 use Rattle.coll_kinds.specs.Words.{kind_of, operation_of, datatype_of}
 use Rattle.coll_kinds.specs.Groups.{member_of}
 use Rattle.coll_history.specs.Reading.{Reading, and_then, ◌>>=◌, give, fault, known, must, word, end, numbers}
-use Rattle.coll_history.specs.Histories.{History, group_of, Posting, postings, said_by, is_startable, total}
+use Rattle.coll_history.specs.Histories.{History, group_of, Posting, postings, issued_by, is_startable, total}
 
 -- ---- words
 
@@ -119,7 +119,7 @@ values count ty = do
 
 -- a job has at most 4,096 requests
 abbrev pub room : History → Reading (Unit {0})
-room h = must (nat_lt (total h.told) 4096) TooManyRequests
+room h = must (nat_lt (total h.commands) 4096) TooManyRequests
 
 -- post C SIG : v ..: a once collective, posted with the rank's contribution
 unfoldable pub post : History → ℕ → Reading Command
@@ -141,14 +141,14 @@ init h rank = do
 
 -- what the rank whose section it is has posted
 abbrev pub made : History → ℕ → List Posting
-made h rank = postings (said_by rank h.told)
+made h rank = postings (issued_by rank h.commands)
 
 -- Q, which a start or a free may name
 unfoldable pub startable : History → ℕ → Reading (ℕ × Posting)
 startable h rank = do
   q ← next (request_in (length (made h rank)))
   p ← known (slice_get (made h rank) q) UnknownRequest
-  fits ← must (is_startable q p (said_by rank h.told)) NotStartable
+  fits ← must (is_startable q p (issued_by rank h.commands)) NotStartable
   give (q, p)
 
 -- start Q : v ..: a persistent request, started with the rank's contribution
@@ -236,16 +236,16 @@ section n h = do
   give (record h { opened = Some rank })
 
 -- the history with one more command, of that line and rank
-abbrev pub tell : ℕ → ℕ → Command → History → History
-tell number rank command h = record h { told = h.told ++ record { line = number; rank = rank; command = command } ∷ [] }
+abbrev pub issue : ℕ → ℕ → Command → History → History
+issue number rank command h = record h { commands = h.commands ++ record { line = number; rank = rank; command = command } ∷ [] }
 
 -- a command, in the line of that number
 unfoldable pub command : ℕ → List ℕ → History → Reading History
 command number first h = do
   read ← known (command_of first) UnknownCommand
   rank ← known h.opened OutOfPlace
-  said ← read h rank
-  give (tell number rank said h)
+  issued ← read h rank
+  give (issue number rank issued h)
 
 -- a line behind the first one that says anything, where there are n ranks
 abbrev pub later : ℕ → ℕ → List ℕ → History → Reading History

@@ -5,7 +5,7 @@ use Rattle.coll_kinds.specs.declared.signature.Signature.{Signature}
 use Rattle.coll_kinds.specs.Groups.{member_of}
 use Rattle.coll_history.specs.declared.command.Command.{Command}
 use Rattle.coll_history.specs.declared.command.Command.TheVariants.{Post, Init, Start}
-use Rattle.coll_history.specs.declared.command.Told.{Told}
+use Rattle.coll_history.specs.declared.issued_command.IssuedCommand.{IssuedCommand}
 use Rattle.coll_history.specs.Histories.{History, group_of}
 
 -- what a post or an initialisation makes
@@ -47,10 +47,10 @@ requests_after groups line rank (Start q given) requests =
 requests_after groups line rank command requests = requests
 
 -- the requests of one rank behind all its commands
-abbrev pub requests_of : List (List ℕ) → ℕ → List Told → List Request
-requests_of groups rank told =
-    fold (λ requests t. requests_after groups t.line t.rank t.command requests) [] (filter (λ t. t.rank == rank) told)
+abbrev pub requests_of : List (List ℕ) → ℕ → List IssuedCommand → List Request
+requests_of groups rank issued =
+    fold (λ requests t. requests_after groups t.line t.rank t.command requests) [] (filter (λ t. t.rank == rank) issued)
 
 -- the requests of each rank
 abbrev pub requests : History → List (List Request)
-requests h = map (λ rank. requests_of h.groups rank h.told) (range_with_len 0 (unwrap_or h.ranks 0))
+requests h = map (λ rank. requests_of h.groups rank h.commands) (range_with_len 0 (unwrap_or h.ranks 0))

@@ -282,7 +282,7 @@ told : judged 1 beginning told_lines
       ranks = Some 2;
       groups = (0 ∷ 1 ∷ []) ∷ (1 ∷ []) ∷ [];
       opened = Some 1;
-      told = record { line = 5; rank = 1; command = Init 1 sum }
+      commands = record { line = 5; rank = 1; command = Init 1 sum }
           ∷ record { line = 6; rank = 1; command = WaitAll (0 ∷ []) }
           ∷ record { line = 7; rank = 1; command = Start 0 (5 ∷ 255 ∷ []) }
           ∷ record { line = 8; rank = 1; command = WaitAny (0 ∷ []) }
@@ -299,7 +299,7 @@ said = record {
   ranks = Some 2;
   groups = (0 ∷ 1 ∷ []) ∷ [];
   opened = Some 1;
-  told = record { line = 4; rank = 1; command = Init 0 sum }
+  commands = record { line = 4; rank = 1; command = Init 0 sum }
       ∷ record { line = 5; rank = 1; command = Start 0 (5 ∷ 255 ∷ []) }
       ∷ [];
 }

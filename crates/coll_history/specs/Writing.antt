@@ -21,8 +21,8 @@ use Rattle.coll_history.specs.declared.command.Command.TheVariants.{Post, Init, 
 use Rattle.coll_history.specs.declared.command.Command.TheVariants.{WaitAny, WaitSome, WaitAll}
 use Rattle.coll_kinds.specs.Words.{kind_word, operation_word, datatype_word}
 use Rattle.coll_kinds.specs.Groups.{member_of, is_among}
-use Rattle.coll_history.specs.Histories.{History, group_of, Posting, said_by, is_startable, total}
-use Rattle.coll_history.specs.Lines.{due, made, tell}
+use Rattle.coll_history.specs.Histories.{History, group_of, Posting, issued_by, is_startable, total}
+use Rattle.coll_history.specs.Lines.{due, made, issue}
 
 -- ---- words
 
@@ -89,13 +89,13 @@ pub record MayPost (h : History) (rank : ℕ) (mode : Mode) (comm : ℕ) (sig : 
   pub mode_is : sig.mode ≡ mode
   pub words : HasWords (members h comm) sig
   pub checked : broken sig (length group) ≡ None
-  pub room : total h.told < 4096
+  pub room : total h.commands < 4096
 
 -- a start or a free may name the request
 pub record MayStart (h : History) (rank q : ℕ) (p : Posting) : Type 0 where
   pub small : q < 2 ^ 64
   pub posted : slice_get (made h rank) q ≡ Some p
-  pub startable : IsTrue (is_startable q p (said_by rank h.told))
+  pub startable : IsTrue (is_startable q p (issued_by rank h.commands))
 
 -- the rank has made the request
 abbrev pub IsMade : History → ℕ → ℕ → Type 0
@@ -203,7 +203,7 @@ pub data Says (number : ℕ) (h : History) : List (List ℕ) → History → Typ
       → h.ranks ≡ Some n
       → h.opened ≡ Some rank
       → Writes h rank c words
-      → Says number h words (tell number rank c h)
+      → Says number h words (issue number rank c h)
 
 -- the lines, of which the first has that number, say this
 abbrev pub Tells : ℕ → History → List (List (List ℕ)) → History → Type 0

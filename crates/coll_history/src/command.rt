@@ -88,11 +88,3 @@ impl Command {
         }
     }
 }
-
-/// A command, with its line, from 1 on, and the rank that says it.
-#[derive(Debug, Drop)]
-pub struct Told {
-    pub line: u32,
-    pub rank: u8,
-    pub command: Command,
-}

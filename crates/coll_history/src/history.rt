@@ -8,9 +8,10 @@ ghost use Rattle.coll_history.specs.Code.{rows_view, requests_view, FailsText};
 ghost use Rattle.coll_history.specs.Requests.{requests};
 ghost use Rattle.coll_history.specs.Sound.{IsSound};
 
-use crate::command::{Command, Told};
+use crate::command::Command;
 use crate::cutting::body;
 use crate::fault::ScriptFault;
+use crate::issued_command::IssuedCommand;
 use crate::named::Named;
 use crate::reader::Reader;
 use crate::request::{Request, note};
@@ -24,7 +25,7 @@ pub struct History {
     ranks: Option<u8>,
     groups: Vec<Vec<u8>>,
     opened: Option<u8>,
-    told: Vec<Told>,
+    commands: Vec<IssuedCommand>,
 }
 
 impl Model for History {
@@ -34,9 +35,9 @@ impl Model for History {
 
     ghost Value = { History };
 
-    ghost view = { λ h. record { ranks = h.ranks; groups = rows_view h.groups.items; opened = h.opened; told = h.told.items } };
+    ghost view = { λ h. record { ranks = h.ranks; groups = rows_view h.groups.items; opened = h.opened; commands = h.commands.items } };
 
-    ghost invariant = { λ h. IsHistory 1048578 (record { ranks = h.ranks; groups = rows_view h.groups.items; opened = h.opened; told = h.told.items }) };
+    ghost invariant = { λ h. IsHistory 1048578 (record { ranks = h.ranks; groups = rows_view h.groups.items; opened = h.opened; commands = h.commands.items }) };
 }
 
 impl History {
@@ -63,7 +64,7 @@ impl History {
             ranks: reader.ranks,
             groups: reader.groups,
             opened: reader.opened,
-            told: reader.told,
+            commands: reader.commands,
         })
     }
 
@@ -88,25 +89,25 @@ impl History {
         &self.groups
     }
 
-    /// The commands, in the order of their lines.
-    pub fn told(&self) -> &[Told]
-        ensures told { result.now ≡ self.now.told }
+    /// The commands of all ranks, in the order of their lines.
+    pub fn commands(&self) -> &[IssuedCommand]
+        ensures commands { result.now ≡ self.now.commands }
         ensures few { length result.now ≤ 1048577 }
     {
-        &self.told
+        &self.commands
     }
 
     /// The commands of a rank, in the order of their lines, and behind them the unwritten `waitall` of all its requests.
     /// Linear in all commands, and in what those of the rank give.
-    pub fn commands(&self, alloc: Global, rank: u8) -> Result<Vec<Command>, AllocError>
+    pub fn commands_of(&self, alloc: Global, rank: u8) -> Result<Vec<Command>, AllocError>
         ensures { IfOk result (λ commands. commands.items ≡ commands_of self.now rank) }
     {
         let mut commands = Vec::new(alloc);
         let mut made = 0;
-        for told in &self.told {
-            if told.rank == rank {
-                made += told.command.made();
-                commands.push(told.command.copied(alloc)?)?;
+        for issued in &self.commands {
+            if issued.rank == rank {
+                made += issued.command.made();
+                commands.push(issued.command.copied(alloc)?)?;
             }
         }
         commands.push(Command::WaitAll(Named::first(made)))?;
@@ -119,8 +120,13 @@ impl History {
         ensures sound { OnOk result (IsSound self.now) }
     {
         let mut ranks = none(alloc, self.ranks())?;
-        for told in &self.told {
-            note(alloc, &self.groups, told, &mut ranks[told.rank as usize])?;
+        for issued in &self.commands {
+            note(
+                alloc,
+                &self.groups,
+                issued,
+                &mut ranks[issued.rank as usize],
+            )?;
         }
         Ok(ranks)
     }

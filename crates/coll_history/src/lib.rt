@@ -11,7 +11,8 @@
 //! | `cause` | `Cause`, which rule a text breaks |
 //! | `fault` | `Fault`, a cause and its line; `ScriptFault`, and the fault of a line |
 //! | `cutting`, `words` | lines and words; `Words`, the words of a line that are still to be read |
-//! | `command`, `posted`, `given`, `named` | `Command`, its signature, what it gives and which requests it names; `Told`, a command in its line |
+//! | `command`, `posted`, `given`, `named` | `Command`, its signature, what it gives and which requests it names |
+//! | `issued_command` | `IssuedCommand`, a command with its line and its rank |
 //! | `signatures`, `communicators`, `values`, `requests` | readers of a line's words, from the left |
 //! | `verb`, `commands`, `lines` | what a line says |
 //! | `section`, `reader` | what is kept of a section and of a text while its lines are read |
@@ -27,6 +28,7 @@ mod cutting;
 mod fault;
 mod given;
 mod history;
+mod issued_command;
 pub mod laws;
 mod lines;
 mod named;
@@ -41,11 +43,12 @@ mod verb;
 mod words;
 
 pub use cause::Cause;
-pub use command::{Command, Told};
+pub use command::Command;
 pub use cutting::line_count;
 pub use fault::{Fault, ScriptFault};
 pub use given::Given;
 pub use history::History;
+pub use issued_command::IssuedCommand;
 pub use named::Named;
 pub use posted::Posted;
 pub use request::Request;

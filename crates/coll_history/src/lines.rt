@@ -212,8 +212,8 @@ impl Reader {
     {
         let verb = verb_of(first).ok_or(Cause::UnknownCommand)?;
         let rank = self.opened.ok_or(Cause::OutOfPlace)?;
-        let said = command(alloc, self, number, verb, rank, words)?;
-        self.tell(number, rank, said)?;
+        let issued = command(alloc, self, number, verb, rank, words)?;
+        self.issue(number, rank, issued)?;
         Ok(())
     }
 }

@@ -1,10 +1,11 @@
 ghost use Rattle.std.specs.Prelude.{◌≡◌, ◌+◌, ◌<◌, Some, IfSome, OnOk, unwrap_or};
-ghost use Rattle.coll_history.specs.Histories.{beginning, posting, postings, said_by, total};
-ghost use Rattle.coll_history.specs.Lines.{tell};
-ghost use Rattle.coll_history.specs.Sound.{MaySay};
+ghost use Rattle.coll_history.specs.Histories.{beginning, posting, postings, issued_by, total};
+ghost use Rattle.coll_history.specs.Lines.{issue};
+ghost use Rattle.coll_history.specs.Sound.{MayIssue};
 ghost use Rattle.coll_history.specs.Code.{history_of, IsReader, IsStamped};
 
-use crate::command::{Command, Told};
+use crate::command::Command;
+use crate::issued_command::IssuedCommand;
 use crate::section::Section;
 use std::alloc::{AllocError, Global};
 
@@ -18,7 +19,7 @@ pub(crate) struct Reader {
     /// The rank whose section stands open.
     pub(crate) opened: Option<u8>,
     /// The commands so far, in the order of their lines.
-    pub(crate) told: Vec<Told>,
+    pub(crate) commands: Vec<IssuedCommand>,
     /// What is kept of each rank's section; empty until the number of ranks is known.
     pub(crate) sections: Vec<Section>,
     /// For each rank, and some of its first requests, the last line that named the request among others.
@@ -38,28 +39,33 @@ impl Reader {
             ranks: None,
             groups: Vec::new(alloc),
             opened: None,
-            told: Vec::new(alloc),
+            commands: Vec::new(alloc),
             sections: Vec::new(alloc),
             stamps: Vec::new(alloc),
             total: 0,
         }
     }
 
-    /// Takes a command of a rank, said in the line of that number. The cost is that of the line.
-    pub(crate) fn tell(&mut self, number: u32, rank: u8, command: Command) -> Result<(), AllocError>
+    /// Takes a command that a rank issues in the line of that number. The cost is that of the line.
+    pub(crate) fn issue(
+        &mut self,
+        number: u32,
+        rank: u8,
+        command: Command,
+    ) -> Result<(), AllocError>
         requires reader { IsReader number self.old }
         requires stamped { IsStamped (number + 1) self.old }
         requires rank { rank < unwrap_or self.old.ranks 0 }
         requires opened { self.old.opened ≡ Some rank }
-        requires may { MaySay (history_of self.old).groups rank (said_by rank self.old.told.items) command }
-        requires room { IfSome (posting command) (λ p. total self.old.told.items < 4096) }
-        ensures told { OnOk result (history_of self.new ≡ tell number rank command (history_of self.old)) }
+        requires may { MayIssue (history_of self.old).groups rank (issued_by rank self.old.commands.items) command }
+        requires room { IfSome (posting command) (λ p. total self.old.commands.items < 4096) }
+        ensures issued { OnOk result (history_of self.new ≡ issue number rank command (history_of self.old)) }
         ensures reader { OnOk result (IsReader (number + 1) self.new) }
         ensures stamped { OnOk result (IsStamped (number + 1) self.new) }
     {
         self.total += command.made();
         self.sections[rank as usize].note(number, &command)?;
-        self.told.push(Told {
+        self.commands.push(IssuedCommand {
             line: number,
             rank,
             command,

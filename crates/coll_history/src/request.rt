@@ -3,8 +3,9 @@ ghost use Rattle.std.specs.List.{AllByRecursion};
 ghost use Rattle.coll_history.specs.Requests.{request, requests_after, started};
 ghost use Rattle.coll_history.specs.Code.{rows_view, request_view, IsNamed};
 
-use crate::command::{Command, Told};
+use crate::command::Command;
 use crate::communicators::group_of;
+use crate::issued_command::IssuedCommand;
 use coll_kinds::{Signature, member_of};
 use std::alloc::{AllocError, Global};
 
@@ -72,22 +73,29 @@ impl<'a> Request<'a> {
 pub(crate) fn note<'a>(
     alloc: Global,
     groups: &[Vec<u8>],
-    told: &'a Told,
+    issued: &'a IssuedCommand,
     requests: &mut Vec<Request<'a>>,
 ) -> Result<(), AllocError>
     requires groups { AllByRecursion (λ group. length group ≤ 64) (rows_view groups.now) }
-    requires known { IsNamed (length requests.old.items) told.now.command }
+    requires known { IsNamed (length requests.old.items) issued.now.command }
     ensures { OnOk result (map request_view requests.new.items
-        ≡ requests_after (rows_view groups.now) told.now.line told.now.rank told.now.command (map request_view requests.old.items)) }
+        ≡ requests_after (rows_view groups.now) issued.now.line issued.now.rank issued.now.command (map request_view requests.old.items)) }
 {
-    match &told.command {
+    match &issued.command {
         Command::Post { comm, sig, given } => {
-            let mut made = Request::new(alloc, groups, told.line, told.rank, *comm, *sig.sig());
+            let mut made = Request::new(alloc, groups, issued.line, issued.rank, *comm, *sig.sig());
             made.start(given.as_slice())?;
             requests.push(made)?;
         }
         Command::Init { comm, sig } => {
-            requests.push(Request::new(alloc, groups, told.line, told.rank, *comm, *sig.sig()))?;
+            requests.push(Request::new(
+                alloc,
+                groups,
+                issued.line,
+                issued.rank,
+                *comm,
+                *sig.sig(),
+            ))?;
         }
         Command::Start { req, given } => requests[*req as usize].start(given.as_slice())?,
         Command::Wait(_) => {}

@@ -2,7 +2,7 @@
 
 ghost use Rattle.std.specs.Prelude.{◌≡◌, ℕ, ◌<◌, ◌≤◌, [], length, slice_index};
 ghost use Rattle.coll_history.specs.Reading.{numbers, numbers_from};
-ghost use Rattle.coll_history.specs.Histories.{History, said_by};
+ghost use Rattle.coll_history.specs.Histories.{History, issued_by};
 ghost use Rattle.coll_history.specs.Lines.{request_in, made, startable, one};
 ghost use Rattle.coll_history.specs.declared.cause.Cause.TheVariants.{NamedTwice};
 ghost use Rattle.coll_history.specs.Code.{texts, posting_view, IsKept, Reads, ReadsSo, FindsSo};
@@ -77,7 +77,7 @@ pub(crate) fn startable<'s>(
     words: &mut Words,
 ) -> Result<(u32, &'s Entry), Cause>
     requires { length section.now.entries.items ≤ 4096 }
-    ensures { (next : ℕ) (h : History) (rank : ℕ) → IsKept next (said_by rank h.told) section.now
+    ensures { (next : ℕ) (h : History) (rank : ℕ) → IsKept next (issued_by rank h.commands) section.now
         → Reads (λ p. (p.0, posting_view p.1.now)) result words.new (startable h rank words.old) }
 {
     let q = words.request(section.entries.len())?;

@@ -6,7 +6,7 @@ use Rattle.std.specs.Global.{Global}
 use Rattle.std.proofs.lemmas.Bool.{cases_lt, lt-ltb, le-ltb}
 use Rattle.std.proofs.lemmas.List.{length-map, map-append}
 use Rattle.std.proofs.lemmas.Option.{slice_get_within}
-use Rattle.coll_history.specs.Histories.{History, commands_of, said_by, postings}
+use Rattle.coll_history.specs.Histories.{History, commands_of, issued_by, postings}
 use Rattle.coll_history.specs.Requests as history
 use Rattle.coll_history.specs.Requests.{Request, request, requests, requests_after, started}
 use Rattle.coll_history.specs.Code.{request_view, requests_view}
@@ -14,7 +14,7 @@ use Rattle.coll_history.specs.Sound.{IsRequest, IsSound}
 use Rattle.coll_history.specs.declared.request.Request as rust
 use Rattle.coll_history.specs.declared.command.Command as text
 use Rattle.coll_history.specs.declared.command.Command.TheVariants as line
-use Rattle.coll_history.specs.declared.command.Told.{Told}
+use Rattle.coll_history.specs.declared.issued_command.IssuedCommand.{IssuedCommand}
 use Rattle.coll_script.specs.Postings.{requests_of}
 use Rattle.coll_script.proofs.Sections.{each_of, requests_of-past, requests_of-rank, requests_of-view}
 use Rattle.coll_report.specs.Scripts as script
@@ -53,7 +53,7 @@ asked_append (script.Start q given ∷ cs) more xs = asked_append cs more (chang
 asked_append (script.Other ∷ cs) more xs = asked_append cs more xs
 
 -- and so do those of all lines
-all_seen : (groups : List (List ℕ)) (ts : List Told) (xs : List Request)
+all_seen : (groups : List (List ℕ)) (ts : List IssuedCommand) (xs : List Request)
     → asked_from (map as_asked xs) (all_traced (map (λ t. t.command) ts))
     ≡ map as_asked (fold (λ rs t. requests_after groups t.line t.rank t.command rs) xs ts)
 all_seen groups [] xs = refl
@@ -65,12 +65,12 @@ all_seen groups (t ∷ ts) xs =
 
 -- the waitall behind a section asks for nothing
 own : (h : History) (rank : ℕ)
-    → asked (all_traced (commands_of h rank)) ≡ map as_asked (history.requests_of h.groups rank h.told)
+    → asked (all_traced (commands_of h rank)) ≡ map as_asked (history.requests_of h.groups rank h.commands)
 own h rank =
-    ap asked (map-append traced (said_by rank h.told)
-    (line.WaitAll (range_with_len 0 (length (postings (said_by rank h.told)))) ∷ []))
-    ∙ asked_append (all_traced (said_by rank h.told)) (script.Other ∷ []) []
-    ∙ all_seen h.groups (filter (λ t. eqb t.rank rank) h.told) []
+    ap asked (map-append traced (issued_by rank h.commands)
+    (line.WaitAll (range_with_len 0 (length (postings (issued_by rank h.commands)))) ∷ []))
+    ∙ asked_append (all_traced (issued_by rank h.commands)) (script.Other ∷ []) []
+    ∙ all_seen h.groups (filter (λ t. eqb t.rank rank) h.commands) []
 
 pub commands_by-rank : (h : History) (rank : ℕ) → rank < unwrap_or h.ranks 0
     → commands_by h rank ≡ all_traced (commands_of h rank)

@@ -19,7 +19,7 @@ bcast_text = record {
   ranks = Some 2;
   groups = (0 ∷ 1 ∷ []) ∷ [];
   opened = Some 1;
-  told = record { line = 3; rank = 0; command = line.Post 0 bcast (i32 7) }
+  commands = record { line = 3; rank = 0; command = line.Post 0 bcast (i32 7) }
       ∷ record { line = 5; rank = 1; command = line.Post 0 bcast [] }
       ∷ [];
 }

@@ -9,9 +9,9 @@ abbrev pub setting_for : History → Setting
 setting_for h = record {
   ranks = unwrap_or h.ranks 0;
   groups = h.groups;
-  slots = (sizes_of h.told).slots;
-  places = (sizes_of h.told).places;
-  wear = (sizes_of h.told).wear;
-  starts = (sizes_of h.told).starts;
-  trace = (sizes_of h.told).trace;
+  slots = (sizes_of h.commands).slots;
+  places = (sizes_of h.commands).places;
+  wear = (sizes_of h.commands).wear;
+  starts = (sizes_of h.commands).starts;
+  trace = (sizes_of h.commands).trace;
 }

@@ -85,7 +85,7 @@ fn carry_out_all<L: Entries, R: Wait, G: Gate, O: Observer>(
     caller: &mut Caller<L>,
 ) -> Result<(), Refusal> {
     let lines = lines_of(alloc, script, rank)?;
-    for (index, command) in script.commands(alloc, rank)?.into_iter().enumerate() {
+    for (index, command) in script.commands_of(alloc, rank)?.into_iter().enumerate() {
         let line = lines.get(index).copied().unwrap_or(0);
         carry_out(rt, gate, observer, line, command, caller)?;
     }
@@ -128,9 +128,9 @@ fn own_entries(command: &Command) -> usize {
 /// The lines of a rank's commands, in their order.
 fn lines_of(alloc: Global, script: &Script, rank: u8) -> Result<Vec<u32>, AllocError> {
     let mut lines = Vec::new(alloc);
-    for told in script.history().told() {
-        if told.rank == rank {
-            lines.push(told.line)?;
+    for issued in script.history().commands() {
+        if issued.rank == rank {
+            lines.push(issued.line)?;
         }
     }
     Ok(lines)

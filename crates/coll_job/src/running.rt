@@ -86,9 +86,9 @@ pub fn recorded_job<R: Threads + Wait + Clock + Sync, W: Watch + Sync>(
 fn starts_in(script: &Script) -> usize {
     script
         .history()
-        .told()
+        .commands()
         .iter()
-        .filter(|told| matches!(told.command, Command::Post { .. } | Command::Start { .. }))
+        .filter(|issued| matches!(issued.command, Command::Post { .. } | Command::Start { .. }))
         .count()
 }
 

@@ -67,7 +67,7 @@ fn job_of(alloc: Global, words: &str, members: u8) -> Result<String, AllocError>
 
 /// The signature for which the last command asks.
 fn asked(history: &History) -> Option<Signature> {
-    match &history.told().last()?.command {
+    match &history.commands().last()?.command {
         Command::Init { sig, .. } => Some(Signature {
             mode: Mode::Once,
             ..*sig.sig()

@@ -57,10 +57,10 @@ rank-adds : (h last : History) (grows : Grows h last) → IsSettled h last → (
 rank-adds h last grows settled rank =
     let count : unwrap_or last.ranks 0 ≡ unwrap_or h.ranks 0 = ap (λ (o : Option ℕ). unwrap_or o 0) settled.ranks in
     elim (cases_lt rank (unwrap_or h.ranks 0)) [
-      | inl lt ↦ (let later : requests_of (requests last) rank ≡ history.requests_of h.groups rank (h.told ++ grows.more) =
-          requests_of-rank last rank (omega (arith, lt, count)) ∙ ap (λ (g : List (List ℕ)). history.requests_of g rank last.told) settled.groups ∙ ap (history.requests_of h.groups rank) grows.told in
+      | inl lt ↦ (let later : requests_of (requests last) rank ≡ history.requests_of h.groups rank (h.commands ++ grows.more) =
+          requests_of-rank last rank (omega (arith, lt, count)) ∙ ap (λ (g : List (List ℕ)). history.requests_of g rank last.commands) settled.groups ∙ ap (history.requests_of h.groups rank) grows.commands in
           subst (λ (old : List Request). AddsTo old (requests_of (requests last) rank)) (sym (requests_of-rank h rank lt))
-          (subst (AddsTo (history.requests_of h.groups rank h.told)) (sym later) (requests-add h.groups rank h.told grows.more)))
+          (subst (AddsTo (history.requests_of h.groups rank h.commands)) (sym later) (requests-add h.groups rank h.commands grows.more)))
       | inr le ↦ subst (λ (old : List Request). AddsTo old (requests_of (requests last) rank)) (sym (requests_of-past h rank le))
           (subst (AddsTo []) (sym (requests_of-past last rank (omega (arith, le, count)))) (record { more = []; parts = refl }))
     ]
@@ -115,14 +115,14 @@ is-true : (b : Bool) → (b ≡ false → ⊥) → b ≡ true
 is-true true fails = refl
 is-true false fails = absurd (fails refl)
 
-nothing-stands : (h : History) → h.told ≡ [] → (comm : ℕ) (group : List ℕ) (place : ℕ) (p : Request) → StandsAt (postings (requests h) comm group) place p → ⊥
+nothing-stands : (h : History) → h.commands ≡ [] → (comm : ℕ) (group : List ℕ) (place : ℕ) (p : Request) → StandsAt (postings (requests h) comm group) place p → ⊥
 nothing-stands h nothing comm group place p stands =
     let rank = behind-get (λ r. posted_on comm (requests_of (requests h) r)) group stands.member stands.list stands.is_list in
     let mine : requests_of (requests h) rank.x ≡ [] = each_of (λ (l : List Request). l ≡ []) h rank.x (ap (history.requests_of h.groups rank.x) nothing) refl in
     none-some p (sym (ap (λ (l : List Request). slice_get (posted_on comm l) place) mine) ∙ ap (λ (l : List Request). slice_get l place) rank.view ∙ stands.is_there)
 
-differs-told : (h : History) (p : Request) → Differs (all_postings (job_of h)) p → h.told ≡ [] → ⊥
-differs-told h p d nothing =
+differs-issued : (h : History) (p : Request) → Differs (all_postings (job_of h)) p → h.commands ≡ [] → ⊥
+differs-issued h p d nothing =
     let group = behind (postings (requests h) (0 + d.comm)) (slice_get h.groups d.comm) d.lists (sym (postings_from-get (requests h) 0 h.groups d.comm) ∙ d.is_comm) in
     nothing-stands h nothing (0 + d.comm) group.x d.place p (subst (λ (l : List (List Request)). StandsAt l d.place p) (sym group.view) d.there)
 
@@ -131,7 +131,7 @@ pub mismatch-final : (lines : List (List ℕ)) (h : History) (line number : ℕ)
 mismatch-final lines h line number more next last told found follows =
     let first = first-differs (all_postings (job_of h)) line found in
     let begun = judged-grows 1 beginning h lines told in
-    let opened : is_some h.opened ≡ true = is-true (is_some h.opened) (λ e. differs-told h first.p first.differs (begun.early (λ closed. refl) e)) in
+    let opened : is_some h.opened ≡ true = is-true (is_some h.opened) (λ e. differs-issued h first.p first.differs (begun.early (λ closed. refl) e)) in
     let ranks : is_some h.ranks ≡ true = is-true (is_some h.ranks) (λ e. (let closed = begun.begun (λ none. refl) e in let no : true ≡ false = sym opened ∙ closed in absurd cc)) in
     let grows = judged-grows number h next more follows in
     ends-so last next (mismatch (all_postings (job_of next))) refl (λ none. still-differs h next grows (grows.settled ranks opened) first.p first.differs none)

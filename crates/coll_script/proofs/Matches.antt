@@ -134,8 +134,8 @@ record IsRequestOn (group : List ℕ) (rank : ℕ) (p : Request) : Type 0 where
   pub checked : broken p.sig (length group) ≡ None
   pub given : AllByRecursion (λ given. length given ≡ given_len p.sig (length group) p.member) p.starts
 
-fits-at : (told : ℕ) (groups : List (List ℕ)) (comm rank : ℕ) (group : List ℕ) (p : Request) → slice_get groups comm ≡ Some group → IsRequest told groups rank p → p.comm ≡ comm → IsRequestOn group rank p
-fits-at told groups comm rank group p here is same =
+fits-at : (issued : ℕ) (groups : List (List ℕ)) (comm rank : ℕ) (group : List ℕ) (p : Request) → slice_get groups comm ≡ Some group → IsRequest issued groups rank p → p.comm ≡ comm → IsRequestOn group rank p
+fits-at issued groups comm rank group p here is same =
     let one : is.group ≡ group = same_Some is.group group (sym is.known ∙ ap (slice_get groups) same ∙ here) in
     subst (λ (g : List ℕ). IsRequestOn g rank p) one (record { member = is.member; checked = is.checked; given = is.given })
 

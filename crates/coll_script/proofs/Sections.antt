@@ -15,13 +15,13 @@ use Rattle.coll_script.specs.Postings.{requests_of}
 
 pub length-requests : (h : History) → length (requests h) ≡ unwrap_or h.ranks 0
 length-requests h =
-    length-map-range_with_len (λ rank. history.requests_of h.groups rank h.told) 0 (unwrap_or h.ranks 0)
+    length-map-range_with_len (λ rank. history.requests_of h.groups rank h.commands) 0 (unwrap_or h.ranks 0)
 
 pub requests_of-rank : (h : History) (rank : ℕ) → rank < unwrap_or h.ranks 0
-    → requests_of (requests h) rank ≡ history.requests_of h.groups rank h.told
+    → requests_of (requests h) rank ≡ history.requests_of h.groups rank h.commands
 requests_of-rank h rank lt =
     unwrap_or-slice_get (requests h) rank []
-    ∙ get_or-map-range_with_len (λ k. history.requests_of h.groups k h.told) 0 (unwrap_or h.ranks 0) rank rank [] lt
+    ∙ get_or-map-range_with_len (λ k. history.requests_of h.groups k h.commands) 0 (unwrap_or h.ranks 0) rank rank [] lt
     (omega arith)
 
 pub requests_of-past : (h : History) (rank : ℕ) → unwrap_or h.ranks 0 ≤ rank → requests_of (requests h) rank ≡ []
@@ -31,7 +31,7 @@ requests_of-past h rank le =
 
 -- what holds of them, and of no requests
 pub each_of : (P : List Request → Type 0) (h : History) (rank : ℕ)
-    → P (history.requests_of h.groups rank h.told) → P [] → P (requests_of (requests h) rank)
+    → P (history.requests_of h.groups rank h.commands) → P [] → P (requests_of (requests h) rank)
 each_of P h rank here none = elim (cases_lt rank (unwrap_or h.ranks 0)) [
   | inl lt ↦ subst P (sym (requests_of-rank h rank lt)) here
   | inr le ↦ subst P (sym (requests_of-past h rank le)) none

@@ -64,17 +64,17 @@ impl Script {
 
     /// The commands of a rank, in the order of their lines, and behind them the unwritten `waitall` of all its requests,
     /// which each rank has, also one that says nothing. Linear in all commands, and in what those of the rank give.
-    pub fn commands(&self, alloc: Global, rank: u8) -> Result<Vec<Command>, AllocError>
+    pub fn commands_of(&self, alloc: Global, rank: u8) -> Result<Vec<Command>, AllocError>
         ensures { IfOk result (λ commands. commands.items ≡ commands_of self.now rank) }
     {
-        self.history.commands(alloc, rank)
+        self.history.commands_of(alloc, rank)
     }
 
     /// How large an engine is opened to run the job. Linear in the commands.
     pub fn config(&self) -> Sizes
-        ensures { result ≡ sizes_of self.now.told }
+        ensures { result ≡ sizes_of self.now.commands }
     {
-        sizes_of(self.history.told())
+        sizes_of(self.history.commands())
     }
 
     /// The output lines of the job, in rising rank, request and start: the value of each start, computed

@@ -2,7 +2,7 @@ ghost use Rattle.std.specs.Prelude.{◌≡◌, ◌≤◌, ◌*◌, length, count
 ghost use Rattle.coll_history.specs.Histories.{posting, is_start};
 ghost use Rattle.coll_script.specs.Configs.{sizes_of};
 
-use coll_history::Told;
+use coll_history::IssuedCommand;
 
 /// How large an engine is opened to run a job, beside its ranks and its communicators.
 #[derive(Clone, Copy, Debug, PartialEq, Eq)]
@@ -20,12 +20,12 @@ pub struct Sizes {
 }
 
 /// What these commands need. Linear in them.
-pub(crate) fn sizes_of(told: &[Told]) -> Sizes
-    requires { length told.now ≤ 1048577 }
-    ensures { result ≡ sizes_of told.now }
+pub(crate) fn sizes_of(issued: &[IssuedCommand]) -> Sizes
+    requires { length issued.now ≤ 1048577 }
+    ensures { result ≡ sizes_of issued.now }
 {
-    let made = made(told);
-    let begun = made + started(told);
+    let made = made(issued);
+    let begun = made + started(issued);
     Sizes {
         slots: made.max(1),
         places: made.max(1),
@@ -36,19 +36,25 @@ pub(crate) fn sizes_of(told: &[Told]) -> Sizes
 }
 
 /// How many requests they make.
-fn made(told: &[Told]) -> u32
-    requires { length told.now ≤ 1048577 }
-    ensures count { result ≡ count_by (λ t. is_some (posting t.command)) told.now }
+fn made(issued: &[IssuedCommand]) -> u32
+    requires { length issued.now ≤ 1048577 }
+    ensures count { result ≡ count_by (λ t. is_some (posting t.command)) issued.now }
     ensures few { result ≤ 1048577 }
 {
-    told.iter().filter(|told| told.command.is_posting()).count() as u32
+    issued
+        .iter()
+        .filter(|issued| issued.command.is_posting())
+        .count() as u32
 }
 
 /// How many starts they have.
-fn started(told: &[Told]) -> u32
-    requires { length told.now ≤ 1048577 }
-    ensures count { result ≡ count_by (λ t. is_start t.command) told.now }
+fn started(issued: &[IssuedCommand]) -> u32
+    requires { length issued.now ≤ 1048577 }
+    ensures count { result ≡ count_by (λ t. is_start t.command) issued.now }
     ensures few { result ≤ 1048577 }
 {
-    told.iter().filter(|told| told.command.is_start()).count() as u32
+    issued
+        .iter()
+        .filter(|issued| issued.command.is_start())
+        .count() as u32
 }

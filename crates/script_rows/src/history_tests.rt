@@ -24,8 +24,8 @@ fn history_of(alloc: Global, text: &str) -> Result<History, ScriptFault> {
 /// What each command says, behind its line.
 fn commands_of(alloc: Global, history: &History) -> Result<Vec<(u32, Said)>, AllocError> {
     let mut commands = Vec::new(alloc);
-    for told in history.told() {
-        commands.push((told.line, Said::by(&told.command)))?;
+    for issued in history.commands() {
+        commands.push((issued.line, Said::by(&issued.command)))?;
     }
     Ok(commands)
 }

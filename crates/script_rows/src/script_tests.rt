@@ -42,7 +42,7 @@ const SAID: &[Said] = &[
 
 fn commands_of(alloc: Global, text: &str, rank: u8) -> Result<Vec<Said>, Fail> {
     let script = Script::read(alloc, text.as_bytes())?;
-    let commands = script.commands(alloc, rank)?;
+    let commands = script.commands_of(alloc, rank)?;
     Ok(all_said(alloc, &commands)?)
 }
 

@@ -1,7 +1,7 @@
 use Rattle.std.proofs.Common.{◌≡◌, ◌<◌, length, Some, Ok, refl, sym, subst, ◌∙◌, arith}
 use Rattle.std.specs.Prelude.{slice_get}
 use Rattle.std.proofs.lemmas.Option.{slice_get_read}
-use Rattle.coll_history.specs.Histories.{said_by}
+use Rattle.coll_history.specs.Histories.{issued_by}
 use Rattle.coll_history.proofs.Allowed.{next-is, request-below}
 use Rattle.coll_history.specs.Lines as lines
 use Rattle.coll_history.specs.Lines.{request_in}
@@ -13,7 +13,7 @@ returns-then-not-is_startable c = λ next h rank is.
     let count : c.len.result ≡ length c.args.section.now.entries.items = omega (arith, c.len.ensures) in
     let read = subst (λ n. lines.next (request_in n) c.args.words.now ≡ Ok (c.in_ok-q.q, c.request.new.self)) count c.in_ok-q.ensures.reads in
     startable-not next rank h c.args.section.now c.args.words.now c.in_ok-q.q c.request.new.self is read
-    (λ p there. sym c.if-not-is_startable.true ∙ c.is_startable.ensures next (said_by rank h.told) p is there)
+    (λ p there. sym c.if-not-is_startable.true ∙ c.is_startable.ensures next (issued_by rank h.commands) p is there)
 
 pub returns : goal.returns
 returns c = λ next h rank is.
@@ -23,4 +23,4 @@ returns c = λ next h rank is.
     let within : c.in_ok-q.q < length c.args.section.now.entries.items = request-below (length c.args.section.now.entries.items) word.0 c.in_ok-q.q word.1 in
     let at : slice_get c.args.section.now.entries.items c.in_ok-q.q ≡ Some c.index.result.now = slice_get_read c.args.section.now.entries.items (length c.args.section.now.entries.items) c.in_ok-q.q c.index.result.now refl within c.index.ensures in
     startable-is_read next rank h c.args.section.now c.args.words.now c.in_ok-q.q c.request.new.self c.index.result.now is read at
-    (λ p there. sym c.if-not-is_startable.false ∙ c.is_startable.ensures next (said_by rank h.told) p is there)
+    (λ p there. sym c.if-not-is_startable.false ∙ c.is_startable.ensures next (issued_by rank h.commands) p is there)

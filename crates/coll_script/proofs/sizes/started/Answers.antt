@@ -3,7 +3,7 @@ use Rattle.std.proofs.Common.{◌∙◌, rules, tests}
 use Rattle.std.proofs.lemmas.Iterator.{YieldsList-from_slice}
 use Rattle.std.proofs.lemmas.Iterator.Consumers.{YieldsList-at, YieldsList-from_filter, count_from_yields_List}
 use Rattle.std.proofs.lemmas.List.Sums.{length-filter}
-use Rattle.coll_history.specs.declared.command.Told.{Told}
+use Rattle.coll_history.specs.declared.issued_command.IssuedCommand.{IssuedCommand}
 use Rattle.coll_history.specs.Histories.{is_start}
 use Rattle.coll_script.proofs.sizes.started.Goals as goal
 
@@ -11,7 +11,7 @@ pub returns-clause-count : goal.returns-clause-count
 returns-clause-count c =
     count_from_yields_List c.filter.result c.count.result c.count.ensures.ran
     (YieldsList-from_filter _ (λ t. is_start t.command)
-    (YieldsList-at c.filter.ensures.source (YieldsList-from_slice c.args.told.now c.iter.ensures.rest))
+    (YieldsList-at c.filter.ensures.source (YieldsList-from_slice c.args.issued.now c.iter.ensures.rest))
     c.filter.ensures.closure
     (λ x b q k. search (rules, tests)))
-    ∙ length-filter (λ (t : Told). is_start t.command) c.args.told.now
+    ∙ length-filter (λ (t : IssuedCommand). is_start t.command) c.args.issued.now
