@@ -1,11 +1,11 @@
 //! The engine's state, and the questions on it.
 
+mod committing;
 mod posting;
 mod retiring;
 mod signatures;
 mod starting;
 mod stepping;
-mod working;
 
 ghost use Rattle.std.specs.Prelude.{◌≡◌, ◌↔◌, Some, true, length, IsTrue, OnOk, IfOk, IfErr, OnErr};
 ghost use Rattle.std.specs.Result.{result_err};

@@ -7,9 +7,9 @@ mod posting;
 mod requests;
 mod stalling;
 mod starting;
+mod stepping;
 mod testing;
 mod waiting;
-mod working;
 
 ghost use Rattle.std.specs.Prelude.{◌≡◌, [], Some, false, true, is_some, replicate, IfErr, IfOk};
 ghost use Rattle.coll_machine.specs.States.{found};
