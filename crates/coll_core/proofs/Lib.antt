@@ -32,3 +32,4 @@ pub mod Abandoning
 pub mod Committing
 pub mod Restarting
 pub mod NumberBytes
+pub mod Groups

@@ -1,5 +1,6 @@
 -- an engine: how it is opened, what callers are told of it, and what each call does
 pub mod Configs
+pub mod Communicators
 pub mod Cores
 pub mod Phases
 pub mod Calls

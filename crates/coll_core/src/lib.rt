@@ -3,6 +3,7 @@
 //! | Module | Has |
 //! |---|---|
 //! | `config` | `Config`, what an engine is opened with |
+//! | `communicators` | `Communicators`, the members of each communicator, and `Seat`, which of them a rank is |
 //! | `contribution` | `Contribution`, what a member gives to a collective |
 //! | `offer` | `Offer`, what a post hands in |
 //! | `phase` | `Phase`, how far a request is |
@@ -30,6 +31,7 @@
 mod about;
 mod buffer;
 mod combined;
+mod communicators;
 mod config;
 mod contribution;
 mod engine;
@@ -45,6 +47,7 @@ mod work;
 
 pub use about::About;
 pub use buffer::Buffer;
+pub use communicators::{Communicators, Seat, copied_groups};
 pub use config::Config;
 pub use contribution::Contribution;
 pub use engine::Core;
