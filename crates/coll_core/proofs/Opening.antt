@@ -1,7 +1,6 @@
 -- An engine that was just opened.
-use Rattle.std.proofs.Common.{◌≡◌, ◌∙◌, ◌<◌, ℕ, zero, suc, All, List, [], ◌∷◌, length, map, unwrap_or, slice_get, None, ap, refl, sym, subst, arith, Vec}
+use Rattle.std.proofs.Common.{◌≡◌, ◌∙◌, ◌<◌, ℕ, All, List, [], length, map, unwrap_or, slice_get, None, ap, refl, sym, subst, arith, Vec}
 use Rattle.std.proofs.lemmas.List.{length-replicate}
-use Rattle.std.proofs.lemmas.List.Elements.{All-head, All-tail}
 use Rattle.std.specs.Global.{Global}
 use Rattle.coll_kinds.specs.Groups.{IsGroup}
 use Rattle.coll_arena.specs.Changes.{opened}
@@ -16,23 +15,9 @@ use Rattle.coll_tables.specs.Tables.{machine}
 use Rattle.coll_tables.proofs.EngineOpening.{open_core}
 use Rattle.coll_core.specs.declared.request.Request.{Request}
 use Rattle.coll_core.specs.Configs.{IsFullGroup}
+use Rattle.coll_core.proofs.Groups.{are_groups}
 use Rattle.coll_core.specs.Cores.{IsCore, Parts, seen, setting}
 use Rattle.coll_core.specs.Requests.{shown}
-
-nobody : (n : ℕ) → IsGroup n []
-nobody n = record {
-  few = omega arith;
-  below = λ m low. absurd (omega (arith, low));
-  found = λ m low. absurd (omega (arith, low));
-}
-
-are_groups : (n : ℕ) (groups : List (Vec ℕ Global))
-    → All (λ (group : Vec ℕ Global). IsFullGroup n group.items) groups
-    → (comm : ℕ) → IsGroup n (unwrap_or (slice_get (map (λ (group : Vec ℕ Global). group.items) groups) comm) [])
-are_groups n [] all comm = nobody n
-are_groups n (group ∷ rest) all zero = (All-head (λ (group : Vec ℕ Global). IsFullGroup n group.items) group rest all).is_group
-are_groups n (group ∷ rest) all (suc comm) =
-    are_groups n rest (All-tail (λ (group : Vec ℕ Global). IsFullGroup n group.items) group rest all) comm
 
 -- the groups of an engine are those that its configuration had
 pub have_groups : (p : Parts) (groups : List (Vec ℕ Global))
