@@ -23,7 +23,8 @@ use Rattle.coll_plans.proofs.Plans.{all_served}
 use Rattle.coll_tables.specs.Requests.{Live, as_request}
 use Rattle.coll_tables.specs.Tables.{Tables, Paths, asked, state}
 use Rattle.coll_tables.specs.Sound.{Base}
-use Rattle.coll_tables.specs.Calls.{New, newcomer, ticket}
+use Rattle.coll_tables.specs.Changes.{newcomer}
+use Rattle.coll_tables.proofs.Calls.{New, ticket}
 use Rattle.coll_tables.proofs.Statements.{AcceptedPost, AcceptedInit, AcceptedStart}
 use Rattle.coll_tables.proofs.Stepping.{finds}
 

@@ -21,7 +21,7 @@ use Rattle.coll_tables.specs.Requests.{Live, at, key, progress, advanced, begun,
 use Rattle.coll_tables.specs.Tables.{Mail, Tables, Paths, no_signature, family_at, world}
 use Rattle.coll_tables.specs.Sound.{Owned, Base}
 use Rattle.coll_tables.specs.Changes.{joining, acting, leaving, dissolving, freeing, rehoming}
-use Rattle.coll_tables.specs.Calls.{Joining, IsLast}
+use Rattle.coll_tables.proofs.Calls.{Joining, IsLast}
 use Rattle.coll_tables.proofs.Keys.{split_key, at_key, off_key, in_cases, in_at, in_off}
 use Rattle.coll_tables.proofs.Changing.{Kin, Contributions, key_fields, base_changes, retracked}
 

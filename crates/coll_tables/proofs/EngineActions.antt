@@ -20,8 +20,8 @@ use Rattle.coll_machine.specs.Settings.{Setting, size}
 use Rattle.coll_tables.specs.Requests.{Live, key, advanced}
 use Rattle.coll_tables.specs.Tables.{Mail, Tables, machine}
 use Rattle.coll_tables.specs.Sound.{next, Doable, Stands, ready, running, idle, queued, done, Called, IsSound}
-use Rattle.coll_tables.specs.Changes.{acting, rehoming}
-use Rattle.coll_tables.specs.Calls.{Acting, Away, Waking, delivered, received}
+use Rattle.coll_tables.specs.Changes.{acting, rehoming, delivered, received}
+use Rattle.coll_tables.proofs.Calls.{Acting, Away, Waking}
 use Rattle.coll_machine.specs.Machines.{MayFinish}
 use Rattle.coll_tables.specs.Remaining.{actions_left}
 use Rattle.coll_tables.specs.Shown.{Instances, seen, listed, tables, weight, weight_by}

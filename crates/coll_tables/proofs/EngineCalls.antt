@@ -26,8 +26,8 @@ use Rattle.coll_machine.specs.Machines.{MachineStep, StepsTo}
 use Rattle.coll_tables.specs.Requests.{Live, at, begun}
 use Rattle.coll_tables.specs.Tables.{Tables, machine, state}
 use Rattle.coll_tables.specs.Sound.{Stands, Lies, IsSound}
-use Rattle.coll_tables.specs.Changes.{posting, joining, freeing}
-use Rattle.coll_tables.specs.Calls.{Starting, Joining, New, newcomer, new_ticket, ticket}
+use Rattle.coll_tables.specs.Changes.{posting, joining, freeing, newcomer}
+use Rattle.coll_tables.proofs.Calls.{Starting, Joining, New, new_ticket, ticket}
 use Rattle.coll_tables.specs.Shown.{Instances, seen, listed, tables, weight}
 use Rattle.coll_tables.specs.Cores.{IsCore}
 use Rattle.coll_tables.specs.OneSlots.{OneSlot}

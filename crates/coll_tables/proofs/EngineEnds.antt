@@ -23,7 +23,7 @@ use Rattle.coll_tables.specs.Requests.{Live, before, key, rests, rests_by}
 use Rattle.coll_tables.specs.Tables.{Mail, Tables, machine, state}
 use Rattle.coll_tables.specs.Sound.{Lies, IsSound}
 use Rattle.coll_tables.specs.Changes.{dissolving, leaving}
-use Rattle.coll_tables.specs.Calls.{IsLast, LeftAt, Retiring, ticket}
+use Rattle.coll_tables.proofs.Calls.{IsLast, LeftAt, Retiring, ticket}
 use Rattle.coll_tables.specs.Shown.{Instances, seen, listed, tables, weight_by}
 use Rattle.coll_tables.specs.Cores.{IsCore}
 use Rattle.coll_tables.specs.OneSlots.{OneSlot}

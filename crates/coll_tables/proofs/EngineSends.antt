@@ -22,8 +22,8 @@ use Rattle.coll_machine.specs.Settings.{Setting, size}
 use Rattle.coll_tables.specs.Requests.{Live, key, advanced}
 use Rattle.coll_tables.specs.Tables.{Mail, Tables, machine}
 use Rattle.coll_tables.specs.Sound.{next, Stands, Called, IsSound}
-use Rattle.coll_tables.specs.Changes.{acting, rehoming}
-use Rattle.coll_tables.specs.Calls.{Acting, Waking, delivered}
+use Rattle.coll_tables.specs.Changes.{acting, rehoming, delivered}
+use Rattle.coll_tables.proofs.Calls.{Acting, Waking}
 use Rattle.coll_machine.specs.Machines.{MayFinish}
 use Rattle.coll_tables.specs.Remaining.{actions_left}
 use Rattle.coll_tables.specs.Shown.{Instances, seen, listed, tables, weight, weight_by}

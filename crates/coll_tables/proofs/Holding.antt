@@ -20,7 +20,7 @@ use Rattle.coll_plans.specs.Plans.{family}
 use Rattle.coll_tables.specs.Requests.{Live, before, key, progress, as_request}
 use Rattle.coll_tables.specs.Tables.{Tables, Paths, family_at, world, asked, state}
 use Rattle.coll_tables.specs.Sound.{Base, Sound}
-use Rattle.coll_tables.specs.Calls.{IsLast}
+use Rattle.coll_tables.proofs.Calls.{IsLast}
 use Rattle.coll_tables.specs.FreeLocks.{Holding}
 use Rattle.coll_tables.proofs.Standing.{finished_there}
 use Rattle.coll_tables.proofs.Basing.{serves_own, tracks_at}

@@ -1,6 +1,7 @@
 pub mod Accepting
 pub mod Actions
 pub mod Basing
+pub mod Calls
 pub mod Changing
 pub mod EngineActions
 pub mod EngineCalls

@@ -15,7 +15,7 @@ use Rattle.coll_tables.specs.Requests.{Live, at, key, progress}
 use Rattle.coll_tables.specs.Tables.{Tables, Paths, no_signature, family_at, world}
 use Rattle.coll_tables.specs.Sound.{Base}
 use Rattle.coll_tables.specs.Changes.{posting}
-use Rattle.coll_tables.specs.Calls.{Posting}
+use Rattle.coll_tables.proofs.Calls.{Posting}
 use Rattle.coll_machine.proofs.Pushed.{get_pushed, get_front, get_either}
 use Rattle.coll_tables.proofs.Basing.{unbegun}
 

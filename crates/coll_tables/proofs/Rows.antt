@@ -17,7 +17,7 @@ use Rattle.coll_machine.specs.Rows.{two_ranks, plan, key}
 use Rattle.coll_tables.specs.Requests.{advanced}
 use Rattle.coll_tables.specs.Tables.{Tables}
 use Rattle.coll_tables.specs.Changes.{posting, leaving}
-use Rattle.coll_tables.specs.Calls.{Acting, Away, Starting, IsLast, New, Retiring, Waking}
+use Rattle.coll_tables.proofs.Calls.{Acting, Away, Starting, IsLast, New, Retiring, Waking}
 use Rattle.coll_tables.specs.Sound.{IsSound, ready, done, next}
 use Rattle.coll_tables.specs.Rows.{scatter, both, laid, kept, at, byte, moved, unused, root, posted, sender, sent, copier, copied, left, late, posted_late, receiver, received_late, RootPosts, RootSends, RootCopies, RootLeaves, OtherPosts, OtherReceives, OtherLeaves, RowsAreSound}
 use Rattle.coll_tables.proofs.Accepting.{accepted_post}

@@ -24,7 +24,7 @@ use Rattle.coll_tables.specs.Requests.{Live, at, key, progress, advanced, begun,
 use Rattle.coll_tables.specs.Tables.{Mail, Tables, Paths, family_at, world}
 use Rattle.coll_tables.specs.Sound.{Base, next, Stands, Called, Lies, Sound}
 use Rattle.coll_tables.specs.Changes.{mailed, posting, joining, acting, leaving, dissolving, freeing, rehoming}
-use Rattle.coll_tables.specs.Calls.{Posting, Joining, IsLast}
+use Rattle.coll_tables.proofs.Calls.{Posting, Joining, IsLast}
 use Rattle.coll_sched.specs.Points.{Over}
 use Rattle.coll_tables.proofs.Keys.{at_key, off_key, in_at}
 use Rattle.coll_tables.proofs.Changing.{key_fields}

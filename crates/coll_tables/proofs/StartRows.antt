@@ -13,7 +13,7 @@ use Rattle.coll_plans.specs.Plans.{family}
 use Rattle.coll_arena.specs.declared.list_name.ListName.TheVariants.{Free as FreeList, Ready, Running, Idle, Queue, Done}
 use Rattle.coll_machine.specs.Rows.{plan, key}
 use Rattle.coll_tables.specs.Requests.{advanced}
-use Rattle.coll_tables.specs.Calls.{Acting, Starting, IsLast, Joining, New, Retiring, Waking}
+use Rattle.coll_tables.proofs.Calls.{Acting, Starting, IsLast, Joining, New, Retiring, Waking}
 use Rattle.coll_tables.specs.Sound.{ready, running, queued, done, next}
 use Rattle.coll_tables.specs.Rows.{at, byte, moved, unused}
 use Rattle.coll_tables.specs.StartRows.{sums, first, inited_one, second, inited, given, laid, kept, started, sender, sent, copier, waiting, other_given, other_laid, filled, both_started, other, answered, woken, waiter, has_received, combined_to, out, combiner, combined, left, InitsFirst, InitsSecond, SecondFrees, WaiterStarts, WaiterSends, WaiterWaits, OtherStarts, WaiterWakes, WaiterReceives, CombineGoesOut, WaiterCombines, WaiterRetires, StartRowsAreSound}

@@ -21,8 +21,8 @@ use Rattle.coll_machine.specs.Machines.{MachineStep, MayFinish, StepsTo}
 use Rattle.coll_tables.specs.Requests.{Live, before, key, advanced}
 use Rattle.coll_tables.specs.Tables.{Mail, Tables, machine, opened, state}
 use Rattle.coll_tables.specs.Sound.{IsSound, Lies, Stands}
-use Rattle.coll_tables.specs.Changes.{posting, joining, acting, leaving, dissolving, freeing, rehoming}
-use Rattle.coll_tables.specs.Calls.{Acting, Away, Starting, IsLast, Joining, New, Retiring, Waking, delivered, new_ticket, newcomer, received, ticket}
+use Rattle.coll_tables.specs.Changes.{posting, joining, acting, leaving, dissolving, freeing, rehoming, delivered, newcomer, received}
+use Rattle.coll_tables.proofs.Calls.{Acting, Away, Starting, IsLast, Joining, New, Retiring, Waking, new_ticket, ticket}
 use Rattle.coll_tables.specs.Remaining.{actions_left}
 use Rattle.coll_tables.specs.FreeLocks.{FreeLock, NothingGoes}
 

@@ -21,7 +21,7 @@ use Rattle.coll_tables.specs.Requests.{Live, before, at, key, advanced, begun, r
 use Rattle.coll_tables.specs.Tables.{Mail, Tables, Paths, asked, is_done, state, machine}
 use Rattle.coll_tables.specs.Sound.{Base, Sound}
 use Rattle.coll_tables.specs.Changes.{posting, joining, acting, leaving, dissolving, freeing, rehoming}
-use Rattle.coll_tables.specs.Calls.{IsLast, ticket, new_ticket}
+use Rattle.coll_tables.proofs.Calls.{IsLast, ticket, new_ticket}
 use Rattle.coll_tables.proofs.Standing.{finished_there}
 use Rattle.coll_tables.proofs.Basing.{base_leaves}
 use Rattle.coll_tables.proofs.Holding.{map_put, put_self, counted, last_is_over, over_is_last, holding_value}

@@ -17,7 +17,7 @@ use Rattle.coll_tables.specs.Tables.{Mail, Tables, Paths, is_done, state, machin
 use Rattle.coll_tables.specs.Sound.{Stands, ready, running, idle, queued, done, Sound, IsSound}
 use Rattle.coll_machine.specs.Changes.{put_in}
 use Rattle.coll_tables.specs.Changes.{posting, joining, leaving, dissolving, freeing}
-use Rattle.coll_tables.specs.Calls.{Away, ticket, new_ticket, LeftAt, Retiring}
+use Rattle.coll_tables.proofs.Calls.{Away, ticket, new_ticket, LeftAt, Retiring}
 use Rattle.coll_tables.proofs.Statements.{LockIsFree, InitKeeps, PostKeeps, StartKeeps, RetireKeeps, LastRetireKeeps, FreeKeeps}
 use Rattle.coll_tables.specs.FreeLocks.{LiesBy}
 use Rattle.coll_tables.proofs.Standing.{finished_there}

@@ -1,8 +1,11 @@
 -- What the engine's calls change in its tables, as the tables after them.
-use Rattle.std.specs.Prelude.{ℕ, suc, List, [], ◌∷◌, ◌++◌, Option, Some, None}
+use Rattle.std.specs.Prelude.{ℕ, suc, false, List, [], ◌∷◌, ◌++◌, length, Option, Some, None}
 use Rattle.coll_kinds.specs.Puts.{put}
+use Rattle.coll_sched.specs.declared.region.Region.{Region}
+use Rattle.coll_sched.specs.Regions.{read_of}
 use Rattle.coll_sched.specs.Worlds.{Progress, put_mail}
 use Rattle.coll_machine.specs.declared.key.Key.{Key}
+use Rattle.coll_machine.specs.Calls.{Planned}
 use Rattle.coll_machine.specs.Changes.{put2, put_in, put_key}
 use Rattle.coll_tables.specs.Requests.{Live, at, key, advanced, begun, rests}
 use Rattle.coll_tables.specs.Tables.{Mail, Tables}
@@ -108,3 +111,26 @@ rehoming v home = record {
   seats = v.seats;
   mail = v.mail;
 }
+
+-- the request that a post or an initialisation makes
+abbrev pub newcomer : Tables → ℕ → ℕ → Planned → Live
+newcomer v comm rank plan = record {
+  rank = rank;
+  comm = comm;
+  members = plan.n;
+  member = plan.member;
+  place = length (v.posts comm plan.member);
+  sig = plan.sig;
+  starts = 0;
+  active = false;
+  round = 0;
+  index = 0;
+  buf = [];
+}
+
+-- the messages after a Recv, and after a Send
+abbrev pub received : Tables → Live → ℕ → Key → Mail
+received v q of = mailed v.mail (key q) of q.member q.round None
+
+abbrev pub delivered : Tables → Live → ℕ → Region → Key → Mail
+delivered v q to from = mailed v.mail (key q) q.member to q.round (Some (read_of q.buf from))

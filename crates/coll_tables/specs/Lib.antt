@@ -1,4 +1,3 @@
-pub mod Calls  -- what each call has made sure of before it changes the tables
 pub mod Changes  -- the tables after a call
 pub mod Cores  -- the condition of an engine: of its tables, limits, instances and weights
 pub mod Engines  -- what the calls of an engine promise one another of an arena, posting lists and instances

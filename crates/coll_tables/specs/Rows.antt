@@ -18,8 +18,7 @@ use Rattle.coll_machine.specs.Machines.{MachineStep, MayFinish, StepsTo}
 use Rattle.coll_machine.specs.Rows.{two_ranks, plan, ticket, key}
 use Rattle.coll_tables.specs.Requests.{Live, begun, advanced}
 use Rattle.coll_tables.specs.Tables.{Tables, machine, opened}
-use Rattle.coll_tables.specs.Changes.{posting, joining, acting, leaving, dissolving}
-use Rattle.coll_tables.specs.Calls.{newcomer, delivered, received}
+use Rattle.coll_tables.specs.Changes.{posting, joining, acting, leaving, dissolving, newcomer, delivered, received}
 use Rattle.coll_tables.specs.Remaining.{actions_left}
 use Rattle.coll_tables.specs.Sound.{IsSound, next}
 

@@ -7,7 +7,7 @@
 //! |---|---|
 //! | `Requests`, `Tables` | a live request; the tables, those of an engine just opened, and what callers can know of them |
 //! | `Sound` | the condition: each collective runs on its track, each slot lies on the right list |
-//! | `Calls`, `Changes` | what a call makes sure of, and the tables after it |
+//! | `Changes` | the tables after each call |
 //! | `FreeLocks`, `Remaining` | what callers can see between calls; the actions that are left |
 //! | `Shown`, `Cores` | the tables that an arena, posting lists and instances show; an engine's condition |
 //! | `OneSlots`, `Engines` | what an engine's calls promise one another of these three |

@@ -1,5 +1,5 @@
 -- What each call of the engine has made sure of before it changes its tables, and where it puts the slot.
-use Rattle.std.specs.Prelude.{◌≡◌, ◌≢◌, ◌<◌, ◌⊎◌, ℕ, suc, false, List, [], length, Some, None}
+use Rattle.std.specs.Prelude.{◌≡◌, ◌≢◌, ◌<◌, ◌⊎◌, ℕ, suc, false, List, length, Some, None}
 use Rattle.coll_kinds.specs.declared.kind.Mode.{Mode}
 use Rattle.coll_kinds.specs.declared.kind.Mode.TheVariants.{Once, Persistent}
 use Rattle.coll_kinds.specs.declared.signature.Signature.{Signature}
@@ -8,7 +8,6 @@ use Rattle.coll_kinds.specs.Elements.{AreBytes}
 use Rattle.coll_kinds.specs.Groups.{member_of}
 use Rattle.coll_kinds.specs.Lengths.{given_len}
 use Rattle.coll_sched.specs.declared.action.Action.{Action}
-use Rattle.coll_sched.specs.declared.region.Region.{Region}
 use Rattle.coll_sched.specs.Families.{laid_in}
 use Rattle.coll_sched.specs.Points.{Over}
 use Rattle.coll_sched.specs.Regions.{read_of}
@@ -23,9 +22,8 @@ use Rattle.coll_machine.specs.Calls.{Planned, Retire}
 use Rattle.coll_machine.specs.Refusals.{refusal}
 use Rattle.coll_machine.specs.Steps.{AllHaveLeft}
 use Rattle.coll_tables.specs.Requests.{Live, at, key, begun, as_request}
-use Rattle.coll_tables.specs.Tables.{Mail, Tables, state}
+use Rattle.coll_tables.specs.Tables.{Tables, state}
 use Rattle.coll_tables.specs.Sound.{next, Stands, Called, Lies}
-use Rattle.coll_tables.specs.Changes.{mailed}
 
 -- the other slots stay on their lists
 abbrev pub Away : Tables → ℕ → (ℕ → ℕ) → Type 0
@@ -59,22 +57,6 @@ pub record New (v : Tables) (i : ℕ) (q : Live) (rank : ℕ) (mode : Mode) (pla
   pub member_is : member_of rank (group v.setting q.comm) ≡ Some q.member
   pub sig_is : q.sig ≡ plan.sig
   pub is : as_request q ≡ new_request rank q.comm q.member q.place mode
-
--- the request that a post or an initialisation makes
-abbrev pub newcomer : Tables → ℕ → ℕ → Planned → Live
-newcomer v comm rank plan = record {
-  rank = rank;
-  comm = comm;
-  members = plan.n;
-  member = plan.member;
-  place = length (v.posts comm plan.member);
-  sig = plan.sig;
-  starts = 0;
-  active = false;
-  round = 0;
-  index = 0;
-  buf = [];
-}
 
 -- bytes that the slot's request may be started with, and the first point of its schedule
 pub record Joining (v : Tables) (i : ℕ) (q : Live) (bytes : List ℕ) (p : Progress) : Type 0 where
@@ -121,13 +103,6 @@ pub record Acting (v : Tables) (i : ℕ) (q : Live) (a : Action) (o : Progress) 
   pub next_is : next (size v.setting q.comm) q ≡ Some a
   pub over : Over (family q.sig (size v.setting q.comm) q.member) q.round (suc q.index) o.round o.index
   pub away : Away v i home
-
--- the messages after a Recv, and after a Send
-abbrev pub received : Tables → Live → ℕ → Key → Mail
-received v q of = mailed v.mail (key q) of q.member q.round None
-
-abbrev pub delivered : Tables → Live → ℕ → Region → Key → Mail
-delivered v q to from = mailed v.mail (key q) q.member to q.round (Some (read_of q.buf from))
 
 -- the request of that member waits for this message
 pub record Waking (w : Tables) (k : Key) (to : ℕ) (j : ℕ) : Type 0 where
