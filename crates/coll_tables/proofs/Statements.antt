@@ -1,5 +1,5 @@
 -- What lemmas say of each change of the tables: each keeps the condition, and is the machine's step.
-use Rattle.std.specs.Prelude.{◌≡◌, ◌≢◌, ◌<◌, ◌≤◌, ◌*◌, ℕ, suc, List, [], length, Some, None}
+use Rattle.std.specs.Prelude.{◌≡◌, ◌≢◌, ◌<◌, ◌≤◌, ◌*◌, ℕ, suc, true, List, [], length, Some, None}
 use Rattle.coll_kinds.specs.declared.kind.Mode.TheVariants.{Once, Persistent}
 use Rattle.coll_kinds.specs.Elements.{AreBytes}
 use Rattle.coll_kinds.specs.Lengths.{given_len}
