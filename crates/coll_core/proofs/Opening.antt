@@ -1,5 +1,5 @@
 -- An engine that was just opened.
-use Rattle.std.proofs.Common.{◌≡◌, ◌∙◌, ◌<◌, ℕ, All, List, [], length, map, unwrap_or, slice_get, None, ap, refl, sym, subst, arith, Vec}
+use Rattle.std.proofs.Common.{◌≡◌, ◌∙◌, ◌<◌, ℕ, All, List, [], length, map, unwrap_or, slice_get, None, ap, refl, sym, subst, Vec}
 use Rattle.std.proofs.lemmas.List.{length-replicate}
 use Rattle.std.specs.Global.{Global}
 use Rattle.coll_kinds.specs.Groups.{IsGroup}

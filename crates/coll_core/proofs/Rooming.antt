@@ -15,7 +15,6 @@ use Rattle.coll_tables.proofs.EngineChanges.{HasMade}
 use Rattle.coll_tables.specs.Shown.{Instances}
 use Rattle.coll_tables.specs.Shown as tabled_parts
 use Rattle.coll_tables.proofs.EngineEnds.{room_core}
-use Rattle.coll_core.specs.declared.request.Request.{Request}
 use Rattle.coll_core.specs.Requests.{shown}
 use Rattle.coll_core.specs.Cores.{Parts, IsCore, setting, tables, Unchanged}
 

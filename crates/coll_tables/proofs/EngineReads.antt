@@ -20,7 +20,7 @@ use Rattle.coll_arena.proofs.Homes.{StandsAtHome-sound}
 use Rattle.coll_arena.proofs.Lents.{lent_by-weight}
 use Rattle.coll_queues.specs.Postings.{place_of, posts}
 use Rattle.coll_match.specs.Instances.{given, mail}
-use Rattle.coll_machine.specs.Settings.{Setting, size}
+use Rattle.coll_machine.specs.Settings.{size}
 use Rattle.coll_machine.specs.declared.key.Key.{Key}
 use Rattle.coll_machine.specs.States.{Request}
 use Rattle.coll_machine.specs.Calls.{Planned, Post}
@@ -30,13 +30,11 @@ use Rattle.coll_machine.specs.Traces.{over_slots}
 use Rattle.coll_tables.specs.Requests.{Live, as_request, at, key, progress}
 use Rattle.coll_tables.specs.Tables.{Mail, Tables, asked, state, world}
 use Rattle.coll_tables.specs.Sound.{next, Doable, Stands, ready, running, idle, queued, done}
-use Rattle.coll_tables.specs.Shown.{seen, listed, tables, weight, weight_by, setting_of}
-use Rattle.coll_tables.specs.Cores.{IsCore}
+use Rattle.coll_tables.specs.Shown.{seen, listed, tables, weight, weight_by}
 use Rattle.coll_tables.proofs.EngineStatements.{ActiveCore, AreOperands, LentCore, NewCore, QuietCore, ReadyCore}
 use Rattle.coll_tables.proofs.Accepting.{posted_passed}
 use Rattle.coll_tables.proofs.Basing.{not_given, serves_own, tracks_at}
 use Rattle.coll_tables.proofs.Holding.{has_given}
-use Rattle.coll_tables.proofs.Whole.{lock_is_free}
 use Rattle.coll_tables.proofs.EngineCalls.{place_is}
 
 -- a live request as the tables show it

@@ -1,28 +1,27 @@
 -- What an accepted call of the engine has tested.
-use Rattle.std.proofs.Common.{◌≡◌, ℕ, ◌+◌, ◌*◌, ◌==◌, ◌<◌, ◌≤◌, Bool, true, false, not, List, ◌∷◌, ◌++◌, [], length, Some, None, refl, sym, ap, subst, ◌∙◌, eqb-true, ltb-true}
+use Rattle.std.proofs.Common.{◌≡◌, ℕ, ◌<◌, ◌≤◌, List, ◌∷◌, ◌++◌, [], length, None, sym, ap, subst, ◌∙◌, ltb-true}
 use Rattle.std.specs.Prelude.{nat_lt}
 use Rattle.coll_kinds.specs.declared.kind.Mode.{Mode}
 use Rattle.coll_kinds.specs.declared.kind.Mode.TheVariants.{Once, Persistent}
 use Rattle.coll_kinds.specs.declared.refusal.Refusal.TheVariants.{Full}
-use Rattle.coll_kinds.specs.declared.ticket.Ticket.{Ticket}
 use Rattle.coll_kinds.specs.Checks.{broken}
 use Rattle.coll_kinds.specs.Lengths.{given_len}
 use Rattle.coll_lists.specs.Layouts.{sequence}
-use Rattle.coll_arena.specs.Slots.{Slots, home}
+use Rattle.coll_arena.specs.Slots.{Slots}
 use Rattle.coll_queues.specs.Postings.{Postings}
 use Rattle.coll_queues.specs.Refusing.{judge_refusal, member_refusal}
 use Rattle.coll_machine.specs.Settings.{Setting}
-use Rattle.coll_machine.specs.Calls.{Planned, Post, Init, Start}
+use Rattle.coll_machine.specs.Calls.{Planned, Post, Init}
 use Rattle.coll_machine.specs.Refusals.{refusal, wrong_length}
 use Rattle.coll_machine.proofs.Accepted.{all_none, fits}
 use Rattle.coll_tables.specs.Requests.{Live}
 use Rattle.coll_tables.specs.Tables.{Tables, state}
-use Rattle.coll_tables.specs.Shown.{Instances, listed, tables}
+use Rattle.coll_tables.specs.Shown.{Instances, tables}
 use Rattle.coll_tables.specs.Cores.{IsCore}
 use Rattle.coll_tables.proofs.EngineStatements.{EntryCore, MayEnter, full_refusal}
 use Rattle.coll_tables.specs.Engines.{entry_refusals}
-use Rattle.coll_tables.proofs.Accepting.{Passed, Startable, inited_passed, posted_passed, start_passed}
-use Rattle.coll_tables.proofs.EngineCalls.{few, found_here, number_is, ticket_is}
+use Rattle.coll_tables.proofs.Accepting.{Passed, inited_passed, posted_passed}
+use Rattle.coll_tables.proofs.EngineCalls.{few, number_is}
 use Rattle.coll_tables.proofs.EngineTests.{init_refused, post_refused}
 
 module _ {R : Type 0} (shown : R → Live) (g : Setting) (a : Slots R) (q : Postings) (m : Instances) (rank comm : ℕ) (plan : Planned) (c : IsCore shown g a q m) where

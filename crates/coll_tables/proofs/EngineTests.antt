@@ -1,35 +1,31 @@
 -- The tests of the engine are the machine's.
-use Rattle.std.proofs.Common.{◌≡◌, ℕ, zero, suc, ◌+◌, ◌*◌, ◌==◌, ◌&&◌, ◌||◌, ◌<◌, ◌≤◌, ◌⊎◌, inl, inr, Bool, true, false, not, cond, eqb, ltb, List, [], ◌∷◌, ◌++◌, length, slice_get, slice_index, Option, Some, None, is_some, is_none, refl, sym, ap, subst, ◌∙◌, arith, eqb-true, eq-eqb, ne_eqb, ltb-true, lt-ltb, le-ltb, get_or}
-use Rattle.std.specs.Prelude.{option_map, option_and_then, nat_lt}
+use Rattle.std.proofs.Common.{◌≡◌, ℕ, zero, suc, ◌+◌, ◌==◌, ◌&&◌, ◌||◌, ◌<◌, ◌≤◌, ◌⊎◌, inl, inr, Bool, true, false, ltb, List, [], ◌∷◌, length, Option, Some, None, is_some, is_none, refl, sym, ap, subst, ◌∙◌, arith, eqb-true, ltb-true, lt-ltb}
+use Rattle.std.specs.Prelude.{option_map, nat_lt}
 use Rattle.std.specs.List.{list_any, range_with_len}
 use Rattle.std.specs.Option.{option_or}
-use Rattle.std.proofs.lemmas.Bool.{cases_eq, cases_lt, cond-true, cond-false, and_parts, and_from, false≢true}
-use Rattle.std.proofs.Math.ListN.{get_or-eq_default}
+use Rattle.std.proofs.lemmas.Bool.{cases_eq, and_parts, and_from, false≢true}
 use Rattle.coll_kinds.specs.declared.kind.Mode.{Mode}
 use Rattle.coll_kinds.specs.declared.kind.Mode.TheVariants.{Once, Persistent}
 use Rattle.coll_kinds.specs.declared.refusal.Refusal.{Refusal}
-use Rattle.coll_kinds.specs.Refusals.{mismatch_at}
-use Rattle.coll_kinds.specs.declared.refusal.Refusal.TheVariants.{Active, BadComm, BadSignature, Full, NotMember, NotPersistent, PlacesUsed, StartsUsed}
+use Rattle.coll_kinds.specs.declared.refusal.Refusal.TheVariants.{BadComm, BadSignature, Full, NotMember, PlacesUsed}
 use Rattle.coll_kinds.specs.declared.refusal.SignatureFault.TheVariants.{Mode as WrongMode, Group as WrongGroup}
-use Rattle.coll_kinds.specs.declared.signature.Signature.{Signature}
 use Rattle.coll_kinds.specs.Checks.{broken}
 use Rattle.coll_kinds.specs.Groups.{member_of}
-use Rattle.coll_kinds.specs.Sameness.{mode_number, same_signature}
+use Rattle.coll_kinds.specs.Sameness.{mode_number}
 use Rattle.coll_lists.specs.Layouts.{sequence, times}
 use Rattle.coll_lists.specs.Neighbours.{first_in}
-use Rattle.coll_arena.specs.Slots.{Slots, count, generation_of, home, names, record_in}
+use Rattle.coll_arena.specs.Slots.{Slots, count, generation_of, home, record_in}
 use Rattle.coll_arena.specs.Sound as arena
 use Rattle.coll_arena.proofs.Homes.{StandsAtHome-sound}
-use Rattle.coll_arena.proofs.Sounds.{Named-names, free_first, names_all}
+use Rattle.coll_arena.proofs.Sounds.{free_first}
 use Rattle.coll_queues.specs.Postings.{Postings, groups_of, number_of as number_in, place_of, posts, size as size_in}
-use Rattle.coll_machine.specs.Settings.{Setting, group_in, size}
-use Rattle.coll_machine.specs.States.{Request, State, found, signature_of}
+use Rattle.coll_machine.specs.Settings.{Setting, group_in}
 use Rattle.coll_machine.specs.Calls.{Planned, Post, Init}
-use Rattle.coll_machine.specs.Refusals.{first_of, full, mismatch_in, naming_refusals, idle_refusals, refusal, start_refusals, unless, wrong_length}
+use Rattle.coll_machine.specs.Refusals.{first_of, full, mismatch_in, refusal, unless, wrong_length}
 use Rattle.coll_machine.proofs.Accepted.{fits}
-use Rattle.coll_tables.specs.Requests.{Live, as_request}
+use Rattle.coll_tables.specs.Requests.{Live}
 use Rattle.coll_tables.specs.Tables.{Tables, asked, state}
-use Rattle.coll_tables.specs.Shown.{Instances, listed, seen, tables}
+use Rattle.coll_tables.specs.Shown.{Instances, seen, tables}
 use Rattle.coll_tables.specs.Cores.{IsCore}
 use Rattle.coll_tables.proofs.EngineStatements.{InitRefused, PostRefused, full_refusal}
 use Rattle.coll_tables.proofs.EngineCalls.{none_of}

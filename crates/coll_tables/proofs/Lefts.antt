@@ -1,9 +1,9 @@
 -- The actions that are left, and who is Done, where one slot of an engine changes.
-use Rattle.std.proofs.Common.{◌≡◌, ◌≢◌, ◌∙◌, ◌+◌, ◌*◌, ◌==◌, ◌<◌, ◌≤◌, ℕ, suc, Bool, true, false, cond, not, length, Option, Some, None, ap, refl, sym, subst, arith, eq-eqb, ne_eqb, inr}
+use Rattle.std.proofs.Common.{◌≡◌, ◌≢◌, ◌∙◌, ◌+◌, ◌*◌, ◌==◌, ◌<◌, ℕ, suc, true, false, not, length, Option, Some, ap, sym, arith, eq-eqb, ne_eqb, inr}
 use Rattle.std.specs.Prelude.{option_map}
 use Rattle.std.proofs.lemmas.Bool.{cond-true, cond-false, eqb-true, false≢true}
 use Rattle.std.proofs.lemmas.Option.{slice_get_within}
-use Rattle.coll_kinds.proofs.Puts.{put_same, put_other}
+use Rattle.coll_kinds.proofs.Puts.{put_other}
 use Rattle.coll_sched.specs.declared.action.Action.{Action}
 use Rattle.coll_sched.specs.declared.action.Action.TheVariants.{Recv, Combine}
 use Rattle.coll_sched.specs.Points.{Over, actions_of, remaining}
@@ -17,7 +17,7 @@ use Rattle.coll_machine.specs.Settings.{Setting}
 use Rattle.coll_tables.specs.Requests.{Live}
 use Rattle.coll_tables.specs.Tables.{Mail, is_done, machine}
 use Rattle.coll_tables.specs.Sound.{Stands, ready, running, idle, queued, done, next}
-use Rattle.coll_tables.specs.Shown.{Instances, listed, seen, tables}
+use Rattle.coll_tables.specs.Shown.{Instances, seen, tables}
 use Rattle.coll_tables.specs.OneSlots.{OneSlot}
 use Rattle.coll_tables.specs.Remaining.{actions_left, left_by, left_of}
 use Rattle.coll_tables.proofs.Slots.{home_away, home_here, listed_idle, listed_stands, record_here, shown_requests}

@@ -1,5 +1,5 @@
 -- The actions that are left.
-use Rattle.std.proofs.Common.{◌≡◌, ℕ, zero, suc, ◌+◌, ◌*◌, ◌<◌, ◌≤◌, ◌⊎◌, inl, inr, Bool, true, false, List, [], ◌∷◌, length, Option, Some, None, refl, sym, ap, subst, ◌∙◌, arith}
+use Rattle.std.proofs.Common.{◌≡◌, ℕ, zero, suc, ◌+◌, ◌*◌, ◌<◌, ◌≤◌, Bool, true, false, List, [], ◌∷◌, length, Option, Some, None, refl, sym, ap, subst, ◌∙◌, arith}
 use Rattle.std.proofs.lemmas.Bool.{cond-true, cond-false}
 use Rattle.std.proofs.lemmas.Option.{slice_get_within}
 use Rattle.std.proofs.Math.Nat.{mul-suc}
@@ -7,14 +7,14 @@ use Rattle.coll_kinds.specs.Puts.{put}
 use Rattle.coll_sched.specs.declared.action.Action.{Action}
 use Rattle.coll_sched.specs.Points.{actions_of, left_in, remaining}
 use Rattle.coll_sched.specs.Schedules.{Parts}
-use Rattle.coll_sched.proofs.Points.{keeps_remaining, lowers_remaining, ends}
+use Rattle.coll_sched.proofs.Points.{keeps_remaining, lowers_remaining}
 use Rattle.coll_arena.specs.Totals.{sum_to}
 use Rattle.coll_arena.proofs.Totals.{sum_to-put}
 use Rattle.coll_machine.specs.Settings.{size}
 use Rattle.coll_plans.specs.Plans.{IsPlanned, family, most_actions}
 use Rattle.coll_tables.specs.Requests.{Live, key, advanced}
 use Rattle.coll_tables.specs.Tables.{Tables}
-use Rattle.coll_tables.specs.Sound.{Stands, ready, running, idle, queued, done, IsSound}
+use Rattle.coll_tables.specs.Sound.{IsSound}
 use Rattle.coll_tables.specs.Remaining.{left_of, left_by, actions_left}
 use Rattle.coll_tables.proofs.Statements.{ActsLower, LittleLeft}
 use Rattle.coll_tables.proofs.Actions.{going}

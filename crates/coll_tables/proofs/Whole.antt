@@ -23,7 +23,7 @@ use Rattle.coll_tables.specs.FreeLocks.{LiesBy}
 use Rattle.coll_tables.proofs.Standing.{finished_there}
 use Rattle.coll_tables.proofs.Accepting.{free_passed}
 use Rattle.coll_tables.proofs.Sounds.{Besides, besides, all_stand, all_lie, besides_posts, besides_joins, besides_leaves, besides_frees, besides_dissolves}
-use Rattle.coll_tables.proofs.Holding.{put_self, holding_value, last_is_over as over_of, over_is_last as last_of}
+use Rattle.coll_tables.proofs.Holding.{put_self, holding_value}
 use Rattle.coll_tables.proofs.Stepping.{done_changes, may_finish, inits, posts, starts, frees, retires_kept, retires_last}
 
 -- a slot that isn't done stays so
