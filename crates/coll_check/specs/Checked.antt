@@ -3,8 +3,7 @@ use Rattle.std.specs.Prelude.{◌≡◌, ◌⊎◌, ℕ, List, Option, IfSome, M
 use Rattle.std.specs.Io.KnownBytes.{Keeps}
 use Rattle.coll_script.specs.declared.fault.JobFault.{JobFault}
 use Rattle.coll_script.specs.declared.fault.JobFault.TheVariants.{Read, Write, Text, Memory}
-use Rattle.coll_script.specs.Meaning.{meaning}
-use Rattle.coll_diagnosis.specs.Explained.{HasMeaning}
+use Rattle.coll_script.specs.Meaning.{meaning, HasMeaning}
 use Rattle.coll_diagnosis.specs.Verdicts.{IsStatus}
 use Rattle.coll_check.specs.declared.checking.CheckForm.{CheckForm}
 use Rattle.coll_check.specs.declared.checking.CheckForm.TheVariants as form
@@ -18,12 +17,12 @@ abbrev pub IsSomeStatus : ℕ → Type 0
 IsSomeStatus status = (status ≡ 2) ⊎ IsStatus status
 
 -- why a text isn't checked that was read: no fault of its own is among these
-abbrev pub IsFaultOf : List ℕ → JobFault → Type 0
-IsFaultOf text Read = ⊥
-IsFaultOf text Write = ⊥
-IsFaultOf text (Text fault) = ⊥
-IsFaultOf text Memory = Unit {0}
-IsFaultOf text fault = HasMeaning text
+abbrev pub IsCheckFaultOf : List ℕ → JobFault → Type 0
+IsCheckFaultOf text Read = ⊥
+IsCheckFaultOf text Write = ⊥
+IsCheckFaultOf text (Text fault) = ⊥
+IsCheckFaultOf text Memory = Unit {0}
+IsCheckFaultOf text fault = HasMeaning text
 
 -- why what is read isn't checked, where the text is known
 abbrev pub IsCheckFault : Option (List ℕ) → JobFault → Type 0

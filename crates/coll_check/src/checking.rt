@@ -2,12 +2,10 @@
 
 ghost use Rattle.std.specs.Prelude.{◌≡◌, ◌≢◌, ◌||◌, IfOk, IfErr, IfSome, IfNone, IsOkUnless, Err};
 ghost use Rattle.std.specs.Io.KnownBytes.{Keeps};
-ghost use Rattle.coll_script.specs.Meaning.{meaning};
-ghost use Rattle.coll_script.specs.Plain.{HasCause};
-ghost use Rattle.coll_diagnosis.specs.Explained.{HasMeaning};
-ghost use Rattle.coll_diagnosis.specs.Explained as explained;
+ghost use Rattle.coll_script.specs.Meaning.{meaning, HasMeaning};
+ghost use Rattle.coll_script.specs.Plain.{HasCause, IsFaultOf};
 ghost use Rattle.coll_diagnosis.specs.Verdicts.{IsStatus};
-ghost use Rattle.coll_check.specs.Checked.{IsCheckStatus, IsFaultOf, IsCheckFault, IsSomeStatus, KeepsLines};
+ghost use Rattle.coll_check.specs.Checked.{IsCheckStatus, IsCheckFaultOf, IsCheckFault, IsSomeStatus, KeepsLines};
 
 use crate::json_form::{faultless_json, faults_json};
 use crate::text_form::{faultless_text, faults_text};
@@ -64,7 +62,7 @@ pub fn check_job<R: Read, W: Write, E: Write>(
 fn told(alloc: Global, name: &str, form: CheckForm, text: &[u8]) -> Result<(String, u8), JobFault>
     ensures status { IfOk result (λ told. IsCheckStatus text.now told.1) }
     ensures statuses { IfOk result (λ told. IsSomeStatus told.1) }
-    ensures faults { IfErr result (IsFaultOf text.now) }
+    ensures faults { IfErr result (IsCheckFaultOf text.now) }
 {
     let Some(faults) = faults_of(alloc, text)? else {
         return faultless(alloc, name, form, text);
@@ -110,7 +108,7 @@ fn faultless(
     text: &[u8],
 ) -> Result<(String, u8), JobFault>
     ensures status { IfOk result (λ told. IsStatus told.1) }
-    ensures faults { IfErr result (explained.IsFaultOf text.now) }
+    ensures faults { IfErr result (IsFaultOf text.now) }
 {
     let options = ExplainOptions {
         form: match form {

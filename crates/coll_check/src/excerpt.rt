@@ -1,4 +1,4 @@
-use coll_faults::shown_as;
+use coll_script::shown_as;
 use std::alloc::{AllocError, Global};
 
 /// A line as it is shown, with some of it marked below.

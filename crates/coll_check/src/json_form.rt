@@ -7,8 +7,9 @@ use crate::objects::{
 use coll_diagnosis::Source;
 use coll_faults::{
     Detail, Faults, Finding, Marked, Mismatch, MissingPlace, MissingStart, PlaceFault, Standing,
-    Suggestion, shown, shown_as,
+    Suggestion, shown,
 };
+use coll_script::shown_as;
 use serde::Serialize;
 use serde_json::Error;
 use std::alloc::{AllocError, Global};

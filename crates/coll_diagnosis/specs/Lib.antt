@@ -1,4 +1,3 @@
--- the exit status of a verdict, what is told of ranks that wait, and what explaining a text ends in
+-- the exit status of a verdict, and what is told of ranks that wait
 pub mod Verdicts
 pub mod Standing
-pub mod Explained

@@ -2,8 +2,8 @@
 
 ghost use Rattle.std.specs.Prelude.{◌≡◌, ◌≢◌, IfOk, IfErr, IfSome, OnOk, IsOkUnless};
 ghost use Rattle.std.specs.Io.KnownBytes.{Keeps};
-ghost use Rattle.coll_script.specs.Plain.{HasCause};
-ghost use Rattle.coll_diagnosis.specs.Explained.{HasMeaning, IsFaultOf, IsExplainFault};
+ghost use Rattle.coll_script.specs.Meaning.{HasMeaning};
+ghost use Rattle.coll_script.specs.Plain.{HasCause, IsFaultOf, IsInputFault};
 ghost use Rattle.coll_diagnosis.specs.Verdicts.{IsStatus};
 
 use crate::dot_form::dot_form;
@@ -55,7 +55,7 @@ pub fn explain_job<R: Read, W: Write>(
     ensures meaning { OnOk result (IfSome (R.remaining reader.old.reader.now) HasMeaning) }
     ensures status { IfOk result IsStatus }
     // The fault of a text is the one that its definition gives.
-    ensures faults { IfErr result (IsExplainFault (R.remaining reader.old.reader.now)) }
+    ensures faults { IfErr result (IsInputFault (R.remaining reader.old.reader.now)) }
     // A read fault is answered only where the reader failed, and a write fault only where the writer did.
     ensures cause { IfErr result (λ fault. HasCause fault reader.new.failed writer.new.failed) }
     ensures same_writer { writer.new.stream.ghost_name ≡ writer.old.stream.ghost_name }

@@ -1,3 +1,4 @@
+use coll_script::shown_as;
 use std::alloc::{AllocError, Global};
 
 /// The lines of a text, to be shown.
@@ -65,13 +66,4 @@ fn push_line(text: &mut Vec<u8>, line: &[u8]) -> Result<(), AllocError> {
     text.extend_from_slice(line)?;
     text.push(b'\n')?;
     Ok(())
-}
-
-/// How a byte of a line is shown: what isn't printed as one column is a question mark.
-fn shown_as(byte: u8) -> char {
-    match byte {
-        b' '..=b'~' => char::from(byte),
-        b'\t' | b'\r' => ' ',
-        _ => '?',
-    }
 }

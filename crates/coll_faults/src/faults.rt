@@ -24,12 +24,12 @@ pub struct Faults {
 pub const MOST_FAULTS: u32 = 64;
 
 impl Faults {
-    ghost use Rattle.std.specs.Prelude.{◌≡◌, Err, IfOk, IfSome, IfNone, IsOk};
-    ghost use Rattle.coll_script.specs.Meaning.{meaning};
+    ghost use Rattle.std.specs.Prelude.{◌≡◌, Err, IfOk, IfSome, IfNone};
+    ghost use Rattle.coll_script.specs.Meaning.{meaning, HasMeaning};
 
     /// The faults of a text; nothing where it has none. For each fault the text is read again several times.
     pub fn of(alloc: Global, text: &[u8]) -> Result<Option<Faults>, AllocError>
-        ensures none { IfOk result (λ found. IfNone found (IsOk (meaning text.now))) }
+        ensures none { IfOk result (λ found. IfNone found (HasMeaning text.now)) }
         ensures first { IfOk result (λ found. IfSome found (λ faults. meaning text.now ≡ Err faults.first.fault)) }
     {
         let fault = match Script::read(alloc, text) {

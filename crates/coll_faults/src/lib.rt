@@ -45,4 +45,4 @@ pub use finding::{Detail, Finding, Marked};
 pub use patch::Patch;
 pub use place_faults::{Mismatch, MissingPlace, MissingStart, PlaceFault, Standing};
 pub use suggestion::Suggestion;
-pub use words::{shown, shown_as};
+pub use words::shown;

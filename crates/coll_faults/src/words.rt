@@ -1,5 +1,6 @@
 //! The words of a line, and lines made of them.
 
+use coll_script::shown_as;
 use std::alloc::{AllocError, Global};
 
 /// A word of a line.
@@ -69,20 +70,11 @@ pub(crate) fn spliced(
     Ok(line)
 }
 
-/// Bytes as they are shown: one column each, what isn't printed so is a question mark.
+/// Bytes as they are shown, each as [`shown_as`] says.
 pub fn shown(alloc: Global, bytes: &[u8]) -> Result<String, AllocError> {
     let mut shown = String::new(alloc);
     for byte in bytes {
         shown.push(shown_as(*byte))?;
     }
     Ok(shown)
-}
-
-/// How a byte is shown.
-pub fn shown_as(byte: u8) -> char {
-    match byte {
-        b' '..=b'~' => char::from(byte),
-        b'\t' | b'\r' => ' ',
-        _ => '?',
-    }
 }

@@ -5,14 +5,11 @@ use Rattle.coll_history.specs.declared.fault.Fault.{Fault}
 use Rattle.coll_script.specs.declared.fault.JobFault.{JobFault}
 use Rattle.coll_script.specs.declared.fault.JobFault.TheVariants.{Read, Write, Text, Stalled, Refused, Memory, NoThread, Torn}
 use Rattle.coll_script.specs.Faults.{status_of}
-use Rattle.coll_script.specs.Meaning.{meaning}
-use Rattle.coll_script.specs.Plain.{IsPlainFault, WritesMeaning}
+use Rattle.coll_script.specs.Meaning.{meaning, HasMeaning}
+use Rattle.coll_script.specs.Plain.{IsPlainFault, IsFaultOf, IsInputFault, WritesMeaning}
 use Rattle.coll_script.proofs.Answering.{meaning-read}
-use Rattle.coll_diagnosis.specs.Explained.{HasMeaning, IsExplainFault}
-use Rattle.coll_diagnosis.specs.Explained as explained
 use Rattle.coll_diagnosis.specs.Verdicts.{IsStatus}
 use Rattle.coll_check.specs.Checked.{IsCheckFault, IsCheckStatus}
-use Rattle.coll_job.specs.Faults.{IsRunFault, IsThreadedFault}
 use Rattle.coll_job.specs.Tasks.{IsTextStatus}
 
 -- what a text with that meaning may be answered with
@@ -78,28 +75,28 @@ pub status-read : (start : Option (List ℕ)) (text : List ℕ) (status : ℕ) �
 status-read None text status read is = tt
 status-read (Some input) text status read is = rw (meaning-read input text read) is
 
--- the status of each fault of a run
-pub status-run : (fault : JobFault) (text : List ℕ) → IsRunFault text fault → IsTextStatus text (status_of fault)
-status-run Read text fails = absurd fails
-status-run Write text fails = absurd fails
-status-run (Text fault) text fails = told-err (meaning text) fault fails
-status-run Stalled text fails = told-ok (meaning text) 3 fails three-isnt-two
-status-run (Refused why) text fails = told-ok (meaning text) 4 fails four-isnt-two
-status-run Memory text fails = told-five (meaning text)
-status-run NoThread text fails = told-five (meaning text)
-status-run Torn text fails = told-five (meaning text)
+-- the status of each fault of a run and of an explanation
+pub status-fault : (fault : JobFault) (text : List ℕ) → IsFaultOf text fault → IsTextStatus text (status_of fault)
+status-fault Read text fails = absurd fails
+status-fault Write text fails = absurd fails
+status-fault (Text fault) text fails = told-err (meaning text) fault fails
+status-fault Stalled text fails = told-ok (meaning text) 3 fails three-isnt-two
+status-fault (Refused why) text fails = told-ok (meaning text) 4 fails four-isnt-two
+status-fault Memory text fails = told-five (meaning text)
+status-fault NoThread text fails = told-five (meaning text)
+status-fault Torn text fails = told-five (meaning text)
 
-pub status-threaded : (fault : JobFault) (start : Option (List ℕ)) → IsThreadedFault start fault
+pub status-input : (fault : JobFault) (start : Option (List ℕ)) → IsInputFault start fault
     → IfSome start (λ input. IsTextStatus input (status_of fault))
-status-threaded fault None fails = tt
-status-threaded Read (Some input) fails = told-one (meaning input)
-status-threaded Write (Some input) fails = told-one (meaning input)
-status-threaded (Text fault) (Some input) fails = status-run (Text fault) input fails
-status-threaded Stalled (Some input) fails = status-run Stalled input fails
-status-threaded (Refused why) (Some input) fails = status-run (Refused why) input fails
-status-threaded Memory (Some input) fails = told-five (meaning input)
-status-threaded NoThread (Some input) fails = status-run NoThread input fails
-status-threaded Torn (Some input) fails = status-run Torn input fails
+status-input fault None fails = tt
+status-input Read (Some input) fails = told-one (meaning input)
+status-input Write (Some input) fails = told-one (meaning input)
+status-input (Text fault) (Some input) fails = status-fault (Text fault) input fails
+status-input Stalled (Some input) fails = status-fault Stalled input fails
+status-input (Refused why) (Some input) fails = status-fault (Refused why) input fails
+status-input Memory (Some input) fails = told-five (meaning input)
+status-input NoThread (Some input) fails = told-five (meaning input)
+status-input Torn (Some input) fails = told-five (meaning input)
 
 -- of a plain answer
 pub status-plain : (fault : JobFault) (start : Option (List ℕ)) → IsPlainFault start fault
@@ -121,7 +118,7 @@ status-written (Some input) old new writes = status-done input writes.0 writes.1
 
 -- of an explanation
 status-means : (text : List ℕ) (status : ℕ) → HasMeaning text → status ≢ 2 → IsTextStatus text status
-status-means text status means other = told-ok (meaning text) status (is-ok (meaning text) means.0 means.1) other
+status-means text status means other = told-ok (meaning text) status means other
 
 status-verdict : (status : ℕ) → IsStatus status → status ≢ 2
 status-verdict status (inl is) two = zero-isnt-two (sym is ∙ two)
@@ -132,28 +129,6 @@ pub status-explained : (start : Option (List ℕ)) (status : ℕ) → IfSome sta
     → IfSome start (λ input. IsTextStatus input status)
 status-explained None status means is = tt
 status-explained (Some input) status means is = status-means input status means (status-verdict status is)
-
-pub status-of-explaining : (fault : JobFault) (text : List ℕ) → explained.IsFaultOf text fault → IsTextStatus text (status_of fault)
-status-of-explaining Read text fails = absurd fails
-status-of-explaining Write text fails = absurd fails
-status-of-explaining (Text fault) text fails = told-err (meaning text) fault fails
-status-of-explaining Stalled text fails = status-means text 3 fails three-isnt-two
-status-of-explaining (Refused why) text fails = status-means text 4 fails four-isnt-two
-status-of-explaining Memory text fails = told-five (meaning text)
-status-of-explaining NoThread text fails = told-five (meaning text)
-status-of-explaining Torn text fails = told-five (meaning text)
-
-pub status-explain-fault : (fault : JobFault) (start : Option (List ℕ)) → IsExplainFault start fault
-    → IfSome start (λ input. IsTextStatus input (status_of fault))
-status-explain-fault fault None fails = tt
-status-explain-fault Read (Some input) fails = told-one (meaning input)
-status-explain-fault Write (Some input) fails = told-one (meaning input)
-status-explain-fault (Text fault) (Some input) fails = status-of-explaining (Text fault) input fails
-status-explain-fault Stalled (Some input) fails = status-of-explaining Stalled input fails
-status-explain-fault (Refused why) (Some input) fails = status-of-explaining (Refused why) input fails
-status-explain-fault Memory (Some input) fails = told-five (meaning input)
-status-explain-fault NoThread (Some input) fails = told-five (meaning input)
-status-explain-fault Torn (Some input) fails = told-five (meaning input)
 
 -- of a check
 checked : (m : Result (List ℕ) Fault) (status : ℕ) → MatchResult m (λ lines. IsStatus status) (λ fault. status ≡ 2) → IsTold m status

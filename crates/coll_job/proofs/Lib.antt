@@ -5,5 +5,4 @@ mod Indexing
 mod Printed
 mod Ending
 mod AttestedRows
-pub mod Failing
 pub mod Judging

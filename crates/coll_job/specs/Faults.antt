@@ -1,21 +1,12 @@
 -- Why a run has no answer, and which fault is told where several threads end with one.
-use Rattle.std.specs.Prelude.{◌≡◌, ◌++◌, ℕ, Bool, true, false, List, Option, Some, None, Err, IsOk, IfSome}
+use Rattle.std.specs.Prelude.{◌++◌, Bool, true, false, List, Option, Some, None}
 use Rattle.std.specs.List.{fold}
 use Rattle.std.specs.Option.{option_map}
 use Rattle.coll_kinds.specs.declared.refusal.Refusal.{Refusal}
 use Rattle.coll_kinds.specs.declared.refusal.Refusal.TheVariants as refusal
-use Rattle.coll_script.specs.Meaning.{meaning}
 use Rattle.coll_script.specs.declared.fault.JobFault.{JobFault}
-use Rattle.coll_script.specs.declared.fault.JobFault.TheVariants.{Read, Write, Text, Memory, NoThread}
+use Rattle.coll_script.specs.declared.fault.JobFault.TheVariants.{Read, Write, Text, NoThread}
 use Rattle.coll_script.specs.Faults.{fault_of_refusal}
-
--- the faults of a run: that of a text is the one that its definition gives, and only a text without one is run
-abbrev pub IsRunFault : List ℕ → JobFault → Type 0
-IsRunFault text Read = ⊥
-IsRunFault text Write = ⊥
-IsRunFault text (Text fault) = meaning text ≡ Err fault
-IsRunFault text Memory = Unit {0}
-IsRunFault text fault = IsOk (meaning text)
 
 -- the faults of the run of a script
 abbrev pub IsEnd : JobFault → Type 0
@@ -35,11 +26,3 @@ graver (Some why) later = Some why
 abbrev pub fault_of : Bool → List (Option Refusal) → List (Option Refusal) → Option JobFault
 fault_of false ranks workers = Some NoThread
 fault_of true ranks workers = option_map fault_of_refusal (fold graver None (ranks ++ workers))
-
--- the faults of a job from a reader to a writer; where the text is known, that of a text is the one that its definition
--- gives, and only a text without one is run
-abbrev pub IsThreadedFault : Option (List ℕ) → JobFault → Type 0
-IsThreadedFault input Read = Unit {0}
-IsThreadedFault input Write = Unit {0}
-IsThreadedFault input Memory = Unit {0}
-IsThreadedFault input fault = IfSome input (λ text. IsRunFault text fault)

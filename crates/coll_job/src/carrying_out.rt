@@ -4,9 +4,7 @@ ghost use Rattle.std.specs.Prelude.{◌≡◌, ◌≢◌, ◌<◌, ◌≤◌, tr
 ghost use Rattle.std.specs.Io.KnownBytes.{Keeps};
 ghost use Rattle.coll_script.specs.Faults.{status_of};
 ghost use Rattle.coll_script.specs.Meaning.{meaning};
-ghost use Rattle.coll_script.specs.Plain.{HasCause};
-ghost use Rattle.coll_diagnosis.specs.Explained.{IsFaultOf};
-ghost use Rattle.coll_job.specs.Faults.{IsRunFault};
+ghost use Rattle.coll_script.specs.Plain.{HasCause, IsFaultOf};
 ghost use Rattle.coll_job.specs.Tasks.{IsTextStatus};
 
 use crate::host::Host;
@@ -124,7 +122,7 @@ fn shown_job<M: Threads + Wait + Sync + Clock, S: Screen + Sync>(
 ) -> Result<Recording, JobFault>
     requires { workers ≤ 8 }
     ensures meaning { IfOk result (λ done. meaning text.now ≡ Ok done.lines.items) }
-    ensures faults { IfErr result (IsRunFault text.now) }
+    ensures faults { IfErr result (IsFaultOf text.now) }
 {
     let progress = Progress::new(machine, alloc, screen);
     let recorded = recorded_job(machine, alloc, text, workers, &progress);

@@ -13,7 +13,7 @@ ghost use Rattle.coll_job.specs.Commands.{commands_by};
 ghost use Rattle.coll_job.specs.Lines.{told, told_lines};
 ghost use Rattle.coll_job.specs.Opened.{setting_for};
 ghost use Rattle.coll_job.specs.Runs.{IsRun};
-ghost use Rattle.coll_job.specs.Faults.{IsEnd, IsRunFault, fault_of};
+ghost use Rattle.coll_job.specs.Faults.{IsEnd, fault_of};
 
 use crate::attest_fault::AttestFault;
 use crate::attested::attested_lines;
@@ -68,7 +68,7 @@ pub fn recorded_job<R: Threads + Wait + Clock + Sync, W: Watch + Sync>(
         done.lines.items ≡ told_lines (told done.report.entries) (job_of script))) }
     // Each entry has its span.
     ensures spans { IfOk result (λ done. vec_len done.spans ≡ length done.report.entries) }
-    ensures faults { IfErr result (IsRunFault text.now) }
+    ensures faults { IfErr result (IsFaultOf text.now) }
 {
     let script = Script::read(alloc, text)?;
     watch.begin(script.history().ranks(), starts_in(&script));
@@ -120,7 +120,7 @@ pub fn run_job<R: Threads + Wait + Sync, G: Gate + Sync>(
     // and of which the lines are told.
     ensures told { IfOk result (λ done. IfOk (script_of text.now) (λ script.
         done.0.items ≡ told_lines (told done.1.entries) (job_of script))) }
-    ensures faults { IfErr result (IsRunFault text.now) }
+    ensures faults { IfErr result (IsFaultOf text.now) }
 {
     let script = Script::read(alloc, text)?;
     let (lines, report, _ranks) = run_script(rt, alloc, &script, workers, gate, &NoObserver)?;

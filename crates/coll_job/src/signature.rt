@@ -4,7 +4,7 @@ ghost use Rattle.std.specs.Prelude.{IsOkUnless};
 
 use coll_faults::{Detail, Faults, Marked};
 use coll_kinds::{MAX_TEXT, Mode, Signature};
-use coll_script::{Command, History, JobFault, ScriptFault};
+use coll_script::{Command, History, JobFault, ScriptFault, shown_as};
 use std::alloc::{AllocError, Global};
 use std::io;
 use std::io::Write;
@@ -89,7 +89,7 @@ fn tell<E: Write>(words: &str, faults: &Faults, errors: &mut E) -> io::Result<()
 fn tell_words<E: Write>(words: &str, marked: &Marked, errors: &mut E) -> io::Result<()> {
     write!(errors, "  | ")?;
     for byte in words.as_bytes() {
-        write!(errors, "{}", shown(*byte))?;
+        write!(errors, "{}", shown_as(*byte))?;
     }
     write!(errors, "\n  | ")?;
     for _ in BEFORE.len()..marked.start {
@@ -106,12 +106,4 @@ fn tell_words<E: Write>(words: &str, marked: &Marked, errors: &mut E) -> io::Res
         writeln!(errors, "  = help: {}", suggestion.help())?;
     }
     Ok(())
-}
-
-/// A byte as it is shown: one column each, what isn't printed so is a question mark.
-fn shown(byte: u8) -> char {
-    match byte {
-        b' '..=b'~' => char::from(byte),
-        _ => '?',
-    }
 }

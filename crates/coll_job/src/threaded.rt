@@ -3,8 +3,7 @@
 ghost use Rattle.std.specs.Prelude.{◌≡◌, ◌≢◌, ◌≤◌, ◌+◌, IfErr, IfSome, OnOk};
 ghost use Rattle.std.specs.Io.KnownBytes.{Keeps};
 ghost use Rattle.coll_kinds.specs.Limits.{max_text};
-ghost use Rattle.coll_script.specs.Plain.{HasCause, WritesMeaning};
-ghost use Rattle.coll_job.specs.Faults.{IsThreadedFault};
+ghost use Rattle.coll_script.specs.Plain.{HasCause, IsInputFault, WritesMeaning};
 
 use crate::running::run_job;
 use coll_script::{Counted, JobFault, Witnessed, read_text, write_lines};
@@ -32,7 +31,7 @@ pub fn threaded_job<T: Threads + Wait + Sync, R: Read, W: Write>(
     // What was written is the meaning of what was read, and nothing else.
     ensures ok { OnOk result (IfSome (R.remaining reader.old.reader.now) (λ input. WritesMeaning input (W.contents writer.old.stream.now) (W.contents writer.new.stream.now))) }
     // The fault of a text is the one that its definition gives.
-    ensures faults { IfErr result (IsThreadedFault (R.remaining reader.old.reader.now)) }
+    ensures faults { IfErr result (IsInputFault (R.remaining reader.old.reader.now)) }
     // A read fault is answered only where the reader failed, and a write fault only where the writer did.
     ensures cause { IfErr result (λ fault. HasCause fault reader.new.failed writer.new.failed) }
     ensures same_writer { writer.new.stream.ghost_name ≡ writer.old.stream.ghost_name }

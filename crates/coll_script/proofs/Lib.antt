@@ -12,7 +12,7 @@ mod Lacking
 mod Ending
 mod Valued
 mod Shared
-mod Printing
+pub mod Printing
 mod Finding
 mod Printed
 mod Final

@@ -5,7 +5,7 @@ use Rattle.std.proofs.lemmas.List.{append-nil, length-drop}
 use Rattle.std.proofs.lemmas.List.Concat.{flat_map-cons}
 use Rattle.std.proofs.Math.Nat.{mul-le-mul_right}
 use Rattle.coll_kinds.specs.declared.datatype.Datatype.{Datatype}
-use Rattle.coll_kinds.specs.Elements.{width, element_at}
+use Rattle.coll_kinds.specs.Elements.{Element, width, element_at}
 use Rattle.coll_kinds.specs.Texts.{text_of}
 use Rattle.coll_ops.specs.Combinations.{elements}
 use Rattle.coll_history.proofs.Contributions.{width-positive}
@@ -32,15 +32,23 @@ width-le ty len i rest lt split =
 pub rest-more : (ty : Datatype) (len i : ℕ) (row : List ℕ) → width ty ≤ length row → length row + i * width ty ≡ len → length (drop (width ty) row) + (i + 1) * width ty ≡ len
 rest-more ty len i row le split = let dropped = length-drop (width ty) row in omega arith
 
-pub elements-more : (ty : Datatype) (end i : ℕ) (rest out total : List ℕ) → i < end → out ++ flat_map element_text (elements ty (end - i) rest) ≡ total
-    → ((out ++ 32 ∷ []) ++ text_of (element_at ty rest)) ++ flat_map element_text (elements ty (end - (i + 1)) (drop (width ty) rest)) ≡ total
-elements-more ty end i rest out total lt so_far =
+-- text that grows by that of the next element
+pub elements-more : (text : Element → List ℕ) (ty : Datatype) (end i : ℕ) (rest out total : List ℕ) → i < end
+    → out ++ flat_map text (elements ty (end - i) rest) ≡ total
+    → (out ++ text (element_at ty rest)) ++ flat_map text (elements ty (end - (i + 1)) (drop (width ty) rest)) ≡ total
+elements-more text ty end i rest out total lt so_far =
     let left : end - i ≡ suc (end - (i + 1)) = omega arith in
-    let others = flat_map element_text (elements ty (end - (i + 1)) (drop (width ty) rest)) in
-    let here : flat_map element_text (elements ty (end - i) rest) ≡ element_text (element_at ty rest) ++ others =
-    ap (λ n. flat_map element_text (elements ty n rest)) left ∙ flat_map-cons element_text (element_at ty rest) (elements ty (end - (i + 1)) (drop (width ty) rest)) in
-    ap (λ (xs : List ℕ). xs ++ others) (append_assoc out (32 ∷ []) (text_of (element_at ty rest)))
-    ∙ append_assoc out (element_text (element_at ty rest)) others ∙ ap (λ (xs : List ℕ). out ++ xs) (sym here) ∙ so_far
+    let others = flat_map text (elements ty (end - (i + 1)) (drop (width ty) rest)) in
+    let here : flat_map text (elements ty (end - i) rest) ≡ text (element_at ty rest) ++ others =
+    ap (λ n. flat_map text (elements ty n rest)) left ∙ flat_map-cons text (element_at ty rest) (elements ty (end - (i + 1)) (drop (width ty) rest)) in
+    append_assoc out (text (element_at ty rest)) others ∙ ap (λ (xs : List ℕ). out ++ xs) (sym here) ∙ so_far
+
+-- the same where a space is written first
+pub spaced-more : (ty : Datatype) (end i : ℕ) (rest out total : List ℕ) → i < end → out ++ flat_map element_text (elements ty (end - i) rest) ≡ total
+    → ((out ++ 32 ∷ []) ++ text_of (element_at ty rest)) ++ flat_map element_text (elements ty (end - (i + 1)) (drop (width ty) rest)) ≡ total
+spaced-more ty end i rest out total lt so_far =
+    ap (λ (xs : List ℕ). xs ++ flat_map element_text (elements ty (end - (i + 1)) (drop (width ty) rest))) (append_assoc out (32 ∷ []) (text_of (element_at ty rest)))
+    ∙ elements-more element_text ty end i rest out total lt so_far
 
 -- ---- exits
 

@@ -1,5 +1,5 @@
 -- The meaning of a job text: its output lines, or its fault.
-use Rattle.std.specs.Prelude.{ℕ, ◌/◌, Option, Some, None, unwrap_or, Result, Ok}
+use Rattle.std.specs.Prelude.{ℕ, ◌/◌, Option, Some, None, unwrap_or, Result, Ok, IsOk}
 use Rattle.std.specs.Prelude.{List, [], ◌∷◌, ◌++◌, length, map, flat_map, slice_get, codes}
 use Rattle.std.specs.List.{range_with_len}
 use Rattle.std.specs.Fmt.{decimal}
@@ -18,9 +18,9 @@ use Rattle.coll_script.specs.Jobs.{Job, job_of, script_of}
 abbrev pub element_text : Element → List ℕ
 element_text element = 32 ∷ text_of element
 
--- those of all elements of a row
-abbrev pub elements_text : Datatype → List ℕ → List ℕ
-elements_text ty row = flat_map element_text (elements ty (length row / width ty) row)
+-- the texts of all elements of a row, where this is the text of each
+abbrev pub elements_text : (Element → List ℕ) → Datatype → List ℕ → List ℕ
+elements_text text ty row = flat_map text (elements ty (length row / width ty) row)
 
 -- what stands before the elements
 abbrev pub outcome_head : ℕ → ℕ → ℕ → List ℕ
@@ -30,7 +30,7 @@ outcome_head rank req start =
 
 -- the line of an outcome
 abbrev pub outcome_line : ℕ → ℕ → ℕ → Datatype → List ℕ → List ℕ
-outcome_line rank req start ty row = outcome_head rank req start ++ elements_text ty row ++ 10 ∷ []
+outcome_line rank req start ty row = outcome_head rank req start ++ elements_text element_text ty row ++ 10 ∷ []
 
 -- what a member gives at a start of its request at a place
 abbrev pub given_by : ℕ → Option Request → List ℕ
@@ -74,3 +74,7 @@ job_lines job = flat_map (rank_lines job) (range_with_len 0 (length job.requests
 -- the output lines of a text, or its fault
 abbrev pub meaning : List ℕ → Result (List ℕ) Fault
 meaning text = and_then (script_of text) (λ h. Ok (job_lines (job_of h)))
+
+-- the text has no fault
+abbrev pub HasMeaning : List ℕ → Type 0
+HasMeaning text = IsOk (meaning text)

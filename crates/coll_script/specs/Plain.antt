@@ -1,7 +1,7 @@
 -- What reading a text and answering it may end in.
 use Rattle.std.specs.Prelude.{◌≡◌, List, ℕ, Bool, true, Option, IfSome, Ok, Err}
 use Rattle.std.specs.Io.KnownBytes.{Appends}
-use Rattle.coll_script.specs.Meaning.{meaning}
+use Rattle.coll_script.specs.Meaning.{meaning, HasMeaning}
 use Rattle.coll_script.specs.declared.fault.JobFault.{JobFault}
 use Rattle.coll_script.specs.declared.fault.JobFault.TheVariants.{Read, Write, Text, Memory}
 
@@ -24,6 +24,22 @@ IsPlainFault input Write = Unit {0}
 IsPlainFault input (Text fault) = IfSome input (λ text. meaning text ≡ Err fault)
 IsPlainFault input Memory = Unit {0}
 IsPlainFault input fault = ⊥
+
+-- the faults of explaining or running a text: that of the text is the one that its definition gives, and only a text
+-- without one is explained or run
+abbrev pub IsFaultOf : List ℕ → JobFault → Type 0
+IsFaultOf text Read = ⊥
+IsFaultOf text Write = ⊥
+IsFaultOf text (Text fault) = meaning text ≡ Err fault
+IsFaultOf text Memory = Unit {0}
+IsFaultOf text fault = HasMeaning text
+
+-- the same of what is read, where the text is known
+abbrev pub IsInputFault : Option (List ℕ) → JobFault → Type 0
+IsInputFault input Read = Unit {0}
+IsInputFault input Write = Unit {0}
+IsInputFault input Memory = Unit {0}
+IsInputFault input fault = IfSome input (λ text. IsFaultOf text fault)
 
 -- the writer, which held old, holds the lines of the text's meaning behind it, where the bytes are known
 abbrev pub WritesMeaning : List ℕ → Option (List ℕ) → Option (List ℕ) → Type 0

@@ -16,6 +16,7 @@
 //! | `outcome`, `rank_lines` | the lines of an outcome, a request and a rank |
 //! | `counted` | `Counted`, a reader that counts its reads, and remembers whether one failed |
 //! | `witnessed` | `Witnessed`, a writer that remembers whether it failed |
+//! | `shown` | how a byte of a line is shown |
 //! | `fault` | `JobFault`, why there is no answer, with its line and exit status |
 //! | `plain` | `read_text`, `plain_job` and `write_lines`, from a reader to a writer without an engine |
 #![tactic(auto)]
@@ -31,6 +32,7 @@ mod plain;
 mod postings;
 mod rank_lines;
 mod script;
+mod shown;
 mod sizes;
 mod values;
 mod witnessed;
@@ -41,5 +43,6 @@ pub use fault::JobFault;
 pub use outcome::print_outcome;
 pub use plain::{plain_job, read_text, write_lines};
 pub use script::Script;
+pub use shown::shown_as;
 pub use sizes::Sizes;
 pub use witnessed::Witnessed;

@@ -2,7 +2,7 @@
 
 ghost use Rattle.std.specs.Prelude.{◌≡◌, ◌++◌, ◌∷◌, [], OnOk, OnErr, IfOk, IsOkUnless};
 ghost use Rattle.std.specs.String.{string_bytes};
-ghost use Rattle.coll_script.specs.Meaning.{outcome_head, elements_text, outcome_line};
+ghost use Rattle.coll_script.specs.Meaning.{outcome_head, element_text, elements_text, outcome_line};
 ghost use Rattle.coll_script.specs.Growing.{Extends};
 
 use coll_kinds::{Datatype, Refusal, Signature, print_element};
@@ -43,7 +43,7 @@ fn outcome_head(alloc: Global, rank: u8, req: u32, start: u32) -> Result<String,
 
 fn print_line(head: &[u8], ty: Datatype, row: &[u8], out: &mut Vec<u8>) -> Result<(), Refusal>
     ensures ok { OnOk result
-        (out.new.items ≡ out.old.items ++ (head.now ++ elements_text ty row.now ++ 10 ∷ [])) }
+        (out.new.items ≡ out.old.items ++ (head.now ++ elements_text element_text ty row.now ++ 10 ∷ [])) }
     ensures err { OnErr result (Extends out.old.items out.new.items) }
     ensures refusal { IsOkUnless result Refusal.NoMemory }
 {
@@ -54,7 +54,7 @@ fn print_line(head: &[u8], ty: Datatype, row: &[u8], out: &mut Vec<u8>) -> Resul
 }
 
 fn print_elements(ty: Datatype, row: &[u8], out: &mut Vec<u8>) -> Result<(), Refusal>
-    ensures ok { OnOk result (out.new.items ≡ out.old.items ++ elements_text ty row.now) }
+    ensures ok { OnOk result (out.new.items ≡ out.old.items ++ elements_text element_text ty row.now) }
     ensures err { OnErr result (Extends out.old.items out.new.items) }
     ensures refusal { IsOkUnless result Refusal.NoMemory }
 {

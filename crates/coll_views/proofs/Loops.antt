@@ -1,18 +1,13 @@
 -- What loops over a list keep, element by element.
-use Rattle.std.proofs.Common.{◌≡◌, ℕ, suc, ◌+◌, ◌-◌, ◌*◌, ◌/◌, ◌<◌, ◌≤◌, List, [], ◌∷◌, ◌++◌, map, drop, get_or, length, refl, ap, sym, ◌∙◌, append_assoc, arith}
+use Rattle.std.proofs.Common.{◌≡◌, ℕ, ◌+◌, ◌-◌, ◌<◌, List, [], ◌∷◌, ◌++◌, map, drop, get_or, length, refl, ap, sym, ◌∙◌, append_assoc, arith}
 use Rattle.std.specs.Prelude.{flat_map, filter_map, sum, Option, Some, None}
 use Rattle.std.specs.Prelude.{Vec}
 use Rattle.std.specs.Global.{Global}
 use Rattle.std.specs.List.{cons_option, enumerate_from, fold, range_with_len}
-use Rattle.std.proofs.lemmas.List.{map-append, length-drop}
+use Rattle.std.proofs.lemmas.List.{map-append}
 use Rattle.std.proofs.lemmas.List.Sums.{sum_by-cons}
-use Rattle.std.proofs.Math.Nat.{mul-le-mul_right}
-use Rattle.coll_history.proofs.Contributions.{width-positive}
 use Rattle.coll_script.proofs.Loops.{drop-at, map_range-more}
 use Rattle.std.proofs.lemmas.List.Concat.{flat_map-cons}
-use Rattle.coll_kinds.specs.declared.datatype.Datatype.{Datatype}
-use Rattle.coll_kinds.specs.Elements.{Element, element_at, width}
-use Rattle.coll_ops.specs.Combinations.{elements}
 
 -- a list that grows by what f makes of the next element
 pub flat_map-more : {X A : Type 0} (f : X → List A) (xs : List X) (k : ℕ) (x : X) (out total : List A)
@@ -66,35 +61,6 @@ sum-more xs k x now total front so_far =
     let cons : sum (x ∷ drop (k + 1) xs) ≡ x + sum (drop (k + 1) xs) = sum_by-cons (λ n. n) x (drop (k + 1) xs) in
     let here : sum (drop k xs) ≡ x + sum (drop (k + 1) xs) = ap sum front ∙ cons in
     omega (arith, here, so_far)
-
--- text that grows by the next element of a row
-pub elements-more : (f : Element → List ℕ) (ty : Datatype) (end i : ℕ) (rest out total : List ℕ)
-    → i < end
-    → out ++ flat_map f (elements ty (end - i) rest) ≡ total
-    → (out ++ f (element_at ty rest)) ++ flat_map f (elements ty (end - (i + 1)) (drop (width ty) rest)) ≡ total
-elements-more f ty end i rest out total lt so_far =
-    let left : end - i ≡ suc (end - (i + 1)) = omega arith in
-    let others = flat_map f (elements ty (end - (i + 1)) (drop (width ty) rest)) in
-    let here : flat_map f (elements ty (end - i) rest) ≡ f (element_at ty rest) ++ others =
-    ap (λ n. flat_map f (elements ty n rest)) left
-    ∙ flat_map-cons f (element_at ty rest) (elements ty (end - (i + 1)) (drop (width ty) rest)) in
-    append_assoc out (f (element_at ty rest)) others ∙ ap (λ (xs : List ℕ). out ++ xs) (sym here) ∙ so_far
-
--- an element that is still to come lies in the rest of the row
-pub width-le : (ty : Datatype) (len i rest : ℕ) → i < len / width ty → rest + i * width ty ≡ len → width ty ≤ rest
-width-le ty len i rest lt split =
-    let positive = width-positive ty in
-    let more : i + 1 ≤ len / width ty = omega arith in
-    let scaled = mul-le-mul_right (width ty) more in
-    omega arith
-
--- the row from the next element on
-pub rest-more : (ty : Datatype) (len i : ℕ) (row : List ℕ) → width ty ≤ length row → length row + i * width ty ≡ len
-    → length (drop (width ty) row) + (i + 1) * width ty ≡ len
-rest-more ty len i row le split = let dropped = length-drop (width ty) row in omega arith
-
-pub minus-zero : (n : ℕ) → n - 0 ≡ n
-minus-zero n = omega arith
 
 -- ---- the same of plain data, which is read at a place
 

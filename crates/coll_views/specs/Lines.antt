@@ -10,7 +10,7 @@ use Rattle.coll_views.specs.declared.request.Named.{Named}
 use Rattle.coll_views.specs.declared.request.Request.{Request}
 use Rattle.coll_views.specs.Begun.{begun_by, line_of}
 use Rattle.coll_views.specs.Requests.{named}
-use Rattle.coll_views.specs.Texts.{elements_text, signature_text}
+use Rattle.coll_views.specs.Texts.{row_text, signature_text}
 
 -- what an entry gave or handed out
 abbrev pub bytes_of : Entry → List ℕ
@@ -53,7 +53,7 @@ line_text line = if line == 0 then codes "  # end\n" else codes "  # line " ++ (
 abbrev pub found_line : Option Named → ℕ → Entry → List ℕ
 found_line None line e = []
 found_line (Some found) line e =
-    head_text found e ++ (elements_text Words found.request.sig.ty (bytes_of e) ++ line_text line)
+    head_text found e ++ (row_text Words found.request.sig.ty (bytes_of e) ++ line_text line)
 
 abbrev pub entry_line : List (List Request) → ℕ → Entry → List ℕ
 entry_line all line e = found_line (named all e) line e
@@ -90,7 +90,7 @@ object_text rank start line found =
 abbrev pub found_object : Option Named → ℕ → ℕ → ℕ → List ℕ → List ℕ
 found_object None rank start line bytes = []
 found_object (Some found) rank start line bytes =
-    object_text rank start line found ++ (drop 1 (elements_text Json found.request.sig.ty bytes) ++ codes "]}\n")
+    object_text rank start line found ++ (drop 1 (row_text Json found.request.sig.ty bytes) ++ codes "]}\n")
 
 -- what an entry adds to the outcomes of a rank that made these posts and starts
 abbrev pub outcome_of : List (List Request) → List Begun → ℕ → Entry → List ℕ

@@ -1,5 +1,5 @@
 -- Elements and signatures as text.
-use Rattle.std.specs.Prelude.{ℕ, ◌/◌, List, [], ◌++◌, length, flat_map, slice_index, codes, Option, Some, None, if◌then◌else◌}
+use Rattle.std.specs.Prelude.{ℕ, List, [], ◌++◌, flat_map, slice_index, codes, Option, Some, None, if◌then◌else◌}
 use Rattle.std.specs.List.{range_with_len}
 use Rattle.std.specs.Fmt.{decimal}
 use Rattle.coll_kinds.specs.declared.datatype.Datatype.{Datatype}
@@ -8,10 +8,10 @@ use Rattle.coll_kinds.specs.declared.kind.Kind.{Kind}
 use Rattle.coll_kinds.specs.declared.operation.Op.{Op}
 use Rattle.coll_kinds.specs.declared.signature.Signature.{Signature}
 use Rattle.coll_kinds.specs.Checks.{has_root}
-use Rattle.coll_kinds.specs.Elements.{Element, is_pair, width}
+use Rattle.coll_kinds.specs.Elements.{Element, is_pair}
 use Rattle.coll_kinds.specs.Texts.{text_of}
 use Rattle.coll_kinds.specs.Words.{datatype_word, kind_word, operation_word}
-use Rattle.coll_ops.specs.Combinations.{elements}
+use Rattle.coll_script.specs.Meaning.{elements_text}
 use Rattle.coll_views.specs.declared.elements.Style.{Style}
 use Rattle.coll_views.specs.declared.elements.Style.TheVariants.{Words, Json}
 
@@ -27,8 +27,8 @@ element_text Words ty e = codes " " ++ text_of e
 element_text Json ty e = codes "," ++ json_text ty e
 
 -- those of a row
-abbrev pub elements_text : Style → Datatype → List ℕ → List ℕ
-elements_text style ty row = flat_map (element_text style ty) (elements ty (length row / width ty) row)
+abbrev pub row_text : Style → Datatype → List ℕ → List ℕ
+row_text style ty row = elements_text (element_text style ty) ty row
 
 -- ---- signatures
 

@@ -3,7 +3,7 @@
 ghost use Rattle.std.specs.Prelude.{◌≡◌, ◌≤◌, ◌++◌, ◌∷◌, [], length, flat_map, OnOk};
 ghost use Rattle.coll_kinds.specs.Elements.{width, element_at};
 ghost use Rattle.coll_ops.specs.Combinations.{elements};
-ghost use Rattle.coll_views.specs.Texts.{element_text, elements_text};
+ghost use Rattle.coll_views.specs.Texts.{element_text, row_text};
 
 use crate::fault::ViewFault;
 use coll_kinds::{Datatype, print_element};
@@ -24,7 +24,7 @@ pub(crate) fn print_elements(
     row: &[u8],
     out: &mut Vec<u8>,
 ) -> Result<(), ViewFault>
-    ensures { OnOk result (out.new.items ≡ out.old.items ++ elements_text style ty row.now) }
+    ensures { OnOk result (out.new.items ≡ out.old.items ++ row_text style ty row.now) }
 {
     let width = ty.width();
     let mut rest = row;

@@ -6,7 +6,7 @@ ghost use Rattle.coll_report.specs.Views.{seen, trace_seen};
 ghost use Rattle.coll_views.specs.Begun.{begun_by, line_of};
 ghost use Rattle.coll_views.specs.Lines.{done_text, found_object, is_completion, kind_text, object_text, outcome_of, outcomes_json, outcomes_of, stand_text};
 ghost use Rattle.coll_views.specs.Requests.{named};
-ghost use Rattle.coll_views.specs.Texts.{elements_text};
+ghost use Rattle.coll_views.specs.Texts.{row_text};
 
 use crate::begun::{Begun, begun_by, line_of};
 use crate::elements::{Style, print_elements};
@@ -147,7 +147,7 @@ fn print_object(
 
 /// Appends the values of a row, with commas between them.
 fn print_values(alloc: Global, ty: Datatype, row: &[u8], out: &mut Vec<u8>) -> Result<(), ViewFault>
-    ensures { OnOk result (out.new.items ≡ out.old.items ++ drop 1 (elements_text Style.Json ty row.now)) }
+    ensures { OnOk result (out.new.items ≡ out.old.items ++ drop 1 (row_text Style.Json ty row.now)) }
 {
     let mut values = Vec::new(alloc);
     print_elements(Style::Json, ty, row, &mut values)?;

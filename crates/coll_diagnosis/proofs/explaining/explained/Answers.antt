@@ -1,4 +1,4 @@
-use Rattle.coll_diagnosis.proofs.Answering.{HasMeaning-script}
+use Rattle.coll_script.proofs.Answering.{HasMeaning-script}
 use Rattle.coll_diagnosis.proofs.explaining.explained.Goals as goal
 
 pub returns-in-Ok-clause-meaning : goal.returns-in-Ok-clause-meaning

@@ -4,7 +4,7 @@ use Rattle.coll_kinds.specs.Elements.{width}
 use Rattle.coll_ops.specs.Combinations.{elements}
 use Rattle.coll_script.specs.Meaning.{element_text}
 use Rattle.coll_script.specs.Growing.{Extends}
-use Rattle.coll_script.proofs.Printing.{Extends-self, Extends-more, width-le, rest-more, elements-more, OnErr-always, minus-zero}
+use Rattle.coll_script.proofs.Printing.{Extends-self, Extends-more, width-le, rest-more, spaced-more, OnErr-always, minus-zero}
 use Rattle.coll_script.proofs.outcome.print_elements.Goals as goal
 
 pub loop-init : goal.loop-init
@@ -28,6 +28,6 @@ loop-preserved c =
     let le = width-le c.args.ty (length c.args.row.now) c.loop.counter (length c.loop.rest.now) before_end c.loop.invariant.rest in
     record {
       rest = rw (c.split_at.ensures.back, width-is) (rest-more c.args.ty (length c.args.row.now) c.loop.counter c.loop.rest.now le c.loop.invariant.rest);
-      so_far = rw (c.in_ok-print_element.ensures.ok, c.in_ok-push.ensures.items, c.split_at.ensures.back, width-is) (elements-more c.args.ty (length c.args.row.now / width c.args.ty) c.loop.counter c.loop.rest.now c.loop.out.items _ before_end c.loop.invariant.so_far);
+      so_far = rw (c.in_ok-print_element.ensures.ok, c.in_ok-push.ensures.items, c.split_at.ensures.back, width-is) (spaced-more c.args.ty (length c.args.row.now / width c.args.ty) c.loop.counter c.loop.rest.now c.loop.out.items _ before_end c.loop.invariant.so_far);
       front = Extends-more _ _ _ _ (Extends-more _ _ _ _ c.loop.invariant.front c.in_ok-push.ensures.items) c.in_ok-print_element.ensures.ok;
     }

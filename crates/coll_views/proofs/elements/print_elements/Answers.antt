@@ -3,7 +3,7 @@ use Rattle.std.specs.Prelude.{flat_map}
 use Rattle.coll_kinds.specs.Elements.{width}
 use Rattle.coll_ops.specs.Combinations.{elements}
 use Rattle.coll_views.specs.Texts.{element_text}
-use Rattle.coll_views.proofs.Loops.{elements-more, minus-zero, rest-more, width-le}
+use Rattle.coll_script.proofs.Printing.{elements-more, minus-zero, rest-more, width-le}
 use Rattle.coll_views.proofs.elements.print_elements.Goals as goal
 
 pub loop-init : goal.loop-init
