@@ -4,13 +4,12 @@ use crate::objects::{
     Checked, Differing, Lacking, Member, OfLine, OfMismatch, OfMissingPlace, OfMissingStart,
     Posted, Replaced, Started,
 };
-use coll_diagnosis::Source;
+use coll_diagnosis::{Source, push_object};
 use coll_faults::{
     Detail, Faults, Finding, Marked, Mismatch, MissingPlace, MissingStart, PlaceFault, Standing,
     Suggestion, shown,
 };
 use coll_script::shown_as;
-use serde::Serialize;
 use serde_json::Error;
 use std::alloc::{AllocError, Global};
 
@@ -33,7 +32,7 @@ pub(crate) fn faults_json(
         cut: faults.is_cut,
         status,
     };
-    push_line(alloc, &checked, &mut out)?;
+    push_object(alloc, &checked, &mut out)?;
     Ok(out)
 }
 
@@ -46,7 +45,7 @@ pub(crate) fn faultless_json(alloc: Global, status: u8) -> Result<String, Error>
         cut: false,
         status,
     };
-    push_line(alloc, &checked, &mut out)?;
+    push_object(alloc, &checked, &mut out)?;
     Ok(out)
 }
 
@@ -98,7 +97,7 @@ fn push_words(
         help,
         replace,
     };
-    push_line(alloc, &object, out)
+    push_object(alloc, &object, out)
 }
 
 fn notes<'e>(alloc: Global, marked: &'e Marked) -> Result<Vec<&'e str>, AllocError> {
@@ -124,7 +123,7 @@ fn push_bare(alloc: Global, finding: &Finding, out: &mut String) -> Result<(), E
         help: Vec::new(alloc),
         replace: Vec::new(alloc),
     };
-    push_line(alloc, &object, out)
+    push_object(alloc, &object, out)
 }
 
 /// The words that are marked, as they are shown; none where a word is missing.
@@ -208,7 +207,7 @@ fn push_mismatch(
             .map(|standing| as_member(*standing))
             .collect(alloc)?,
     };
-    push_line(alloc, &object, out)
+    push_object(alloc, &object, out)
 }
 
 fn as_member(standing: Standing) -> Member {
@@ -246,7 +245,7 @@ fn push_missing_place(
         help,
         replace,
     };
-    push_line(alloc, &object, out)
+    push_object(alloc, &object, out)
 }
 
 fn all_lacking(alloc: Global, missing: &MissingPlace) -> Result<Vec<Lacking>, AllocError> {
@@ -274,7 +273,7 @@ fn push_missing_start(
         place: missing.place,
         members: all_started(alloc, missing)?,
     };
-    push_line(alloc, &object, out)
+    push_object(alloc, &object, out)
 }
 
 fn all_started<'e>(
@@ -290,11 +289,4 @@ fn all_started<'e>(
         })?;
     }
     Ok(all)
-}
-
-fn push_line<T: Serialize>(alloc: Global, object: &T, out: &mut String) -> Result<(), Error> {
-    let line = serde_json::to_string(alloc, object)?;
-    out.push_str(line.as_str())?;
-    out.push('\n')?;
-    Ok(())
 }

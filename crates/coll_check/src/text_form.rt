@@ -2,7 +2,7 @@
 
 use crate::excerpt::Excerpt;
 use crate::page::{Page, Paint};
-use coll_diagnosis::Source;
+use coll_diagnosis::{Source, digits};
 use coll_faults::{
     Detail, Faults, Finding, Marked, Mismatch, MissingPlace, MissingStart, PlaceFault, Standing,
     Suggestion,
@@ -49,13 +49,6 @@ pub(crate) fn faultless_text(alloc: Global, name: &str) -> Result<String, AllocE
 
 fn last_line(text: &[u8]) -> usize {
     coll_history::line_count(text)
-}
-
-fn digits(number: usize) -> usize {
-    match number.checked_ilog10() {
-        Some(log) => (log as usize).saturating_add(1),
-        None => 1,
-    }
 }
 
 /// The page so far, and what it is made from.

@@ -56,7 +56,7 @@ pub(crate) fn json_form(
         end.behind = &shown.standstill.behind;
         end.ended = &shown.standstill.ended;
     }
-    push_line(alloc, &end, &mut out)?;
+    push_object(alloc, &end, &mut out)?;
     Ok(out)
 }
 
@@ -89,12 +89,13 @@ fn push_waits(
             command,
             requests,
         };
-        push_line(alloc, &waits, out)?;
+        push_object(alloc, &waits, out)?;
     }
     Ok(())
 }
 
-fn push_line<T: Serialize>(alloc: Global, object: &T, out: &mut String) -> Result<(), Error> {
+/// Appends an object as a line of JSON.
+pub fn push_object<T: Serialize>(alloc: Global, object: &T, out: &mut String) -> Result<(), Error> {
     let line = serde_json::to_string(alloc, object)?;
     out.push_str(line.as_str())?;
     out.push('\n')?;

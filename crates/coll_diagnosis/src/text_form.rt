@@ -25,7 +25,7 @@ pub(crate) fn text_form(
         alloc,
         name,
         source: Source::new(alloc, text)?,
-        width: digits(last_line(&shown.standstill)),
+        width: digits(last_line(&shown.standstill) as usize),
         shown,
         out,
     };
@@ -62,7 +62,8 @@ fn last_line(standstill: &Standstill) -> u32 {
     lines.max().unwrap_or(0)
 }
 
-fn digits(number: u32) -> usize {
+/// How many decimal digits the number has.
+pub fn digits(number: usize) -> usize {
     match number.checked_ilog10() {
         Some(log) => (log as usize).saturating_add(1),
         None => 1,
