@@ -1,4 +1,3 @@
-pub mod Communicators
 pub mod Calls
 pub mod Lengths
 pub mod Engines

@@ -19,9 +19,8 @@ ghost use Rattle.coll_complete.specs.Requests.{phase_at};
 ghost use Rattle.coll_engine.specs.Calls.{about_at, naming_refusal};
 ghost use Rattle.coll_engine.specs.Lengths.{IsOutcomeLengthAt};
 
-use crate::communicators::Communicators;
 use coll_complete::Request;
-use coll_core::{About, Config, Core, Phase};
+use coll_core::{About, Communicators, Config, Core, Phase};
 use coll_kinds::Refusal;
 use std::alloc::Global;
 use std::marker::Model;

@@ -4,7 +4,6 @@
 //! | Module | Has |
 //! |---|---|
 //! | `combination` | `Combination`, one that is computed outside the engine |
-//! | `communicators` | `Communicators`, the members of each communicator |
 //! | `test` | `Test`, what the test of one request tells |
 //! | `part` | `Part`, a request of a list with its span of the list's memory |
 //! | `distinct` | `are_distinct`, what the tests of lists ask of a list |
@@ -23,7 +22,6 @@
 #![tactic(auto)]
 
 mod combination;
-mod communicators;
 mod distinct;
 mod engine;
 mod first;
@@ -36,7 +34,6 @@ pub use coll_complete::Request;
 pub use coll_core::{About, Config, Phase};
 pub use coll_kinds::{Datatype, Kind, Mode, Op, Refusal, Signature, Ticket};
 pub use combination::{Combination, Stage};
-pub use communicators::Communicators;
 pub use distinct::are_distinct;
 pub use engine::Engine;
 pub use first::First;

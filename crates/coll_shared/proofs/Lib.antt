@@ -1,4 +1,3 @@
-pub mod Seats
 pub mod Planning
 pub mod Starts
 pub mod Telling

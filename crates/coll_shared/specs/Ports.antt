@@ -1,5 +1,5 @@
 -- What a caller sees of a port, and why no plan or post is made for it.
-use Rattle.std.specs.Prelude.{◌≡◌, ◌<◌, ◌≤◌, ◌⊎◌, ℕ, List, length, Option, Some, None}
+use Rattle.std.specs.Prelude.{◌≡◌, ◌⊎◌, ℕ, List, length, Option, Some, None}
 use Rattle.coll_kinds.specs.declared.refusal.Refusal.{Refusal}
 use Rattle.coll_kinds.specs.declared.refusal.Refusal.TheVariants.{BadSignature, NoMemory}
 use Rattle.coll_kinds.specs.declared.signature.Signature.{Signature}
@@ -16,11 +16,6 @@ pub record Holding : Type 0 where
   pub rank : ℕ
   pub made : ℕ  -- the entries that it put into the trace
   pub groups : List (List ℕ)  -- the ranks of each communicator, in the order of their member numbers
-
--- it is one of the engine's ranks, and no communicator has more members than there may be
-pub record IsPort (ranks : ℕ) (p : Holding) : Type 0 where
-  pub low : p.rank < ranks
-  pub few : (comm : ℕ) → length (group_in p.groups comm) ≤ 64
 
 -- why a signature with this fault is planned by nobody; one without is refused for memory alone
 abbrev pub IsFault : Option SignatureFault → Refusal → Type 0

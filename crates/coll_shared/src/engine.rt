@@ -1,21 +1,20 @@
 //! An engine that ranks share.
 
-ghost use Rattle.std.specs.Prelude.{◌≡◌, ◌<◌, ◌≤◌, ℕ, length, IfErr, IfOk, map};
+ghost use Rattle.std.specs.Prelude.{◌≡◌, ◌<◌, IfErr, IfOk, map};
 ghost use Rattle.std.specs.List.{range_with_len};
 ghost use Rattle.coll_core.specs.Configs.{Fits, IsUnopened, setting_by};
 ghost use Rattle.coll_kinds.specs.declared.refusal.ConfigField.TheVariants.{Slots, Places, Wear, Starts, Trace};
-ghost use Rattle.coll_report.specs.Views.{groups_seen};
+ghost use Rattle.coll_core.specs.Communicators.{groups_seen};
 ghost use Rattle.coll_traced.specs.Awaiting.{IsSetback};
-ghost use Rattle.coll_machine.specs.Settings.{group_in};
 ghost use Rattle.coll_shared.specs.Ports.{opened};
 
 use crate::combiner::Combiner;
 use crate::gate::Gate;
 use crate::inspect::Inspect;
 use crate::port::Port;
-use coll_core::Config;
+use coll_core::{Communicators, Config};
 use coll_kinds::Refusal;
-use coll_traced::{Entries, Replacement, Tally, TracedCore, copied_groups};
+use coll_traced::{Entries, Replacement, Tally, TracedCore};
 use std::alloc::Global;
 use std::sync::ledger::{Blank, Share};
 use std::sync::{Arc, Wait};
@@ -104,12 +103,12 @@ pub fn open<L: Entries>(
 {
     config.check()?;
     let ranks = config.ranks;
-    let groups = copied_groups(alloc, &config.groups)?;
+    let communicators = Communicators::of(alloc, &config)?;
     let replacement = Replacement::open(alloc, &config)?;
     let (book, rest) = entries.open::<L>();
     let traced = TracedCore::open(alloc, config, book)?;
     let combiner = Arc::new(alloc, Combiner::open(alloc, traced, ranks)?)?;
-    let ports = ports_of(alloc, &combiner, &groups, ranks, rest)?;
+    let ports = ports_of(alloc, &combiner, &communicators, ranks, rest)?;
     Ok((
         Engine {
             combiner,
@@ -123,21 +122,20 @@ pub fn open<L: Entries>(
 fn ports_of<L: Entries>(
     alloc: Global,
     combiner: &Arc<Combiner<L>>,
-    groups: &[Vec<u8>],
+    communicators: &Communicators,
     ranks: u8,
     mut shares: Share<L>,
 ) -> Result<Vec<Port<L>>, Refusal>
     requires shares { (shares.parts ≡ ranks) × (shares.amount ≡ 0) }
     requires ranks { ranks ≡ L.setting.ranks }
-    requires groups { (comm : ℕ) → length (group_in (groups_seen groups.now) comm) ≤ 64 }
-    ensures ports { IfOk result (λ ports. ports.items ≡ map (opened (groups_seen groups.now)) (range_with_len 0 ranks)) }
+    ensures ports { IfOk result (λ ports. ports.items ≡ map (opened communicators.now) (range_with_len 0 ranks)) }
     ensures refused { IfErr result (λ why. why ≡ Refusal.NoMemory) }
 {
     let mut ports = Vec::with_capacity(alloc, ranks as usize)?;
     for rank in 0..ranks {
         let tally = Tally::new(shares.split_off(1, 0));
         let own = Arc::try_clone(combiner)?;
-        let copy = copied_groups(alloc, groups)?;
+        let copy = communicators.copy(alloc)?;
         ports.push_reserved(Port::new(alloc, own, rank, copy, tally));
     }
     Ok(ports)

@@ -20,7 +20,6 @@
 //! | `turn` | what a waiting port, a test and a progress thread do with the lock |
 //! | `tuning` | how long threads look, and how much they do in a row |
 //! | `plans` | `Plans`, those that a port made last |
-//! | `seating` | a rank's seat in a communicator |
 //!
 //! ```
 //! let sum = Signature::allreduce(Op::Sum, Datatype::I32, 1);
@@ -47,7 +46,6 @@ mod publishing;
 mod rank_programs;
 mod rank_threads;
 mod record;
-mod seating;
 mod tuning;
 mod turn;
 mod waiter;

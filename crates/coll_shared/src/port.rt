@@ -4,17 +4,16 @@ mod completing;
 mod posting;
 mod starting;
 
-ghost use Rattle.std.specs.Prelude.{◌≡◌, ◌<◌, ◌≤◌, ℕ, Some, length, IfNone, IfOk, IfSome, IsErrOf, IsOkUnless, MatchOption};
+ghost use Rattle.std.specs.Prelude.{◌≡◌, ◌<◌, Some, length, IfNone, IfOk, IfSome, IsErrOf, IsOkUnless, MatchOption};
 ghost use Rattle.coll_kinds.specs.Checks.{broken};
 ghost use Rattle.coll_kinds.specs.Groups.{member_of};
-ghost use Rattle.coll_report.specs.Views.{groups_seen};
 ghost use Rattle.coll_machine.specs.Refusals.{unseated};
 ghost use Rattle.coll_machine.specs.Settings.{group_in};
 ghost use Rattle.coll_shared.specs.Ports.{opened};
 
 use crate::combiner::Combiner;
 use crate::plans::Plans;
-use crate::seating::seat;
+use coll_core::Communicators;
 use coll_kinds::{Refusal, Signature};
 use coll_plans::Plan;
 use coll_traced::{Entries, Spent, Tally};
@@ -27,22 +26,21 @@ pub struct Port<L: Entries> {
     alloc: Global,
     combiner: Arc<Combiner<L>>,
     rank: u8,
-    groups: Vec<Vec<u8>>,
+    communicators: Communicators,
     plans: Plans,
     /// None while it lies in the rank's record.
     tally: Option<Tally<L>>,
 }
 
 impl<L: Entries> Model for Port<L> {
-    ghost use Rattle.std.specs.Prelude.{IsSome, unwrap_or};
-    ghost use Rattle.coll_report.specs.Views.{groups_seen};
-    ghost use Rattle.coll_shared.specs.Ports.{Holding, IsPort};
+    ghost use Rattle.std.specs.Prelude.{◌<◌, IsSome, unwrap_or};
+    ghost use Rattle.coll_shared.specs.Ports.{Holding};
 
     ghost Value = { Holding };
 
-    ghost view = { λ p. record { rank = p.rank; made = unwrap_or p.tally 0; groups = groups_seen p.groups.items } };
+    ghost view = { λ p. record { rank = p.rank; made = unwrap_or p.tally 0; groups = p.communicators } };
 
-    ghost invariant = { λ p. IsPort L.setting.ranks (record { rank = p.rank; made = unwrap_or p.tally 0; groups = groups_seen p.groups.items }) × IsSome p.tally };
+    ghost invariant = { λ p. (p.rank < L.setting.ranks) × IsSome p.tally };
 }
 
 impl<L: Entries> Port<L> {
@@ -51,19 +49,18 @@ impl<L: Entries> Port<L> {
         alloc: Global,
         combiner: Arc<Combiner<L>>,
         rank: u8,
-        groups: Vec<Vec<u8>>,
+        communicators: Communicators,
         tally: Tally<L>,
     ) -> Self
         requires rank { rank < L.setting.ranks }
-        requires groups { (comm : ℕ) → length (group_in (groups_seen groups.items) comm) ≤ 64 }
         requires made { tally ≡ 0 }
-        ensures { result ≡ opened (groups_seen groups.items) rank }
+        ensures { result ≡ opened communicators rank }
     {
         Port {
             alloc,
             combiner,
             rank,
-            groups,
+            communicators,
             plans: Plans::new(alloc),
             tally: Some(tally),
         }
@@ -102,8 +99,8 @@ impl<L: Entries> Port<L> {
             (IsOkUnless result Refusal.NoMemory)
             (λ cause. IsErrOf result (Refusal.BadSignature cause))) }
     {
-        let (n, member) = seat(&self.groups, comm, self.rank)?;
-        self.plans.ready(sig, n, member)
+        let seat = self.communicators.seat(comm, self.rank)?;
+        self.plans.ready(sig, seat.size, seat.member)
     }
 
     /// Ends the port. No call waits for its rank any longer: it counts as one that can't go on.
@@ -114,7 +111,7 @@ impl<L: Entries> Port<L> {
             alloc: _,
             combiner,
             rank,
-            groups: _groups,
+            communicators: _communicators,
             plans: _plans,
             tally,
         } = self;
@@ -133,7 +130,7 @@ impl<L: Entries> Drop for Port<L> {
             alloc: _,
             combiner,
             rank,
-            groups: _groups,
+            communicators: _communicators,
             plans: _plans,
             tally: _tally,
         } = self;

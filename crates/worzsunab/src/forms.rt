@@ -2,7 +2,7 @@
 
 ghost use Rattle.std.specs.Prelude.{◌≡◌, IfErr, IfOk};
 ghost use Rattle.coll_core.specs.Configs.{setting_by};
-ghost use Rattle.coll_engine.specs.Communicators.{lists};
+ghost use Rattle.coll_core.specs.Communicators.{groups_seen};
 ghost use Rattle.worzsunab.specs.Forms.{about_of, named_by, request_of};
 ghost use Rattle.worzsunab.specs.Openings.{DeniesGroups, IsCut, setting_of};
 
@@ -99,7 +99,7 @@ impl About {
 impl Limits {
     /// The configuration; more ranks than a byte counts are as many as it does, which are too many too. No trace is kept.
     pub fn config(self, groups: Vec<Vec<u8>>) -> Config
-        ensures { setting_by result ≡ setting_of self (lists groups.items) }
+        ensures { setting_by result ≡ setting_of self (groups_seen groups.items) }
     {
         Config {
             ranks: u8::try_from(self.ranks).unwrap_or(u8::MAX),
@@ -119,7 +119,7 @@ impl Limits {
 ///
 /// BadConfig where there are more or fewer members than the sizes tell, and NoMemory.
 pub fn groups_of(alloc: Global, sizes: &[u8], members: &[u8]) -> Result<Vec<Vec<u8>>, Refusal>
-    ensures cut { IfOk result (λ groups. IsCut sizes.now members.now (lists groups.items)) }
+    ensures cut { IfOk result (λ groups. IsCut sizes.now members.now (groups_seen groups.items)) }
     ensures refused { IfErr result (DeniesGroups sizes.now members.now) }
 {
     let mut groups = Vec::new(alloc);

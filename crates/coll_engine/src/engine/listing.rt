@@ -48,9 +48,7 @@ impl Engine {
                 First::Undefined
             });
         };
-        if let Err(why) = self.check_span(rank, &parts[position], out.len()) {
-            return Err(why);
-        }
+        self.check_span(rank, &parts[position], out.len())?;
         self.complete_part(rank, &mut parts[position], out);
         Ok(First::At(position))
     }
@@ -85,9 +83,7 @@ impl Engine {
         if !survey.active {
             return Ok(None);
         }
-        if let Err(why) = self.check_spans(rank, parts, out.len()) {
-            return Err(why);
-        }
+        self.check_spans(rank, parts, out.len())?;
         Ok(Some(self.complete_parts(rank, parts, out)))
     }
 
@@ -118,9 +114,7 @@ impl Engine {
         if survey.pending {
             return Ok(false);
         }
-        if let Err(why) = self.check_spans(rank, parts, out.len()) {
-            return Err(why);
-        }
+        self.check_spans(rank, parts, out.len())?;
         let _many = self.complete_parts(rank, parts, out);
         Ok(true)
     }

@@ -31,11 +31,11 @@ impl Engine {
         ensures plan { IfOk result (λ plan. planned plan ≡ planned_for (setting self.now) rank comm sig) }
         ensures refused { IfErr result (λ why. (early_refusal (setting self.now) rank comm sig ≡ Some why) ⊎ (why ≡ Refusal.NoMemory)) }
     {
-        let (size, member) = match self.communicators.seat(comm, rank) {
+        let seat = match self.communicators.seat(comm, rank) {
             Ok(seat) => seat,
             Err(why) => return Err(why),
         };
-        plan(self.alloc, sig, size, member)
+        plan(self.alloc, sig, seat.size, seat.member)
     }
 
     /// Starts a collective (`MPI_Ibcast` and its like; MPI 4.1, 6.12) with the contribution of the rank, which is copied.
@@ -132,9 +132,6 @@ impl Engine {
         ensures frees { OnOk result (Runs (setting self.old) (seen self.old) (freeing rank request.old) (seen self.new)) }
         ensures null { OnOk result (request.new ≡ None) }
     {
-        if let Err(why) = request_free(&mut self.core, rank, request) {
-            return Err(why);
-        }
-        Ok(())
+        request_free(&mut self.core, rank, request)
     }
 }

@@ -1,14 +1,13 @@
 use Rattle.std.proofs.Common.{◌≡◌, ◌++◌, ◌∷◌, [], rules, sym, ap, ◌∙◌, arith}
 use Rattle.std.proofs.lemmas.List.FromFn.{map-range_with_len_more}
-use Rattle.coll_report.specs.Views.{groups_seen}
 use Rattle.coll_shared.specs.Ports.{opened}
 use Rattle.coll_shared.proofs.engine.ports_of.Goals as goal
 
 pub loop-rank-preserved : goal.loop-rank-preserved
 loop-rank-preserved g c =
-    let groups = groups_seen c.args.groups.now in
+    let groups = c.args.communicators.now in
     let was = c.loop-rank.invariant in
-    let one : c.new.result ≡ opened groups c.loop-rank.rank = c.new.ensures ∙ ap (λ gs. opened gs c.loop-rank.rank) (c.in_ok-copy.ensures.groups) in (
+    let one : c.new.result ≡ opened groups c.loop-rank.rank = c.new.ensures ∙ ap (λ gs. opened gs c.loop-rank.rank) c.in_ok-copy.ensures.same in (
       search rules,
       search rules,
       search rules,

@@ -1,6 +1,6 @@
 use Rattle.std.proofs.Common.{◌∙◌, ◌<◌, subst, length, arith, inl, refl}
 use Rattle.std.proofs.lemmas.List.{take_all}
-use Rattle.coll_engine.specs.Communicators.{lists}
+use Rattle.coll_core.specs.Communicators.{groups_seen}
 use Rattle.worzsunab.proofs.Cutting.{cut_more}
 use Rattle.worzsunab.proofs.Totals.{uncut-long, uncut-short}
 use Rattle.worzsunab.proofs.forms.groups_of.Goals as goal
@@ -16,7 +16,7 @@ returns-in_default-clause-refused c =
     let (so_far, whole) = c.loop-size.invariant in
     inl (
       refl,
-      uncut-short c.args.sizes.now c.args.members.now c.loop-size.rest.now (lists c.loop-size.groups.items) c.loop-size.size-index so_far whole
+      uncut-short c.args.sizes.now c.args.members.now c.loop-size.rest.now (groups_seen c.loop-size.groups.items) c.loop-size.size-index so_far whole
           c.loop-size-test.true (subst (λ n. length c.loop-size.rest.now < n) c.from.ensures c.in_default.ensures.cases),
     )
 
@@ -25,7 +25,7 @@ returns-then-not-is_empty-clause-refused c =
     let (so_far, whole) = c.loop-size.invariant in
     inl (
       refl,
-      uncut-long c.args.sizes.now c.args.members.now c.loop-size.rest.now (lists c.loop-size.groups.items)
+      uncut-long c.args.sizes.now c.args.members.now c.loop-size.rest.now (groups_seen c.loop-size.groups.items)
           (so_far ∙ take_all c.loop-size.size-index c.args.sizes.now (omega (arith, c.loop-size-test.false))) whole
           (grind (arith, c.if-not-is_empty.ensures)),
     )
