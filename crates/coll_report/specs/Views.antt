@@ -1,7 +1,7 @@
 -- The code's entries and groups as those of the machine, without where they lie in memory.
-use Rattle.std.specs.Prelude.{ℕ, List, map, Vec}
-use Rattle.std.specs.Global.{Global}
+use Rattle.std.specs.Prelude.{List, map}
 use Rattle.std.specs.Arc.{arc_value}
+pub use Rattle.coll_core.specs.Communicators.{groups_seen}
 use Rattle.coll_machine.specs.Entries.{Entry, Posted, Inited, Started, Retired, Freed}
 use Rattle.coll_report.specs.declared.entry.Entry as rust_entry
 use Rattle.coll_report.specs.declared.entry.Entry.TheVariants as rust
@@ -15,6 +15,3 @@ seen (rust.Freed rank t) = Freed rank t
 
 abbrev pub trace_seen : List rust_entry.Entry → List Entry
 trace_seen es = map seen es
-
-abbrev pub groups_seen : List (Vec ℕ Global) → List (List ℕ)
-groups_seen groups = map (λ group. group.items) groups

@@ -1,11 +1,8 @@
 -- Each call keeps what the lock keeps.
 use Rattle.std.proofs.Common.{◌≡◌, ◌⊎◌, inl, inr, Bool, true, ℕ, zero, suc, ◌+◌, ◌<◌, ◌≤◌, List, [], ◌∷◌, ◌++◌, length, Some, None, refl, sym, ap, subst, ◌∙◌, arith}
-use Rattle.std.proofs.lemmas.List.Elements.{All-head, All-tail}
-use Rattle.coll_kinds.specs.Groups.{IsGroup}
 use Rattle.coll_kinds.specs.declared.refusal.Refusal.TheVariants.{NoMemory, TraceFull}
 use Rattle.coll_core.specs.Calls.{Refuses}
-use Rattle.std.specs.Prelude.{All, map, slice_get, unwrap_or, is_some, IfErr, IfOk, OnErr, OnOk, Result, Ok, Err, Vec}
-use Rattle.std.specs.Global.{Global}
+use Rattle.std.specs.Prelude.{is_some, IfErr, IfOk, OnErr, OnOk, Result, Ok, Err}
 use Rattle.std.proofs.lemmas.Option.{same_Some}
 use Rattle.coll_kinds.specs.declared.kind.Mode.TheVariants.{Once, Persistent}
 use Rattle.coll_kinds.specs.declared.refusal.Refusal.{Refusal}
@@ -25,7 +22,8 @@ use Rattle.coll_machine.specs.Traces.{Enters, Leads, LegalTrace, over_slots, res
 use Rattle.coll_machine.specs.Laws.{HasRoom, Reserves}
 use Rattle.coll_machine.proofs.Rooms.{legal_goes_on, reserved_changes}
 use Rattle.coll_machine.specs.Changes.{new_request, once_more}
-use Rattle.coll_core.specs.Configs.{idle, setting_by, IsConfig, IsFullGroup}
+use Rattle.coll_core.proofs.Groups.{are_groups}
+use Rattle.coll_core.specs.Configs.{idle, setting_by, IsConfig}
 use Rattle.coll_core.specs.declared.config.Config.{Config}
 use Rattle.coll_core.specs.declared.outcome.Outcome.{Outcome}
 use Rattle.coll_core.specs.declared.stepped.Stepped.{Stepped}
@@ -91,15 +89,6 @@ opened_traced p es n config set new empty none =
       limit_is = ap (λ (g : Setting). g.trace) (sym set);
       reserves = none ∙ sym count;
     }
-
--- the groups of a configuration that was tested
-nobody : (n : ℕ) → IsGroup n []
-nobody n = record { few = omega arith; below = λ m low. absurd (omega (arith, low)); found = λ m low. absurd (omega (arith, low)) }
-
-pub are_groups : (n : ℕ) (groups : List (Vec ℕ Global)) → All (λ (group : Vec ℕ Global). IsFullGroup n group.items) groups → (comm : ℕ) → IsGroup n (unwrap_or (slice_get (map (λ (group : Vec ℕ Global). group.items) groups) comm) [])
-are_groups n [] all comm = nobody n
-are_groups n (group ∷ rest) all zero = (All-head (λ (group : Vec ℕ Global). IsFullGroup n group.items) group rest all).is_group
-are_groups n (group ∷ rest) all (suc comm) = are_groups n rest (All-tail (λ (group : Vec ℕ Global). IsFullGroup n group.items) group rest all) comm
 
 pub opened_kept : (g : Setting) (p : Parts) (es : List Entry) (n : ℕ) (config copy : Config) → g ≡ setting_by config → IsConfig config → setting_by copy ≡ setting_by config → setting p ≡ setting_by config → seen p ≡ idle → es ≡ [] → n ≡ 0
     → IsKept g copy p es n

@@ -14,7 +14,7 @@
 //! | `ranks` | `Ranks`, some of an engine's ranks |
 //! | `prepared` | `Prepared`, the memory of a post, which is taken before the lock |
 //! | `recent` | `Recent`, long bytes that further entries can share |
-//! | `groups` | copies of what an engine is opened with |
+//! | `copied_config` | a copy of what an engine is opened with |
 //! | `balance` | what a trace tells of its ranks when the engine is to be closed |
 //! | `spent` | `Spent`, what is left of a port |
 //! | `replacement` | `Replacement`, what takes an engine's place when it is closed |
@@ -22,7 +22,7 @@
 
 mod awaited;
 mod balance;
-mod groups;
+mod copied_config;
 mod operation;
 mod port_wait;
 mod post_operation;
@@ -39,7 +39,7 @@ mod waiting;
 mod waits;
 
 pub use awaited::Awaited;
-pub use groups::copied_groups;
+pub use coll_core::copied_groups;
 pub use operation::Operation;
 pub use post_operation::posted_in;
 pub use prepared::Prepared;

@@ -1,7 +1,7 @@
 ghost use Rattle.std.specs.Prelude.{◌≡◌, IfErr, IfOk};
 ghost use Rattle.coll_core.specs.Configs.{IsUnopened, setting_by};
 
-use crate::groups::copied_config;
+use crate::copied_config::copied_config;
 use coll_core::{Config, Core};
 use coll_kinds::Refusal;
 use std::alloc::Global;

@@ -18,7 +18,7 @@ ghost use Rattle.coll_core.specs.Cores.{seen, setting};
 ghost use Rattle.coll_core.specs.Phases.{about_in};
 ghost use Rattle.coll_traced.specs.Waits.{Awake};
 
-use crate::groups::copied_config;
+use crate::copied_config::copied_config;
 use crate::recent::Recent;
 use crate::tally::Entries;
 use crate::trace::Trace;

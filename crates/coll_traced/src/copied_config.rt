@@ -1,22 +1,9 @@
 ghost use Rattle.std.specs.Prelude.{◌≡◌, IfErr, IfOk};
 ghost use Rattle.coll_core.specs.Configs.{setting_by};
-ghost use Rattle.coll_report.specs.Views.{groups_seen};
 
-use coll_core::Config;
+use coll_core::{Config, copied_groups};
 use coll_kinds::Refusal;
 use std::alloc::Global;
-
-/// The communicators once more.
-pub fn copied_groups(alloc: Global, groups: &[Vec<u8>]) -> Result<Vec<Vec<u8>>, Refusal>
-    ensures groups { IfOk result (λ copy. groups_seen copy.items ≡ groups_seen groups.now) }
-    ensures refused { IfErr result (λ why. why ≡ Refusal.NoMemory) }
-{
-    let mut copy = Vec::new(alloc);
-    for group in groups {
-        copy.push(Vec::from_slice(alloc, group)?)?;
-    }
-    Ok(copy)
-}
 
 /// The configuration once more.
 pub(crate) fn copied_config(alloc: Global, config: &Config) -> Result<Config, Refusal>
