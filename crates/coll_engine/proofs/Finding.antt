@@ -174,7 +174,7 @@ completes_one g rank m n i was now d q old new at c is =
     let low = lowest_done m was i d at in
     record {
       part = get_or was i d;
-      left = q;
+      after = q;
       there = slice_get-get_or was i d low.0;
       done = low.1;
       completes = c;

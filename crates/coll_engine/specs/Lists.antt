@@ -98,11 +98,11 @@ pub record CompletesPart (g : Setting) (rank : ℕ) (m n : Machine) (was is : Pa
 pub record CompletesOne (g : Setting) (rank : ℕ) (m n : Machine) (position : ℕ) (was is : List Part) (old new : List ℕ)
     : Type 0 where
   pub part : Part
-  pub left : Part
+  pub after : Part
   pub there : slice_get was position ≡ Some part
   pub done : is_done m (ticket_of part) ≡ true
-  pub completes : CompletesPart g rank m n part left old new
-  pub others : is ≡ slice_set was position left
+  pub completes : CompletesPart g rank m n part after old new
+  pub others : is ≡ slice_set was position after
 
 abbrev pub is_undefined : First → Bool
 is_undefined Undefined = true

@@ -32,17 +32,17 @@ pub record Adds (e : Entry) (made now : ℕ) (es fs : List Entry) : Type 0 where
   pub counted : now ≡ made + 1
 
 -- what a wait became: it is still one, or the request was completed for the rank, or the port is to look
-abbrev pub IsSettled : {L : Type 0} → ℕ → Content L → ℕ → List Entry → Content L → ℕ → List Entry → Type 0
-IsSettled rank (content.Wait t) made es (content.Completed c) now fs = (c.rank ≡ rank) × Adds c.entry made now es fs
-IsSettled rank (content.Wait t) made es content.Look now fs = AddsNone made now es fs
-IsSettled rank old made es new now fs = (new ≡ old) × AddsNone made now es fs
+abbrev pub IsAnswered : {L : Type 0} → ℕ → Content L → ℕ → List Entry → Content L → ℕ → List Entry → Type 0
+IsAnswered rank (content.Wait t) made es (content.Completed c) now fs = (c.rank ≡ rank) × Adds c.entry made now es fs
+IsAnswered rank (content.Wait t) made es content.Look now fs = AddsNone made now es fs
+IsAnswered rank old made es new now fs = (new ≡ old) × AddsNone made now es fs
 
--- what an operation became: it was made, with just its entry, or it was denied; and of a wait what `IsSettled` says
+-- what an operation became: it was made, with just its entry, or it was denied; and of a wait what `IsAnswered` says
 abbrev pub IsServed : {L : Type 0} → Setting → ℕ → Content L → ℕ → List Entry → Content L → ℕ → List Entry → Type 0
 IsServed g rank (content.Operation boxed) made es (content.Made t e) now fs = IsMade boxed.value rank t e × Adds e made now es fs
 IsServed g rank (content.Operation boxed) made es content.Look now fs = IsRefused g boxed.value rank × AddsNone made now es fs
 IsServed g rank (content.Operation boxed) made es new now fs = ⊥
-IsServed g rank old made es new now fs = IsSettled rank old made es new now fs
+IsServed g rank old made es new now fs = IsAnswered rank old made es new now fs
 
 -- the rank's port waits for nothing
 abbrev pub IsAwake : ℕ → List WaitFor → Type 0

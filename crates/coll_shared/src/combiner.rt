@@ -194,7 +194,7 @@ impl<L: Entries> Combiner<L> {
     }
 
     /// Answers the registered ports that wait for what is finished now.
-    fn settle(&self, held: &mut Held<'_, L>) {
+    fn answer_met(&self, held: &mut Held<'_, L>) {
         if held.locked.finished {
             held.locked.finished = false;
             let met = held.locked.traced.met();
@@ -215,7 +215,7 @@ impl<L: Entries> Combiner<L> {
         self.end_departed(held);
         self.serve(held);
         held.locked.advance();
-        self.settle(held);
+        self.answer_met(held);
     }
 
     /// The only way to give the lock up. It takes the lock again, without waiting, for what was published meanwhile, a few times; for

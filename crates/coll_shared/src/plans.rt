@@ -40,7 +40,7 @@ impl Plans {
     /// # Errors
     ///
     /// BadSignature; NoMemory.
-    pub(crate) fn ready(&mut self, sig: &Signature, n: u8, member: u8) -> Result<Plan, Refusal>
+    pub(crate) fn plan_of(&mut self, sig: &Signature, n: u8, member: u8) -> Result<Plan, Refusal>
         requires member { member < n }
         requires few { n ≤ 64 }
         ensures plan { IfOk result (λ p. p ≡ record { sig = sig.now; n = n; member = member }) }

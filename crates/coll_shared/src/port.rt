@@ -100,7 +100,7 @@ impl<L: Entries> Port<L> {
             (λ cause. IsErrOf result (Refusal.BadSignature cause))) }
     {
         let seat = self.communicators.seat(comm, self.rank)?;
-        self.plans.ready(sig, seat.size, seat.member)
+        self.plans.plan_of(sig, seat.size, seat.member)
     }
 
     /// Ends the port. No call waits for its rank any longer: it counts as one that can't go on.

@@ -3,7 +3,7 @@
 ghost use Rattle.std.specs.Prelude.{◌≡◌, ◌↔◌, ◌+◌, IfErr, IfNone, IfOk, IfSome, IsTrue};
 ghost use Rattle.std.specs.Bool.{OnFalse, OnTrue};
 ghost use Rattle.coll_report.specs.Views.{seen};
-ghost use Rattle.coll_shared.specs.Publications.{IsAwake, IsExpected, IsRegistered, IsServed, IsSettled, IsWait};
+ghost use Rattle.coll_shared.specs.Publications.{IsAnswered, IsAwake, IsExpected, IsRegistered, IsServed, IsWait};
 
 use coll_complete::{Request, Requests};
 use coll_core::Phase;
@@ -108,7 +108,7 @@ impl<L: Entries> Publication<L> {
     /// Answers a registered port, which is awake then: it completes the request that the port waits for, where that is Done; else the
     /// port is to look itself.
     pub(crate) fn answered(self, traced: &mut TracedCore<L>, rank: u8) -> Publication<L>
-        ensures settled { IsSettled rank self.content self.tally traced.old.entries result.content result.tally traced.new.entries }
+        ensures answered { IsAnswered rank self.content self.tally traced.old.entries result.content result.tally traced.new.entries }
         ensures awake { IsAwake rank traced.new.waits }
     {
         let Publication { content, mut tally } = self;

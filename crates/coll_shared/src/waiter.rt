@@ -135,8 +135,8 @@ impl<L: Entries> Combiner<L> {
                 tally = back;
                 match found {
                     Ok(Some(completed)) => {
-                        let (left, outcome, receipts) = completed.open();
-                        *request = left;
+                        let (rest, outcome, receipts) = completed.open();
+                        *request = rest;
                         return (tally, Ok((Some(outcome), receipts)));
                     }
                     Ok(None) => {}

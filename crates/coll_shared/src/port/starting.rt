@@ -51,7 +51,7 @@ impl<L: Entries> Port<L> {
         started
     }
 
-    /// Starts a persistent request with bytes that are taken; where it is refused, they are left.
+    /// Starts a persistent request with bytes that are taken; where it is refused, they stay.
     fn start_taking<R: Wait>(
         &mut self,
         rt: &R,
@@ -65,7 +65,7 @@ impl<L: Entries> Port<L> {
         ensures taken { OnOk result (bytes.new ≡ []) }
         ensures err { OnErr result (self.new.made ≡ self.old.made) }
         ensures refused { IfErr result (λ why. DeniesStart L.setting self.old.rank request.now bytes.old why) }
-        ensures left { OnErr result (bytes.new ≡ bytes.old) }
+        ensures back { OnErr result (bytes.new ≡ bytes.old) }
     {
         match self.start(rt, request, mem::replace(bytes, Contribution::empty())) {
             Ok(receipt) => Ok(receipt),
