@@ -1,7 +1,8 @@
 -- What holds of an engine goes on to hold.
-use Rattle.std.proofs.Common.{◌≡◌, ℕ, ◌<◌, List, length, get_or, Option, Some, None, sym, ap, subst, ◌∙◌}
-use Rattle.std.specs.Prelude.{slice_get, slice_set}
+use Rattle.std.proofs.Common.{◌≡◌, ℕ, ◌<◌, List, length, get_or, Option, Some, None, Result, Ok, Err, sym, ap, subst, ◌∙◌}
+use Rattle.std.specs.Prelude.{OnErr, OnOk, slice_get, slice_set}
 use Rattle.std.proofs.lemmas.Option.{slice_get-get_or}
+use Rattle.coll_kinds.specs.declared.refusal.Refusal.{Refusal}
 use Rattle.coll_kinds.specs.declared.ticket.Ticket.{Ticket}
 use Rattle.coll_machine.specs.Calls.{Call, Init, Nothing, Planned, Post, Ticketed}
 use Rattle.coll_machine.specs.Machines.{MachineStep, StepsTo}
@@ -55,9 +56,12 @@ measured_freeing : (g : Setting) (m n : Machine) (rank : ℕ) (r : Option Ticket
 measured_freeing g m n rank None xs runs a = subst (λ (k : Machine). AreMeasured g k.state xs) runs a
 measured_freeing g m n rank (Some t) xs (mid, step, same) a = subst (λ (k : Machine). AreMeasured g k.state xs) same (measured_step g m mid _ _ xs tt step a)
 
-pub kept_freed : (p r : Parts) (comms : List (List ℕ)) (xs : List ℕ) (rank : ℕ) (request : Option Ticket) → IsEngine p comms xs → setting r ≡ setting p
-    → Runs (setting p) (seen p) (freeing rank request) (seen r) → IsEngine r comms xs
-kept_freed p r comms xs rank request e set runs = kept p r comms xs xs e set (measured_freeing (setting p) (seen p) (seen r) rank request xs runs e.measured)
+pub kept_freed : (p r : Parts) (comms : List (List ℕ)) (xs : List ℕ) (rank : ℕ) (request after : Option Ticket) (result : Result (Unit {0}) Refusal)
+    → IsEngine p comms xs → setting r ≡ setting p → OnOk result (Runs (setting p) (seen p) (freeing rank request) (seen r))
+    → OnErr result ((r ≡ p) × (after ≡ request)) → IsEngine r comms xs
+kept_freed p r comms xs rank request after (Ok u) e set runs err =
+    kept p r comms xs xs e set (measured_freeing (setting p) (seen p) (seen r) rank request xs runs e.measured)
+kept_freed p r comms xs rank request after (Err why) e set runs err = subst (λ (k : Parts). IsEngine k comms xs) (sym err.0) e
 
 measured_completion : (g : Setting) (m n : Machine) (rank : ℕ) (r : Option Ticket) (o : Option Outcome) (xs : List ℕ) → Runs g m (completion_if rank r o) n → AreMeasured g m.state xs → AreMeasured g n.state xs
 measured_completion g m n rank r None xs runs a = subst (λ (k : Machine). AreMeasured g k.state xs) runs a

@@ -17,7 +17,7 @@ complete_part-requires-clause-accepted c =
 pub complete_part-requires-clause-fits : goal.complete_part-requires-clause-fits
 complete_part-requires-clause-fits c done =
     let m = seen c.args.self.now in
-    c.in_default-check_span.ensures.fits done
+    c.in_ok-check_span.ensures.fits done
     (accepted_at (setting c.args.self.now) m c.args.rank c.args.parts.now c.in-Some.position _ (sym c.in-Ok.ensures.refused)
     (lowest_low m c.args.parts.now c.in-Some.position (sym c.in-Ok.ensures.done ∙ c.in-Some.is)))
 
