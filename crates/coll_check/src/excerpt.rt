@@ -2,7 +2,7 @@ use coll_script::shown_as;
 use std::alloc::{AllocError, Global};
 
 /// A line as it is shown, with some of it marked below.
-#[derive(Debug, Drop)]
+#[derive(Drop)]
 pub(crate) struct Excerpt {
     pub text: String,
     /// The columns before the marks.

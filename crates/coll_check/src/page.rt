@@ -4,7 +4,7 @@ use crate::excerpt::Excerpt;
 use std::alloc::{AllocError, Global};
 
 /// How a part of a line is painted where colours are wanted.
-#[derive(Clone, Copy, Debug)]
+#[derive(Clone, Copy)]
 pub(crate) enum Paint {
     /// What is wrong.
     Fault,

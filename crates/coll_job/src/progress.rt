@@ -24,7 +24,7 @@ pub struct Progress<'m, M: Clock + Wait, S: Screen> {
 }
 
 /// How far the run is, and what stands on the screen.
-#[derive(Clone, Copy, Debug)]
+#[derive(Clone, Copy)]
 struct State {
     ranks: u8,
     ranks_done: u8,

@@ -14,7 +14,7 @@ use std::sync::Wait;
 use std::thread::Threads;
 
 /// What a rank got, in the order in which it got it.
-#[derive(Debug, Drop)]
+#[derive(Drop)]
 pub(crate) struct Got {
     pub(crate) rank: u8,
     pub(crate) outcomes: Vec<Outcome>,

@@ -9,7 +9,7 @@ use coll_views::Span;
 use std::alloc::{AllocError, Global};
 
 /// The spans of a rank's entries, in the order of its calls.
-#[derive(Debug, Drop)]
+#[derive(Drop)]
 pub(crate) struct RankSpans {
     pub(crate) rank: u8,
     pub(crate) spans: Vec<Span>,

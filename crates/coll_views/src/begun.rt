@@ -11,7 +11,7 @@ use coll_report::Entry;
 use std::alloc::{AllocError, Global};
 
 /// A post or a start: of which request, which of its starts, and the line of the call.
-#[derive(Clone, Copy, Debug, PartialEq, Eq)]
+#[derive(Clone, Copy)]
 pub(crate) struct Begun {
     ticket: Ticket,
     start: u32,

@@ -8,7 +8,7 @@ use crate::totals::Totals;
 use std::alloc::Global;
 
 /// A number that stands at the right end of its column.
-#[derive(Clone, Copy, Debug, PartialEq, Eq)]
+#[derive(Clone, Copy)]
 pub(crate) struct Cell {
     pub(crate) width: usize,
     pub(crate) number: u64,

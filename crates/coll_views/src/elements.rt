@@ -9,7 +9,7 @@ use crate::fault::ViewFault;
 use coll_kinds::{Datatype, print_element};
 
 /// How elements are written.
-#[derive(Clone, Copy, Debug, PartialEq, Eq)]
+#[derive(Clone, Copy)]
 pub(crate) enum Style {
     /// As a job text has them, each behind a space.
     Words,

@@ -6,14 +6,14 @@ use coll_report::Entry;
 use std::alloc::{AllocError, Global};
 
 /// A request that is active, and the index of the entry that made it so.
-#[derive(Clone, Copy, Debug, PartialEq, Eq)]
+#[derive(Clone, Copy)]
 struct Active {
     ticket: Ticket,
     begin: usize,
 }
 
 /// Where an entry is drawn.
-#[derive(Clone, Copy, Debug, PartialEq, Eq)]
+#[derive(Clone, Copy)]
 pub(crate) struct Bar {
     pub(crate) lane: usize,
     /// The index of the post or start whose bar it begins or ends; its own where it does neither.
@@ -21,7 +21,7 @@ pub(crate) struct Bar {
 }
 
 /// The lanes of each rank, with what is active in them.
-#[derive(Debug, Drop)]
+#[derive(Drop)]
 pub(crate) struct Lanes {
     ranks: Vec<Vec<Option<Active>>>,
 }

@@ -46,7 +46,7 @@ pub fn picture_text(
 }
 
 /// The column of a rank.
-#[derive(Clone, Copy, Debug)]
+#[derive(Clone, Copy)]
 struct Column {
     rank: u8,
     /// The width of a lane.

@@ -78,7 +78,7 @@ fn name_rank(alloc: Global, rank: u8, out: &mut String) -> Result<(), AllocError
 }
 
 /// The bar of a start.
-#[derive(Clone, Copy, Debug)]
+#[derive(Clone, Copy)]
 struct Event {
     rank: u8,
     start: u32,

@@ -32,7 +32,7 @@ pub struct Totals {
 }
 
 /// A number of a row that is summed.
-#[derive(Clone, Copy, Debug, PartialEq, Eq)]
+#[derive(Clone, Copy)]
 pub(crate) enum Column {
     Times,
     Posts,

@@ -11,7 +11,7 @@ use std::thread::Threads;
 pub struct Answer {
     pub status: u8,
     pub lines: Vec<u8>,
-    pub told: Vec<u8>,
+    pub errors: Vec<u8>,
 }
 
 impl Answer {
@@ -28,13 +28,13 @@ impl Answer {
             owned.push(String::from_str(alloc, word)?)?;
         }
         let mut lines = Vec::new(alloc);
-        let mut told = Vec::new(alloc);
+        let mut errors = Vec::new(alloc);
         let mut input = Cursor::new(text);
-        let status = run(machine, alloc, &owned, &mut input, &mut lines, &mut told);
+        let status = run(machine, alloc, &owned, &mut input, &mut lines, &mut errors);
         Ok(Answer {
             status,
             lines,
-            told,
+            errors,
         })
     }
 
@@ -43,7 +43,7 @@ impl Answer {
         Answer {
             status: 0,
             lines,
-            told: Vec::new(alloc),
+            errors: Vec::new(alloc),
         }
     }
 
@@ -56,26 +56,26 @@ impl Answer {
     }
 
     /// A fault with that status.
-    pub fn of_fault(alloc: Global, status: u8, told: Vec<u8>) -> Answer {
+    pub fn of_fault(alloc: Global, status: u8, errors: Vec<u8>) -> Answer {
         Answer {
             status,
             lines: Vec::new(alloc),
-            told,
+            errors,
         }
     }
 
     /// The same answer to a text that was named: a fault is told behind that name.
     pub fn named(&self, alloc: Global, name: &str) -> io::Result<Answer> {
-        let mut told = Vec::new(alloc);
-        if !self.told.is_empty() {
-            told.extend_from_slice(name.as_bytes())?;
-            told.extend_from_slice(b": ")?;
+        let mut errors = Vec::new(alloc);
+        if !self.errors.is_empty() {
+            errors.extend_from_slice(name.as_bytes())?;
+            errors.extend_from_slice(b": ")?;
         }
-        told.extend_from_slice(&self.told)?;
+        errors.extend_from_slice(&self.errors)?;
         Ok(Answer {
             status: self.status,
             lines: Vec::from_slice(alloc, &self.lines)?,
-            told,
+            errors,
         })
     }
 }

@@ -42,7 +42,7 @@ impl Example {
         let text = fs::read(rt, file.as_str())?;
         let plain = plain_answer(rt, name)?;
         let run = match fs::read(rt, format!(in rt.alloc(); "{name}.run")?) {
-            Ok(told) => Answer::of_fault(rt.alloc(), 3, told),
+            Ok(errors) => Answer::of_fault(rt.alloc(), 3, errors),
             Err(_) => plain_answer(rt, name)?,
         };
         let explained = match fs::read(rt, format!(in rt.alloc(); "{name}.explain")?) {
@@ -92,12 +92,16 @@ impl Example {
     ) -> io::Result<bool> {
         let answer = Answer::to(machine, alloc, &["check", self.file.as_str()], b"")?;
         if self.plain.status != 0 {
-            return Ok(answer.status == 2 && answer.told.starts_with(&self.plain.told));
+            return Ok(answer.status == 2 && answer.errors.starts_with(&self.plain.errors));
         }
-        let mut told = Vec::from_slice(alloc, self.file.as_bytes())?;
-        told.extend_from_slice(b": no fault\n")?;
-        told.extend_from_slice(&self.explained.lines)?;
-        Ok(answer.status == self.explained.status && answer.told == told && answer.lines.is_empty())
+        let mut errors = Vec::from_slice(alloc, self.file.as_bytes())?;
+        errors.extend_from_slice(b": no fault\n")?;
+        errors.extend_from_slice(&self.explained.lines)?;
+        Ok(
+            answer.status == self.explained.status
+                && answer.errors == errors
+                && answer.lines.is_empty(),
+        )
     }
 
     /// Whether a run that stalls writes why to the file that is named, and another run writes none; each answers as ever.
@@ -137,8 +141,8 @@ fn plain_answer(rt: &HostRuntime, name: &str) -> io::Result<Answer> {
     match fs::read(rt, format!(in rt.alloc(); "{name}.out")?) {
         Ok(lines) => Ok(Answer::of_lines(rt.alloc(), lines)),
         Err(_) => {
-            let told = fs::read(rt, format!(in rt.alloc(); "{name}.fault")?)?;
-            Ok(Answer::of_fault(rt.alloc(), 2, told))
+            let errors = fs::read(rt, format!(in rt.alloc(); "{name}.fault")?)?;
+            Ok(Answer::of_fault(rt.alloc(), 2, errors))
         }
     }
 }

@@ -15,9 +15,9 @@ pub fn is_checked<M: Threads + Wait + Sync + Files + Clock>(
 ) -> io::Result<bool> {
     let alloc = rt.alloc();
     let file = format!(in alloc; "mistakes/{name}.job")?;
-    let told = fs::read(rt, format!(in alloc; "mistakes/{name}.text")?)?;
+    let errors = fs::read(rt, format!(in alloc; "mistakes/{name}.text")?)?;
     let lines = fs::read(rt, format!(in alloc; "mistakes/{name}.json")?)?;
-    let status = status_of(&told);
+    let status = status_of(&errors);
     if let Ok(painted) = fs::read(rt, format!(in alloc; "mistakes/{name}.color")?) {
         let words = ["check", "--color", "always", file.as_str()];
         if Answer::to(machine, alloc, &words, b"")? != as_text(alloc, status, painted) {
@@ -28,27 +28,28 @@ pub fn is_checked<M: Threads + Wait + Sync + Files + Clock>(
     let wanted = Answer {
         status,
         lines,
-        told: Vec::new(alloc),
+        errors: Vec::new(alloc),
     };
     Ok(
-        Answer::to(machine, alloc, &["check", file.as_str()], b"")? == as_text(alloc, status, told)
+        Answer::to(machine, alloc, &["check", file.as_str()], b"")?
+            == as_text(alloc, status, errors)
             && Answer::to(machine, alloc, &json, b"")? == wanted,
     )
 }
 
 /// An answer for a reader.
-fn as_text(alloc: Global, status: u8, told: Vec<u8>) -> Answer {
+fn as_text(alloc: Global, status: u8, errors: Vec<u8>) -> Answer {
     Answer {
         status,
         lines: Vec::new(alloc),
-        told,
+        errors,
     }
 }
 
 /// The exit status of a text of which this is told: those of `mistakes/` without a fault never stall.
-fn status_of(told: &[u8]) -> u8 {
+fn status_of(errors: &[u8]) -> u8 {
     let stored = b": no fault\nnever stalls";
-    if told
+    if errors
         .windows(stored.len())
         .any(|part| part == stored.as_slice())
     {

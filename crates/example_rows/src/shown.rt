@@ -128,7 +128,7 @@ pub fn is_kept_back<M: Threads + Wait + Sync + Files + Clock>(
     let answer = Answer::to(machine, alloc, &nowhere, b"")?;
     let is_told = answer.status == 1
         && answer.lines.is_empty()
-        && answer.told.starts_with(b"nowhere/run.trace: ");
+        && answer.errors.starts_with(b"nowhere/run.trace: ");
     let stalls = ["run", "--trace", FILES[0], "crossed_barriers.job"];
     let answer = Answer::to(machine, alloc, &stalls, b"")?;
     Ok(

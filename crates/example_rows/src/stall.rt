@@ -45,7 +45,7 @@ fn answer(alloc: Global, status: u8, lines: Vec<u8>) -> Answer {
     Answer {
         status,
         lines,
-        told: Vec::new(alloc),
+        errors: Vec::new(alloc),
     }
 }
 

@@ -2,6 +2,7 @@
 
 use crate::answering::{COMMENTS, SUM_OF_THREE};
 use crate::shown::{Row, first_misfit};
+use crate::texts::STARTS_OUT_OF_ORDER;
 use std::test::Fail;
 
 const TEXTS: &[Row] = &[
@@ -145,16 +146,7 @@ const KINDS: &[Row] = &[
          rank 1\npost 2 barrier\nwait 0\npost 1 barrier\nwait 1\n",
         "rank 0 req 0 start 0 :\nrank 0 req 1 start 0 :\nrank 1 req 0 start 0 :\nrank 1 req 1 start 0 :\n",
     ),
-    (
-        "ranks 2\nrank 0\ninit 0 allreduce sum i32 1\ninit 0 allreduce max i32 1\n\
-         start 0 : 1\nstart 1 : 10\nwaitall\nstart 0 : 2\nstart 1 : 20\nwaitall\nstart 0 : 3\nstart 1 : 30\n\
-         rank 1\ninit 0 allreduce sum i32 1\ninit 0 allreduce max i32 1\n\
-         start 1 : 11\nstart 0 : 4\nwaitall\nstart 1 : 19\nstart 0 : 5\nwaitall\nstart 1 : 31\nstart 0 : 6\n",
-        "rank 0 req 0 start 0 : 5\nrank 0 req 0 start 1 : 7\nrank 0 req 0 start 2 : 9\n\
-         rank 0 req 1 start 0 : 11\nrank 0 req 1 start 1 : 20\nrank 0 req 1 start 2 : 31\n\
-         rank 1 req 0 start 0 : 5\nrank 1 req 0 start 1 : 7\nrank 1 req 0 start 2 : 9\n\
-         rank 1 req 1 start 0 : 11\nrank 1 req 1 start 1 : 20\nrank 1 req 1 start 2 : 31\n",
-    ),
+    STARTS_OUT_OF_ORDER,
     (
         "ranks 1\nrank 0\ninit 0 barrier\nstart 0\nstart 0\n",
         "2: line 5: not startable\n",
