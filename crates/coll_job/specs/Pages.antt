@@ -1,7 +1,7 @@
 -- What the files on a run get.
 use Rattle.std.specs.Prelude.{ℕ, List, map}
 use Rattle.coll_report.specs.Reports.{Closed}
-use Rattle.coll_views.specs.declared.request.Request.{Request}
+use Rattle.coll_views.specs.declared.request.TracedRequest.{TracedRequest}
 use Rattle.coll_views.specs.declared.timeline.Span.{Span}
 use Rattle.coll_views.specs.Lines.{outcomes_json, trace_text}
 use Rattle.coll_views.specs.Requests.{all_requests}
@@ -9,7 +9,7 @@ use Rattle.coll_views.specs.Rows.{rows_of}
 use Rattle.coll_views.specs.Tables.{tables_text}
 
 -- the requests of a closed engine's trace
-abbrev pub requests_of : Closed → List (List Request)
+abbrev pub requests_of : Closed → List (List TracedRequest)
 requests_of r = all_requests r.setting.ranks r.setting.groups r.entries
 
 -- the lines of the calls that made its entries

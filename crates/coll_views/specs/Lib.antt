@@ -3,7 +3,7 @@ pub mod Works
 -- the requests of a trace
 pub mod Requests
 -- the posts and starts of a rank, with their lines
-pub mod Begun
+pub mod StartLines
 -- elements, signatures, entries and outcomes as text
 pub mod Texts
 pub mod Lines

@@ -4,11 +4,11 @@ use Rattle.std.specs.List.{enumerate_from, range_with_len}
 use Rattle.std.specs.Fmt.{decimal}
 use Rattle.coll_kinds.specs.Words.{datatype_word, kind_word}
 use Rattle.coll_machine.specs.Entries.{Entry, Posted, Inited, Started, Retired, Freed}
-use Rattle.coll_views.specs.declared.begun.Begun.{Begun}
+use Rattle.coll_views.specs.declared.start_lines.StartLine.{StartLine}
 use Rattle.coll_views.specs.declared.elements.Style.TheVariants.{Words, Json}
-use Rattle.coll_views.specs.declared.request.Named.{Named}
-use Rattle.coll_views.specs.declared.request.Request.{Request}
-use Rattle.coll_views.specs.Begun.{begun_by, line_of}
+use Rattle.coll_views.specs.declared.request.NumberedRequest.{NumberedRequest}
+use Rattle.coll_views.specs.declared.request.TracedRequest.{TracedRequest}
+use Rattle.coll_views.specs.StartLines.{start_lines_of, line_of}
 use Rattle.coll_views.specs.Requests.{named}
 use Rattle.coll_views.specs.Texts.{row_text, signature_text}
 
@@ -23,15 +23,15 @@ bytes_of (Freed rank t) = []
 -- ---- lines for a reader
 
 -- where a request stands
-abbrev pub place_text : Request → List ℕ
+abbrev pub place_text : TracedRequest → List ℕ
 place_text p = codes "comm " ++ (decimal p.comm ++ (codes " place " ++ decimal p.place))
 
 -- whose call it was, what it did, to which of the rank's requests, and what follows
-abbrev pub call_text : ℕ → List ℕ → Named → List ℕ → List ℕ
+abbrev pub call_text : ℕ → List ℕ → NumberedRequest → List ℕ → List ℕ
 call_text rank did found rest =
     codes "rank " ++ (decimal rank ++ (did ++ (decimal found.number ++ (codes " " ++ (place_text found.request ++ rest)))))
 
-abbrev pub head_text : Named → Entry → List ℕ
+abbrev pub head_text : NumberedRequest → Entry → List ℕ
 head_text found (Posted rank t comm place sig bytes) =
     call_text rank (codes " posted      req ") found
     (codes " " ++ (signature_text found.request.sig found.request.members ++ codes " :"))
@@ -50,33 +50,33 @@ abbrev pub line_text : ℕ → List ℕ
 line_text line = if line == 0 then codes "  # end\n" else codes "  # line " ++ (decimal line ++ codes "\n")
 
 -- the line of an entry that is about this request
-abbrev pub found_line : Option Named → ℕ → Entry → List ℕ
+abbrev pub found_line : Option NumberedRequest → ℕ → Entry → List ℕ
 found_line None line e = []
 found_line (Some found) line e =
     head_text found e ++ (row_text Words found.request.sig.ty (bytes_of e) ++ line_text line)
 
-abbrev pub entry_line : List (List Request) → ℕ → Entry → List ℕ
+abbrev pub entry_line : List (List TracedRequest) → ℕ → Entry → List ℕ
 entry_line all line e = found_line (named all e) line e
 
 -- the entries of a trace, in their order; lines has the line of each one's call
-abbrev pub trace_text : List (List Request) → List ℕ → List Entry → List ℕ
+abbrev pub trace_text : List (List TracedRequest) → List ℕ → List Entry → List ℕ
 trace_text all lines es =
     flat_map (λ (at : ℕ × Entry). entry_line all (slice_index lines at.0) at.1) (enumerate_from 0 es)
 
 -- ---- outcomes as JSON
 
 -- in an outcome's object, where its request stands
-abbrev pub stand_text : Request → List ℕ
+abbrev pub stand_text : TracedRequest → List ℕ
 stand_text p = codes ",\"comm\":" ++ (decimal p.comm ++ (codes ",\"place\":" ++ decimal p.place))
 
 -- and its collective and type
-abbrev pub kind_text : Request → List ℕ
+abbrev pub kind_text : TracedRequest → List ℕ
 kind_text p =
     codes ",\"kind\":\""
     ++ (kind_word p.sig.kind ++ (codes "\",\"type\":\"" ++ (datatype_word p.sig.ty ++ codes "\",\"values\":[")))
 
 -- the object of an outcome before its values
-abbrev pub object_text : ℕ → ℕ → ℕ → Named → List ℕ
+abbrev pub object_text : ℕ → ℕ → ℕ → NumberedRequest → List ℕ
 object_text rank start line found =
     codes "{\"reason\":\"outcome\",\"rank\":"
     ++ (decimal rank
@@ -87,25 +87,25 @@ object_text rank start line found =
     ++ (codes ",\"line\":" ++ (decimal line ++ (stand_text found.request ++ kind_text found.request))))))))
 
 -- that of an outcome of this request; the first value has no comma before it
-abbrev pub found_object : Option Named → ℕ → ℕ → ℕ → List ℕ → List ℕ
+abbrev pub found_object : Option NumberedRequest → ℕ → ℕ → ℕ → List ℕ → List ℕ
 found_object None rank start line bytes = []
 found_object (Some found) rank start line bytes =
     object_text rank start line found ++ (drop 1 (row_text Json found.request.sig.ty bytes) ++ codes "]}\n")
 
 -- what an entry adds to the outcomes of a rank that made these posts and starts
-abbrev pub outcome_of : List (List Request) → List Begun → ℕ → Entry → List ℕ
-outcome_of all begun r (Posted rank t comm place sig bytes) = []
-outcome_of all begun r (Inited rank t comm place sig) = []
-outcome_of all begun r (Started rank t start bytes) = []
-outcome_of all begun r (Retired rank t comm place start bytes) =
+abbrev pub outcome_of : List (List TracedRequest) → List StartLine → ℕ → Entry → List ℕ
+outcome_of all start_lines r (Posted rank t comm place sig bytes) = []
+outcome_of all start_lines r (Inited rank t comm place sig) = []
+outcome_of all start_lines r (Started rank t start bytes) = []
+outcome_of all start_lines r (Retired rank t comm place start bytes) =
     if rank == r
-    then found_object (named all (Retired rank t comm place start bytes)) rank start (line_of begun t start) bytes
+    then found_object (named all (Retired rank t comm place start bytes)) rank start (line_of start_lines t start) bytes
     else []
-outcome_of all begun r (Freed rank t) = []
+outcome_of all start_lines r (Freed rank t) = []
 
 -- the outcomes of a rank, in the order in which they were handed out; lines has the line of each entry's call
-abbrev pub outcomes_of : List (List Request) → List ℕ → List Entry → ℕ → List ℕ
-outcomes_of all lines es r = flat_map (outcome_of all (begun_by lines es r) r) es
+abbrev pub outcomes_of : List (List TracedRequest) → List ℕ → List Entry → ℕ → List ℕ
+outcomes_of all lines es r = flat_map (outcome_of all (start_lines_of lines es r) r) es
 
 abbrev pub is_completion : Entry → Bool
 is_completion (Posted rank t comm place sig bytes) = false
@@ -119,6 +119,6 @@ abbrev pub done_text : ℕ → List ℕ
 done_text count = codes "{\"reason\":\"done\",\"outcomes\":" ++ (decimal count ++ codes ",\"status\":0}\n")
 
 -- those of all ranks, in rising rank, and how many they are
-abbrev pub outcomes_json : ℕ → List (List Request) → List ℕ → List Entry → List ℕ
+abbrev pub outcomes_json : ℕ → List (List TracedRequest) → List ℕ → List Entry → List ℕ
 outcomes_json ranks all lines es =
     flat_map (outcomes_of all lines es) (range_with_len 0 ranks) ++ done_text (count_by is_completion es)

@@ -6,7 +6,7 @@ use Rattle.coll_kinds.specs.declared.signature.Signature.{Signature}
 use Rattle.coll_kinds.specs.Sameness.{same_signature}
 use Rattle.coll_sched.specs.Families.{family_exchanges}
 use Rattle.coll_plans.specs.Plans.{family}
-use Rattle.coll_views.specs.declared.request.Request.{Request}
+use Rattle.coll_views.specs.declared.request.TracedRequest.{TracedRequest}
 use Rattle.coll_views.specs.declared.row.Row.{Row}
 use Rattle.coll_views.specs.declared.cell.Cell.{Cell}
 use Rattle.coll_views.specs.declared.totals.Totals.{Totals}
@@ -70,10 +70,10 @@ abbrev pub each_once : List Signature → List Signature
 each_once sigs = fold added_once [] sigs
 
 -- what the first member of a group asked for on a communicator
-abbrev pub is_on : ℕ → Request → Bool
+abbrev pub is_on : ℕ → TracedRequest → Bool
 is_on comm p = p.comm == comm
 
-abbrev pub asked_on : List (List Request) → ℕ → List ℕ → List Signature
+abbrev pub asked_on : List (List TracedRequest) → ℕ → List ℕ → List Signature
 asked_on all comm group = map (λ p. p.sig) (filter (is_on comm) (slice_index_or all (slice_index group 0) []))
 
 -- a row of that signature on that communicator
@@ -99,16 +99,16 @@ abbrev pub collective_line : List Row → ℕ → ℕ → Signature → List ℕ
 collective_line rows comm members sig = line_of comm members sig (rows_on rows comm sig)
 
 -- the collectives of a communicator
-abbrev pub comm_lines : List (List Request) → List Row → ℕ → List ℕ → List ℕ
+abbrev pub comm_lines : List (List TracedRequest) → List Row → ℕ → List ℕ → List ℕ
 comm_lines all rows comm group = flat_map (collective_line rows comm (length group)) (each_once (asked_on all comm group))
 
-abbrev pub all_comm_lines : List (List Request) → List (List ℕ) → List Row → List ℕ
+abbrev pub all_comm_lines : List (List TracedRequest) → List (List ℕ) → List Row → List ℕ
 all_comm_lines all groups rows =
     flat_map (λ (at : ℕ × List ℕ). comm_lines all rows at.0 at.1) (enumerate_from 0 groups)
 
-abbrev pub collectives_text : List (List Request) → List (List ℕ) → List Row → List ℕ
+abbrev pub collectives_text : List (List TracedRequest) → List (List ℕ) → List Row → List ℕ
 collectives_text all groups rows = head_of_collectives ++ all_comm_lines all groups rows
 
 -- both tables
-abbrev pub tables_text : ℕ → List (List ℕ) → List (List Request) → List Row → List ℕ
+abbrev pub tables_text : ℕ → List (List ℕ) → List (List TracedRequest) → List Row → List ℕ
 tables_text ranks groups all rows = ranks_text ranks rows ++ collectives_text all groups rows

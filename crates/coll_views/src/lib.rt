@@ -5,8 +5,8 @@
 //! | Module | Has |
 //! |---|---|
 //! | `work` | `Work`, what a member's schedule has it do |
-//! | `request` | `Request`, what a trace tells of a request, and `Requests`, those of each rank |
-//! | `begun` | the posts and starts of a rank, with their lines |
+//! | `request` | `TracedRequest`, what a trace tells of a request, `NumberedRequest`, one with its number, and `Requests`, those of each rank |
+//! | `start_lines` | `StartLine`, a post or a start with its line, and those of a rank |
 //! | `elements`, `words` | elements and signatures as text |
 //! | `trace` | `trace_text`, a line for each entry |
 //! | `outcomes` | `outcomes_json`, a line for each completion |
@@ -20,7 +20,6 @@
 //! | `fault` | `ViewFault` |
 #![tactic(auto)]
 
-mod begun;
 mod cell;
 mod elements;
 mod fault;
@@ -29,6 +28,7 @@ mod outcomes;
 mod picture;
 mod request;
 mod row;
+mod start_lines;
 mod tables;
 mod timeline;
 mod totals;
@@ -39,7 +39,7 @@ mod work;
 pub use fault::ViewFault;
 pub use outcomes::outcomes_json;
 pub use picture::picture_text;
-pub use request::{Named, Request, Requests};
+pub use request::{NumberedRequest, Requests, TracedRequest};
 pub use row::{Row, rows_of};
 pub use tables::tables_text;
 pub use timeline::{Span, timeline_json};

@@ -3,15 +3,15 @@
 ghost use Rattle.std.specs.Prelude.{◌≡◌, ◌++◌, ◌∷◌, [], drop, count_by, flat_map, map, IfOk, OnOk};
 ghost use Rattle.std.specs.String.{string_bytes};
 ghost use Rattle.coll_report.specs.Views.{seen, trace_seen};
-ghost use Rattle.coll_views.specs.Begun.{begun_by, line_of};
+ghost use Rattle.coll_views.specs.StartLines.{start_lines_of, line_of};
 ghost use Rattle.coll_views.specs.Lines.{done_text, found_object, is_completion, kind_text, object_text, outcome_of, outcomes_json, outcomes_of, stand_text};
 ghost use Rattle.coll_views.specs.Requests.{named};
 ghost use Rattle.coll_views.specs.Texts.{row_text};
 
-use crate::begun::{Begun, begun_by, line_of};
 use crate::elements::{Style, print_elements};
 use crate::fault::ViewFault;
-use crate::request::{Named, Request, Requests};
+use crate::request::{NumberedRequest, Requests, TracedRequest};
+use crate::start_lines::{StartLine, line_of, start_lines_of};
 use coll_kinds::Datatype;
 use coll_report::Entry;
 use std::alloc::{AllocError, Global};
@@ -72,8 +72,8 @@ fn print_rank(
 ) -> Result<(), ViewFault>
     ensures { OnOk result (out.new.items ≡ out.old.items ++ outcomes_of requests.now lines.now (trace_seen trace.now) rank) }
 {
-    let begun = begun_by(alloc, rank, trace, lines)?;
-    print_entries(alloc, rank, requests, &begun, trace, out)
+    let start_lines = start_lines_of(alloc, rank, trace, lines)?;
+    print_entries(alloc, rank, requests, &start_lines, trace, out)
 }
 
 /// Appends the outcomes of a rank that made these posts and starts.
@@ -81,14 +81,14 @@ fn print_entries(
     alloc: Global,
     rank: u8,
     requests: &Requests,
-    begun: &[Begun],
+    start_lines: &[StartLine],
     trace: &[Entry],
     out: &mut Vec<u8>,
 ) -> Result<(), ViewFault>
-    ensures { OnOk result (out.new.items ≡ out.old.items ++ flat_map (outcome_of requests.now begun.now rank) (trace_seen trace.now)) }
+    ensures { OnOk result (out.new.items ≡ out.old.items ++ flat_map (outcome_of requests.now start_lines.now rank) (trace_seen trace.now)) }
 {
     for entry in trace {
-        print_entry(alloc, rank, requests, begun, entry, out)?;
+        print_entry(alloc, rank, requests, start_lines, entry, out)?;
     }
     Ok(())
 }
@@ -98,11 +98,11 @@ fn print_entry(
     alloc: Global,
     of: u8,
     requests: &Requests,
-    begun: &[Begun],
+    start_lines: &[StartLine],
     entry: &Entry,
     out: &mut Vec<u8>,
 ) -> Result<(), ViewFault>
-    ensures { OnOk result (out.new.items ≡ out.old.items ++ outcome_of requests.now begun.now of (seen entry.now)) }
+    ensures { OnOk result (out.new.items ≡ out.old.items ++ outcome_of requests.now start_lines.now of (seen entry.now)) }
 {
     match entry {
         Entry::Posted { .. } => Ok(()),
@@ -119,7 +119,7 @@ fn print_entry(
                 return Ok(());
             }
             let found = requests.named_by(entry)?;
-            let line = line_of(begun, *ticket, *start);
+            let line = line_of(start_lines, *ticket, *start);
             print_object(alloc, *rank, *start, line, &found, bytes.as_slice(), out)
         }
         Entry::Freed { .. } => Ok(()),
@@ -132,7 +132,7 @@ fn print_object(
     rank: u8,
     start: u32,
     line: u32,
-    found: &Named,
+    found: &NumberedRequest,
     bytes: &[u8],
     out: &mut Vec<u8>,
 ) -> Result<(), ViewFault>
@@ -163,7 +163,7 @@ fn object_text(
     rank: u8,
     start: u32,
     line: u32,
-    found: &Named,
+    found: &NumberedRequest,
 ) -> Result<String, AllocError>
     ensures { IfOk result (λ text. string_bytes text ≡ object_text rank start line found.now) }
 {
@@ -176,7 +176,7 @@ fn object_text(
 }
 
 /// Where the request stands.
-fn stand_text(alloc: Global, request: &Request) -> Result<String, AllocError>
+fn stand_text(alloc: Global, request: &TracedRequest) -> Result<String, AllocError>
     ensures { IfOk result (λ text. string_bytes text ≡ stand_text request.now) }
 {
     let comm = request.comm;
@@ -185,7 +185,7 @@ fn stand_text(alloc: Global, request: &Request) -> Result<String, AllocError>
 }
 
 /// The request's collective and type, and what opens the array of values.
-fn kind_text(alloc: Global, request: &Request) -> Result<String, AllocError>
+fn kind_text(alloc: Global, request: &TracedRequest) -> Result<String, AllocError>
     ensures { IfOk result (λ text. string_bytes text ≡ kind_text request.now) }
 {
     let kind = request.sig.kind.word();

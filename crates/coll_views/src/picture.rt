@@ -3,7 +3,7 @@
 use crate::elements::{Style, print_elements};
 use crate::fault::ViewFault;
 use crate::lanes::{Bar, Lanes};
-use crate::request::{Named, Requests};
+use crate::request::{NumberedRequest, Requests};
 use crate::trace::bytes_of;
 use crate::words::signature_text;
 use coll_report::Entry;
@@ -137,7 +137,7 @@ fn print_head(alloc: Global, columns: &[Column], out: &mut Vec<u8>) -> Result<()
 }
 
 /// What stands in the column of the entry's rank.
-fn mark_of(alloc: Global, found: &Named, entry: &Entry) -> Result<String, AllocError> {
+fn mark_of(alloc: Global, found: &NumberedRequest, entry: &Entry) -> Result<String, AllocError> {
     let number = found.number;
     match entry {
         Entry::Posted { .. } | Entry::Started { .. } => format!(in alloc; "o{number}"),
@@ -150,7 +150,7 @@ fn mark_of(alloc: Global, found: &Named, entry: &Entry) -> Result<String, AllocE
 /// Appends what stands behind the columns: the line of the call, and what it did.
 fn print_end(
     alloc: Global,
-    found: &Named,
+    found: &NumberedRequest,
     entry: &Entry,
     line: u32,
     out: &mut Vec<u8>,

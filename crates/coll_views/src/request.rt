@@ -16,7 +16,7 @@ use std::marker::Model;
 
 /// What a trace tells of a request.
 #[derive(Clone, Copy, Debug)]
-pub struct Request {
+pub struct TracedRequest {
     pub ticket: Ticket,
     pub comm: u32,
     /// Its index in its member's posting list on the communicator.
@@ -32,22 +32,22 @@ pub struct Request {
 
 /// A request with its number among those of its rank, from 0.
 #[derive(Clone, Copy, Debug)]
-pub struct Named {
+pub struct NumberedRequest {
     pub number: usize,
-    pub request: Request,
+    pub request: TracedRequest,
 }
 
 /// The requests that each rank made, in their order.
 #[derive(Debug, Drop)]
 pub struct Requests {
-    ranks: Vec<Vec<Request>>,
+    ranks: Vec<Vec<TracedRequest>>,
 }
 
 impl Model for Requests {
     ghost use Rattle.std.specs.Prelude.{List, map};
-    ghost use Rattle.coll_views.specs.declared.request.Request.{Request};
+    ghost use Rattle.coll_views.specs.declared.request.TracedRequest.{TracedRequest};
 
-    ghost Value = { List (List Request) };
+    ghost Value = { List (List TracedRequest) };
 
     ghost view = { λ r. map (λ own. own.items) r.ranks.items };
 }
@@ -76,7 +76,7 @@ impl Requests {
     }
 
     /// The requests of a rank; none of a stranger.
-    pub fn by(&self, rank: u8) -> &[Request]
+    pub fn by(&self, rank: u8) -> &[TracedRequest]
         ensures { result.now ≡ slice_index_or self.now rank [] }
     {
         match self.ranks.get(usize::from(rank)) {
@@ -90,7 +90,7 @@ impl Requests {
     /// # Errors
     ///
     /// [`ViewFault::Torn`] where its rank didn't make it.
-    pub fn named_by(&self, entry: &Entry) -> Result<Named, ViewFault>
+    pub fn named_by(&self, entry: &Entry) -> Result<NumberedRequest, ViewFault>
         ensures { IfOk result (λ found. named self.now (seen entry.now) ≡ Some found) }
     {
         match find(&self.ranks, entry.rank(), ticket_of(entry)) {
@@ -101,14 +101,14 @@ impl Requests {
 }
 
 /// The request that a rank made with the ticket.
-fn find(ranks: &[Vec<Request>], rank: u8, ticket: Ticket) -> Option<Named>
+fn find(ranks: &[Vec<TracedRequest>], rank: u8, ticket: Ticket) -> Option<NumberedRequest>
     ensures { result ≡ named_in (map (λ own. own.items) ranks.now) rank ticket }
 {
     find_own(ranks.get(usize::from(rank))?, ticket)
 }
 
 /// The one of these that was made with the ticket.
-fn find_own(own: &[Request], ticket: Ticket) -> Option<Named>
+fn find_own(own: &[TracedRequest], ticket: Ticket) -> Option<NumberedRequest>
     ensures { result ≡ own_named ticket own.now }
 {
     let number = number_of(own, ticket)?;
@@ -116,11 +116,11 @@ fn find_own(own: &[Request], ticket: Ticket) -> Option<Named>
 }
 
 /// The request of that number.
-fn named_at(own: &[Request], number: usize) -> Option<Named>
+fn named_at(own: &[TracedRequest], number: usize) -> Option<NumberedRequest>
     ensures { result ≡ named_at own.now number }
 {
     match own.get(number) {
-        Some(request) => Some(Named {
+        Some(request) => Some(NumberedRequest {
             number,
             request: *request,
         }),
@@ -129,13 +129,13 @@ fn named_at(own: &[Request], number: usize) -> Option<Named>
 }
 
 /// The number of the one that was made with the ticket.
-fn number_of(own: &[Request], ticket: Ticket) -> Option<usize>
+fn number_of(own: &[TracedRequest], ticket: Ticket) -> Option<usize>
     ensures { result ≡ position (names ticket) own.now }
 {
     own.iter().position(|request| has_ticket(request, ticket))
 }
 
-fn has_ticket(request: &Request, ticket: Ticket) -> bool
+fn has_ticket(request: &TracedRequest, ticket: Ticket) -> bool
     ensures { result ≡ names ticket request.now }
 {
     request.ticket.slot == ticket.slot && request.ticket.generation == ticket.generation
@@ -160,7 +160,7 @@ fn requests_by(
     groups: &[Vec<u8>],
     rank: u8,
     trace: &[Entry],
-) -> Result<Vec<Request>, ViewFault>
+) -> Result<Vec<TracedRequest>, ViewFault>
     ensures { IfOk result (λ own. own.items ≡ requests_by (groups_seen groups.now) (trace_seen trace.now) rank) }
 {
     let mut own = Vec::new(alloc);
@@ -172,7 +172,7 @@ fn requests_by(
 }
 
 /// Appends a request, if there is one.
-fn push_made(made: Option<Request>, own: &mut Vec<Request>) -> Result<(), AllocError>
+fn push_made(made: Option<TracedRequest>, own: &mut Vec<TracedRequest>) -> Result<(), AllocError>
     ensures { OnOk result (own.new.items ≡ own.old.items ++ cons_option made []) }
 {
     match made {
@@ -190,7 +190,7 @@ fn made_by(
     groups: &[Vec<u8>],
     by: u8,
     entry: &Entry,
-) -> Result<Option<Request>, ViewFault>
+) -> Result<Option<TracedRequest>, ViewFault>
     ensures { IfOk result (λ made. made ≡ made_by (groups_seen groups.now) by (seen entry.now)) }
 {
     match entry {
@@ -232,7 +232,7 @@ fn request_on(
     comm: u32,
     place: u32,
     sig: Signature,
-) -> Result<Request, ViewFault>
+) -> Result<TracedRequest, ViewFault>
     ensures { IfOk result (λ request. request ≡ request_on (groups_seen groups.now) rank ticket comm place sig) }
 {
     let Some(group) = groups.get(comm as usize) else {
@@ -241,7 +241,7 @@ fn request_on(
     let (members, member) = member_in(group, rank)?;
     let plan = plan(alloc, sig, members, member)?;
     let work = work_of(alloc, plan.schedule().rounds())?;
-    Ok(Request {
+    Ok(TracedRequest {
         ticket,
         comm,
         place,

@@ -6,7 +6,7 @@ ghost use Rattle.coll_views.specs.Requests.{named};
 ghost use Rattle.coll_views.specs.Rows.{row_by, row_of, rows_of, times_of};
 
 use crate::fault::ViewFault;
-use crate::request::{Named, Request, Requests};
+use crate::request::{NumberedRequest, Requests, TracedRequest};
 use crate::trace::bytes_of;
 use coll_kinds::Signature;
 use coll_report::Entry;
@@ -46,7 +46,7 @@ pub struct Row {
 
 impl Row {
     /// A row of a request that adds nothing.
-    fn of(rank: u8, request: &Request) -> Row
+    fn of(rank: u8, request: &TracedRequest) -> Row
         ensures { result ≡ row_by rank request.now }
     {
         Row {
@@ -86,7 +86,7 @@ pub fn rows_of(alloc: Global, requests: &Requests, trace: &[Entry]) -> Result<Ve
 }
 
 /// The row of an entry that is about this request.
-fn row_of(found: &Named, entry: &Entry) -> Row
+fn row_of(found: &NumberedRequest, entry: &Entry) -> Row
     ensures { result ≡ row_of (Some found.now) (seen entry.now) }
 {
     let request = found.request;
@@ -114,7 +114,7 @@ fn row_of(found: &Named, entry: &Entry) -> Row
 }
 
 /// The row with what a collective that begins adds.
-fn begun(row: Row, request: &Request, len: u64, lent: u64) -> Row
+fn begun(row: Row, request: &TracedRequest, len: u64, lent: u64) -> Row
     ensures { result ≡ record row {
       times = times_of request.now;
       given = len;
@@ -136,7 +136,7 @@ fn begun(row: Row, request: &Request, len: u64, lent: u64) -> Row
 }
 
 /// How often a post or a start of this request carries its collective out: it counts at the first member alone.
-fn times_of(request: &Request) -> u64
+fn times_of(request: &TracedRequest) -> u64
     ensures { result ≡ times_of request.now }
 {
     if request.member == 0 { 1 } else { 0 }

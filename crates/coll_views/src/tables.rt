@@ -10,7 +10,7 @@ ghost use Rattle.coll_views.specs.Tables.{added_once, all_comm_lines, asked_on, 
 
 use crate::cell::{cells_of, print_aligned, print_cells};
 use crate::fault::ViewFault;
-use crate::request::{Request, Requests};
+use crate::request::{Requests, TracedRequest};
 use crate::row::Row;
 use crate::totals::totals_of;
 use crate::words::signature_text;
@@ -190,7 +190,7 @@ fn asked_on(
         .collect(alloc)
 }
 
-fn is_on(request: &Request, comm: usize) -> bool
+fn is_on(request: &TracedRequest, comm: usize) -> bool
     ensures { result ≡ is_on comm request.now }
 {
     request.comm as usize == comm

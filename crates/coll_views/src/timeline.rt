@@ -2,7 +2,7 @@
 
 use crate::fault::ViewFault;
 use crate::lanes::Lanes;
-use crate::request::{Named, Requests};
+use crate::request::{NumberedRequest, Requests};
 use crate::words::signature_text;
 use coll_report::Entry;
 use std::alloc::{AllocError, Global};
@@ -88,7 +88,12 @@ struct Event {
 }
 
 impl Event {
-    fn print(&self, alloc: Global, found: &Named, out: &mut String) -> Result<(), AllocError> {
+    fn print(
+        &self,
+        alloc: Global,
+        found: &NumberedRequest,
+        out: &mut String,
+    ) -> Result<(), AllocError> {
         let request = &found.request;
         let name = signature_text(alloc, &request.sig, request.members)?;
         let from = microseconds(alloc, self.begin.from)?;

@@ -8,7 +8,7 @@ ghost use Rattle.coll_views.specs.Requests.{named};
 
 use crate::elements::{Style, print_elements};
 use crate::fault::ViewFault;
-use crate::request::{Named, Requests};
+use crate::request::{NumberedRequest, Requests};
 use crate::words::signature_text;
 use coll_report::Entry;
 use std::alloc::{AllocError, Global};
@@ -76,7 +76,7 @@ fn line_text(alloc: Global, line: u32) -> Result<String, AllocError>
 }
 
 /// What stands before the elements.
-fn head_text(alloc: Global, found: &Named, entry: &Entry) -> Result<String, AllocError>
+fn head_text(alloc: Global, found: &NumberedRequest, entry: &Entry) -> Result<String, AllocError>
     ensures { IfOk result (λ text. string_bytes text ≡ head_text found.now (seen entry.now)) }
 {
     let number = found.number;
@@ -103,7 +103,7 @@ fn head_text(alloc: Global, found: &Named, entry: &Entry) -> Result<String, Allo
 }
 
 /// Where the request stands.
-fn place_text(alloc: Global, found: &Named) -> Result<String, AllocError>
+fn place_text(alloc: Global, found: &NumberedRequest) -> Result<String, AllocError>
     ensures { IfOk result (λ text. string_bytes text ≡ place_text found.now.request) }
 {
     let comm = found.request.comm;
