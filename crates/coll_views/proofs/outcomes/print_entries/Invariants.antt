@@ -6,5 +6,5 @@ use Rattle.coll_views.proofs.outcomes.print_entries.Given as goal
 
 abbrev pub invariant-loop-entry : goal.invariant-loop-entry
 invariant-loop-entry l =
-    l.out.items ++ flat_map (outcome_of l.requests l.begun l.rank) (drop l.entry-index (trace_seen l.trace))
-    ≡ l.initial.out.items ++ flat_map (outcome_of l.requests l.begun l.rank) (trace_seen l.trace)
+    l.out.items ++ flat_map (outcome_of l.requests l.start_lines l.rank) (drop l.entry-index (trace_seen l.trace))
+    ≡ l.initial.out.items ++ flat_map (outcome_of l.requests l.start_lines l.rank) (trace_seen l.trace)
