@@ -27,7 +27,8 @@ use std::test::Fail;
 #[test]
 fn growth_of_a_job(rt: HostRuntime) -> Result<(), Fail> {
     let mut driver = Driver::open(rt.alloc(), Memory::Ample)?;
-    assert_eq!(rt; driver.first_misfit(JOB), None);
+    let misfit = driver.first_misfit(JOB);
+    assert!(rt; misfit.is_none(), "{misfit:?}");
     Ok(())
 }
 
@@ -37,7 +38,8 @@ fn each_growth_refused_in_core(rt: HostRuntime) -> Result<(), Fail> {
     let memory = Memory::scarce(rt.alloc())?;
     assert!(rt; memory.is_used_up(), "the address space can't be exhausted");
     let mut driver = Driver::open(rt.alloc(), memory)?;
-    assert_eq!(rt; driver.first_misfit(JOB), None);
+    let misfit = driver.first_misfit(JOB);
+    assert!(rt; misfit.is_none(), "{misfit:?}");
     let Refusals {
         opens,
         posts,

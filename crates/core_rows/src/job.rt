@@ -1,11 +1,11 @@
 //! A random job on one engine, each outcome compared with the value computed directly.
 
-use crate::random::Random;
 use crate::seat::{STARTS, Seat, Stage};
 use coll_core::{Config, Contribution, Core, DoneWork, Offer, Outcome, Stepped, Work};
 use coll_kinds::{Datatype, Kind, Mode, Op, Refusal, Signature, Ticket};
 use coll_plans::{Plan, plan};
 use plan_rows::plain::value_of;
+use plan_rows::random::Random;
 use std::alloc::Global;
 
 /// How many collectives each communicator has.
@@ -193,7 +193,7 @@ impl Job {
     /// where the job doesn't end.
     pub fn run(&mut self) -> Result<u32, Refusal> {
         for _turn in 0..100_000 {
-            if self.seats.iter().all(|seat| seat.stage == Stage::Over) {
+            if self.is_over() {
                 return Ok(self.outcomes);
             }
             match self.random.below(4) {
@@ -205,11 +205,20 @@ impl Job {
         Err(Refusal::Torn)
     }
 
+    fn is_over(&self) -> bool {
+        for seat in &self.seats {
+            if !seat.is_over() {
+                return false;
+            }
+        }
+        true
+    }
+
     /// The next call of a random seat that isn't over.
     fn take_turn(&mut self) -> Result<(), Refusal> {
         let from = self.random.below(self.seats.len());
         for index in from..self.seats.len() {
-            if self.seats[index].stage != Stage::Over {
+            if !self.seats[index].is_over() {
                 return self.advance(index);
             }
         }
@@ -281,7 +290,7 @@ impl Job {
     /// A seat whose request is neither posted nor initialised.
     fn is_new(&self, index: usize) -> bool {
         match self.seats.get(index) {
-            Some(seat) => seat.stage == Stage::New,
+            Some(seat) => matches!(seat.stage, Stage::New),
             None => false,
         }
     }

@@ -4,7 +4,6 @@
 //! |---|---|
 //! | `job` | `Job`, a random job on one engine |
 //! | `seat` | `Seat`, one member's part of one of its collectives |
-//! | `random` | `Random`, numbers that look random |
 //! | `job_tests` | random jobs, each outcome compared with the value computed directly |
 //! | `rows` | worked rows, each answer compared with the one that must come |
 //! | `growth` | a job in which each allocation is refused in turn |
@@ -19,8 +18,6 @@ mod growth;
 mod job;
 #[cfg(test)]
 mod job_tests;
-#[cfg(test)]
-mod random;
 #[cfg(test)]
 mod rows;
 #[cfg(test)]

@@ -33,29 +33,32 @@ use coll_kinds::Refusal;
 use driver::Driver;
 use setup::Setup;
 use std::alloc::Global;
+use std::process::Abort;
 
 /// A call, with the answer that must come.
 pub type Row = (Call, Answer);
 
-/// The first call of a list that was answered otherwise, by its index.
-#[derive(Clone, Copy, Debug, PartialEq, Eq)]
-pub struct Misfit {
-    pub index: usize,
-    pub got: Answer,
-}
-
-/// Makes the calls on a new engine. None where each was answered as it must be.
+/// Makes the calls on a new engine: the first that is answered otherwise, by its index. None where each is answered as it must be.
 ///
 /// # Errors
 ///
 /// The engine's refusal to open.
-pub fn first_misfit(alloc: Global, setup: &Setup, rows: &[Row]) -> Result<Option<Misfit>, Refusal> {
+pub fn first_misfit(
+    alloc: Global,
+    setup: &Setup,
+    rows: &[Row],
+) -> Result<Option<(usize, Answer)>, Refusal> {
     let mut driver = Driver::open(alloc, setup)?;
     for (index, (call, want)) in rows.iter().enumerate() {
         let got = driver.answer(*call);
         if got != *want {
-            return Ok(Some(Misfit { index, got }));
+            return Ok(Some((index, got)));
         }
     }
     Ok(None)
+}
+
+/// Ends the test where a call is answered otherwise.
+pub fn assert_answers(rt: &impl Abort, alloc: Global, setup: &Setup, rows: &[Row]) {
+    assert_eq!(rt; first_misfit(alloc, setup, rows), Ok(None));
 }

@@ -6,7 +6,7 @@ use coll_kinds::{Signature, Ticket};
 pub const STARTS: u32 = 2;
 
 /// How far a member is with a collective.
-#[derive(Clone, Copy, Debug, PartialEq, Eq)]
+#[derive(Clone, Copy)]
 pub enum Stage {
     /// Neither posted nor initialised.
     New,
@@ -19,7 +19,7 @@ pub enum Stage {
 }
 
 /// A member's part of the collective at a place of a communicator.
-#[derive(Clone, Copy, Debug)]
+#[derive(Clone, Copy)]
 pub struct Seat {
     pub comm: u32,
     pub place: usize,
@@ -30,4 +30,10 @@ pub struct Seat {
     /// How many starts were completed.
     pub starts: u32,
     pub stage: Stage,
+}
+
+impl Seat {
+    pub fn is_over(&self) -> bool {
+        matches!(self.stage, Stage::Over)
+    }
 }

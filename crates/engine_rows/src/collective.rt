@@ -1,12 +1,11 @@
 //! One collective of a job, what its members give, and what they are to get.
 
-use coll_kinds::{Kind, Mode, Refusal, Signature};
-use coll_ops::plain_value;
-use coll_plans::{Plan, plan};
+use coll_kinds::{Mode, Refusal, Signature};
+use plan_rows::plain::value_of;
 use std::alloc::Global;
 
 /// A collective at a place of a communicator.
-#[derive(Clone, Copy, Debug)]
+#[derive(Clone, Copy)]
 pub struct Collective {
     pub comm: u32,
     pub place: u32,
@@ -48,27 +47,4 @@ impl Collective {
         }
         value_of(alloc, self.sig, &given, member)
     }
-}
-
-/// The value at a member, of what all members gave.
-fn value_of(
-    alloc: Global,
-    sig: Signature,
-    given: &[Vec<u8>],
-    member: u8,
-) -> Result<Vec<u8>, Refusal> {
-    if given.len() > 64 {
-        return Err(Refusal::Torn);
-    }
-    let n = given.len() as u8;
-    if member >= n {
-        return Err(Refusal::Torn);
-    }
-    sig.check(n)?;
-    for i in 0..n {
-        if given[i as usize].len() != sig.given_len(n, i) {
-            return Err(Refusal::Torn);
-        }
-    }
-    plain_value(alloc, sig, n, given, member)
 }

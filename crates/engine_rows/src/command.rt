@@ -1,7 +1,7 @@
 //! What a rank is told to do.
 
 /// A call on a collective, which is named by its number in the job.
-#[derive(Clone, Copy, Debug, PartialEq, Eq)]
+#[derive(Clone, Copy)]
 pub enum Command {
     Post(usize),
     Init(usize),

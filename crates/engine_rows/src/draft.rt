@@ -2,8 +2,8 @@
 
 use crate::collective::Collective;
 use crate::command::Command;
-use crate::random::Random;
 use coll_kinds::{Refusal, member_of};
+use plan_rows::random::Random;
 use std::alloc::Global;
 
 /// How many turns after its own a persistent collective is freed.

@@ -3,9 +3,9 @@
 use crate::collective::Collective;
 use crate::command::Command;
 use crate::draft::commands_of;
-use crate::random::Random;
 use coll_core::Config;
 use coll_kinds::{Datatype, Kind, Mode, Op, Refusal, Signature};
+use plan_rows::random::Random;
 use std::alloc::Global;
 
 /// How many elements the few long blocks have.

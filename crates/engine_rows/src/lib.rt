@@ -6,7 +6,6 @@
 //! | `collective` | `Collective`, what its members give and are to get |
 //! | `command` | `Command`, what a rank is told to do |
 //! | `draft` | the commands of a rank of a random job |
-//! | `random` | `Random`, numbers that look random |
 //! | `pace` | `Pace`, a gate that may hold ranks up too |
 //! | `player` | what the thread of a rank does |
 //! | `rank_threads` | a thread for each rank, and progress threads |
@@ -38,8 +37,6 @@ mod pace;
 mod player;
 #[cfg(test)]
 mod program_tests;
-#[cfg(test)]
-mod random;
 #[cfg(test)]
 mod rank_threads;
 #[cfg(test)]

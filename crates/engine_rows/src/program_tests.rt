@@ -55,7 +55,7 @@ fn inited<L: Entries, R: Wait>(rt: &R, port: &mut Port<L>) -> Result<Request, Re
 }
 
 /// A rank that gives its number to a sum, again and again.
-#[derive(Clone, Copy, Debug)]
+#[derive(Clone, Copy)]
 struct Adding {
     alloc: Global,
     number: i32,
@@ -117,7 +117,7 @@ impl RankProgram<Result<i32, Refusal>> for Adding {
 }
 
 /// A rank that posts a sum and waits for it in vain, where it isn't the last; that one does nothing.
-#[derive(Clone, Copy, Debug)]
+#[derive(Clone, Copy)]
 struct Alone {
     alloc: Global,
 }
@@ -139,7 +139,7 @@ impl RankProgram<Result<(), Refusal>> for Alone {
 
 /// A rank that gives its number to a sum. The first one waits for a request before that which is idle, and lets the others wait for the
 /// sum.
-#[derive(Clone, Copy, Debug)]
+#[derive(Clone, Copy)]
 struct Late {
     alloc: Global,
 }

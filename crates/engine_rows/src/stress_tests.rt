@@ -10,7 +10,7 @@ use std::test::Fail;
 use std::thread::Threads;
 
 /// Each third rank tests where others wait.
-#[derive(Clone, Copy, Debug)]
+#[derive(Clone, Copy)]
 struct EachThirdTests;
 
 impl Gate for EachThirdTests {

@@ -11,7 +11,7 @@ use coll_arena::{Arena, ListName};
 use coll_kinds::{Refusal, Ticket};
 use driver::{Answer, Call, Driver, END, Live, On};
 use std::alloc::Global;
-use std::test::Fail;
+use std::process::Abort;
 
 /// A call, with the answer that must come.
 type Row = (Call, Answer);
@@ -34,6 +34,11 @@ fn first_misfit(
     Ok(None)
 }
 
+/// Ends the test where a call of a list is answered otherwise.
+fn assert_answers(rt: &impl Abort, alloc: Global, slots: u8, wear: u8, rows: &[Row]) {
+    assert_eq!(rt; first_misfit(alloc, slots, wear, rows), Ok(None));
+}
+
 const ON_DONE: On = On::Live(Live::Done);
 
 // A slot that is worn out isn't given again, and its tickets name nothing.
@@ -53,9 +58,8 @@ const WORN: &[Row] = &[
 ];
 
 #[test]
-fn worn_slot(rt: HostRuntime) -> Result<(), Fail> {
-    assert_eq!(rt; first_misfit(rt.alloc(), 1, 2, WORN)?, None);
-    Ok(())
+fn worn_slot(rt: HostRuntime) {
+    assert_answers(&rt, rt.alloc(), 1, 2, WORN);
 }
 
 // The named request leaves, not the oldest.
@@ -70,9 +74,8 @@ const NAMED: &[Row] = &[
 ];
 
 #[test]
-fn retire_the_named(rt: HostRuntime) -> Result<(), Fail> {
-    assert_eq!(rt; first_misfit(rt.alloc(), 4, 2, NAMED)?, None);
-    Ok(())
+fn retire_the_named(rt: HostRuntime) {
+    assert_answers(&rt, rt.alloc(), 4, 2, NAMED);
 }
 
 const REST: &[Row] = &[
@@ -88,9 +91,8 @@ const REST: &[Row] = &[
 ];
 
 #[test]
-fn retire_keeps_the_rest(rt: HostRuntime) -> Result<(), Fail> {
-    assert_eq!(rt; first_misfit(rt.alloc(), 3, 2, REST)?, None);
-    Ok(())
+fn retire_keeps_the_rest(rt: HostRuntime) {
+    assert_answers(&rt, rt.alloc(), 3, 2, REST);
 }
 
 const WEARS_OUT: &[Row] = &[
@@ -103,9 +105,8 @@ const WEARS_OUT: &[Row] = &[
 ];
 
 #[test]
-fn retire_wears_out(rt: HostRuntime) -> Result<(), Fail> {
-    assert_eq!(rt; first_misfit(rt.alloc(), 3, 1, WEARS_OUT)?, None);
-    Ok(())
+fn retire_wears_out(rt: HostRuntime) {
+    assert_answers(&rt, rt.alloc(), 3, 1, WEARS_OUT);
 }
 
 const CHANGES: &[Row] = &[
@@ -124,9 +125,8 @@ const CHANGES: &[Row] = &[
 ];
 
 #[test]
-fn a_live_request_changes(rt: HostRuntime) -> Result<(), Fail> {
-    assert_eq!(rt; first_misfit(rt.alloc(), 3, 2, CHANGES)?, None);
-    Ok(())
+fn a_live_request_changes(rt: HostRuntime) {
+    assert_answers(&rt, rt.alloc(), 3, 2, CHANGES);
 }
 
 const ASKED_FOR: &[Row] = &[
@@ -145,9 +145,8 @@ const ASKED_FOR: &[Row] = &[
 ];
 
 #[test]
-fn a_request_is_asked_for(rt: HostRuntime) -> Result<(), Fail> {
-    assert_eq!(rt; first_misfit(rt.alloc(), 1, 1, ASKED_FOR)?, None);
-    Ok(())
+fn a_request_is_asked_for(rt: HostRuntime) {
+    assert_answers(&rt, rt.alloc(), 1, 1, ASKED_FOR);
 }
 
 const REPLACED: &[Row] = &[
@@ -165,9 +164,8 @@ const REPLACED: &[Row] = &[
 ];
 
 #[test]
-fn a_record_is_replaced(rt: HostRuntime) -> Result<(), Fail> {
-    assert_eq!(rt; first_misfit(rt.alloc(), 3, 1, REPLACED)?, None);
-    Ok(())
+fn a_record_is_replaced(rt: HostRuntime) {
+    assert_answers(&rt, rt.alloc(), 3, 1, REPLACED);
 }
 
 /// A record of two fields.
@@ -187,15 +185,19 @@ fn set_steps(arena: &mut Arena<Counted>, ticket: Ticket, steps: u32) -> Result<(
     Ok(())
 }
 
-#[test]
-fn one_field_changes(rt: HostRuntime) -> Result<(), Fail> {
-    let mut arena: Arena<Counted> = Arena::open(rt.alloc(), 1, 1, 1)?;
+/// The fields of a record of which one was changed.
+fn changed(alloc: Global) -> Result<(u32, u32), Refusal> {
+    let mut arena: Arena<Counted> = Arena::open(alloc, 1, 1, 1)?;
     let counted = Counted { steps: 1, bytes: 2 };
-    let ticket = arena
-        .take(counted, 0, ListName::Ready)
-        .map_err(|refused| refused.why)?;
+    let Ok(ticket) = arena.take(counted, 0, ListName::Ready) else {
+        return Err(Refusal::Torn);
+    };
     set_steps(&mut arena, ticket, 3)?;
     let counted = arena.get(ticket)?;
-    assert_eq!(rt; (counted.steps, counted.bytes), (3, 2));
-    Ok(())
+    Ok((counted.steps, counted.bytes))
+}
+
+#[test]
+fn one_field_changes(rt: HostRuntime) {
+    assert!(rt; changed(rt.alloc()) == Ok((3, 2)));
 }

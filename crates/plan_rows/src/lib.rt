@@ -1,5 +1,5 @@
 //! What the core stands on, as tests: the structures that its state is made of, values, schedules and plans. All of it is built for
-//! tests alone but `plain`, which the core's own tests take too.
+//! tests alone but `plain` and `random`, which the tests of the core and of threads take too.
 //!
 //! | Module | Has |
 //! |---|---|
@@ -9,6 +9,7 @@
 //! | `matches` | contributions and messages, found by their keys |
 //! | `arena` | rows of calls of an arena |
 //! | `plain` | the value of a collective, computed directly |
+//! | `random` | `Random`, numbers that look random |
 //! | `value_rows` | such values of small jobs, and all members' at once |
 //! | `plans` | actions, schedules, and plans of all collectives, carried out in lock-step, with their numbers of messages |
 #![tactic(auto)]
@@ -26,5 +27,6 @@ pub mod plain;
 mod plans;
 #[cfg(test)]
 mod queues;
+pub mod random;
 #[cfg(test)]
 mod value_rows;

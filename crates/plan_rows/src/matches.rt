@@ -6,7 +6,6 @@ use coll_bytes::Bytes;
 use coll_kinds::Refusal;
 use coll_match::{Key, Matches};
 use std::alloc::Global;
-use std::test::Fail;
 
 /// Where the instance lies that was joined first: right for one, wrong for the other.
 const HINT: usize = 0;
@@ -17,11 +16,17 @@ fn enter(matches: &mut Matches, key: Key, member: u8, byte: u8) -> Result<(), Re
     ensures { HaveSize matches.new 3 }
 {
     matches.room(key, 3)?;
-    if member < 3 && matches.given(key, member).is_none() {
-        let hint = matches.join(key, member, Bytes::few(&[byte]));
-        matches.seat(key, hint, member, u32::from(byte));
+    if member >= 3 {
+        return Ok(());
     }
-    Ok(())
+    match matches.given(key, member) {
+        Some(_) => Ok(()),
+        None => {
+            let hint = matches.join(key, member, Bytes::few(&[byte]));
+            matches.seat(key, hint, member, u32::from(byte));
+            Ok(())
+        }
+    }
 }
 
 /// A member that has joined sends a byte.
@@ -32,10 +37,7 @@ fn send(
     to: u8,
     round: usize,
     byte: u8,
-) -> Result<(), Refusal>
-    requires { HaveSize matches.old 3 }
-    ensures { HaveSize matches.new 3 }
-{
+) -> Result<(), Refusal> {
     let message = Bytes::few(&[byte]);
     if matches.given(key, from).is_some() && !matches.ready(key, HINT, from, to, round) {
         let seated = matches.seated(key, to);
@@ -49,18 +51,15 @@ fn send(
 }
 
 /// A member whose slot is noted leaves.
-fn leave(matches: &mut Matches, key: Key, member: u8) -> bool
-    requires { HaveSize matches.old 3 }
-    ensures { HaveSize matches.new 3 }
-{
-    matches.seated(key, member).is_some() && matches.leave(key, HINT, member)
+fn leave(matches: &mut Matches, key: Key, member: u8) -> bool {
+    match matches.seated(key, member) {
+        Some(_) => matches.leave(key, HINT, member),
+        None => false,
+    }
 }
 
 /// The byte that was taken.
-fn taken(matches: &mut Matches, key: Key, from: u8, to: u8, round: usize) -> Option<u8>
-    requires { HaveSize matches.old 3 }
-    ensures { HaveSize matches.new 3 }
-{
+fn taken(matches: &mut Matches, key: Key, from: u8, to: u8, round: usize) -> Option<u8> {
     let message = matches.take(key, HINT, from, to, round)?;
     message.as_slice().first().copied()
 }
@@ -83,48 +82,46 @@ const SECOND: Key = Key {
 };
 
 #[test]
-fn contributions_outlive_their_requests(rt: HostRuntime) -> Result<(), Fail> {
+fn contributions_outlive_their_requests(rt: HostRuntime) {
     let alloc = rt.alloc();
     let mut matches = Matches::new(alloc);
-    enter(&mut matches, FIRST, 0, 10)?;
-    enter(&mut matches, FIRST, 1, 11)?;
-    enter(&mut matches, FIRST, 2, 12)?;
-    enter(&mut matches, SECOND, 0, 20)?;
-    assert_eq!(rt; matches.seated(FIRST, 0), Some(10));
-    assert_eq!(rt; matches.seated(SECOND, 0), Some(20));
-    assert_eq!(rt; matches.seated(SECOND, 1), None);
+    enter(&mut matches, FIRST, 0, 10).expect(&rt, "it enters");
+    enter(&mut matches, FIRST, 1, 11).expect(&rt, "it enters");
+    enter(&mut matches, FIRST, 2, 12).expect(&rt, "it enters");
+    enter(&mut matches, SECOND, 0, 20).expect(&rt, "it enters");
+    assert!(rt; matches.seated(FIRST, 0) == Some(10));
+    assert!(rt; matches.seated(SECOND, 0) == Some(20));
+    assert!(rt; matches.seated(SECOND, 1).is_none());
 
     assert!(rt; !leave(&mut matches, FIRST, 0));
-    assert_eq!(rt; matches.seated(FIRST, 0), None);
-    assert_eq!(rt; contribution(&matches, FIRST, 0), Some(10));
+    assert!(rt; matches.seated(FIRST, 0).is_none());
+    assert!(rt; contribution(&matches, FIRST, 0) == Some(10));
     assert!(rt; !leave(&mut matches, FIRST, 2));
-    assert_eq!(rt; contribution(&matches, FIRST, 2), Some(12));
+    assert!(rt; contribution(&matches, FIRST, 2) == Some(12));
     assert!(rt; leave(&mut matches, FIRST, 1));
     for member in 0..3 {
-        assert_eq!(rt; contribution(&matches, FIRST, member), None);
+        assert!(rt; contribution(&matches, FIRST, member).is_none());
     }
-    assert_eq!(rt; contribution(&matches, SECOND, 0), Some(20));
-    Ok(())
+    assert!(rt; contribution(&matches, SECOND, 0) == Some(20));
 }
 
 #[test]
-fn a_message_is_what_was_put(rt: HostRuntime) -> Result<(), Fail> {
+fn a_message_is_what_was_put(rt: HostRuntime) {
     let alloc = rt.alloc();
     let mut matches = Matches::new(alloc);
-    enter(&mut matches, FIRST, 0, 1)?;
-    enter(&mut matches, SECOND, 0, 2)?;
-    send(&mut matches, FIRST, 0, 1, 0, 30)?;
-    send(&mut matches, FIRST, 0, 1, 7, 31)?;
-    send(&mut matches, FIRST, 0, 2, 0, 32)?;
-    send(&mut matches, SECOND, 0, 1, 0, 33)?;
+    enter(&mut matches, FIRST, 0, 1).expect(&rt, "it enters");
+    enter(&mut matches, SECOND, 0, 2).expect(&rt, "it enters");
+    send(&mut matches, FIRST, 0, 1, 0, 30).expect(&rt, "it sends");
+    send(&mut matches, FIRST, 0, 1, 7, 31).expect(&rt, "it sends");
+    send(&mut matches, FIRST, 0, 2, 0, 32).expect(&rt, "it sends");
+    send(&mut matches, SECOND, 0, 1, 0, 33).expect(&rt, "it sends");
     assert!(rt; matches.ready(FIRST, HINT, 0, 1, 7));
     assert!(rt; !matches.ready(FIRST, HINT, 1, 0, 0));
 
-    assert_eq!(rt; taken(&mut matches, FIRST, 0, 1, 7), Some(31));
-    assert_eq!(rt; taken(&mut matches, FIRST, 0, 1, 7), None);
+    assert!(rt; taken(&mut matches, FIRST, 0, 1, 7) == Some(31));
+    assert!(rt; taken(&mut matches, FIRST, 0, 1, 7).is_none());
     assert!(rt; !matches.ready(FIRST, HINT, 0, 1, 7));
-    assert_eq!(rt; taken(&mut matches, SECOND, 0, 1, 0), Some(33));
-    assert_eq!(rt; taken(&mut matches, FIRST, 0, 1, 0), Some(30));
-    assert_eq!(rt; taken(&mut matches, FIRST, 0, 2, 0), Some(32));
-    Ok(())
+    assert!(rt; taken(&mut matches, SECOND, 0, 1, 0) == Some(33));
+    assert!(rt; taken(&mut matches, FIRST, 0, 1, 0) == Some(30));
+    assert!(rt; taken(&mut matches, FIRST, 0, 2, 0) == Some(32));
 }

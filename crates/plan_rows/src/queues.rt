@@ -1,16 +1,19 @@
 //! Random posts, each judged as by the calls before it.
 
-ghost use Rattle.std.specs.Prelude.{◌<◌, ◌≤◌, All, IfOk, length};
+ghost use Rattle.std.specs.Prelude.{◌≤◌, All, IfOk, length};
 
+use crate::random::Random;
 use coll_kinds::{Datatype, Kind, Mode, Op, Refusal, Signature};
 use coll_queues::Queues;
 use std::alloc::{AllocError, Global};
 use std::sync::Arc;
-use std::test::Fail;
 
 const RANKS: u8 = 16;
 
 const COMMS: u32 = 4;
+
+/// How many of 16 ranks each communicator has.
+const SIZES: [u8; 4] = [16, 8, 6, 4];
 
 const PLACES: u32 = 6;
 
@@ -28,17 +31,6 @@ fn post(
     Ok(queues.offer(comm, rank, shared))
 }
 
-/// A generator of numbers, the same in each run.
-fn next_below(seed: &mut u64, limit: u64) -> u64
-    requires { 0 < limit }
-    ensures { result < limit }
-{
-    *seed = seed
-        .wrapping_mul(6_364_136_223_846_793_005)
-        .wrapping_add(1_442_695_040_888_963_407);
-    (*seed >> 33) % limit
-}
-
 /// Communicator `comm` has every rank that `comm + 1` divides, the highest first.
 fn is_member(comm: u32, rank: u8) -> bool {
     comm < COMMS && rank < RANKS && u32::from(rank) % (comm + 1) == 0
@@ -54,11 +46,46 @@ struct Call {
 
 /// The signature of a rank's call at a place of a communicator.
 fn called(calls: &[Call], comm: u32, rank: u8, place: usize) -> Option<Signature> {
-    calls
-        .iter()
-        .filter(|call| call.comm == comm && call.rank == rank)
-        .nth(place)
-        .map(|call| call.sig)
+    let mut next: usize = 0;
+    for call in calls {
+        if call.comm == comm && call.rank == rank {
+            if next == place {
+                return Some(call.sig);
+            }
+            next = next.saturating_add(1);
+        }
+    }
+    None
+}
+
+/// How many calls a rank has made on a communicator.
+fn places_of(calls: &[Call], comm: u32, rank: u8) -> u32 {
+    let mut places: u32 = 0;
+    for call in calls {
+        if call.comm == comm && call.rank == rank {
+            places = places.saturating_add(1);
+        }
+    }
+    places
+}
+
+/// The first member of a communicator that has called at a place, with its signature.
+fn first_called(calls: &[Call], comm: u32, place: u32) -> Option<(u8, Signature)> {
+    for rank in (0..RANKS).rev() {
+        if let Some(sig) = called(calls, comm, rank, place as usize) {
+            return Some((rank, sig));
+        }
+    }
+    None
+}
+
+/// Whether that is the signature of the calls at a place, or none where there was no call.
+fn is_signed(calls: &[Call], comm: u32, place: u32, sig: Option<&Signature>) -> bool {
+    match (first_called(calls, comm, place), sig) {
+        (Some((_, known)), Some(sig)) => known == *sig,
+        (None, None) => true,
+        _ => false,
+    }
 }
 
 /// What a post meets by the calls so far.
@@ -69,18 +96,11 @@ fn expected(calls: &[Call], comm: u32, rank: u8, sig: Signature) -> Result<u32, 
     if !is_member(comm, rank) {
         return Err(Refusal::NotMember { rank });
     }
-    let size = (0..RANKS).filter(|rank| is_member(comm, *rank)).count();
-    sig.check(size as u8)?;
-    let place = calls
-        .iter()
-        .filter(|call| call.comm == comm && call.rank == rank)
-        .count();
-    let place = u32::try_from(place).unwrap_or(PLACES);
-    for first in (0..RANKS).rev() {
-        if let Some(known) = called(calls, comm, first, place as usize) {
-            if !known.is_same(&sig) {
-                return Err(Refusal::mismatch_at(place, first, &known));
-            }
+    sig.check(SIZES[comm as usize])?;
+    let place = places_of(calls, comm, rank);
+    if let Some((first, known)) = first_called(calls, comm, place) {
+        if !known.is_same(&sig) {
+            return Err(Refusal::mismatch_at(place, first, &known));
         }
     }
     if place >= PLACES {
@@ -89,74 +109,93 @@ fn expected(calls: &[Call], comm: u32, rank: u8, sig: Signature) -> Result<u32, 
     Ok(place)
 }
 
+/// The ranks of a communicator.
+fn group(alloc: Global, comm: u32) -> Result<Vec<u8>, AllocError>
+    ensures { IfOk result (λ group. length group.items ≤ 64) }
+{
+    let mut group = Vec::new(alloc);
+    for rank in (0..RANKS).rev() {
+        if is_member(comm, rank) {
+            group.push(rank)?;
+        }
+    }
+    if group.len() > 64 {
+        return Err(AllocError);
+    }
+    Ok(group)
+}
+
 /// The groups of the communicators.
 fn groups(alloc: Global) -> Result<Vec<Vec<u8>>, AllocError>
     ensures { IfOk result (λ groups. All (λ group. length group.items ≤ 64) groups.items) }
 {
     let mut groups = Vec::new(alloc);
     for comm in 0..COMMS {
-        let group: Vec<u8> = (0..RANKS)
-            .rev()
-            .filter(|rank| is_member(comm, *rank))
-            .collect(alloc)?;
-        if group.len() > 64 {
-            return Err(AllocError);
-        }
-        groups.push(group)?;
+        groups.push(group(alloc, comm)?)?;
     }
     Ok(groups)
 }
 
+const SUM: Signature = Signature {
+    kind: Kind::Allreduce,
+    mode: Mode::Once,
+    root: 0,
+    op: Some(Op::Sum),
+    ty: Datatype::I32,
+    count: 1,
+    each: None,
+};
+
+const PERSISTENT_SUM: Signature = Signature {
+    mode: Mode::Persistent,
+    ..SUM
+};
+
+const BCAST: Signature = Signature {
+    kind: Kind::Bcast,
+    root: 5,
+    op: None,
+    ..SUM
+};
+
 /// One of a few signatures.
-fn signature(number: u64) -> Signature {
-    let sum = Signature {
-        kind: Kind::Allreduce,
-        mode: Mode::Once,
-        root: 0,
-        op: Some(Op::Sum),
-        ty: Datatype::I32,
-        count: 1,
-        each: None,
-    };
+fn signature(number: usize) -> Signature {
     match number {
-        0 => Signature {
-            mode: Mode::Persistent,
-            ..sum
-        },
-        1 => Signature {
-            kind: Kind::Bcast,
-            root: 5,
-            op: None,
-            ..sum
-        },
-        _ => sum,
+        0 => PERSISTENT_SUM,
+        1 => BCAST,
+        _ => SUM,
+    }
+}
+
+/// A random call of a few, now and then on a communicator that isn't there, or by a rank that isn't a member.
+fn random_call(random: &mut Random) -> Call {
+    Call {
+        comm: random.below(8) as u32 / 2,
+        rank: random.below(17) as u8,
+        sig: signature(random.below(12)),
     }
 }
 
 #[test]
-fn random_postings(rt: HostRuntime) -> Result<(), Fail> {
+fn random_postings(rt: HostRuntime) {
     let alloc = rt.alloc();
-    let mut queues = Queues::open(alloc, groups(alloc)?, PLACES)?;
+    let groups = groups(alloc).expect(&rt, "memory is ample");
+    let mut queues = Queues::open(alloc, groups, PLACES).expect(&rt, "memory is ample");
     let mut calls: Vec<Call> = Vec::new(alloc);
-    let mut seed = 1;
+    let mut random = Random::new(1);
     for _turn in 0..1500 {
-        let comm = next_below(&mut seed, 4 + u64::from(COMMS)) as u32 / 2;
-        let rank = next_below(&mut seed, 1 + u64::from(RANKS)) as u8;
-        let sig = signature(next_below(&mut seed, 12));
-        let want = expected(&calls, comm, rank, sig);
-        assert_eq!(rt; queues.judge(comm, rank, &sig), want);
-        assert_eq!(rt; post(alloc, &mut queues, comm, rank, sig), want);
+        let call = random_call(&mut random);
+        let want = expected(&calls, call.comm, call.rank, call.sig);
+        let judged = queues.judge(call.comm, call.rank, &call.sig);
+        let got = post(alloc, &mut queues, call.comm, call.rank, call.sig);
+        assert_eq!(rt; (judged, got), (want, want));
         if want.is_ok() {
-            calls.push(Call { comm, rank, sig })?;
+            calls.push(call).expect(&rt, "memory is ample");
         }
     }
     for comm in 0..COMMS {
         for place in 0..PLACES {
-            let known = (0..RANKS)
-                .filter_map(|rank| called(&calls, comm, rank, place as usize))
-                .next();
-            assert_eq!(rt; queues.signature(comm, place).copied(), known);
+            assert!(rt; is_signed(&calls, comm, place, queues.signature(comm, place)));
         }
     }
-    Ok(())
 }

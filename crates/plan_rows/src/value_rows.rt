@@ -3,7 +3,7 @@
 use crate::plain::{value_of, values_of};
 use coll_kinds::{Datatype, Kind, Mode, Op, Refusal, Signature};
 use std::alloc::Global;
-use std::test::Fail;
+use std::process::Abort;
 
 /// A kind with its root, operation and type.
 type What = (Kind, u8, Option<Op>, Datatype);
@@ -106,17 +106,18 @@ fn got(alloc: Global, (what, given, member, _): &Row) -> Result<Vec<u8>, Refusal
     value_of(alloc, signature(*what, 1, n), &rows, *member)
 }
 
-#[test]
-fn values_of_small_jobs(rt: HostRuntime) -> Result<(), Fail> {
-    for row in SMALL_JOBS {
+/// Ends the test where a row's member gets something else.
+fn assert_values(rt: &impl Abort, alloc: Global, rows: &[Row]) {
+    for row in rows {
         let (what, _, member, want) = row;
-        assert_eq!(rt;
-            got(rt.alloc(), row)?.as_slice(),
-            *want,
-            "at {member} of {what:?}"
-        );
+        let got = got(alloc, row).expect(rt, "the value of a small job");
+        assert_eq!(rt; got.as_slice(), *want, "at {member} of {what:?}");
     }
-    Ok(())
+}
+
+#[test]
+fn values_of_small_jobs(rt: HostRuntime) {
+    assert_values(&rt, rt.alloc(), SMALL_JOBS);
 }
 
 /// A row of bytes for each member, with zeros in other places in each row.
@@ -168,11 +169,11 @@ fn first_misfit(alloc: Global, kind: Kind, n: u8) -> Result<Option<(What, u8)>, 
 }
 
 #[test]
-fn each_member_gets_its_value(rt: HostRuntime) -> Result<(), Fail> {
+fn each_member_gets_its_value(rt: HostRuntime) {
     for kind in Kind::ALL {
         for n in 0..=5 {
-            assert_eq!(rt; first_misfit(rt.alloc(), kind, n)?, None, "among {n}");
+            let misfit = first_misfit(rt.alloc(), kind, n);
+            assert!(rt; misfit == Ok(None), "among {n}: {misfit:?}");
         }
     }
-    Ok(())
 }

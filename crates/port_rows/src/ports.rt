@@ -47,6 +47,7 @@ use driver::Driver;
 use setup::Setup;
 use std::alloc::Global;
 use std::marker::Brand;
+use std::process::Abort;
 use std::sync::Wait;
 use std::sync::ledger::Blank;
 
@@ -54,7 +55,7 @@ use std::sync::ledger::Blank;
 pub type Row = (Call, Answer);
 
 /// The first call that was answered otherwise, by its index in its list.
-#[derive(Clone, Copy, Debug, PartialEq, Eq)]
+#[derive(Clone, Copy, Debug)]
 pub struct Misfit {
     pub index: usize,
     pub got: Answer,
@@ -89,6 +90,12 @@ pub fn first_misfit<R: Wait>(
     let config = setup.config(alloc)?;
     let entries = ledger_for(config.ranks);
     first_misfit_in::<Brand, R>(rt, alloc, config, parts, entries)
+}
+
+/// Makes the calls of some lists on a new engine, and ends the test where one is answered otherwise.
+pub fn assert_answers<R: Abort + Wait>(rt: &R, alloc: Global, setup: &Setup, parts: &[&[Row]]) {
+    let misfit = first_misfit(rt, alloc, setup, parts);
+    assert!(rt; matches!(misfit, Ok(None)), "{misfit:?}");
 }
 
 fn closed_after_in<L: Entries, R: Wait>(

@@ -21,7 +21,7 @@ pub(super) enum Call {
 }
 
 /// What a call answered.
-#[derive(Clone, Copy, Debug, PartialEq, Eq)]
+#[derive(Clone, Copy, PartialEq)]
 pub(super) enum Answer {
     Flag(bool),
     Undefined,

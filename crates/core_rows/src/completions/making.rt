@@ -7,7 +7,7 @@ use coll_plans::{Plan, plan};
 use std::alloc::Global;
 
 /// A request of rank 0, of another rank, or of none.
-#[derive(Clone, Copy, Debug, PartialEq, Eq)]
+#[derive(Clone, Copy, PartialEq)]
 pub(super) enum Made {
     Null,
     Idle,

@@ -1,7 +1,7 @@
 use crate::growth::requests::Which;
 
 /// A call of the job, by a member.
-#[derive(Clone, Copy, Debug)]
+#[derive(Clone, Copy)]
 pub enum Call {
     Post(u8, Which),
     Init(u8, Which),

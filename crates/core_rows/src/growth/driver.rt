@@ -11,7 +11,7 @@ use scarce_memory::Memory;
 use std::alloc::Global;
 
 /// How often memory was refused, by the calls that it was refused to.
-#[derive(Clone, Copy, Debug)]
+#[derive(Clone, Copy)]
 pub struct Refusals {
     pub opens: u32,
     pub posts: u32,

@@ -1,7 +1,7 @@
 use coll_kinds::Refusal;
 
 /// What a call did otherwise than it is to.
-#[derive(Clone, Copy, Debug, PartialEq, Eq)]
+#[derive(Clone, Copy, Debug)]
 pub enum Flaw {
     /// It was refused, and not for want of memory.
     Refused(Refusal),

@@ -39,7 +39,7 @@ const LONG_SUM: Signature = Signature {
 
 /// A request of each member. The persistent one has a communicator for itself, so that it and the first post each make their
 /// posting list grow.
-#[derive(Clone, Copy, Debug, PartialEq, Eq)]
+#[derive(Clone, Copy)]
 pub enum Which {
     Sum,
     Alltoall,
@@ -48,7 +48,7 @@ pub enum Which {
 }
 
 /// A member's request, in one of its starts.
-#[derive(Clone, Copy, Debug)]
+#[derive(Clone, Copy)]
 pub struct Part {
     pub which: Which,
     pub member: u8,
@@ -165,17 +165,24 @@ impl Part {
 
     /// Whether these are what the member gives.
     pub fn gives(self, bytes: &[u8]) -> bool {
-        let mut all = bytes.iter().enumerate();
-        bytes.len() == self.which.len() && all.all(|(index, byte)| *byte == given(self, index))
+        for (index, byte) in bytes.iter().enumerate() {
+            if *byte != given(self, index) {
+                return false;
+            }
+        }
+        bytes.len() == self.which.len()
     }
 
     /// Whether this is the member's outcome.
     pub fn gets(self, outcome: &Outcome) -> bool {
+        for (index, byte) in outcome.bytes.as_slice().iter().enumerate() {
+            if *byte != wanted(self, index) {
+                return false;
+            }
+        }
         let whose = (outcome.rank, outcome.start) == (self.member, self.start);
-        let mut all = outcome.bytes.as_slice().iter().enumerate();
         whose
             && (outcome.comm, outcome.place) == self.which.home()
             && outcome.bytes.len() as usize == self.which.len()
-            && all.all(|(index, byte)| *byte == wanted(self, index))
     }
 }

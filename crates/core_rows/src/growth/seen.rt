@@ -5,7 +5,7 @@ use coll_kinds::{Datatype, Op, Ticket};
 pub const REQUESTS: usize = 8;
 
 /// What an engine shows of itself.
-#[derive(Clone, Copy, Debug, PartialEq, Eq)]
+#[derive(Clone, Copy, PartialEq)]
 pub struct Seen {
     /// How far each request is, where it is live.
     phases: [Option<Phase>; REQUESTS],
@@ -31,7 +31,7 @@ impl Seen {
 }
 
 /// What a combination shows of itself, each operand as a number.
-#[derive(Clone, Copy, Debug, PartialEq, Eq)]
+#[derive(Clone, Copy, PartialEq)]
 pub struct Piece {
     ticket: Ticket,
     round: usize,

@@ -1,9 +1,8 @@
 use crate::rows::answer::Answer;
 use crate::rows::call::Call;
 use crate::rows::setup::THREE;
-use crate::rows::{Row, first_misfit};
+use crate::rows::{Row, assert_answers};
 use coll_kinds::{Datatype, Kind, Mode, Signature};
-use std::test::Fail;
 
 /// Two i16 values of member 0, none of member 1 and one of member 2.
 const ROWS: Signature = Signature {
@@ -33,7 +32,6 @@ const LENT_BY_ROWS: &[Row] = &[
 ];
 
 #[test]
-fn rows_of_three_lend_their_bytes(rt: HostRuntime) -> Result<(), Fail> {
-    assert_eq!(rt; first_misfit(rt.alloc(), &THREE, LENT_BY_ROWS)?, None);
-    Ok(())
+fn rows_of_three_lend_their_bytes(rt: HostRuntime) {
+    assert_answers(&rt, rt.alloc(), &THREE, LENT_BY_ROWS);
 }

@@ -3,7 +3,7 @@ use coll_core::{About, Outcome, Phase, Work};
 use coll_kinds::Refusal;
 
 /// What a call of a row answered.
-#[derive(Clone, Copy, Debug, PartialEq, Eq)]
+#[derive(Clone, Copy, Debug, PartialEq)]
 pub enum Answer {
     /// It was accepted, and has nothing to tell.
     Accepted,

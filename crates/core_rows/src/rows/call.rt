@@ -2,7 +2,7 @@ use coll_kinds::Signature;
 
 /// A call of a row. The row's requests are numbered from 0 in the order in which they were made; a number that none has
 /// stands for a ticket of a slot that the engine lacks.
-#[derive(Clone, Copy, Debug)]
+#[derive(Clone, Copy)]
 pub enum Call {
     /// A rank posts i32 values on communicator 0, as the member that it is there.
     Post(u8, Signature, &'static [u8]),

@@ -3,10 +3,9 @@ use crate::rows::call::Call;
 use crate::rows::setup::{FIVE, PAIR, THREE};
 use crate::rows::signatures::{BARRIER, BCAST, LAST, SUM, SUM_OF_THREE};
 use crate::rows::values::Values;
-use crate::rows::{Row, first_misfit};
+use crate::rows::{Row, assert_answers};
 use coll_core::Phase;
 use coll_kinds::{Datatype, Kind, Mode, Refusal};
-use std::test::Fail;
 
 // The refusal tells the lowest member that has the place; the bytes come back, and no place was taken.
 const MISMATCH: &[Row] = &[
@@ -29,9 +28,8 @@ const FIRST_BCASTS: Refusal = Refusal::Mismatch {
 };
 
 #[test]
-fn mismatch_names_the_first(rt: HostRuntime) -> Result<(), Fail> {
-    assert_eq!(rt; first_misfit(rt.alloc(), &PAIR, MISMATCH)?, None);
-    Ok(())
+fn mismatch_names_the_first(rt: HostRuntime) {
+    assert_answers(&rt, rt.alloc(), &PAIR, MISMATCH);
 }
 
 // What the root gave is kept after the root has left.
@@ -45,9 +43,8 @@ const LATE_MEMBER: &[Row] = &[
 ];
 
 #[test]
-fn late_member_gets_its_bcast(rt: HostRuntime) -> Result<(), Fail> {
-    assert_eq!(rt; first_misfit(rt.alloc(), &PAIR, LATE_MEMBER)?, None);
-    Ok(())
+fn late_member_gets_its_bcast(rt: HostRuntime) {
+    assert_answers(&rt, rt.alloc(), &PAIR, LATE_MEMBER);
 }
 
 const BARRIER_OF_THREE: &[Row] = &[
@@ -65,9 +62,8 @@ const BARRIER_OF_THREE: &[Row] = &[
 ];
 
 #[test]
-fn barrier_waits_for_all(rt: HostRuntime) -> Result<(), Fail> {
-    assert_eq!(rt; first_misfit(rt.alloc(), &THREE, BARRIER_OF_THREE)?, None);
-    Ok(())
+fn barrier_waits_for_all(rt: HostRuntime) {
+    assert_answers(&rt, rt.alloc(), &THREE, BARRIER_OF_THREE);
 }
 
 const MOVED: Row = (Call::Step, Answer::Moved);
@@ -100,9 +96,8 @@ const STEPS_OF_BARRIER: &[Row] = &[
 ];
 
 #[test]
-fn barrier_by_steps(rt: HostRuntime) -> Result<(), Fail> {
-    assert_eq!(rt; first_misfit(rt.alloc(), &THREE, STEPS_OF_BARRIER)?, None);
-    Ok(())
+fn barrier_by_steps(rt: HostRuntime) {
+    assert_answers(&rt, rt.alloc(), &THREE, STEPS_OF_BARRIER);
 }
 
 // Rank 1's message wakes rank 0, behind rank 1 on Ready, which has rank 0's message and goes on first.
@@ -120,9 +115,8 @@ const FIRST_OF_BARRIER: &[Row] = &[
 ];
 
 #[test]
-fn first_of_ready_stays_first(rt: HostRuntime) -> Result<(), Fail> {
-    assert_eq!(rt; first_misfit(rt.alloc(), &PAIR, FIRST_OF_BARRIER)?, None);
-    Ok(())
+fn first_of_ready_stays_first(rt: HostRuntime) {
+    assert_answers(&rt, rt.alloc(), &PAIR, FIRST_OF_BARRIER);
 }
 
 const SUMS: Values = Values::Three(5, 7, 9);
@@ -143,9 +137,8 @@ const LENT: &[Row] = &[
 ];
 
 #[test]
-fn lent_bytes(rt: HostRuntime) -> Result<(), Fail> {
-    assert_eq!(rt; first_misfit(rt.alloc(), &PAIR, LENT)?, None);
-    Ok(())
+fn lent_bytes(rt: HostRuntime) {
+    assert_answers(&rt, rt.alloc(), &PAIR, LENT);
 }
 
 // The last value that isn't 0, in member order.
@@ -164,7 +157,6 @@ const LAST_OF_FIVE: &[Row] = &[
 ];
 
 #[test]
-fn lastnz_of_five(rt: HostRuntime) -> Result<(), Fail> {
-    assert_eq!(rt; first_misfit(rt.alloc(), &FIVE, LAST_OF_FIVE)?, None);
-    Ok(())
+fn lastnz_of_five(rt: HostRuntime) {
+    assert_answers(&rt, rt.alloc(), &FIVE, LAST_OF_FIVE);
 }

@@ -3,10 +3,9 @@ use crate::rows::call::Call;
 use crate::rows::setup::{ALONE, PAIR, Setup};
 use crate::rows::signatures::{PERSISTENT_MAX, PERSISTENT_SUM};
 use crate::rows::values::Values;
-use crate::rows::{Row, first_misfit};
+use crate::rows::{Row, assert_answers};
 use coll_core::{About, Phase};
 use coll_kinds::{Mode, Refusal};
-use std::test::Fail;
 
 const UNSTARTED: About = About {
     rank: 0,
@@ -38,9 +37,8 @@ const LIFE: &[Row] = &[
 ];
 
 #[test]
-fn persistent_life(rt: HostRuntime) -> Result<(), Fail> {
-    assert_eq!(rt; first_misfit(rt.alloc(), &ALONE, LIFE)?, None);
-    Ok(())
+fn persistent_life(rt: HostRuntime) {
+    assert_answers(&rt, rt.alloc(), &ALONE, LIFE);
 }
 
 // Two members start two requests in different orders, three times.
@@ -79,9 +77,8 @@ const OUT_OF_ORDER: &[Row] = &[
 ];
 
 #[test]
-fn starts_out_of_order(rt: HostRuntime) -> Result<(), Fail> {
-    assert_eq!(rt; first_misfit(rt.alloc(), &PAIR, OUT_OF_ORDER)?, None);
-    Ok(())
+fn starts_out_of_order(rt: HostRuntime) {
+    assert_answers(&rt, rt.alloc(), &PAIR, OUT_OF_ORDER);
 }
 
 // A member starts once more while the other hasn't left the start before.
@@ -101,9 +98,8 @@ const OVERLAP: &[Row] = &[
 ];
 
 #[test]
-fn starts_overlap(rt: HostRuntime) -> Result<(), Fail> {
-    assert_eq!(rt; first_misfit(rt.alloc(), &PAIR, OVERLAP)?, None);
-    Ok(())
+fn starts_overlap(rt: HostRuntime) {
+    assert_answers(&rt, rt.alloc(), &PAIR, OVERLAP);
 }
 
 const ONE_PLACE: Setup = Setup { places: 1, ..ALONE };
@@ -132,8 +128,7 @@ const STARTS: &[Row] = &[
 ];
 
 #[test]
-fn places_and_starts_run_out(rt: HostRuntime) -> Result<(), Fail> {
-    assert_eq!(rt; first_misfit(rt.alloc(), &ONE_PLACE, PLACES)?, None);
-    assert_eq!(rt; first_misfit(rt.alloc(), &ONE_START, STARTS)?, None);
-    Ok(())
+fn places_and_starts_run_out(rt: HostRuntime) {
+    assert_answers(&rt, rt.alloc(), &ONE_PLACE, PLACES);
+    assert_answers(&rt, rt.alloc(), &ONE_START, STARTS);
 }

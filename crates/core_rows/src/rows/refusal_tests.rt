@@ -3,10 +3,9 @@ use crate::rows::call::Call;
 use crate::rows::setup::{ALONE, PAIR, Setup};
 use crate::rows::signatures::{PERSISTENT_SUM, SUM};
 use crate::rows::values::Values;
-use crate::rows::{Row, first_misfit};
+use crate::rows::{Row, assert_answers, first_misfit};
 use coll_core::Phase;
 use coll_kinds::{ConfigField, Refusal, SignatureFault};
-use std::test::Fail;
 
 const ANOTHER_RANKS: &[Row] = &[
     (Call::Post(0, SUM, &[1]), Answer::Accepted),
@@ -19,9 +18,8 @@ const ANOTHER_RANKS: &[Row] = &[
 ];
 
 #[test]
-fn another_ranks_ticket(rt: HostRuntime) -> Result<(), Fail> {
-    assert_eq!(rt; first_misfit(rt.alloc(), &PAIR, ANOTHER_RANKS)?, None);
-    Ok(())
+fn another_ranks_ticket(rt: HostRuntime) {
+    assert_answers(&rt, rt.alloc(), &PAIR, ANOTHER_RANKS);
 }
 
 const ONE_SLOT: Setup = Setup {
@@ -42,9 +40,8 @@ const STALE_AND_FULL: &[Row] = &[
 ];
 
 #[test]
-fn stale_ticket_and_full(rt: HostRuntime) -> Result<(), Fail> {
-    assert_eq!(rt; first_misfit(rt.alloc(), &ONE_SLOT, STALE_AND_FULL)?, None);
-    Ok(())
+fn stale_ticket_and_full(rt: HostRuntime) {
+    assert_answers(&rt, rt.alloc(), &ONE_SLOT, STALE_AND_FULL);
 }
 
 // As many communicators as none may have.
@@ -180,7 +177,10 @@ const LONE_MISFITS: [(Setup, ConfigField); 16] = [
 fn bad_configs(rt: HostRuntime) {
     for (setup, field) in FIRST_MISFITS.iter().chain(LONE_MISFITS.iter()) {
         let opened = first_misfit(rt.alloc(), setup, &[]);
-        assert_eq!(rt; opened, Err(Refusal::BadConfig { field: *field }));
+        assert!(rt;
+            opened == Err(Refusal::BadConfig { field: *field }),
+            "{field:?}"
+        );
     }
 }
 
@@ -234,7 +234,6 @@ const OFFERS: &[Row] = &[
 ];
 
 #[test]
-fn bad_offers(rt: HostRuntime) -> Result<(), Fail> {
-    assert_eq!(rt; first_misfit(rt.alloc(), &WITH_ONE, OFFERS)?, None);
-    Ok(())
+fn bad_offers(rt: HostRuntime) {
+    assert_answers(&rt, rt.alloc(), &WITH_ONE, OFFERS);
 }

@@ -3,7 +3,7 @@ use coll_kinds::Refusal;
 use std::alloc::Global;
 
 /// What a row's engine is opened with.
-#[derive(Clone, Copy, Debug)]
+#[derive(Clone, Copy)]
 pub struct Setup {
     pub ranks: u8,
     /// The ranks of each communicator; communicator 0 has all.

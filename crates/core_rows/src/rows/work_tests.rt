@@ -3,10 +3,9 @@ use crate::rows::call::Call;
 use crate::rows::setup::PAIR;
 use crate::rows::signatures::{MAX, SUM};
 use crate::rows::values::Values;
-use crate::rows::{Row, first_misfit};
+use crate::rows::{Row, assert_answers};
 use coll_core::Phase;
 use coll_kinds::Refusal;
-use std::test::Fail;
 
 const OUT: Answer = Answer::Out(Values::One(1), Values::One(2));
 
@@ -27,9 +26,8 @@ const BESIDE_RUNNING: &[Row] = &[
 ];
 
 #[test]
-fn settle_beside_running(rt: HostRuntime) -> Result<(), Fail> {
-    assert_eq!(rt; first_misfit(rt.alloc(), &PAIR, BESIDE_RUNNING)?, None);
-    Ok(())
+fn settle_beside_running(rt: HostRuntime) {
+    assert_answers(&rt, rt.alloc(), &PAIR, BESIDE_RUNNING);
 }
 
 // What was abandoned is handed out again by the next step.
@@ -81,9 +79,8 @@ const SPENT: &[Row] = &[
 ];
 
 #[test]
-fn abandoned_and_foreign_work(rt: HostRuntime) -> Result<(), Fail> {
-    assert_eq!(rt; first_misfit(rt.alloc(), &PAIR, ABANDONED)?, None);
-    assert_eq!(rt; first_misfit(rt.alloc(), &PAIR, FOREIGN)?, None);
-    assert_eq!(rt; first_misfit(rt.alloc(), &PAIR, SPENT)?, None);
-    Ok(())
+fn abandoned_and_foreign_work(rt: HostRuntime) {
+    assert_answers(&rt, rt.alloc(), &PAIR, ABANDONED);
+    assert_answers(&rt, rt.alloc(), &PAIR, FOREIGN);
+    assert_answers(&rt, rt.alloc(), &PAIR, SPENT);
 }

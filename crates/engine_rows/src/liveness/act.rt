@@ -1,5 +1,5 @@
 /// What a thread may wait for.
-#[derive(Clone, Copy, Debug, PartialEq, Eq)]
+#[derive(Clone, Copy)]
 pub enum Event {
     /// This many pieces were begun.
     Begun(u64),
@@ -16,7 +16,7 @@ pub enum Event {
 }
 
 /// What a rank's thread does. Requests are numbered in the order in which the rank posted them.
-#[derive(Clone, Copy, Debug, PartialEq, Eq)]
+#[derive(Clone, Copy)]
 pub enum Act {
     /// Posts an allreduce on the communicator that sums one i32, with this number.
     Sum(u32, u16),

@@ -1,12 +1,11 @@
 //! Ports that are let go unfinished: they end, and no other rank waits for them for ever.
 
 use super::act::{Act, Event, LAST_LOOK};
-use super::scenario::{Scenario, first_misfit};
-use std::test::Fail;
+use super::scenario::{Scenario, assert_played};
 
 /// Rank 0 sleeps for the post of a rank whose port is let go. Rank 2 has the last look.
 #[test]
-fn a_dropped_port_has_ended(rt: HostRuntime) -> Result<(), Fail> {
+fn a_dropped_port_has_ended(rt: HostRuntime) {
     for workers in [0u8, 2] {
         let scenario = Scenario {
             groups: &[&[0, 1]],
@@ -25,14 +24,13 @@ fn a_dropped_port_has_ended(rt: HostRuntime) -> Result<(), Fail> {
             ],
             holds: &[],
         };
-        assert_eq!(rt; first_misfit(&rt, rt.alloc(), &scenario, workers)?, None);
+        assert_played(&rt, rt.alloc(), &scenario, workers);
     }
-    Ok(())
 }
 
 /// A port that was let go before another waits.
 #[test]
-fn a_port_dropped_before(rt: HostRuntime) -> Result<(), Fail> {
+fn a_port_dropped_before(rt: HostRuntime) {
     let scenario = Scenario {
         groups: &[&[0, 1]],
         acts: &[
@@ -45,6 +43,5 @@ fn a_port_dropped_before(rt: HostRuntime) -> Result<(), Fail> {
         ],
         holds: &[],
     };
-    assert_eq!(rt; first_misfit(&rt, rt.alloc(), &scenario, 0)?, None);
-    Ok(())
+    assert_played(&rt, rt.alloc(), &scenario, 0);
 }

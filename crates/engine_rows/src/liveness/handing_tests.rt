@@ -1,13 +1,12 @@
 //! Work that is ready, which somebody must go on with: a rank that waits, a progress thread, or a rank that sleeps.
 
 use super::act::{Act, Event};
-use super::scenario::{Scenario, first_misfit};
-use std::test::Fail;
+use super::scenario::{Scenario, assert_played};
 
 /// The posts of ranks 1 and 2 are made while rank 0 and the progress thread sleep, by a thread that wants nothing itself. Ranks 1 and 2
 /// call no more until rank 0 has its sum.
 #[test]
-fn a_post_wakes_who_waits(rt: HostRuntime) -> Result<(), Fail> {
+fn a_post_wakes_who_waits(rt: HostRuntime) {
     let scenario = Scenario {
         groups: &[&[0, 1], &[2]],
         acts: &[
@@ -32,13 +31,12 @@ fn a_post_wakes_who_waits(rt: HostRuntime) -> Result<(), Fail> {
         ],
         holds: &[],
     };
-    assert_eq!(rt; first_misfit(&rt, rt.alloc(), &scenario, 1)?, None);
-    Ok(())
+    assert_played(&rt, rt.alloc(), &scenario, 1);
 }
 
 /// The same of one post and no progress thread: rank 1 sleeps for what rank 0's post makes ready.
 #[test]
-fn an_exit_hands_on(rt: HostRuntime) -> Result<(), Fail> {
+fn an_exit_hands_on(rt: HostRuntime) {
     let scenario = Scenario {
         groups: &[&[0, 1]],
         acts: &[
@@ -57,13 +55,12 @@ fn an_exit_hands_on(rt: HostRuntime) -> Result<(), Fail> {
         ],
         holds: &[],
     };
-    assert_eq!(rt; first_misfit(&rt, rt.alloc(), &scenario, 0)?, None);
-    Ok(())
+    assert_played(&rt, rt.alloc(), &scenario, 0);
 }
 
 /// Ranks that don't call leave the combinations to a progress thread, which has to be woken.
 #[test]
-fn a_worker_works(rt: HostRuntime) -> Result<(), Fail> {
+fn a_worker_works(rt: HostRuntime) {
     let scenario = Scenario {
         groups: &[&[0, 1]],
         acts: &[
@@ -82,13 +79,12 @@ fn a_worker_works(rt: HostRuntime) -> Result<(), Fail> {
         ],
         holds: &[],
     };
-    assert_eq!(rt; first_misfit(&rt, rt.alloc(), &scenario, 1)?, None);
-    Ok(())
+    assert_played(&rt, rt.alloc(), &scenario, 1);
 }
 
 /// Pieces 0 and 1 are held until piece 2 was ended, so three threads are at work at one time.
 #[test]
-fn three_at_one_time(rt: HostRuntime) -> Result<(), Fail> {
+fn three_at_one_time(rt: HostRuntime) {
     for workers in 1..3u8 {
         let scenario = Scenario {
             groups: &[&[0, 1]],
@@ -113,15 +109,14 @@ fn three_at_one_time(rt: HostRuntime) -> Result<(), Fail> {
             ],
             holds: &[(0, Event::EndOf(2)), (1, Event::EndOf(2))],
         };
-        assert_eq!(rt; first_misfit(&rt, rt.alloc(), &scenario, workers)?, None);
+        assert_played(&rt, rt.alloc(), &scenario, workers);
     }
-    Ok(())
 }
 
 /// A progress thread goes out with the first combination, and has to call rank 1, which sleeps, for the second. While rank 1 is out with
 /// that, it is counted on by nobody: rank 0's next post has to call the progress thread again.
 #[test]
-fn who_computes_hands_on(rt: HostRuntime) -> Result<(), Fail> {
+fn who_computes_hands_on(rt: HostRuntime) {
     let scenario = Scenario {
         groups: &[&[0, 1]],
         acts: &[
@@ -144,8 +139,7 @@ fn who_computes_hands_on(rt: HostRuntime) -> Result<(), Fail> {
         ],
         holds: &[(0, Event::Begun(2)), (1, Event::EndOf(3))],
     };
-    assert_eq!(rt; first_misfit(&rt, rt.alloc(), &scenario, 1)?, None);
-    Ok(())
+    assert_played(&rt, rt.alloc(), &scenario, 1);
 }
 
 const LIST_GROUPS: &[&[u8]] = &[&[0, 1], &[0, 1], &[1, 2]];
@@ -172,7 +166,7 @@ fn lists<'x>(zero: &'x [Act]) -> [&'x [Act]; 3] {
 
 /// A rank that sleeps for any of a list, or for some of it, is woken once one is done.
 #[test]
-fn one_of_a_list_wakes(rt: HostRuntime) -> Result<(), Fail> {
+fn one_of_a_list_wakes(rt: HostRuntime) {
     let any: &[Act] = &[
         Act::Barrier(0),
         Act::Barrier(1),
@@ -195,14 +189,13 @@ fn one_of_a_list_wakes(rt: HostRuntime) -> Result<(), Fail> {
             acts: &lists(zero),
             holds: &[],
         };
-        assert_eq!(rt; first_misfit(&rt, rt.alloc(), &scenario, 0)?, None);
+        assert_played(&rt, rt.alloc(), &scenario, 0);
     }
-    Ok(())
 }
 
 /// A rank that sleeps for all of a list is woken once the last is done.
 #[test]
-fn the_last_of_a_list_wakes(rt: HostRuntime) -> Result<(), Fail> {
+fn the_last_of_a_list_wakes(rt: HostRuntime) {
     let zero: &[Act] = &[
         Act::Barrier(0),
         Act::Barrier(1),
@@ -215,6 +208,5 @@ fn the_last_of_a_list_wakes(rt: HostRuntime) -> Result<(), Fail> {
         acts: &lists(zero),
         holds: &[],
     };
-    assert_eq!(rt; first_misfit(&rt, rt.alloc(), &scenario, 0)?, None);
-    Ok(())
+    assert_played(&rt, rt.alloc(), &scenario, 0);
 }

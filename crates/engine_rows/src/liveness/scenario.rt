@@ -12,6 +12,7 @@ use coll_shared::{Engine, Port, open, roomy, run_rank_threads};
 use coll_traced::{Entries, ledger_for};
 use std::alloc::Global;
 use std::marker::Brand;
+use std::process::Abort;
 use std::sync::Wait;
 use std::sync::ledger::Blank;
 use std::thread::Threads;
@@ -29,7 +30,7 @@ pub struct Scenario<'x> {
 }
 
 /// What wasn't as it must be.
-#[derive(Clone, Copy, Debug, PartialEq, Eq)]
+#[derive(Clone, Copy, Debug)]
 pub enum Misfit {
     /// An act of a rank, by its index.
     Act { rank: usize, index: usize },
@@ -105,7 +106,7 @@ fn played_in<L: Entries + Send + Sync, R: Threads + Wait + Clock + Sync>(
 /// # Errors
 ///
 /// The engine's refusal to open, and what a progress thread ended by.
-pub fn first_misfit<R: Threads + Wait + Clock + Sync>(
+fn first_misfit<R: Threads + Wait + Clock + Sync>(
     rt: &R,
     alloc: Global,
     scenario: &Scenario<'_>,
@@ -115,4 +116,15 @@ pub fn first_misfit<R: Threads + Wait + Clock + Sync>(
     let config = roomy(ranks, groups_of(alloc, scenario)?);
     let entries = ledger_for(config.ranks);
     played_in::<Brand, R>(rt, alloc, scenario, config, workers, entries)
+}
+
+/// Carries a scenario out with that many progress threads, and ends the test where something wasn't as it must be.
+pub fn assert_played<R: Abort + Threads + Wait + Clock + Sync>(
+    rt: &R,
+    alloc: Global,
+    scenario: &Scenario<'_>,
+    workers: u8,
+) {
+    let misfit = first_misfit(rt, alloc, scenario, workers);
+    assert!(rt; matches!(misfit, Ok(None)), "{misfit:?}");
 }

@@ -1,15 +1,14 @@
 //! Stalls, which must be told to each rank that waits, however they begin.
 
 use super::act::{Act, Event, LAST_LOOK};
-use super::scenario::{Scenario, first_misfit};
-use std::test::Fail;
+use super::scenario::{Scenario, assert_played};
 
 const THREE_AND_TWO: &[&[u8]] = &[&[0, 1, 2], &[1, 2]];
 
 /// A progress thread has a combination while all ranks sleep, and its commit finishes no request. Ranks 0 and 1 wait for rank 2's post
 /// of the sum, and rank 2 for rank 1's barrier. Rank 3 has the last look.
 #[test]
-fn stall_after_a_commit(rt: HostRuntime) -> Result<(), Fail> {
+fn stall_after_a_commit(rt: HostRuntime) {
     let scenario = Scenario {
         groups: THREE_AND_TWO,
         acts: &[
@@ -33,13 +32,12 @@ fn stall_after_a_commit(rt: HostRuntime) -> Result<(), Fail> {
         ],
         holds: &[(0, Event::Sleepers(3))],
     };
-    assert_eq!(rt; first_misfit(&rt, rt.alloc(), &scenario, 1)?, None);
-    Ok(())
+    assert_played(&rt, rt.alloc(), &scenario, 1);
 }
 
 /// Rank 1 ends while rank 0 sleeps for its post. Rank 2 has the last look.
 #[test]
-fn a_stall_at_an_end(rt: HostRuntime) -> Result<(), Fail> {
+fn a_stall_at_an_end(rt: HostRuntime) {
     for workers in [0u8, 2] {
         let scenario = Scenario {
             groups: &[&[0, 1]],
@@ -59,14 +57,13 @@ fn a_stall_at_an_end(rt: HostRuntime) -> Result<(), Fail> {
             ],
             holds: &[],
         };
-        assert_eq!(rt; first_misfit(&rt, rt.alloc(), &scenario, workers)?, None);
+        assert_played(&rt, rt.alloc(), &scenario, workers);
     }
-    Ok(())
 }
 
 /// A rank that tests isn't one that waits: nothing is told while it can still post.
 #[test]
-fn no_stall_while_one_tests(rt: HostRuntime) -> Result<(), Fail> {
+fn no_stall_while_one_tests(rt: HostRuntime) {
     for workers in [0u8, 1] {
         let scenario = Scenario {
             groups: &[&[0, 1]],
@@ -81,7 +78,6 @@ fn no_stall_while_one_tests(rt: HostRuntime) -> Result<(), Fail> {
             ],
             holds: &[],
         };
-        assert_eq!(rt; first_misfit(&rt, rt.alloc(), &scenario, workers)?, None);
+        assert_played(&rt, rt.alloc(), &scenario, workers);
     }
-    Ok(())
 }

@@ -8,7 +8,7 @@ use coll_kinds::{Refusal, Ticket};
 use std::alloc::Global;
 
 /// A list of communicator 0.
-#[derive(Clone, Copy, Debug)]
+#[derive(Clone, Copy)]
 pub enum On {
     Free,
     Worn,
@@ -16,7 +16,7 @@ pub enum On {
 }
 
 /// A list of live requests.
-#[derive(Clone, Copy, Debug)]
+#[derive(Clone, Copy)]
 pub enum Live {
     Ready,
     Queue,
@@ -24,7 +24,7 @@ pub enum Live {
 }
 
 /// A call. A request is named by the number of the `Take` that made it, from 0.
-#[derive(Clone, Copy, Debug)]
+#[derive(Clone, Copy)]
 pub enum Call {
     /// The record, its weight, and its list.
     Take(u32, u8, Live),
@@ -69,7 +69,6 @@ pub const END: u32 = u32::MAX;
 /// An arena of one communicator, and the tickets that it gave.
 #[derive(Drop)]
 pub struct Driver {
-    alloc: Global,
     arena: Arena<u32>,
     tickets: Vec<Ticket>,
     ghost one: { arena.comms ≡ 1 },
@@ -121,28 +120,13 @@ fn of_ticket(ticket: Option<Ticket>) -> Answer {
     }
 }
 
-/// The slots of a walk.
-fn slots_of(alloc: Global, walk: Tickets<'_, u32>) -> Answer {
-    match walk.map(|ticket| ticket.slot).collect::<Vec<u32>>(alloc) {
-        Ok(slots) => of_slots(&slots),
-        Err(_) => Answer::Refused(Refusal::NoMemory),
+/// The first slots of a walk.
+fn of_walk(walk: Tickets<'_, u32>) -> Answer {
+    let mut slots = [END; 4];
+    for (slot, ticket) in slots.iter_mut().zip(walk) {
+        *slot = ticket.slot;
     }
-}
-
-fn of_slots(slots: &[u32]) -> Answer {
-    Answer::Slots([
-        slot_at(slots, 0),
-        slot_at(slots, 1),
-        slot_at(slots, 2),
-        slot_at(slots, 3),
-    ])
-}
-
-fn slot_at(slots: &[u32], at: usize) -> u32 {
-    match slots.get(at) {
-        Some(slot) => *slot,
-        None => END,
-    }
+    Answer::Slots(slots)
 }
 
 impl Driver {
@@ -151,7 +135,6 @@ impl Driver {
         let wear = u32::from(wear).max(1);
         let arena = Arena::open(alloc, u32::from(slots), 1, wear)?;
         Ok(Driver {
-            alloc,
             arena,
             tickets: Vec::new(alloc),
         })
@@ -184,7 +167,10 @@ impl Driver {
     }
 
     fn get(&self, number: usize) -> Answer {
-        of_record(self.arena.get(self.ticket(number)).map(|record| *record))
+        match self.arena.get(self.ticket(number)) {
+            Ok(record) => Answer::Record(*record),
+            Err(why) => Answer::Refused(why),
+        }
     }
 
     fn set(&mut self, number: usize, record: u32) -> Answer {
@@ -225,8 +211,8 @@ impl Driver {
     fn told(&self, call: Call) -> Answer {
         match call {
             Call::Get(number) => self.get(number),
-            Call::Slots(on) => slots_of(self.alloc, self.arena.list(on.name())),
-            Call::SlotsBack(on) => slots_of(self.alloc, self.arena.list_back(on.name())),
+            Call::Slots(on) => of_walk(self.arena.list(on.name())),
+            Call::SlotsBack(on) => of_walk(self.arena.list_back(on.name())),
             Call::First(live) => of_ticket(self.arena.first(live.name())),
             Call::Len(on) => Answer::Count(self.arena.len(on.name())),
             Call::IsOn(number, live) => {

@@ -3,6 +3,7 @@
 ghost use Rattle.std.specs.Prelude.{◌<◌, ◌≤◌};
 
 use super::family_tests::signature_among;
+use super::lock_step::assert_rounds;
 use coll_kinds::{Datatype, Kind, Op, Refusal};
 use coll_plans::{allgatherv, alltoall, gather, rsblock, scatter};
 use coll_sched::{Action, Region, Schedule};
@@ -38,75 +39,61 @@ fn direct_exchanges(rt: HostRuntime) {
     for (n, bound) in [(1, 0), (2, 1), (5, 1), (64, 1)] {
         for kind in KINDS {
             for r in 0..n {
-                let exchanges = build(rt.alloc(), kind, 0, n, r).map(
-                    |schedule| schedule.exchanges(),
-                );
-                assert_eq!(rt; exchanges, Ok(bound), "member {r} of {n}");
+                let schedule = build(rt.alloc(), kind, 0, n, r).expect(&rt, "a schedule");
+                assert!(rt; schedule.exchanges() == bound, "member {r} of {n}");
             }
         }
     }
 }
 
-fn pair(at: u32) -> Region {
-    Region { at, len: 2 }
-}
+// Of three, of which member 1 is the root: it copies its own block and receives the others.
+const GATHER_ROUND: &[Action] = &[
+    Action::Copy {
+        from: Region { at: 0, len: 2 },
+        into: Region { at: 4, len: 2 },
+    },
+    Action::Recv {
+        of: 0,
+        into: Region { at: 2, len: 2 },
+    },
+    Action::Recv {
+        of: 2,
+        into: Region { at: 6, len: 2 },
+    },
+];
 
-// The root of three, which is member 1, copies its own block and receives the others.
 #[test]
 fn gather_at_the_root(rt: HostRuntime) {
-    let Ok(schedule) = build(rt.alloc(), Kind::Gather, 1, 3, 1) else {
-        return assert!(rt; false);
-    };
-    let round = [
-        Action::Copy {
-            from: pair(0),
-            into: pair(4),
-        },
-        Action::Recv {
-            of: 0,
-            into: pair(2),
-        },
-        Action::Recv {
-            of: 2,
-            into: pair(6),
-        },
-    ];
-    assert_eq!(rt; schedule.size(), 8);
-    let rounds = schedule.rounds();
-    assert_eq!(rt; rounds.len(), 1);
-    assert!(rt; !rounds.is_empty());
-    assert_eq!(rt; rounds[0].actions(), &round[..]);
+    let schedule = build(rt.alloc(), Kind::Gather, 1, 3, 1).expect(&rt, "a gather");
+    assert!(rt; schedule.size() == 8);
+    assert_rounds(&rt, schedule.rounds(), &[GATHER_ROUND]);
 }
 
+const OWN: Region = Region { at: 3, len: 1 };
+
 // Member 2 of three sends its byte to both, copies it behind the two of member 0, and receives also the empty row.
+const ALLGATHERV_ROUND: &[Action] = &[
+    Action::Send { to: 0, from: OWN },
+    Action::Send { to: 1, from: OWN },
+    Action::Copy {
+        from: OWN,
+        into: Region { at: 2, len: 1 },
+    },
+    Action::Recv {
+        of: 0,
+        into: Region { at: 0, len: 2 },
+    },
+    Action::Recv {
+        of: 1,
+        into: Region { at: 2, len: 0 },
+    },
+];
+
 #[test]
 fn allgatherv_at_the_last(rt: HostRuntime) {
-    let Ok(schedule) = build(rt.alloc(), Kind::Allgatherv, 0, 3, 2) else {
-        return assert!(rt; false);
-    };
-    let own = Region { at: 3, len: 1 };
-    let place = Region { at: 2, len: 1 };
-    let round = [
-        Action::Send { to: 0, from: own },
-        Action::Send { to: 1, from: own },
-        Action::Copy {
-            from: own,
-            into: place,
-        },
-        Action::Recv {
-            of: 0,
-            into: pair(0),
-        },
-        Action::Recv {
-            of: 1,
-            into: Region { at: 2, len: 0 },
-        },
-    ];
-    assert_eq!(rt; schedule.size(), 4);
-    assert_eq!(rt; schedule.input(), own);
-    assert_eq!(rt; schedule.output(), Region { at: 0, len: 3 });
-    let rounds = schedule.rounds();
-    assert_eq!(rt; rounds.len(), 1);
-    assert!(rt; !rounds.is_empty());
-    assert_eq!(rt; rounds[0].actions(), &round[..]);
+    let schedule = build(rt.alloc(), Kind::Allgatherv, 0, 3, 2).expect(&rt, "an allgatherv");
+    assert!(rt; schedule.size() == 4);
+    assert!(rt; schedule.input() == OWN);
+    assert!(rt; schedule.output() == Region { at: 0, len: 3 });
+    assert_rounds(&rt, schedule.rounds(), &[ALLGATHERV_ROUND]);
 }

@@ -10,30 +10,35 @@ use coll_sched::Schedule;
 use std::alloc::Global;
 use std::process::Abort;
 
+// Whether some member sends or receives in round j.
+fn is_busy(plans: &[Plan], j: usize) -> bool {
+    for plan in plans {
+        if let Some(round) = plan.schedule().rounds().get(j)
+            && round.has_exchange()
+        {
+            return true;
+        }
+    }
+    false
+}
+
 // The rounds in which some member sends or receives.
-fn family_exchanges(rt: &impl Abort, plans: &[Plan]) -> usize {
-    assert!(rt; !plans.is_empty());
+fn family_exchanges(plans: &[Plan]) -> usize {
     let mut count: usize = 0;
-    for j in 0..plans[0].schedule().rounds().len() {
-        let busy = plans.iter().any(|plan| {
-            plan.schedule()
-                .rounds()
-                .get(j)
-                .is_some_and(|round| round.has_exchange())
-        });
-        if busy {
-            count = count.saturating_add(1);
+    if let Some(plan) = plans.first() {
+        for j in 0..plan.schedule().rounds().len() {
+            if is_busy(plans, j) {
+                count = count.saturating_add(1);
+            }
         }
     }
     count
 }
 
 fn assert_exchanges(rt: &impl Abort, alloc: Global, sig: Signature, n: u8, want: usize) {
-    assert!(rt; n <= 64);
-    let Ok(plans) = plans_of(alloc, sig, n) else {
-        return assert!(rt; false);
-    };
-    assert_eq!(rt; family_exchanges(rt, &plans), want, "{:?} of {n}", sig.kind);
+    assert!(rt; 0 < n && n <= 64);
+    let plans = plans_of(alloc, sig, n).expect(rt, "the plans of a family");
+    assert_eq!(rt; family_exchanges(&plans), want, "{:?} of {n}", sig.kind);
     for plan in &plans {
         assert!(rt; plan.schedule().exchanges() <= want);
     }
@@ -89,9 +94,7 @@ fn allgather_exchanges(rt: HostRuntime) {
         let sig = signature(Kind::Allgather, 0, Op::Sum, Datatype::I32, 5);
         assert_exchanges(&rt, rt.alloc(), sig, n, want);
         for r in 0..n {
-            let Ok(schedule) = allgather_of(rt.alloc(), n, r) else {
-                return assert!(rt; false);
-            };
+            let schedule = allgather_of(rt.alloc(), n, r).expect(&rt, "an allgather");
             for round in schedule.rounds() {
                 assert!(rt; round.actions().len() == 2, "{r} of {n}");
             }
@@ -134,16 +137,14 @@ fn long_bcast_exchanges(rt: HostRuntime) {
 fn segmented_bcast(rt: HostRuntime) {
     let sig = signature(Kind::Bcast, 0, Op::Sum, Datatype::U8, 65_536);
     for (r, want) in [(0, 4), (1, 5), (2, 4)] {
-        let Ok(plan) = plan(rt.alloc(), sig, 3, r) else {
-            return assert!(rt; false);
-        };
-        assert_eq!(rt; plan.schedule().rounds().len(), 5);
-        assert_eq!(rt; plan.schedule().exchanges(), want, "member {r}");
+        let plan = plan(rt.alloc(), sig, 3, r).expect(&rt, "a long bcast");
+        assert!(rt; plan.schedule().rounds().len() == 5);
+        assert!(rt; plan.schedule().exchanges() == want, "member {r}");
     }
     let short = signature(Kind::Bcast, 0, Op::Sum, Datatype::U64, 8_191);
     for r in 0..3 {
-        let exchanges = plan(rt.alloc(), short, 3, r).map(|plan| plan.schedule().exchanges());
-        assert!(rt; exchanges.is_ok_and(|count| count <= 2), "member {r}");
+        let plan = plan(rt.alloc(), short, 3, r).expect(&rt, "a short bcast");
+        assert!(rt; plan.schedule().exchanges() <= 2, "member {r}");
     }
 }
 
@@ -157,7 +158,7 @@ fn long_bcast_alone(rt: HostRuntime) {
 // The last segment is shorter than the others.
 fn compare_long(rt: &impl Abort, alloc: Global, n: u8, root: u8) {
     let sig = signature(Kind::Bcast, root, Op::Sum, Datatype::U16, 32_769);
-    assert_eq!(rt; compare(rt, alloc, sig, n), Ok(()), "root {root} of {n}");
+    assert!(rt; compare(rt, alloc, sig, n).is_ok(), "root {root} of {n}");
 }
 
 #[test]
@@ -180,28 +181,20 @@ fn long_bcasts_of_many(rt: HostRuntime) {
 #[test]
 fn long_bcast_of_whole_segments(rt: HostRuntime) {
     let sig = signature(Kind::Bcast, 2, Op::Sum, Datatype::U8, 65_536);
-    assert_eq!(rt; compare(&rt, rt.alloc(), sig, 5), Ok(()));
+    assert!(rt; compare(&rt, rt.alloc(), sig, 5).is_ok());
 }
 
 // The last that isn't zero of 3, 0, 5, 0, 0 is 5, at each member.
 #[test]
 fn lastnz_of_five(rt: HostRuntime) {
     let sig = signature(Kind::Allreduce, 0, Op::LastNz, Datatype::I32, 1);
-    let Ok(plans) = plans_of(rt.alloc(), sig, 5) else {
-        return assert!(rt; false);
-    };
-    let Ok(given) = rows_of(rt.alloc(), [3, 0, 5, 0, 0]) else {
-        return assert!(rt; false);
-    };
-    let Ok(schedules) = schedules_of(rt.alloc(), &plans) else {
-        return assert!(rt; false);
-    };
-    let Ok(bufs) = run(&rt, rt.alloc(), &schedules, &given) else {
-        return assert!(rt; false);
-    };
-    assert_eq!(rt; bufs.len(), 5);
+    let plans = plans_of(rt.alloc(), sig, 5).expect(&rt, "the plans of five");
+    let given = rows_of(rt.alloc(), [3, 0, 5, 0, 0]).expect(&rt, "memory is ample");
+    let schedules = schedules_of(rt.alloc(), &plans).expect(&rt, "memory is ample");
+    let bufs = run(&rt, rt.alloc(), &schedules, &given).expect(&rt, "the run of five");
+    assert!(rt; bufs.len() == 5);
     for buf in &bufs {
-        assert_eq!(rt; buf.get(..4), Some(&[5, 0, 0, 0][..]));
+        assert!(rt; buf.get(..4) == Some(&[5, 0, 0, 0][..]));
     }
 }
 

@@ -113,7 +113,9 @@ fn most_exchanges(kind: Kind, n: u8) -> usize {
 pub(super) fn contribution(alloc: Global, len: usize, r: u8) -> Result<Vec<u8>, Refusal> {
     let mut bytes = Vec::new(alloc);
     for i in 0..len {
-        let place = (i % 37) as u8 * 4 + (r % 64) * 3 % 97;
+        let place = ((i % 37) as u8)
+            .wrapping_mul(4)
+            .wrapping_add(r.wrapping_mul(3) % 97);
         bytes.push(if place % 5 < 2 { 0 } else { place })?;
     }
     Ok(bytes)
@@ -227,11 +229,8 @@ fn compare_all(rt: &impl Abort, alloc: Global, n: u8) {
     for kind in Kind::ALL {
         let roots = if kind.has_root() { n } else { 1 };
         for root in 0..roots {
-            assert_eq!(rt;
-                compare_kind(rt, alloc, kind, n, root),
-                Ok(()),
-                "{kind:?}, root {root} of {n}"
-            );
+            let compared = compare_kind(rt, alloc, kind, n, root);
+            assert!(rt; compared.is_ok(), "{kind:?}, root {root} of {n}");
         }
     }
 }
@@ -267,7 +266,7 @@ fn plan_exchanges(rt: HostRuntime) {
         for (n, most) in [(1, 0), (5, 3), (64, 6)] {
             let sig = signature_among(n, kind, 0, Op::Sum, Datatype::I32, 1);
             for r in 0..n {
-                let exchanges = plan(rt.alloc(), sig, n, r).map(|plan| plan.schedule().exchanges());
+                let plan = plan(rt.alloc(), sig, n, r).expect(&rt, "a plan");
                 let bound = if direct {
                     most.min(1)
                 } else if doubling {
@@ -276,7 +275,7 @@ fn plan_exchanges(rt: HostRuntime) {
                     2 * most
                 };
                 assert!(rt;
-                    exchanges.is_ok_and(|count| count <= bound),
+                    plan.schedule().exchanges() <= bound,
                     "{kind:?}, {r} of {n}"
                 );
             }
@@ -284,20 +283,24 @@ fn plan_exchanges(rt: HostRuntime) {
     }
 }
 
+// Whether there is no plan of three members with a signature, for that fault.
+fn is_refused(alloc: Global, sig: Signature, cause: SignatureFault) -> bool {
+    match plan(alloc, sig, 3, 1) {
+        Ok(_) => false,
+        Err(why) => why == Refusal::BadSignature { cause },
+    }
+}
+
 #[test]
 fn plan_of_byte_sum(rt: HostRuntime) {
     let sig = signature(Kind::Allreduce, 0, Op::Sum, Datatype::Byte, 1);
-    let cause = SignatureFault::Operation;
-    let refused = plan(rt.alloc(), sig, 3, 1).map(|plan| plan.member());
-    assert_eq!(rt; refused, Err(Refusal::BadSignature { cause }));
+    assert!(rt; is_refused(rt.alloc(), sig, SignatureFault::Operation));
 }
 
 #[test]
 fn plan_of_a_root_that_is_no_member(rt: HostRuntime) {
     let sig = signature(Kind::Bcast, 3, Op::Sum, Datatype::I32, 1);
-    let cause = SignatureFault::Root;
-    let refused = plan(rt.alloc(), sig, 3, 1).map(|plan| plan.member());
-    assert_eq!(rt; refused, Err(Refusal::BadSignature { cause }));
+    assert!(rt; is_refused(rt.alloc(), sig, SignatureFault::Root));
 }
 
 // The most elements of the widest type; a member gets them in one block.
@@ -305,21 +308,18 @@ fn plan_of_a_root_that_is_no_member(rt: HostRuntime) {
 fn plans_of_the_greatest_count(rt: HostRuntime) {
     for kind in Kind::ALL {
         let sig = signature_among(2, kind, 0, Op::Sum, Datatype::I64, 65_536);
-        let Ok(plan) = plan(rt.alloc(), sig, 2, 1) else {
-            return assert!(rt; false, "{kind}");
-        };
-        assert_eq!(rt; plan.given_len(), sig.given_len(2, 1));
-        assert_eq!(rt; plan.schedule().output().len as usize, sig.got_len(2, 1));
-        assert_eq!(rt; plan.got_len(), sig.got_len(2, 1));
+        let plan = plan(rt.alloc(), sig, 2, 1).expect(&rt, "a plan of the greatest count");
+        let got = sig.got_len(2, 1);
+        assert!(rt; plan.given_len() == sig.given_len(2, 1), "{kind}");
+        assert!(rt; plan.schedule().output().len as usize == got, "{kind}");
+        assert!(rt; plan.got_len() == got, "{kind}");
     }
 }
 
 #[test]
 fn plan_tells_its_parts(rt: HostRuntime) {
     let sig = signature(Kind::Reduce, 2, Op::LastNz, Datatype::I16, 3);
-    let Ok(plan) = plan(rt.alloc(), sig, 5, 4) else {
-        return assert!(rt; false);
-    };
-    assert_eq!(rt; *plan.sig(), sig);
-    assert_eq!(rt; (plan.n(), plan.member()), (5, 4));
+    let plan = plan(rt.alloc(), sig, 5, 4).expect(&rt, "member 4 of 5");
+    assert!(rt; *plan.sig() == sig);
+    assert!(rt; (plan.n(), plan.member()) == (5, 4));
 }

@@ -1,7 +1,7 @@
-//! Runs all members of a family in lock-step, for tests.
+//! Runs all members of a family in lock-step, and compares rounds, for tests.
 
 use coll_kinds::Refusal;
-use coll_sched::{Action, Schedule};
+use coll_sched::{Action, Round, Schedule};
 use std::alloc::Global;
 use std::process::Abort;
 
@@ -132,4 +132,12 @@ pub(super) fn run(
         turn(rt, alloc, schedules, &mut bufs, j)?;
     }
     Ok(bufs)
+}
+
+/// Ends the test where the rounds of a schedule have other actions.
+pub(super) fn assert_rounds(rt: &impl Abort, rounds: &[Round], want: &[&[Action]]) {
+    assert!(rt; rounds.len() == want.len());
+    for (round, actions) in rounds.iter().zip(want.iter()) {
+        assert!(rt; round.actions() == *actions);
+    }
 }

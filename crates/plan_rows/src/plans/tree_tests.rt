@@ -53,11 +53,8 @@ fn tree_exchanges(rt: HostRuntime) {
         for root in 0..if kind.has_root() { n } else { 1 } {
             let sig = signature(kind, root, Op::Sum, Datatype::I32, 1);
             for r in 0..n {
-                let exchanges = build(rt.alloc(), sig, n, r).map(|schedule| schedule.exchanges());
-                assert!(rt;
-                    exchanges.is_ok_and(|count| count <= most),
-                    "{kind:?}, {r} of {n}"
-                );
+                let schedule = build(rt.alloc(), sig, n, r).expect(&rt, "a tree");
+                assert!(rt; schedule.exchanges() <= most, "{kind:?}, {r} of {n}");
             }
         }
     }
@@ -80,11 +77,8 @@ fn compare_all(rt: &impl Abort, alloc: Global, n: u8) {
         for root in 0..if kind.has_root() { n } else { 1 } {
             for (op, ty) in [(Op::Sum, Datatype::I32), (Op::LastNz, Datatype::I16)] {
                 let sig = signature(kind, root, op, ty, 3);
-                assert_eq!(rt;
-                    compare_trees(rt, alloc, sig, n),
-                    Ok(()),
-                    "{kind:?}, root {root} of {n}"
-                );
+                let compared = compare_trees(rt, alloc, sig, n);
+                assert!(rt; compared.is_ok(), "{kind:?}, root {root} of {n}");
             }
         }
     }

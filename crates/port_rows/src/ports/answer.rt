@@ -2,7 +2,7 @@ use crate::ports::noted::{Bytes, Noted};
 use coll_kinds::Refusal;
 
 /// What a call of a row answered.
-#[derive(Clone, Copy, Debug, PartialEq, Eq)]
+#[derive(Clone, Copy, Debug, PartialEq)]
 pub enum Answer {
     /// It was accepted, and has nothing to tell.
     Accepted,

@@ -4,10 +4,9 @@ use crate::ports::answer::Answer;
 use crate::ports::call::{Call, ListCall};
 use crate::ports::noted::{Bytes, Noted};
 use crate::ports::setup::{ALONE, BOTH, LONE, Setup, TWO_GROUPS};
-use crate::ports::{Row, first_misfit};
+use crate::ports::{Row, assert_answers};
 use crate::signatures::{SUM, SUM_OF_I32};
 use coll_kinds::Refusal;
-use std::test::Fail;
 
 // A null request, and two that are Done since a later one was completed.
 const DONE: &[Row] = &[
@@ -52,17 +51,15 @@ const COMPLETIONS: &[(Call, Answer, usize, u64)] = &[
 ];
 
 #[test]
-fn each_completion(rt: HostRuntime) -> Result<(), Fail> {
+fn each_completion(rt: HostRuntime) {
     for (call, answer, left, made) in COMPLETIONS {
         let rows = [
             (*call, *answer),
             (Call::Left, Answer::Left(*left)),
             (Call::Made(0), Answer::Made(0, *made)),
         ];
-        let misfit = first_misfit(&rt, rt.alloc(), &TWO_GROUPS, &[DONE, &rows])?;
-        assert_eq!(rt; misfit, None);
+        assert_answers(&rt, rt.alloc(), &TWO_GROUPS, &[DONE, &rows]);
     }
-    Ok(())
 }
 
 // Seven requests of a rank that is alone, each completed by another call.
@@ -131,15 +128,13 @@ const SEVEN: &[Row] = &[
 ];
 
 #[test]
-fn every_port_completion(rt: HostRuntime) -> Result<(), Fail> {
+fn every_port_completion(rt: HostRuntime) {
     let setup = Setup {
         slots: 7,
         trace: 14,
         ..LONE
     };
-    let misfit = first_misfit(&rt, rt.alloc(), &setup, &[SEVEN])?;
-    assert_eq!(rt; misfit, None);
-    Ok(())
+    assert_answers(&rt, rt.alloc(), &setup, &[SEVEN]);
 }
 
 // A null request, and two that wait for a rank whose port has ended.
@@ -176,10 +171,8 @@ const STALLS: &[Row] = &[
 ];
 
 #[test]
-fn stalls_change_nothing(rt: HostRuntime) -> Result<(), Fail> {
+fn stalls_change_nothing(rt: HostRuntime) {
     for row in STALLS {
-        let misfit = first_misfit(&rt, rt.alloc(), &TWO_GROUPS, &[PENDING, &[*row], KEPT])?;
-        assert_eq!(rt; misfit, None);
+        assert_answers(&rt, rt.alloc(), &TWO_GROUPS, &[PENDING, &[*row], KEPT]);
     }
-    Ok(())
 }

@@ -4,12 +4,12 @@ use crate::ports::answer::Answer;
 use crate::ports::call::{Call, ListCall};
 use crate::ports::noted::{Bytes, Noted};
 use crate::ports::setup::{ALONE, BOTH, TWO_GROUPS};
-use crate::ports::{Misfit, Row, first_misfit};
+use crate::ports::{Row, assert_answers};
 use crate::signatures::{PERSISTENT_SUM, SUM};
 use coll_kinds::Refusal;
 use std::alloc::Global;
+use std::process::Abort;
 use std::sync::Wait;
-use std::test::Fail;
 
 /// A call with its answer, and how many entries it must make.
 type Counted = (Call, Answer, u64);
@@ -24,18 +24,18 @@ const QUIET: Row = (
 );
 
 /// Makes a list of requests, which makes so many entries, and then a call.
-fn misfit_of<R: Wait>(
+fn assert_entries<R: Abort + Wait>(
     rt: &R,
     alloc: Global,
     (list, entries): (&[Row], u64),
     (call, answer, made): Counted,
-) -> Result<Option<Misfit>, Refusal> {
+) {
     let rows = [
         (Call::Made(0), Answer::Made(0, entries)),
         (call, answer),
         (Call::Made(0), Answer::Made(0, entries.saturating_add(made))),
     ];
-    first_misfit(rt, alloc, &TWO_GROUPS, &[list, &rows])
+    assert_answers(rt, alloc, &TWO_GROUPS, &[list, &rows]);
 }
 
 // Two requests that are Done, with a null one between them.
@@ -71,11 +71,10 @@ const OUTCOMES: &[Counted] = &[
 ];
 
 #[test]
-fn outcomes_make_entries(rt: HostRuntime) -> Result<(), Fail> {
+fn outcomes_make_entries(rt: HostRuntime) {
     for row in OUTCOMES {
-        assert_eq!(rt; misfit_of(&rt, rt.alloc(), (DONE, 3), *row)?, None);
+        assert_entries(&rt, rt.alloc(), (DONE, 3), *row);
     }
-    Ok(())
 }
 
 // A request that is Pending, and one that is Idle.
@@ -103,11 +102,10 @@ const NOTHING: &[Counted] = &[
 ];
 
 #[test]
-fn nothing_makes_no_entry(rt: HostRuntime) -> Result<(), Fail> {
+fn nothing_makes_no_entry(rt: HostRuntime) {
     for row in NOTHING {
-        assert_eq!(rt; misfit_of(&rt, rt.alloc(), (NOT_DONE, 3), *row)?, None);
+        assert_entries(&rt, rt.alloc(), (NOT_DONE, 3), *row);
     }
-    Ok(())
 }
 
 const IDLE: &[Row] = &[
@@ -117,8 +115,7 @@ const IDLE: &[Row] = &[
 ];
 
 #[test]
-fn a_free_makes_one(rt: HostRuntime) -> Result<(), Fail> {
+fn a_free_makes_one(rt: HostRuntime) {
     let free = (Call::Free(0, 0), Answer::Accepted, 1);
-    assert_eq!(rt; misfit_of(&rt, rt.alloc(), (IDLE, 2), free)?, None);
-    Ok(())
+    assert_entries(&rt, rt.alloc(), (IDLE, 2), free);
 }

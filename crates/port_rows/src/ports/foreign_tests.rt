@@ -4,10 +4,9 @@ use crate::ports::answer::Answer;
 use crate::ports::call::{Call, ListCall};
 use crate::ports::noted::Bytes;
 use crate::ports::setup::{ALONE, BOTH, TWO_GROUPS};
-use crate::ports::{Row, first_misfit};
+use crate::ports::{Row, assert_answers};
 use crate::signatures::{PERSISTENT_SUM, SUM};
 use coll_kinds::Refusal;
-use std::test::Fail;
 
 const NOT_YOURS: Answer = Answer::Refused(Refusal::NotYours);
 
@@ -29,10 +28,8 @@ const FOREIGN: &[Row] = &[
 ];
 
 #[test]
-fn another_ranks_ticket(rt: HostRuntime) -> Result<(), Fail> {
-    let misfit = first_misfit(&rt, rt.alloc(), &TWO_GROUPS, &[FOREIGN])?;
-    assert_eq!(rt; misfit, None);
-    Ok(())
+fn another_ranks_ticket(rt: HostRuntime) {
+    assert_answers(&rt, rt.alloc(), &TWO_GROUPS, &[FOREIGN]);
 }
 
 // A list of rank 0 in which a request of rank 1 stands behind one that is Done.
@@ -57,11 +54,9 @@ const CALLS: &[ListCall] = &[
 ];
 
 #[test]
-fn lists_with_another_ranks_ticket(rt: HostRuntime) -> Result<(), Fail> {
+fn lists_with_another_ranks_ticket(rt: HostRuntime) {
     for call in CALLS {
         let row = [(Call::Over(*call), NOT_YOURS)];
-        let misfit = first_misfit(&rt, rt.alloc(), &TWO_GROUPS, &[MIXED, &row, KEPT])?;
-        assert_eq!(rt; misfit, None);
+        assert_answers(&rt, rt.alloc(), &TWO_GROUPS, &[MIXED, &row, KEPT]);
     }
-    Ok(())
 }

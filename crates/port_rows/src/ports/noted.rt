@@ -3,7 +3,7 @@
 use coll_core::Outcome;
 
 /// The bytes of an outcome.
-#[derive(Clone, Copy, Debug, PartialEq, Eq)]
+#[derive(Clone, Copy, Debug, PartialEq)]
 pub enum Bytes {
     One(u8),
     Two(u8, u8),
@@ -15,7 +15,7 @@ pub enum Bytes {
 }
 
 /// The outcomes of a call, each with its position in the list.
-#[derive(Clone, Copy, Debug, PartialEq, Eq)]
+#[derive(Clone, Copy, Debug, PartialEq)]
 pub enum Noted {
     Nothing,
     One(usize, Bytes),

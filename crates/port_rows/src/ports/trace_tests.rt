@@ -4,10 +4,9 @@ use crate::ports::answer::Answer;
 use crate::ports::call::Call;
 use crate::ports::noted::Bytes;
 use crate::ports::setup::{LONE, Setup};
-use crate::ports::{Row, first_misfit};
+use crate::ports::{Row, assert_answers};
 use crate::signatures::{BCAST_OF_TWO, PERSISTENT_BCAST_OF_TWO};
 use coll_kinds::Refusal;
-use std::test::Fail;
 
 const BYTES: &[u8] = &[7, 9];
 
@@ -21,10 +20,8 @@ const ONE_BCAST: &[Row] = &[
 ];
 
 #[test]
-fn made_and_completed(rt: HostRuntime) -> Result<(), Fail> {
-    let misfit = first_misfit(&rt, rt.alloc(), &LONE, &[ONE_BCAST])?;
-    assert_eq!(rt; misfit, None);
-    Ok(())
+fn made_and_completed(rt: HostRuntime) {
+    assert_answers(&rt, rt.alloc(), &LONE, &[ONE_BCAST]);
 }
 
 // A trace of three entries has room for one persistent request, and neither for its start nor for a second request; it can
@@ -45,11 +42,9 @@ const FULL: &[Row] = &[
 ];
 
 #[test]
-fn trace_full_of_one_init(rt: HostRuntime) -> Result<(), Fail> {
+fn trace_full_of_one_init(rt: HostRuntime) {
     let setup = Setup { trace: 3, ..LONE };
-    let misfit = first_misfit(&rt, rt.alloc(), &setup, &[FULL])?;
-    assert_eq!(rt; misfit, None);
-    Ok(())
+    assert_answers(&rt, rt.alloc(), &setup, &[FULL]);
 }
 
 // With four entries it can be started and completed once, and still be freed.
@@ -67,11 +62,9 @@ const FULL_OF_ONE_START: &[Row] = &[
 ];
 
 #[test]
-fn trace_full_then_free(rt: HostRuntime) -> Result<(), Fail> {
+fn trace_full_then_free(rt: HostRuntime) {
     let setup = Setup { trace: 4, ..LONE };
-    let misfit = first_misfit(&rt, rt.alloc(), &setup, &[FULL_OF_ONE_START])?;
-    assert_eq!(rt; misfit, None);
-    Ok(())
+    assert_answers(&rt, rt.alloc(), &setup, &[FULL_OF_ONE_START]);
 }
 
 const POST: Call = Call::Post(0, 0, BCAST_OF_TWO, BYTES);
@@ -82,7 +75,7 @@ const FIRST: &[Row] = &[(POST, Answer::Accepted)];
 const LIMITS: &[(u32, u32, Refusal)] = &[(2, 8, Refusal::TraceFull), (4, 1, Refusal::PlacesUsed)];
 
 #[test]
-fn trace_limit(rt: HostRuntime) -> Result<(), Fail> {
+fn trace_limit(rt: HostRuntime) {
     for (trace, places, why) in LIMITS {
         let setup = Setup {
             trace: *trace,
@@ -93,8 +86,6 @@ fn trace_limit(rt: HostRuntime) -> Result<(), Fail> {
             (POST, Answer::Refused(*why)),
             (Call::Made(0), Answer::Made(0, 1)),
         ];
-        let misfit = first_misfit(&rt, rt.alloc(), &setup, &[FIRST, &second])?;
-        assert_eq!(rt; misfit, None);
+        assert_answers(&rt, rt.alloc(), &setup, &[FIRST, &second]);
     }
-    Ok(())
 }
