@@ -6,6 +6,7 @@ ghost use Rattle.coll_core.specs.Configs.{setting_by};
 ghost use Rattle.coll_core.specs.declared.config.Config.{Config as TheConfig};
 ghost use Rattle.coll_script.specs.Jobs.{job_of, script_of};
 ghost use Rattle.coll_script.specs.Meaning.{job_lines, meaning};
+ghost use Rattle.coll_script.specs.Plain.{IsFaultOf};
 ghost use Rattle.coll_report.specs.Scripts.{asked};
 ghost use Rattle.coll_report.specs.Attested.{HandedOut};
 ghost use Rattle.coll_report.specs.Scripted.{Tells};
