@@ -255,7 +255,7 @@ static inline const char *wz_operation_word(uint8_t op) {
 }
 
 static inline const char *wz_type_word(uint8_t type) {
-    static const char *const words[] = { "i8", "i16", "i32", "i64", "u8", "u16", "u32", "u64", "byte", "pair" };
+    static const char *const words[] = { "i8", "i16", "i32", "i64", "u8", "u16", "u32", "u64", "byte", "2int" };
     return type <= WZ_2INT ? words[type] : "?";
 }
 

@@ -206,6 +206,11 @@ static void reasons(void) {
     WANT(WZ_DONE, wz_settle(&engine));
     WANT(WZ_BAD_LENGTH, wz_test(&engine, 0, &held, &number, 1, &count));
     HOLDS(engine.reason.want == 4 && engine.reason.got == 1);
+    call.op = WZ_MINLOC;
+    call.type = WZ_2INT;
+    WANT(WZ_DONE, wz_init(&engine, 0, 0, &call, &request));
+    WANT(WZ_MISMATCH, wz_init(&engine, 1, 0, &sum, &request));
+    tells(&engine, "at place 1 rank 0 has another collective: persistent allreduce, minloc, 2int, root 0, count 1");
     WANT(WZ_DONE, wz_close(&engine));
     HOLDS(engine.reason.code == 0 && engine.at == NULL);
     limits.places = 0;

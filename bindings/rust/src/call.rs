@@ -139,7 +139,7 @@ impl Type {
         (Type::U32, "u32"),
         (Type::U64, "u64"),
         (Type::Byte, "byte"),
-        (Type::Pair, "pair"),
+        (Type::Pair, "2int"),
     ];
 }
 

@@ -206,6 +206,15 @@ fn the_counts_of_a_mismatch_are_told() {
 }
 
 #[test]
+fn words_of_a_mismatch_are_those_of_job_texts() {
+    let engine = Engine::of_ranks(2).unwrap();
+    let given = Call::allreduce(Op::MinLoc, Type::Pair, 1);
+    let _given = engine.init(1, 0, given).unwrap();
+    let why = engine.init(0, 0, SUM()).unwrap_err();
+    assert!(why.to_string().contains("persistent allreduce, minloc, 2int, root 0, count 1"), "{why}");
+}
+
+#[test]
 fn lists_of_requests() {
     let engine = Engine::of_ranks(2).unwrap();
     let (mut mine, mut yours) = (List::new(0), List::new(1));
