@@ -1,27 +1,27 @@
--- What holds of a standstill that is told, by the commands of the script.
-use Rattle.std.specs.Prelude.{◌≡◌, ℕ, ◌<◌, ◌==◌, nat_lt, Bool, true, false, not, ◌&&◌, List, length, Option, Some, None}
-use Rattle.std.specs.List.{list_any, list_all}
+-- What holds of a standstill that is reported, by the commands of the script and by the requests that they make.
+use Rattle.std.specs.Prelude.{◌≡◌, ℕ, ◌<◌, ◌==◌, nat_lt, Bool, true, false, not, ◌&&◌, ◌||◌, if◌then◌else◌, List, length, count_by, take, Option, Some, None, Vec, slice_get}
+use Rattle.std.specs.List.{list_any, list_all, range_with_len}
+use Rattle.std.specs.Global.{Global}
+use Rattle.std.specs.Str.{bytes_eq}
+use Rattle.coll_kinds.specs.Groups.{is_among}
+use Rattle.coll_kinds.specs.Needs.{needs}
+use Rattle.coll_kinds.specs.Words.{kind_word}
+use Rattle.coll_kinds.specs.declared.kind.Mode.{Mode}
 use Rattle.coll_history.specs.declared.command.Command.{Command}
 use Rattle.coll_history.specs.declared.command.Command.TheVariants.{Post, Init, Start, Wait, Test, Free}
 use Rattle.coll_history.specs.declared.command.Command.TheVariants.{WaitAny, WaitSome, WaitAll}
 use Rattle.coll_history.specs.declared.issued_command.IssuedCommand.{IssuedCommand}
+use Rattle.coll_history.specs.declared.request.Request.{Request}
+use Rattle.coll_history.specs.Code.{requests_view, rows_view}
+use Rattle.coll_history.specs.Histories.{History, is_persistent, starts}
+use Rattle.coll_history.specs.Requests.{requests}
 use Rattle.coll_diagnosis.specs.declared.cure.Move.{Move}
 use Rattle.coll_diagnosis.specs.declared.standstill.Lack.{Lack}
 use Rattle.coll_diagnosis.specs.declared.standstill.Pending.{Pending}
 use Rattle.coll_diagnosis.specs.declared.standstill.Stuck.{Stuck}
 use Rattle.coll_diagnosis.specs.declared.standstill.Standstill.{Standstill}
 
--- the command starts a request
-abbrev pub joins : Command → Bool
-joins (Post comm sig given) = true
-joins (Init comm sig) = false
-joins (Start q given) = true
-joins (Wait q) = false
-joins (Test q) = false
-joins (Free q) = false
-joins (WaitAny qs) = false
-joins (WaitSome qs) = false
-joins (WaitAll qs) = false
+-- ---- commands
 
 -- the command waits
 abbrev pub waits : Command → Bool
@@ -35,30 +35,115 @@ waits (WaitAny qs) = true
 waits (WaitSome qs) = true
 waits (WaitAll qs) = true
 
--- the rank starts a request in that line
-abbrev pub joins_in : ℕ → ℕ → IssuedCommand → Bool
-joins_in rank line t = t.line == line && t.rank == rank && joins t.command
+-- it waits for request q
+abbrev pub awaits : ℕ → Command → Bool
+awaits q (Post comm sig given) = false
+awaits q (Init comm sig) = false
+awaits q (Start other given) = false
+awaits q (Wait other) = other == q
+awaits q (Test other) = false
+awaits q (Free other) = false
+awaits q (WaitAny qs) = is_among q qs
+awaits q (WaitSome qs) = is_among q qs
+awaits q (WaitAll qs) = is_among q qs
 
 -- the rank waits in that line
 abbrev pub waits_in : ℕ → ℕ → IssuedCommand → Bool
 waits_in rank line t = t.line == line && t.rank == rank && waits t.command
 
--- the member that lacks starts a request in the line that is told, behind a line in which it waits
-abbrev pub lack_holds : List IssuedCommand → Lack → Bool
-lack_holds issued lack =
+-- the rank waits for its request q in that line
+abbrev pub awaits_in : ℕ → ℕ → ℕ → IssuedCommand → Bool
+awaits_in rank line q t = t.line == line && t.rank == rank && awaits q t.command
+
+-- the rank starts its request q in that line
+abbrev pub starts_in : ℕ → ℕ → ℕ → IssuedCommand → Bool
+starts_in rank line q t = t.line == line && t.rank == rank && starts q t.command
+
+-- it starts it before that line
+abbrev pub starts_before : ℕ → ℕ → ℕ → IssuedCommand → Bool
+starts_before rank line q t = nat_lt t.line line && t.rank == rank && starts q t.command
+
+-- ---- requests of a rank, in the order in which it makes them
+
+-- the place of request q on a communicator: how many the rank made there before
+abbrev pub place_of : ℕ → ℕ → List Request → ℕ
+place_of comm q own = count_by (λ r. r.comm == comm) (take q own)
+
+-- that line makes the start of that number of the rank's request q; a post, in the line that makes its request, is start 0
+abbrev pub is_start_in : List IssuedCommand → ℕ → ℕ → Request → ℕ → ℕ → Bool
+is_start_in issued rank q r start line =
+    if is_persistent r.sig.mode
+    then list_any (starts_in rank line q) issued && count_by (starts_before rank line q) issued == start
+    else r.line == line && start == 0
+
+-- ---- what is reported
+
+-- the lacking member's request stands at the place of the pending one, and the line makes the start that is lacked
+abbrev pub peer_holds : List IssuedCommand → Pending → Lack → List Request → Option Request → Bool
+peer_holds issued pending lack theirs None = false
+peer_holds issued pending lack theirs (Some r) =
+    r.comm == pending.comm
+    && place_of pending.comm lack.request theirs == pending.place
+    && r.member == lack.member
+    && is_start_in issued lack.rank lack.request r pending.start lack.line
+
+abbrev pub theirs_hold : List IssuedCommand → Pending → Lack → Option (Vec Request Global) → Bool
+theirs_hold issued pending lack None = false
+theirs_hold issued pending lack (Some theirs) = peer_holds issued pending lack theirs.items (slice_get theirs.items lack.request)
+
+-- the outcome of a member of this signature among n rests on the lacking one exactly where that is said
+abbrev pub need_holds : Request → ℕ → Lack → Bool
+need_holds own n lack = if needs own.sig n own.member lack.member then lack.is_needed else not lack.is_needed
+
+-- the lacking rank starts what is lacked in a line after one in which it waits
+abbrev pub lack_holds : List IssuedCommand → List (Vec Request Global) → ℕ → Request → Pending → Lack → Bool
+lack_holds issued ranks n own pending lack =
     nat_lt lack.behind lack.line
-    && list_any (joins_in lack.rank lack.line) issued
     && list_any (waits_in lack.rank lack.behind) issued
+    && theirs_hold issued pending lack (slice_get ranks lack.rank)
+    && need_holds own n lack
 
--- of the members for whom a request waits there are some, and all are told truly
-abbrev pub pending_holds : List IssuedCommand → Pending → Bool
-pending_holds issued pending =
-    not (length pending.lacks.items == 0) && list_all (lack_holds issued) pending.lacks.items
+-- how many members a communicator has: at most 64, as of each script
+abbrev pub size_of : Option (Vec ℕ Global) → ℕ
+size_of None = 0
+size_of (Some group) = if nat_lt (length group.items) 64 then length group.items else 64
 
--- likewise of the requests for which a rank waits
-abbrev pub stuck_holds : List IssuedCommand → Stuck → Bool
-stuck_holds issued stuck =
-    not (length stuck.requests.items == 0) && list_all (pending_holds issued) stuck.requests.items
+-- it is persistent exactly where that is said
+abbrev pub mode_holds : Pending → Mode → Bool
+mode_holds pending mode = if is_persistent mode then pending.is_persistent else not pending.is_persistent
+
+-- the pending request is that of its number of the rank, with its communicator, place, kind, mode and the line of its start; some members
+-- lack, and what is said of each is true
+abbrev pub request_holds : List IssuedCommand → List (Vec Request Global) → List (Vec ℕ Global) → ℕ → List Request → Pending → Option Request → Bool
+request_holds issued ranks groups rank own pending None = false
+request_holds issued ranks groups rank own pending (Some r) =
+    r.comm == pending.comm
+    && place_of pending.comm pending.request own == pending.place
+    && is_start_in issued rank pending.request r pending.start pending.line
+    && bytes_eq pending.kind.now (kind_word r.sig.kind)
+    && mode_holds pending r.sig.mode
+    && not (length pending.lacks.items == 0)
+    && list_all (lack_holds issued ranks (size_of (slice_get groups pending.comm)) r pending) pending.lacks.items
+
+-- the call in that line waits for the request, which was started before; no line is that of the unwritten waitall after all lines
+abbrev pub call_awaits : List IssuedCommand → ℕ → Option ℕ → Pending → Bool
+call_awaits issued rank None pending = true
+call_awaits issued rank (Some line) pending =
+    nat_lt pending.line line && list_any (awaits_in rank line pending.request) issued
+
+abbrev pub pending_holds : List IssuedCommand → List (Vec Request Global) → List (Vec ℕ Global) → Stuck → List Request → Pending → Bool
+pending_holds issued ranks groups stuck own pending =
+    call_awaits issued stuck.rank stuck.line pending
+    && request_holds issued ranks groups stuck.rank own pending (slice_get own pending.request)
+
+-- a rank that waits has requests that are pending, and what is said of each is true
+abbrev pub own_hold : List IssuedCommand → List (Vec Request Global) → List (Vec ℕ Global) → Stuck → Option (Vec Request Global) → Bool
+own_hold issued ranks groups stuck None = false
+own_hold issued ranks groups stuck (Some own) = list_all (pending_holds issued ranks groups stuck own.items) stuck.requests.items
+
+abbrev pub stuck_holds : List IssuedCommand → List (Vec Request Global) → List (Vec ℕ Global) → Stuck → Bool
+stuck_holds issued ranks groups stuck =
+    not (length stuck.requests.items == 0) && own_hold issued ranks groups stuck (slice_get ranks stuck.rank)
 
 -- a rank of these is lacked
 abbrev pub lacks_one : List ℕ → Pending → Bool
@@ -73,14 +158,38 @@ abbrev pub circle_holds : List ℕ → List Stuck → Bool
 circle_holds circle stuck =
     not (length circle == 0) && list_all (λ rank. list_any (waits_for_one circle rank) stuck) circle
 
--- all ranks that wait are told truly, and some of them wait for one another
-abbrev pub standstill_holds : List IssuedCommand → Standstill → Bool
-standstill_holds issued standstill =
-    list_all (stuck_holds issued) standstill.stuck.items
-    && circle_holds standstill.circle.items standstill.stuck.items
+-- the rank is one of these that wait
+abbrev pub is_stuck : List Stuck → ℕ → Bool
+is_stuck stuck rank = list_any (λ s. s.rank == rank) stuck
 
-abbrev pub IsStandstill : List IssuedCommand → Standstill → Type 0
-IsStandstill issued standstill = standstill_holds issued standstill ≡ true
+-- the rank either waits or has ended
+abbrev pub end_holds : List Stuck → List ℕ → ℕ → Bool
+end_holds stuck ended rank = if is_stuck stuck rank then not (is_among rank ended) else is_among rank ended
+
+-- each rank does
+abbrev pub ends_hold : ℕ → List Stuck → List ℕ → Bool
+ends_hold ranks stuck ended = list_all (end_holds stuck ended) (range_with_len 0 ranks)
+
+-- those that wait are in the circle or after it
+abbrev pub behind_holds : List ℕ → List ℕ → Stuck → Bool
+behind_holds circle behind s = if is_among s.rank circle then not (is_among s.rank behind) else is_among s.rank behind
+
+-- what is said of each rank is true, and some ranks wait for one another
+abbrev pub standstill_holds : List IssuedCommand → List (Vec Request Global) → List (Vec ℕ Global) → Standstill → Bool
+standstill_holds issued ranks groups standstill =
+    list_all (stuck_holds issued ranks groups) standstill.stuck.items
+    && circle_holds standstill.circle.items standstill.stuck.items
+    && list_all (behind_holds standstill.circle.items standstill.behind.items) standstill.stuck.items
+    && ends_hold (length ranks) standstill.stuck.items standstill.ended.items
+
+-- it is true by the script's commands, communicators and requests
+abbrev pub IsStandstill : History → Standstill → Type 0
+IsStandstill h standstill =
+    (ranks : List (Vec Request Global))
+    × (groups : List (Vec ℕ Global))
+    × (requests_view ranks ≡ requests h)
+    × (rows_view groups ≡ h.groups)
+    × (standstill_holds h.commands ranks groups standstill ≡ true)
 
 -- the line is moved behind a later one
 abbrev pub IsLater : Move → Type 0

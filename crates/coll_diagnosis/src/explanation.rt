@@ -5,7 +5,7 @@ use crate::course::{Choice, Course};
 use crate::cure::{Move, cure};
 use crate::job::Job;
 use crate::source::Source;
-use crate::standstill::Standstill;
+use crate::standstill::{Facts, Standstill};
 use crate::verdict::Verdict;
 use crate::waiting::Waiting;
 use coll_kinds::Refusal;
@@ -41,7 +41,7 @@ impl Explanation {
     /// Judges a text without a fault. No run is searched for: each course lets all ranks go on while they can.
     pub fn of(alloc: Global, text: &[u8], script: &Script) -> Result<Explanation, Refusal>
         // What is shown is true of the commands of the text.
-        ensures shown { IfOk result (λ e. IfSome e.shown (λ shown. IsStandstill script.now.commands shown.standstill)) }
+        ensures shown { IfOk result (λ e. IfSome e.shown (λ shown. IsStandstill script.now shown.standstill)) }
         ensures never { IfOk result (λ e. e.verdict ≡ Never → e.shown ≡ None) }
         ensures cure { IfOk result (λ e. IfSome e.cure IsLater) }
         ensures uncured { IfOk result (λ e. is_always_here e.verdict ≡ false → e.cure ≡ None) }
@@ -78,21 +78,39 @@ fn stall_among(
     job: &Job,
     waiting: Waiting,
 ) -> Result<Option<Shown>, Refusal>
-    ensures { IfOk result (λ found. IfSome found (λ shown. IsStandstill script.now.commands shown.standstill)) }
+    ensures { IfOk result (λ found. IfSome found (λ shown. IsStandstill script.now shown.standstill)) }
 {
     for choice in [Choice::Best, Choice::First, Choice::Last] {
         let course = Course::of(alloc, job, waiting, choice)?;
         if course.is_stuck() {
-            let standstill = Standstill::of(alloc, &course)?;
-            if !standstill.holds(script.history().commands()) {
-                return Err(Refusal::Torn);
-            }
             return Ok(Some(Shown {
                 waiting,
                 choice,
-                standstill,
+                standstill: true_standstill(alloc, script, &course)?,
             }));
         }
     }
     Ok(None)
+}
+
+/// Where the ranks of a course stand. Refuses [`Refusal::Torn`] where that isn't true of the script, which doesn't happen.
+fn true_standstill(
+    alloc: Global,
+    script: &Script,
+    course: &Course<'_>,
+) -> Result<Standstill, Refusal>
+    ensures { IfOk result (IsStandstill script.now) }
+{
+    let standstill = Standstill::of(alloc, course)?;
+    let history = script.history();
+    let ranks = history.requests(alloc)?;
+    let facts = Facts {
+        issued: history.commands(),
+        ranks: &ranks,
+        groups: history.groups(),
+    };
+    if !standstill.holds(&facts) {
+        return Err(Refusal::Torn);
+    }
+    Ok(standstill)
 }

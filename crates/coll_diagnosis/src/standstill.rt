@@ -1,12 +1,15 @@
-ghost use Rattle.std.specs.Prelude.{◌≡◌};
-ghost use Rattle.coll_diagnosis.specs.Standing.{joins, waits};
+ghost use Rattle.std.specs.Prelude.{◌≡◌, count_by, slice_get};
+ghost use Rattle.std.specs.List.{list_any};
+ghost use Rattle.coll_kinds.specs.Groups.{is_among};
+ghost use Rattle.coll_history.specs.Histories.{starts};
+ghost use Rattle.coll_diagnosis.specs.Standing.{awaits, is_start_in, place_of, size_of, starts_before, starts_in, waits};
 
 use crate::circle::circle;
 use crate::course::Course;
 use crate::place::{Peer, Place};
 use crate::section::Made;
 use crate::step::Act;
-use coll_history::{Command, IssuedCommand};
+use coll_history::{Command, IssuedCommand, Named, Request};
 use coll_kinds::{MAX_RANKS, Mode};
 use serde::Serialize;
 use std::alloc::{AllocError, Global};
@@ -57,6 +60,9 @@ pub struct Pending {
 pub struct Lack {
     pub rank: u8,
     pub member: u8,
+    /// Its request at the place.
+    #[serde(skip)]
+    pub request: usize,
     /// Whether the outcome of the request rests on what the member gives.
     #[serde(rename = "needed")]
     pub is_needed: bool,
@@ -69,7 +75,8 @@ pub struct Lack {
 impl Standstill {
     ghost use Rattle.std.specs.Prelude.{◌≡◌};
     ghost use Rattle.std.specs.List.{list_any, list_all};
-    ghost use Rattle.coll_diagnosis.specs.Standing.{standstill_holds, stuck_holds, circle_holds, waits_for_one};
+    ghost use Rattle.coll_kinds.specs.Groups.{is_among};
+    ghost use Rattle.coll_diagnosis.specs.Standing.{behind_holds, circle_holds, end_holds, ends_hold, is_stuck, standstill_holds, stuck_holds, waits_for_one};
 
     /// Where the ranks of the course stand, if some haven't come to their ends.
     pub fn of(alloc: Global, course: &Course<'_>) -> Result<Standstill, AllocError> {
@@ -100,19 +107,22 @@ impl Standstill {
         self.stuck.iter().find(|stuck| stuck.rank == rank)
     }
 
-    /// Whether all that is told is true of these commands, and some ranks wait for one another. For each member that lacks
+    /// Whether all that is reported is true of what the script says, and some ranks wait for one another. For each member that lacks
     /// the cost is linear in the commands.
-    pub fn holds(&self, issued: &[IssuedCommand]) -> bool
-        ensures { result ≡ standstill_holds issued.now self.now }
+    pub(crate) fn holds(&self, facts: &Facts<'_>) -> bool
+        ensures { result ≡ standstill_holds facts.now.issued.now facts.now.ranks.now facts.now.groups.now self.now }
     {
-        self.all_hold(issued) && self.circle_holds()
+        self.all_hold(facts)
+            && self.circle_holds()
+            && self.rest_holds()
+            && self.ends_hold(facts.ranks.len())
     }
 
-    /// Whether what is told of each rank that waits is true.
-    fn all_hold(&self, issued: &[IssuedCommand]) -> bool
-        ensures { result ≡ list_all (stuck_holds issued.now) self.now.stuck.items }
+    /// Whether what is reported of each rank that waits is true.
+    fn all_hold(&self, facts: &Facts<'_>) -> bool
+        ensures { result ≡ list_all (stuck_holds facts.now.issued.now facts.now.ranks.now facts.now.groups.now) self.now.stuck.items }
     {
-        self.stuck.iter().all(|stuck| stuck.holds(issued))
+        self.stuck.iter().all(|stuck| stuck.holds(facts))
     }
 
     /// Whether there are ranks in the circle, and each of them waits for one of them.
@@ -135,23 +145,75 @@ impl Standstill {
     {
         self.stuck.iter().any(|stuck| stuck.rank == rank && stuck.waits_for_one(&self.circle))
     }
+
+    /// Whether each rank that waits is in the circle or after it.
+    fn rest_holds(&self) -> bool
+        ensures { result ≡ list_all (behind_holds self.now.circle.items self.now.behind.items) self.now.stuck.items }
+    {
+        self.stuck
+            .iter()
+            .all(|stuck| stuck.is_behind(&self.circle, &self.behind))
+    }
+
+    /// Whether each of so many ranks either waits or has ended.
+    fn ends_hold(&self, ranks: usize) -> bool
+        ensures { result ≡ ends_hold ranks self.now.stuck.items self.now.ended.items }
+    {
+        (0..ranks).all(|rank| self.end_holds(rank))
+    }
+
+    /// Whether the rank either waits or has ended.
+    fn end_holds(&self, rank: usize) -> bool
+        ensures { result ≡ end_holds self.now.stuck.items self.now.ended.items rank }
+    {
+        if self.is_stuck(rank) {
+            !self.has_ended(rank)
+        } else {
+            self.has_ended(rank)
+        }
+    }
+
+    fn is_stuck(&self, rank: usize) -> bool
+        ensures { result ≡ is_stuck self.now.stuck.items rank }
+    {
+        self.stuck
+            .iter()
+            .any(|stuck| usize::from(stuck.rank) == rank)
+    }
+
+    fn has_ended(&self, rank: usize) -> bool
+        ensures { result ≡ is_among rank self.now.ended.items }
+    {
+        self.ended.iter().any(|ended| usize::from(*ended) == rank)
+    }
 }
 
 impl Stuck {
-    ghost use Rattle.std.specs.Prelude.{◌≡◌};
+    ghost use Rattle.std.specs.Prelude.{◌≡◌, slice_get};
     ghost use Rattle.std.specs.List.{list_any, list_all};
-    ghost use Rattle.coll_diagnosis.specs.Standing.{stuck_holds, pending_holds, lacks_one};
+    ghost use Rattle.coll_diagnosis.specs.Standing.{stuck_holds, own_hold, pending_holds, lacks_one, behind_holds};
 
-    fn holds(&self, issued: &[IssuedCommand]) -> bool
-        ensures { result ≡ stuck_holds issued.now self.now }
+    fn holds(&self, facts: &Facts<'_>) -> bool
+        ensures { result ≡ stuck_holds facts.now.issued.now facts.now.ranks.now facts.now.groups.now self.now }
     {
-        !self.requests.is_empty() && self.all_hold(issued)
+        !self.requests.is_empty() && self.own_hold(facts)
     }
 
-    fn all_hold(&self, issued: &[IssuedCommand]) -> bool
-        ensures { result ≡ list_all (pending_holds issued.now) self.now.requests.items }
+    fn own_hold(&self, facts: &Facts<'_>) -> bool
+        ensures { result ≡ own_hold facts.now.issued.now facts.now.ranks.now facts.now.groups.now self.now (slice_get facts.now.ranks.now self.now.rank) }
     {
-        self.requests.iter().all(|request| request.holds(issued))
+        match facts.ranks.get(usize::from(self.rank)) {
+            Some(own) => self.all_hold(facts, own),
+            None => false,
+        }
+    }
+
+    fn all_hold(&self, facts: &Facts<'_>, own: &[Request<'_>]) -> bool
+        ensures { result ≡ list_all (pending_holds facts.now.issued.now facts.now.ranks.now facts.now.groups.now self.now own.now) self.now.requests.items }
+    {
+        self.requests
+            .iter()
+            .all(|pending| pending.holds(facts, self, own))
     }
 
     fn waits_for_one(&self, circle: &[u8]) -> bool
@@ -161,23 +223,89 @@ impl Stuck {
             .iter()
             .any(|request| request.lacks_one(circle))
     }
+
+    fn is_behind(&self, circle: &[u8], behind: &[u8]) -> bool
+        ensures { result ≡ behind_holds circle.now behind.now self.now }
+    {
+        if is_among(self.rank, circle) {
+            !is_among(self.rank, behind)
+        } else {
+            is_among(self.rank, behind)
+        }
+    }
 }
 
 impl Pending {
-    ghost use Rattle.std.specs.Prelude.{◌≡◌};
-    ghost use Rattle.std.specs.List.{list_all};
-    ghost use Rattle.coll_diagnosis.specs.Standing.{pending_holds, lack_holds, lacks_one};
+    ghost use Rattle.std.specs.Prelude.{◌≡◌, slice_get};
+    ghost use Rattle.std.specs.List.{list_any, list_all};
+    ghost use Rattle.coll_diagnosis.specs.Standing.{awaits_in, call_awaits, lack_holds, lacks_one, mode_holds, pending_holds, request_holds, size_of};
 
-    fn holds(&self, issued: &[IssuedCommand]) -> bool
-        ensures { result ≡ pending_holds issued.now self.now }
+    fn holds(&self, facts: &Facts<'_>, stuck: &Stuck, own: &[Request<'_>]) -> bool
+        ensures { result ≡ pending_holds facts.now.issued.now facts.now.ranks.now facts.now.groups.now stuck.now own.now self.now }
     {
-        !self.lacks.is_empty() && self.all_hold(issued)
+        self.is_awaited(facts.issued, stuck.rank, stuck.line)
+            && self.request_holds(facts, stuck.rank, own)
     }
 
-    fn all_hold(&self, issued: &[IssuedCommand]) -> bool
-        ensures { result ≡ list_all (lack_holds issued.now) self.now.lacks.items }
+    /// Whether the call in that line waits for the request, which was started before.
+    fn is_awaited(&self, issued: &[IssuedCommand], rank: u8, line: Option<u32>) -> bool
+        ensures { result ≡ call_awaits issued.now rank line self.now }
     {
-        self.lacks.iter().all(|lack| lack.holds(issued))
+        match line {
+            Some(line) => self.line < line && self.awaits(issued, rank, line),
+            None => true,
+        }
+    }
+
+    fn awaits(&self, issued: &[IssuedCommand], rank: u8, line: u32) -> bool
+        ensures { result ≡ list_any (awaits_in rank line self.now.request) issued.now }
+    {
+        let request = self.request;
+        issued.iter().any(|issued| issued.line == line
+            && issued.rank == rank
+            && awaits(request, &issued.command))
+    }
+
+    /// Whether the request of its number is as it is reported.
+    fn request_holds(&self, facts: &Facts<'_>, rank: u8, own: &[Request<'_>]) -> bool
+        ensures { result ≡ request_holds facts.now.issued.now facts.now.ranks.now facts.now.groups.now rank own.now self.now (slice_get own.now self.now.request) }
+    {
+        match own.get(self.request) {
+            Some(request) => {
+                request.comm == self.comm
+                    && place_of(self.comm, self.request, own) == self.place
+                    && is_start_in(
+                        facts.issued,
+                        rank,
+                        self.request,
+                        request,
+                        self.start,
+                        self.line,
+                    )
+                    && self.kind.as_bytes() == request.sig.kind.word().as_bytes()
+                    && self.mode_holds(request.sig.mode)
+                    && !self.lacks.is_empty()
+                    && self.all_hold(facts, size_of(facts.groups, self.comm), request)
+            }
+            None => false,
+        }
+    }
+
+    fn mode_holds(&self, mode: Mode) -> bool
+        ensures { result ≡ mode_holds self.now mode }
+    {
+        match mode {
+            Mode::Persistent => self.is_persistent,
+            Mode::Once => !self.is_persistent,
+        }
+    }
+
+    fn all_hold(&self, facts: &Facts<'_>, n: u8, own: &Request<'_>) -> bool
+        ensures { result ≡ list_all (lack_holds facts.now.issued.now facts.now.ranks.now n own.now self.now) self.now.lacks.items }
+    {
+        self.lacks
+            .iter()
+            .all(|lack| lack.holds(facts, n, own, self))
     }
 
     fn lacks_one(&self, circle: &[u8]) -> bool
@@ -188,23 +316,17 @@ impl Pending {
 }
 
 impl Lack {
-    ghost use Rattle.std.specs.Prelude.{◌≡◌, ◌==◌};
+    ghost use Rattle.std.specs.Prelude.{◌≡◌, ◌==◌, slice_get};
     ghost use Rattle.std.specs.List.{list_any};
-    ghost use Rattle.coll_diagnosis.specs.Standing.{lack_holds, joins_in, waits_in};
+    ghost use Rattle.coll_diagnosis.specs.Standing.{lack_holds, need_holds, peer_holds, theirs_hold, waits_in};
 
-    fn holds(&self, issued: &[IssuedCommand]) -> bool
-        ensures { result ≡ lack_holds issued.now self.now }
+    fn holds(&self, facts: &Facts<'_>, n: u8, own: &Request<'_>, pending: &Pending) -> bool
+        ensures { result ≡ lack_holds facts.now.issued.now facts.now.ranks.now n own.now pending.now self.now }
     {
-        self.behind < self.line && self.joins(issued) && self.waits(issued)
-    }
-
-    fn joins(&self, issued: &[IssuedCommand]) -> bool
-        ensures { result ≡ list_any (joins_in self.now.rank self.now.line) issued.now }
-    {
-        let (rank, line) = (self.rank, self.line);
-        issued.iter().any(|issued| issued.line == line
-            && issued.rank == rank
-            && joins(&issued.command))
+        self.behind < self.line
+            && self.waits(facts.issued)
+            && self.theirs_hold(facts, pending)
+            && self.need_holds(own, n)
     }
 
     fn waits(&self, issued: &[IssuedCommand]) -> bool
@@ -216,6 +338,52 @@ impl Lack {
             && waits(&issued.command))
     }
 
+    /// Whether the lacking rank has a request at the place of the pending one, and starts it in the line that is reported.
+    fn theirs_hold(&self, facts: &Facts<'_>, pending: &Pending) -> bool
+        ensures { result ≡ theirs_hold facts.now.issued.now pending.now self.now (slice_get facts.now.ranks.now self.now.rank) }
+    {
+        match facts.ranks.get(usize::from(self.rank)) {
+            Some(theirs) => self.peer_holds(facts.issued, pending, theirs),
+            None => false,
+        }
+    }
+
+    fn peer_holds(
+        &self,
+        issued: &[IssuedCommand],
+        pending: &Pending,
+        theirs: &[Request<'_>],
+    ) -> bool
+        ensures { result ≡ peer_holds issued.now pending.now self.now theirs.now (slice_get theirs.now self.now.request) }
+    {
+        match theirs.get(self.request) {
+            Some(request) => {
+                request.comm == pending.comm
+                    && place_of(pending.comm, self.request, theirs) == pending.place
+                    && request.member == self.member
+                    && is_start_in(
+                        issued,
+                        self.rank,
+                        self.request,
+                        request,
+                        pending.start,
+                        self.line,
+                    )
+            }
+            None => false,
+        }
+    }
+
+    fn need_holds(&self, own: &Request<'_>, n: u8) -> bool
+        ensures { result ≡ need_holds own.now n self.now }
+    {
+        if own.sig.needs(n, own.member, self.member) {
+            self.is_needed
+        } else {
+            !self.is_needed
+        }
+    }
+
     fn is_among(&self, circle: &[u8]) -> bool
         ensures { result ≡ list_any (λ rank. rank == self.now.rank) circle.now }
     {
@@ -224,13 +392,91 @@ impl Lack {
     }
 }
 
-/// Whether a command starts a request.
-fn joins(command: &Command) -> bool
-    ensures { result ≡ joins command.now }
+/// What a standstill is compared with.
+#[derive(Drop)]
+pub(crate) struct Facts<'a> {
+    /// The commands of all ranks, in the order of their lines.
+    pub(crate) issued: &'a [IssuedCommand],
+    /// The requests of each rank.
+    pub(crate) ranks: &'a [Vec<Request<'a>>],
+    /// The ranks of each communicator.
+    pub(crate) groups: &'a [Vec<u8>],
+}
+
+/// The place of a rank's request on a communicator: how many the rank made there before.
+fn place_of(comm: u8, request: usize, own: &[Request<'_>]) -> usize
+    ensures { result ≡ place_of comm request own.now }
+{
+    own.iter()
+        .take(request)
+        .filter(|request| request.comm == comm)
+        .count()
+}
+
+/// Whether that line makes the start of that number of a rank's request.
+fn is_start_in(
+    issued: &[IssuedCommand],
+    rank: u8,
+    number: usize,
+    request: &Request<'_>,
+    start: u32,
+    line: u32,
+) -> bool
+    ensures { result ≡ is_start_in issued.now rank number request.now start line }
+{
+    match request.sig.mode {
+        Mode::Persistent => {
+            starts_in(issued, rank, number, line)
+                && starts_before(issued, rank, number, line) == start as usize
+        }
+        Mode::Once => request.line == line && start == 0,
+    }
+}
+
+fn starts_in(issued: &[IssuedCommand], rank: u8, request: usize, line: u32) -> bool
+    ensures { result ≡ list_any (starts_in rank line request) issued.now }
+{
+    issued.iter().any(|issued| issued.line == line
+        && issued.rank == rank
+        && starts(request, &issued.command))
+}
+
+fn starts_before(issued: &[IssuedCommand], rank: u8, request: usize, line: u32) -> usize
+    ensures { result ≡ count_by (starts_before rank line request) issued.now }
+{
+    issued
+        .iter()
+        .filter(|issued| issued.line < line
+            && issued.rank == rank
+            && starts(request, &issued.command))
+        .count()
+}
+
+/// How many members a communicator has: at most 64, as of each script.
+fn size_of(groups: &[Vec<u8>], comm: u8) -> u8
+    ensures { result ≡ size_of (slice_get groups.now comm) }
+{
+    match groups.get(usize::from(comm)) {
+        Some(group) if group.len() < MAX_RANKS => group.len() as u8,
+        Some(_) => MAX_RANKS as u8,
+        None => 0,
+    }
+}
+
+fn is_among(rank: u8, ranks: &[u8]) -> bool
+    ensures { result ≡ is_among rank ranks.now }
+{
+    ranks.iter().any(|other| *other == rank)
+}
+
+/// Whether a command starts that request of its rank.
+fn starts(request: usize, command: &Command) -> bool
+    ensures { result ≡ starts request command.now }
 {
     match command {
-        Command::Post { .. } | Command::Start { .. } => true,
-        Command::Init { .. } | Command::Wait(_) | Command::Test(_) | Command::Free(_) => false,
+        Command::Start { req, .. } => *req as usize == request,
+        Command::Post { .. } | Command::Init { .. } | Command::Free(_) => false,
+        Command::Wait(_) | Command::Test(_) => false,
         Command::WaitAny(_) | Command::WaitSome(_) | Command::WaitAll(_) => false,
     }
 }
@@ -245,6 +491,31 @@ fn waits(command: &Command) -> bool
         Command::Wait(_) => true,
         Command::WaitAny(_) | Command::WaitSome(_) | Command::WaitAll(_) => true,
     }
+}
+
+/// Whether a command waits for that request of its rank.
+fn awaits(request: usize, command: &Command) -> bool
+    ensures { result ≡ awaits request command.now }
+{
+    match command {
+        Command::Post { .. } | Command::Start { .. } | Command::Init { .. } => false,
+        Command::Test(_) | Command::Free(_) => false,
+        Command::Wait(req) => *req as usize == request,
+        Command::WaitAny(named) | Command::WaitSome(named) | Command::WaitAll(named) => is_named(
+            request, named,
+        ),
+    }
+}
+
+/// Whether the request is one of these.
+fn is_named(request: usize, named: &Named) -> bool
+    ensures { result ≡ is_among request named.now }
+{
+    let mut is_found = false;
+    for index in 0..named.len() {
+        is_found = is_found || named.get(index) == request;
+    }
+    is_found
 }
 
 /// The stuck ranks outside the circle.
@@ -342,6 +613,7 @@ fn absence(
     Some(Lack {
         rank: peer.rank,
         member,
+        request: peer.request,
         is_needed,
         line,
         behind,

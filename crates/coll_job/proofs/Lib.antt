@@ -1,8 +1,1 @@
-pub mod Asking
-pub mod Telling
-pub mod Meant
-mod Indexing
-mod Printed
-mod Ending
-mod AttestedRows
 pub mod Judging

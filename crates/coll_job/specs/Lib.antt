@@ -1,19 +1,4 @@
--- what an engine is opened with for a job, and what a run of it is
-pub mod Opened
-pub mod Commands
-pub mod Runs
--- what its report tells, and that it is the job's meaning
-pub mod Lines
-pub mod Laws
--- why a run has no answer, and which fault is told
-pub mod Faults
 -- what the words of a command line ask for
 pub mod Tasks
 -- what the files on a run get
 pub mod Pages
--- worked rows
-pub mod AttestedRows
-pub mod FaultRows
--- what functions of this crate promise one another, on the way to the lines
-pub mod Missing
-pub mod Index

@@ -1,8 +1,8 @@
 -- What the files on a run get.
 use Rattle.std.specs.Prelude.{ℕ, List, map}
 use Rattle.coll_report.specs.Reports.{Closed}
+use Rattle.coll_report.specs.declared.span.Span.{Span}
 use Rattle.coll_views.specs.declared.request.TracedRequest.{TracedRequest}
-use Rattle.coll_views.specs.declared.timeline.Span.{Span}
 use Rattle.coll_views.specs.Lines.{outcomes_json, trace_text}
 use Rattle.coll_views.specs.Requests.{all_requests}
 use Rattle.coll_views.specs.Rows.{rows_of}

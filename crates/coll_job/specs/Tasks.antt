@@ -3,6 +3,7 @@ use Rattle.std.specs.Prelude.{◌≡◌, ◌≢◌, ℕ, ◌≤◌, ◌⊎◌, �
 use Rattle.clap.specs.declared.error.kind.ErrorKind.{ErrorKind}
 use Rattle.clap.specs.declared.error.kind.ErrorKind.TheVariants.{DisplayHelp, DisplayVersion, OutOfMemory}
 use Rattle.coll_script.specs.Meaning.{meaning}
+use Rattle.coll_script.specs.Plain.{WritesMeaning}
 use Rattle.coll_check.specs.declared.checking.CheckForm.{CheckForm}
 use Rattle.coll_check.specs.declared.checking.CheckForm.TheVariants.{Text, Json}
 use Rattle.coll_job.specs.declared.task.Way.{Way}
@@ -37,6 +38,16 @@ may_write (Check (Text colored)) status = false
 may_write (Check Json) status = nat_le status 3 || status == 6
 may_write (Draw draft) status = nat_le status 1
 may_write (DrawRun workers file) status = nat_le status 1
+
+-- a task that ends with status 0 is answered: what standard output got is the meaning of the text, where the text's bytes are known.
+-- The old and the new bytes of standard output come last
+abbrev pub IsAnswered : Way → ℕ → Option (List ℕ) → Option (List ℕ) → Option (List ℕ) → Type 0
+IsAnswered Plain status input old new = status ≡ 0 → IfSome input (λ text. WritesMeaning text old new)
+IsAnswered (Run options) status input old new = status ≡ 0 → IfSome input (λ text. WritesMeaning text old new)
+IsAnswered (Explain options) status input old new = Unit {0}
+IsAnswered (Check form) status input old new = Unit {0}
+IsAnswered (Draw draft) status input old new = Unit {0}
+IsAnswered (DrawRun workers file) status input old new = Unit {0}
 
 -- how a text may be answered: with status 2 exactly where it has a fault, unless a stream failed or memory was refused before that
 -- was told

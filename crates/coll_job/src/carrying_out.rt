@@ -4,20 +4,18 @@ ghost use Rattle.std.specs.Prelude.{◌≡◌, ◌≢◌, ◌<◌, ◌≤◌, tr
 ghost use Rattle.std.specs.Io.KnownBytes.{Keeps};
 ghost use Rattle.coll_script.specs.Faults.{status_of};
 ghost use Rattle.coll_script.specs.Meaning.{meaning};
-ghost use Rattle.coll_script.specs.Plain.{HasCause, IsFaultOf};
+ghost use Rattle.coll_script.specs.Plain.{HasCause, IsFaultOf, WritesMeaning};
 ghost use Rattle.coll_job.specs.Tasks.{IsTextStatus};
 
 use crate::host::Host;
 use crate::keeping::{UNWRITTEN, is_kept, put};
-use crate::observing::NoWatch;
 use crate::progress::Progress;
-use crate::running::{Recording, recorded_job};
 use crate::screen::Screen;
 use crate::task::RunOptions;
 use crate::tasks::{name_of, told};
-use crate::threaded::threaded_job;
 use crate::viewing::{keep_views, picture_of};
 use coll_diagnosis::{ExplainOptions, Form, explain_text};
+use coll_run::{NoWatch, Recording, recorded_job, threaded_job};
 use coll_script::{Counted, JobFault, Witnessed, read_text, write_lines};
 use std::alloc::Global;
 use std::fs::Files;
@@ -55,6 +53,8 @@ pub(crate) fn run_text<
     ensures status { IfOk result (λ status. status ≤ 1) }
     ensures judged { IfOk result (λ status. IfSome (R.remaining reader.old.reader.now) (λ input. IsTextStatus input status)) }
     ensures judged_fault { IfErr result (λ fault. IfSome (R.remaining reader.old.reader.now) (λ input. IsTextStatus input (status_of fault))) }
+    ensures answered { IfOk result (λ status. status ≡ 0 → IfSome (R.remaining reader.old.reader.now)
+        (λ input. WritesMeaning input (W.contents output.old.stream.now) (W.contents output.new.stream.now))) }
     ensures cause { IfOk result (λ status. status ≡ 1 → host.new.failed ≡ true) }
     ensures cause_fault { IfErr result (λ fault. HasCause fault reader.new.failed output.new.failed) }
     ensures same_output { output.new.stream.ghost_name ≡ output.old.stream.ghost_name }
@@ -88,6 +88,7 @@ fn run_recorded<M: Threads + Wait + Sync + Files + Clock, S: Screen + Sync, W: W
     ensures status { IfOk result (λ status. status ≤ 1) }
     ensures judged { IfOk result (IsTextStatus text.now) }
     ensures judged_fault { IfErr result (λ fault. IsTextStatus text.now (status_of fault)) }
+    ensures answered { IfOk result (λ status. status ≡ 0 → WritesMeaning text.now (W.contents output.old.stream.now) (W.contents output.new.stream.now)) }
     ensures cause { IfOk result (λ status. status ≡ 1 → host.new.failed ≡ true) }
     ensures cause_fault { IfErr result (λ fault. HasCause fault false output.new.failed) }
     ensures same_output { output.new.stream.ghost_name ≡ output.old.stream.ghost_name }

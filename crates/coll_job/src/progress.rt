@@ -1,7 +1,7 @@
 //! How far a long run is, in one line of a terminal.
 
-use crate::observing::Watch;
 use crate::screen::Screen;
+use coll_run::Watch;
 use std::alloc::{AllocError, Global};
 use std::rt::Clock;
 use std::sync::{Mutex, Wait};

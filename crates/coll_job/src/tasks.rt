@@ -3,7 +3,7 @@ ghost use Rattle.std.specs.Io.KnownBytes.{Keeps};
 ghost use Rattle.clap.specs.Words.{kind_of};
 ghost use Rattle.coll_script.specs.Faults.{status_of};
 ghost use Rattle.coll_script.specs.Plain.{HasCause};
-ghost use Rattle.coll_job.specs.Tasks.{workers_of, may_write, IsJudged, IsRefusal, IsStatusOf};
+ghost use Rattle.coll_job.specs.Tasks.{workers_of, may_write, IsAnswered, IsJudged, IsRefusal, IsStatusOf};
 
 use crate::carrying_out::{draw_run, run_text};
 use crate::drawing::draw;
@@ -107,10 +107,16 @@ pub fn do_parsed<
     ensures refused { IfErr parsed.entry (λ error. IsRefusal (kind_of error) result) }
     // those of which it makes one on standard input end with 2 exactly where the text has a fault.
     ensures judged { IfOk parsed.entry (λ task. IfNone task.file (IsJudged task.way (R.remaining input.old.reader.now) result)) }
+    // Where such a task ends with 0 under `plain` and `run`, the output got the meaning of the text.
+    ensures answered { IfOk parsed.entry (λ task. IfNone task.file
+        (IsAnswered task.way result (R.remaining input.old.reader.now) (W.contents output.old.stream.now) (W.contents output.new.stream.now))) }
     // The status is 1 only where the input, the output, standard error or a file failed.
     ensures cause { result ≡ 1 → (input.new.failed || (output.new.failed || (errors.new.failed || host.new.failed))) ≡ true }
     ensures same_output { output.new.stream.ghost_name ≡ output.old.stream.ghost_name }
     ensures unwritten { 3 < result → result ≢ 6 → Keeps (W.contents output.old.stream.now) (W.contents output.new.stream.now) }
+    // What may stand on standard output is said for each task and status; words that make no task leave only help there.
+    ensures unwritten_task { IfOk parsed.entry (λ task. may_write task.way result ≡ false → Keeps (W.contents output.old.stream.now) (W.contents output.new.stream.now)) }
+    ensures unwritten_words { IfErr parsed.entry (λ error. 1 < result → Keeps (W.contents output.old.stream.now) (W.contents output.new.stream.now)) }
 {
     match parsed {
         Ok(task) => do_task(host, alloc, screen, task, input, output, errors),
@@ -139,6 +145,9 @@ pub fn do_task<
     ensures status { IsStatusOf task.entry.way result }
     // A text from standard input is answered with 2 exactly where it has a fault.
     ensures judged { IfNone task.entry.file (IsJudged task.entry.way (R.remaining input.old.reader.now) result) }
+    // Where it is answered under `plain` and `run`, the output got the meaning of the text.
+    ensures answered { IfNone task.entry.file
+        (IsAnswered task.entry.way result (R.remaining input.old.reader.now) (W.contents output.old.stream.now) (W.contents output.new.stream.now)) }
     // The status is 1 only where the input, the output, standard error or a file failed.
     ensures cause { result ≡ 1 → (input.new.failed || (output.new.failed || (errors.new.failed || host.new.failed))) ≡ true }
     ensures same_output { output.new.stream.ghost_name ≡ output.old.stream.ghost_name }
@@ -220,6 +229,9 @@ fn write_answer<
     ensures status { IfOk result (IsStatusOf task.entry.way) }
     ensures judged { IfOk result (IsJudged task.entry.way (R.remaining reader.old.reader.now)) }
     ensures judged_fault { IfErr result (λ fault. IsJudged task.entry.way (R.remaining reader.old.reader.now) (status_of fault)) }
+    // Where the text is answered under `plain` and `run`, the output got its meaning.
+    ensures answered { IfOk result (λ status.
+        IsAnswered task.entry.way status (R.remaining reader.old.reader.now) (W.contents output.old.stream.now) (W.contents output.new.stream.now)) }
     ensures cause { IfOk result (λ status. status ≡ 1 → host.new.failed ≡ true) }
     ensures cause_fault { IfErr result (λ fault. HasCause fault reader.new.failed (output.new.failed || errors.new.failed)) }
     ensures same_output { output.new.stream.ghost_name ≡ output.old.stream.ghost_name }

@@ -6,12 +6,12 @@ ghost use Rattle.coll_job.specs.Pages.{lines_of, outcomes_page, requests_of, sta
 
 use crate::host::Host;
 use crate::keeping::is_kept;
-use crate::running::Recording;
 use crate::views::{OutcomeForm, Views};
-use coll_report::Report;
+use coll_report::{Report, Span};
+use coll_run::Recording;
 use coll_script::JobFault;
 use coll_views::{
-    Requests, Span, ViewFault, outcomes_json, picture_text, rows_of, tables_text, timeline_json,
+    Requests, ViewFault, outcomes_json, picture_text, rows_of, tables_text, timeline_json,
     trace_text,
 };
 use std::alloc::{AllocError, Global};

@@ -3,6 +3,7 @@
 //! | Module | Has |
 //! |---|---|
 //! | `entry` | `Entry`, an accepted call |
+//! | `span` | `Span`, which call made an entry, and when |
 //! | `posts` | `Posts`, a walk along a rank's posts, initialisations and starts |
 //! | `command` | `Command`, what a rank is told to do |
 //! | `comparison` | `Comparison`, of a rank's entries with its commands |
@@ -16,9 +17,11 @@ mod entry;
 pub mod laws;
 mod posts;
 mod report;
+mod span;
 
 pub use command::Command;
 pub use comparison::{Comparison, follows};
 pub use entry::Entry;
 pub use posts::Posts;
 pub use report::{Report, count_entries};
+pub use span::Span;

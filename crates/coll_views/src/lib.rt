@@ -42,7 +42,7 @@ pub use picture::picture_text;
 pub use request::{NumberedRequest, Requests, TracedRequest};
 pub use row::{Row, rows_of};
 pub use tables::tables_text;
-pub use timeline::{Span, timeline_json};
+pub use timeline::timeline_json;
 pub use totals::{Totals, totals_of};
 pub use trace::trace_text;
 pub use work::Work;

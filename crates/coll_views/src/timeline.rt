@@ -4,19 +4,8 @@ use crate::fault::ViewFault;
 use crate::lanes::Lanes;
 use crate::request::{NumberedRequest, Requests};
 use crate::words::signature_text;
-use coll_report::Entry;
+use coll_report::{Entry, Span};
 use std::alloc::{AllocError, Global};
-
-/// Which call made an entry of the trace, and when.
-#[derive(Clone, Copy, Debug, PartialEq, Eq)]
-pub struct Span {
-    /// The line of the command; 0 for the `waitall` that stands unwritten behind each section.
-    pub line: u32,
-    /// When the call began, in nanoseconds from the beginning of the run.
-    pub from: u64,
-    /// When it had ended.
-    pub until: u64,
-}
 
 /// The timeline of a trace, whose entries have these spans: each rank is a process, and each post or start a complete event (`ph` is
 /// `X`) from the beginning of its call to the end of the call that completed it. Times are in microseconds. Bars of a rank which are

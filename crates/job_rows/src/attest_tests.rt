@@ -9,10 +9,10 @@ ghost use Rattle.coll_report.specs.Views.{seen, trace_seen};
 
 use coll_bytes::Bytes;
 use coll_core::Config;
-use coll_job::{AttestFault, attested_lines};
 use coll_kinds::{Datatype, Kind, Mode, Signature, Ticket};
 use coll_report::laws::rows_are_closed;
 use coll_report::{Entry, Report};
+use coll_run::{AttestFault, attested_lines};
 use coll_script::Script;
 use std::alloc::{AllocError, Global};
 use std::sync::Arc;

@@ -1,7 +1,7 @@
 //! A text run by threads whose first two combinations are held until a third one was computed: ranks and progress threads are at work
 //! at one time.
 
-use coll_job::run_job;
+use coll_run::run_job;
 use coll_shared::Gate;
 use std::sync::Wait;
 use std::sync::atomic::{AtomicU64, Ordering};

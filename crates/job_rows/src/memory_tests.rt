@@ -1,6 +1,6 @@
 //! A run in which memory may be refused.
 
-use coll_job::run_job;
+use coll_run::run_job;
 use coll_script::JobFault;
 use coll_shared::NoGate;
 use script_rows::texts::STARTS_OUT_OF_ORDER;

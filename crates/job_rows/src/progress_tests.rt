@@ -1,6 +1,7 @@
 //! What a run shows on a terminal while it goes on.
 
-use coll_job::{Progress, Screen, Watch};
+use coll_job::{Progress, Screen};
+use coll_run::Watch;
 use std::alloc::Global;
 use std::io;
 use std::sync::atomic::{AtomicU64, Ordering};

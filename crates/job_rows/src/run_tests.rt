@@ -2,8 +2,8 @@
 
 use coll_bytes::Bytes;
 use coll_core::Outcome;
-use coll_job::run_job;
 use coll_report::{Entry, Report};
+use coll_run::run_job;
 use coll_script::{Cause, Fault, JobFault, Script};
 use coll_shared::NoGate;
 use script_rows::texts::STARTS_OUT_OF_ORDER;

@@ -3,7 +3,7 @@
 ghost use Rattle.std.specs.Prelude.{◌≤◌};
 
 use crate::run_tests::CROSSED_BARRIERS;
-use coll_job::run_job;
+use coll_run::run_job;
 use coll_script::JobFault;
 use coll_shared::NoGate;
 use std::alloc::Global;

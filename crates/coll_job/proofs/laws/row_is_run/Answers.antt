@@ -1,5 +1,0 @@
-use Rattle.coll_job.proofs.AttestedRows.{row_is_run}
-use Rattle.coll_job.proofs.laws.row_is_run.Goals as goal
-
-pub returns : goal.returns
-returns c = row_is_run

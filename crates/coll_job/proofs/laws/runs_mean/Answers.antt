@@ -1,5 +1,0 @@
-use Rattle.coll_job.proofs.Meant.{runs_mean}
-use Rattle.coll_job.proofs.laws.runs_mean.Goals as goal
-
-pub returns : goal.returns
-returns c = runs_mean

@@ -1,5 +1,0 @@
-use Rattle.coll_job.proofs.Telling.{runs_tell}
-use Rattle.coll_job.proofs.laws.runs_tell.Goals as goal
-
-pub returns : goal.returns
-returns c = runs_tell

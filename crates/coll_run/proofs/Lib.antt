@@ -1,0 +1,7 @@
+pub mod Asking
+pub mod Telling
+pub mod Meant
+mod Indexing
+mod Printed
+mod Ending
+mod AttestedRows

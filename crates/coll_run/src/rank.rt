@@ -1,0 +1,172 @@
+//! The threads of the ranks.
+
+use crate::caller::{Caller, Left};
+use crate::observing::Observer;
+use crate::spans::RankSpans;
+use coll_core::Outcome;
+use coll_kinds::Refusal;
+use coll_report::Span;
+use coll_script::{Command, Script};
+use coll_shared::{Ends, Engine, Gate, Port, RankTask, run_rank_threads};
+use coll_traced::{Entries, Spent};
+use std::alloc::{AllocError, Global};
+use std::sync::Wait;
+use std::thread::Threads;
+
+/// What a rank got, in the order in which it got it.
+#[derive(Drop)]
+pub(crate) struct Got {
+    pub(crate) rank: u8,
+    pub(crate) outcomes: Vec<Outcome>,
+}
+
+/// How the thread of a rank ended.
+#[derive(Drop)]
+pub(crate) struct RankEnd<L: Entries> {
+    /// What is left of its port.
+    pub(crate) spent: Spent<L>,
+    pub(crate) got: Got,
+    pub(crate) spans: RankSpans,
+    /// Why it couldn't carry out all its commands.
+    pub(crate) refusal: Option<Refusal>,
+}
+
+/// Carries out the commands of a port's rank, and ends the port, also where a command is refused. `gate` may hold a
+/// thread up at a combination; `observer` is told of the commands.
+#[derive(Drop)]
+struct Commands<'x, L: Entries, R, G, O> {
+    rt: &'x R,
+    alloc: Global,
+    gate: &'x G,
+    observer: &'x O,
+    script: &'x Script,
+    port: Port<L>,
+}
+
+impl<L: Entries, R: Wait, G: Gate, O: Observer> RankTask<RankEnd<L>> for Commands<'_, L, R, G, O> {
+    fn run(self, all_started: bool) -> RankEnd<L> {
+        let Commands {
+            rt,
+            alloc,
+            gate,
+            observer,
+            script,
+            port,
+        } = self;
+        let rank = port.rank();
+        let mut caller = Caller::new(alloc, port);
+        let mut refusal = None;
+        if all_started {
+            refusal = carry_out_all(rt, alloc, gate, observer, script, rank, &mut caller).err();
+        }
+        observer.ended();
+        let Left {
+            spent,
+            outcomes,
+            spans,
+        } = caller.finish(rt);
+        RankEnd {
+            spent,
+            got: Got { rank, outcomes },
+            spans,
+            refusal,
+        }
+    }
+}
+
+/// Carries out the commands of a rank, up to the first that is refused.
+fn carry_out_all<L: Entries, R: Wait, G: Gate, O: Observer>(
+    rt: &R,
+    alloc: Global,
+    gate: &G,
+    observer: &O,
+    script: &Script,
+    rank: u8,
+    caller: &mut Caller<L>,
+) -> Result<(), Refusal> {
+    let lines = lines_of(alloc, script, rank)?;
+    for (index, command) in script.commands_of(alloc, rank)?.into_iter().enumerate() {
+        let line = lines.get(index).copied().unwrap_or(0);
+        carry_out(rt, gate, observer, line, command, caller)?;
+    }
+    Ok(())
+}
+
+/// Carries out a command, notes for its entries when it was, and tells how many outcomes it brought.
+fn carry_out<L: Entries, R: Wait, G: Gate, O: Observer>(
+    rt: &R,
+    gate: &G,
+    observer: &O,
+    line: u32,
+    command: Command,
+    caller: &mut Caller<L>,
+) -> Result<(), Refusal> {
+    let Some(from) = observer.now() else {
+        return caller.carry_out(rt, gate, command);
+    };
+    let got = caller.got();
+    let own = own_entries(&command);
+    caller.carry_out(rt, gate, command)?;
+    let until = observer.now().unwrap_or(from);
+    let completed = caller.got().saturating_sub(got);
+    observer.completed(completed);
+    caller.note(Span { line, from, until }, completed.max(own))
+}
+
+/// How many entries the command makes beside those of completions.
+fn own_entries(command: &Command) -> usize {
+    match command {
+        Command::Post { .. } | Command::Init { .. } | Command::Start { .. } | Command::Free(_) => 1,
+        Command::Wait(_)
+        | Command::Test(_)
+        | Command::WaitAny(_)
+        | Command::WaitSome(_)
+        | Command::WaitAll(_) => 0,
+    }
+}
+
+/// The lines of a rank's commands, in their order.
+fn lines_of(alloc: Global, script: &Script, rank: u8) -> Result<Vec<u32>, AllocError> {
+    let mut lines = Vec::new(alloc);
+    for issued in script.history().commands() {
+        if issued.rank == rank {
+            lines.push(issued.line)?;
+        }
+    }
+    Ok(lines)
+}
+
+/// Has the commands of each port's rank carried out by a thread of its own, with so many progress threads. `ports` are
+/// in rising rank, and so are the ends of their threads.
+///
+/// # Errors
+///
+/// Memory was refused, before the first thread was started.
+pub(crate) fn run_ranks<
+    L: Entries + Send + Sync,
+    R: Threads + Wait + Sync,
+    G: Gate + Sync,
+    O: Observer + Sync,
+>(
+    rt: &R,
+    alloc: Global,
+    gate: &G,
+    observer: &O,
+    script: &Script,
+    engine: &Engine<L>,
+    ports: Vec<Port<L>>,
+    workers: u8,
+) -> Result<Ends<RankEnd<L>>, AllocError> {
+    let mut tasks = Vec::with_capacity(alloc, ports.len())?;
+    for port in ports {
+        tasks.push(Commands {
+            rt,
+            alloc,
+            gate,
+            observer,
+            script,
+            port,
+        })?;
+    }
+    run_rank_threads(rt, alloc, gate, engine, tasks, workers)
+}
