@@ -112,18 +112,25 @@ size_of (Some group) = if nat_lt (length group.items) 64 then length group.items
 abbrev pub mode_holds : Pending → Mode → Bool
 mode_holds pending mode = if is_persistent mode then pending.is_persistent else not pending.is_persistent
 
--- the pending request is that of its number of the rank, with its communicator, place, kind, mode and the line of its start; some members
--- lack, and what is said of each is true
-abbrev pub request_holds : List IssuedCommand → List (Vec Request Global) → List (Vec ℕ Global) → ℕ → List Request → Pending → Option Request → Bool
-request_holds issued ranks groups rank own pending None = false
-request_holds issued ranks groups rank own pending (Some r) =
+-- the request has the communicator, the place, the start with its line, the kind and the mode that are reported
+abbrev pub fits : List IssuedCommand → ℕ → List Request → Pending → Request → Bool
+fits issued rank own pending r =
     r.comm == pending.comm
     && place_of pending.comm pending.request own == pending.place
     && is_start_in issued rank pending.request r pending.start pending.line
     && bytes_eq pending.kind.now (kind_word r.sig.kind)
     && mode_holds pending r.sig.mode
-    && not (length pending.lacks.items == 0)
+
+-- some members lack, and what is said of each is true
+abbrev pub lacks_hold : List IssuedCommand → List (Vec Request Global) → List (Vec ℕ Global) → Pending → Request → Bool
+lacks_hold issued ranks groups pending r =
+    not (length pending.lacks.items == 0)
     && list_all (lack_holds issued ranks (size_of (slice_get groups pending.comm)) r pending) pending.lacks.items
+
+-- the pending request is that of its number of the rank, and what is said of it is true
+abbrev pub request_holds : List IssuedCommand → List (Vec Request Global) → List (Vec ℕ Global) → ℕ → List Request → Pending → Option Request → Bool
+request_holds issued ranks groups rank own pending None = false
+request_holds issued ranks groups rank own pending (Some r) = fits issued rank own pending r && lacks_hold issued ranks groups pending r
 
 -- the call in that line waits for the request, which was started before; no line is that of the unwritten waitall after all lines
 abbrev pub call_awaits : List IssuedCommand → ℕ → Option ℕ → Pending → Bool

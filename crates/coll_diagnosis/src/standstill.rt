@@ -238,7 +238,7 @@ impl Stuck {
 impl Pending {
     ghost use Rattle.std.specs.Prelude.{◌≡◌, slice_get};
     ghost use Rattle.std.specs.List.{list_any, list_all};
-    ghost use Rattle.coll_diagnosis.specs.Standing.{awaits_in, call_awaits, lack_holds, lacks_one, mode_holds, pending_holds, request_holds, size_of};
+    ghost use Rattle.coll_diagnosis.specs.Standing.{awaits_in, call_awaits, fits, lack_holds, lacks_hold, lacks_one, mode_holds, pending_holds, request_holds, size_of};
 
     fn holds(&self, facts: &Facts<'_>, stuck: &Stuck, own: &[Request<'_>]) -> bool
         ensures { result ≡ pending_holds facts.now.issued.now facts.now.ranks.now facts.now.groups.now stuck.now own.now self.now }
@@ -272,23 +272,34 @@ impl Pending {
     {
         match own.get(self.request) {
             Some(request) => {
-                request.comm == self.comm
-                    && place_of(self.comm, self.request, own) == self.place
-                    && is_start_in(
-                        facts.issued,
-                        rank,
-                        self.request,
-                        request,
-                        self.start,
-                        self.line,
-                    )
-                    && self.kind.as_bytes() == request.sig.kind.word().as_bytes()
-                    && self.mode_holds(request.sig.mode)
-                    && !self.lacks.is_empty()
-                    && self.all_hold(facts, size_of(facts.groups, self.comm), request)
+                self.fits(facts.issued, rank, own, request) && self.lacks_hold(facts, request)
             }
             None => false,
         }
+    }
+
+    /// Whether the request has the communicator, the place, the start with its line, the kind and the mode that are reported.
+    fn fits(
+        &self,
+        issued: &[IssuedCommand],
+        rank: u8,
+        own: &[Request<'_>],
+        request: &Request<'_>,
+    ) -> bool
+        ensures { result ≡ fits issued.now rank own.now self.now request.now }
+    {
+        request.comm == self.comm
+            && place_of(self.comm, self.request, own) == self.place
+            && is_start_in(issued, rank, self.request, request, self.start, self.line)
+            && self.kind.as_bytes() == request.sig.kind.word().as_bytes()
+            && self.mode_holds(request.sig.mode)
+    }
+
+    /// Whether some members lack, and what is reported of each is true.
+    fn lacks_hold(&self, facts: &Facts<'_>, request: &Request<'_>) -> bool
+        ensures { result ≡ lacks_hold facts.now.issued.now facts.now.ranks.now facts.now.groups.now self.now request.now }
+    {
+        !self.lacks.is_empty() && self.all_hold(facts, size_of(facts.groups, self.comm), request)
     }
 
     fn mode_holds(&self, mode: Mode) -> bool

@@ -17,8 +17,8 @@
 //! | `lib` | the other functions |
 #![tactic(auto)]
 
-ghost use Rattle.std.specs.Prelude.{◌≡◌, ◌<◌, ◌≤◌, ◌⊎◌, [], None, Some, IfErr, IfOk, IfSome, IsSome, if◌then◌else◌, is_some, pos};
-ghost use Rattle.coll_kinds.specs.declared.refusal.Refusal.TheVariants.{Stale};
+ghost use Rattle.std.specs.Prelude.{◌≡◌, ◌≢◌, ◌<◌, ◌≤◌, ◌⊎◌, [], None, Some, IfErr, IfOk, IfSome, IsSome, if◌then◌else◌, is_some, pos};
+ghost use Rattle.coll_kinds.specs.declared.refusal.Refusal.TheVariants.{NoMemory, Stale};
 ghost use Rattle.coll_machine.specs.Lents.{lent_bytes};
 ghost use Rattle.coll_machine.specs.Runs.{Runs};
 ghost use Rattle.coll_core.specs.Configs.{idle};
@@ -35,7 +35,7 @@ ghost use Rattle.worzsunab.specs.Forms.{IsAbout, named_by, request_of};
 ghost use Rattle.worzsunab.specs.Openings.{DeniesOpen, IsOpened, Opens};
 ghost use Rattle.coll_engine.specs.Signatures.{signature_at};
 ghost use Rattle.worzsunab.specs.Posted.{Tells};
-ghost use Rattle.worzsunab.specs.Reasons.{no_reason};
+ghost use Rattle.worzsunab.specs.Reasons.{no_reason, reason_of};
 
 mod call;
 mod codes;
@@ -254,6 +254,11 @@ pub extern "C" fn wz_outcome_length(
 pub extern "C" fn wz_step(alloc: Global, handle: &mut Handle, budget: u32, actions: &mut u32) -> i32
     ensures closed { handle.old.held.engine ≡ None → (handle.new.held.engine ≡ None) × (result ≡ pos 20) }
     ensures open { IsSome handle.old.held.engine → (result ≡ pos 0) ⊎ (result ≡ pos 17) }
+    // An engine that is open stays open, and the refusal that is noted is that of this call or the last one.
+    ensures stays { IsSome handle.old.held.engine → IsSome handle.new.held.engine }
+    ensures noted { result ≡ pos 17 → handle.new.reason ≡ reason_of NoMemory }
+    ensures same_reason { result ≢ pos 17 → handle.new.reason ≡ handle.old.reason }
+    ensures kept { result ≢ pos 0 → actions.new ≡ actions.old }
     ensures quiet { (result ≡ pos 17) ⊎ IfSome handle.new.held.engine (λ r. actions.new < budget → ready r ≡ []) }
     ensures steps { (result ≡ pos 17) ⊎ IfSome handle.old.held.engine (λ p. IfSome handle.new.held.engine (λ r. Advances p r actions.new × (actions.new ≤ budget))) }
     ensures finishes { IfSome handle.old.held.engine (λ p. IfSome handle.new.held.engine (λ r. (setting r ≡ setting p) × Finishings (setting p) (seen p) (seen r))) }
@@ -276,6 +281,10 @@ pub extern "C" fn wz_step(alloc: Global, handle: &mut Handle, budget: u32, actio
 pub extern "C" fn wz_settle(alloc: Global, handle: &mut Handle) -> i32
     ensures closed { handle.old.held.engine ≡ None → (handle.new.held.engine ≡ None) × (result ≡ pos 20) }
     ensures open { IsSome handle.old.held.engine → (result ≡ pos 0) ⊎ (result ≡ pos 17) }
+    // An engine that is open stays open, and the refusal that is noted is that of this call or the last one.
+    ensures stays { IsSome handle.old.held.engine → IsSome handle.new.held.engine }
+    ensures noted { result ≡ pos 17 → handle.new.reason ≡ reason_of NoMemory }
+    ensures same_reason { result ≢ pos 17 → handle.new.reason ≡ handle.old.reason }
     ensures quiet { (result ≡ pos 17) ⊎ IfSome handle.new.held.engine (λ r. ready r ≡ []) }
     ensures settles { IfSome handle.old.held.engine (λ p. IfSome handle.new.held.engine (λ r. (setting r ≡ setting p) × Finishings (setting p) (seen p) (seen r))) }
 {

@@ -1,11 +1,12 @@
 //! Combinations that are computed outside an engine, and outside its lock.
 
-ghost use Rattle.std.specs.Prelude.{◌≡◌, ◌⊎◌, [], None, Some, IfNone, IfOk, IfSome, IsOkUnless, IsSome, if◌then◌else◌, is_some, pos, true, false};
-ghost use Rattle.coll_kinds.specs.declared.refusal.Refusal.TheVariants.{Stale};
+ghost use Rattle.std.specs.Prelude.{◌≡◌, ◌≢◌, ◌⊎◌, [], None, Some, IfNone, IfOk, IfSome, IsOkUnless, IsSome, if◌then◌else◌, is_some, pos, true, false};
+ghost use Rattle.coll_kinds.specs.declared.refusal.Refusal.TheVariants.{NoMemory, Stale};
 ghost use Rattle.coll_core.specs.Cores.{seen, setting};
 ghost use Rattle.coll_core.specs.Steps.{Finishings, ready};
 ghost use Rattle.coll_engine.specs.Combinations.{IsHandedOut, TakesBack};
 ghost use Rattle.worzsunab.specs.Answers.{Answers};
+ghost use Rattle.worzsunab.specs.Reasons.{reason_of};
 ghost use Rattle.worzsunab.specs.Works.{Computes};
 
 use crate::codes::{CLOSED, DONE, HAS_WORK, NO_MEMORY, NO_WORK};
@@ -20,6 +21,11 @@ pub extern "C" fn wz_take_work(alloc: Global, handle: &mut Handle, work: &mut Wo
     ensures closed { is_some work.old.held.combination ≡ false → handle.old.held.engine ≡ None → (result ≡ pos 20) × (handle.new.held.engine ≡ None) }
     ensures out { result ≡ pos 0 → IfSome handle.new.held.engine (λ r. IfSome work.new.held.combination (IsHandedOut r)) × (is_some work.new.held.combination ≡ true) }
     ensures open { is_some work.old.held.combination ≡ false → IsSome handle.old.held.engine → (result ≡ pos 0) ⊎ (result ≡ pos 17) ⊎ (result ≡ pos 22) }
+    // An engine that is open stays open, and the refusal that is noted is that of this call or the last one.
+    ensures stays { IsSome handle.old.held.engine → IsSome handle.new.held.engine }
+    ensures noted { result ≡ pos 17 → handle.new.reason ≡ reason_of NoMemory }
+    ensures same_reason { result ≢ pos 17 → handle.new.reason ≡ handle.old.reason }
+    ensures not_taken { result ≢ pos 0 → work.new.held.combination ≡ work.old.held.combination }
     ensures kept { (result ≡ pos 0) ⊎ (work.new.held.combination ≡ work.old.held.combination) }
     ensures quiet { result ≡ pos 22 → IfSome handle.new.held.engine (λ r. ready r ≡ []) × (work.new.held.combination ≡ None) }
     ensures finishes { IfSome handle.old.held.engine (λ p. IfSome handle.new.held.engine (λ r. (setting r ≡ setting p) × Finishings (setting p) (seen p) (seen r))) }
