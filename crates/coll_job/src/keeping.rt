@@ -6,9 +6,12 @@ ghost use Rattle.std.specs.Io.KnownBytes.{Keeps};
 use crate::host::Host;
 use coll_script::{JobFault, Witnessed, write_lines};
 use std::alloc::Global;
-use std::fs::{File, Files, remove_file, rename, symlink_metadata};
+use std::fs::{
+    File, Files, Metadata, OpenFile, OpenOptions, metadata, remove_file, rename, symlink_metadata,
+};
 use std::io;
-use std::io::Write;
+use std::io::{ErrorKind, Write};
+use std::os::unix::fs::MetadataExt;
 
 /// The exit status where a file can't be written: that of a write fault.
 pub(crate) const UNWRITTEN: u8 = 1;
@@ -63,35 +66,111 @@ pub(crate) fn is_kept<F: Files, E: Write>(
 }
 
 /// Writes a file, whole or not at all: until it is complete it has another name beside it; at an error nothing of it is left, and
-/// a file that had the name keeps its bytes. What stands there and is no file, as a link, a pipe or a device, gets the bytes itself.
+/// a file that had the name keeps its bytes. A file that takes the place of another one has its mode. What stands there and is no file,
+/// as a link, a pipe or a device, gets the bytes itself.
+///
+/// # Errors
+///
+/// Those of the system; `PermissionDenied` where a file has the name that nobody may write, and `InvalidInput` where it is the file that
+/// standard output or standard error goes to: what these get later would stand in place of the bytes, or be lost with the old file.
 pub(crate) fn keep<F: Files>(files: &F, alloc: Global, name: &str, bytes: &[u8]) -> io::Result<()> {
-    if is_written_in_place(files, name) {
-        return write(files, name, bytes);
+    let Ok(there) = symlink_metadata(files, name) else {
+        return write_beside(files, alloc, name, None, bytes);
+    };
+    if let Ok(found) = metadata(files, name) {
+        if found.is_file() {
+            check_stream(files, &OWN_OUTPUT, &found)?;
+            check_stream(files, &OWN_ERRORS, &found)?;
+            check_writable(files, name, &found)?;
+        }
     }
+    if there.is_file() {
+        write_beside(files, alloc, name, Some(&there), bytes)
+    } else {
+        write(files, name, bytes)
+    }
+}
+
+/// A stream of the program, and what is told of a file that it goes to.
+struct Stream {
+    name: &'static str,
+    refusal: &'static str,
+}
+
+static OWN_OUTPUT: Stream = Stream {
+    name: "/dev/stdout",
+    refusal: "standard output goes to this file, so name another one",
+};
+
+static OWN_ERRORS: Stream = Stream {
+    name: "/dev/stderr",
+    refusal: "standard error goes to this file, so name another one",
+};
+
+/// Refuses a file that a stream of the program goes to.
+fn check_stream<F: Files>(files: &F, stream: &Stream, found: &Metadata) -> io::Result<()> {
+    match metadata(files, stream.name) {
+        Ok(own) if is_same(&own, found) => {
+            Err(io::Error::new(ErrorKind::InvalidInput, stream.refusal))
+        }
+        _ => Ok(()),
+    }
+}
+
+/// Whether both are of one file. A file system that numbers no files has none that are the same.
+fn is_same(one: &Metadata, other: &Metadata) -> bool {
+    one.ino() != 0 && one.ino() == other.ino() && one.dev() == other.dev()
+}
+
+/// Refuses a file that can't be written. A file that nobody may write is refused to a user, too, who may write all files.
+fn check_writable<F: Files>(files: &F, name: &str, found: &Metadata) -> io::Result<()> {
+    if found.permissions().readonly() {
+        return Err(io::Error::from(ErrorKind::PermissionDenied));
+    }
+    let _file = OpenOptions::new().write(true).open(files, name)?;
+    Ok(())
+}
+
+/// Writes a file beside the name, and gives it the name when it is complete. At an error nothing of it is left.
+fn write_beside<F: Files>(
+    files: &F,
+    alloc: Global,
+    name: &str,
+    old: Option<&Metadata>,
+    bytes: &[u8],
+) -> io::Result<()> {
     let part = format!(in alloc; "{name}.part")?;
-    let kept = keep_as(files, part.as_str(), name, bytes);
+    let kept = keep_as(files, part.as_str(), name, old, bytes);
     if kept.is_err() {
         let _ = remove_file(files, part.as_str());
     }
     kept
 }
 
-/// Whether something stands there that mustn't be replaced by a file.
-fn is_written_in_place<F: Files>(files: &F, name: &str) -> bool {
-    match symlink_metadata(files, name) {
-        Ok(found) => !found.is_file(),
-        Err(_) => false,
+/// Writes a file under one name, with the mode of the old one, and gives it the other name when it is complete.
+fn keep_as<F: Files>(
+    files: &F,
+    part: &str,
+    name: &str,
+    old: Option<&Metadata>,
+    bytes: &[u8],
+) -> io::Result<()> {
+    let mut file = File::create(files, part)?;
+    if let Some(old) = old {
+        if file.metadata()?.permissions() != old.permissions() {
+            file.set_permissions(old.permissions())?;
+        }
     }
-}
-
-/// Writes a file under one name, and gives it the other when it is complete.
-fn keep_as<F: Files>(files: &F, part: &str, name: &str, bytes: &[u8]) -> io::Result<()> {
-    write(files, part, bytes)?;
+    write_to(&mut file, bytes)?;
     rename(files, part, name)
 }
 
 fn write<F: Files>(files: &F, name: &str, bytes: &[u8]) -> io::Result<()> {
     let mut file = File::create(files, name)?;
+    write_to(&mut file, bytes)
+}
+
+fn write_to<W: Write>(file: &mut W, bytes: &[u8]) -> io::Result<()> {
     file.write_all(bytes)?;
     file.flush()
 }
