@@ -5,13 +5,14 @@ ghost use Rattle.std.specs.Io.KnownBytes.{ReadConsumes};
 use std::io;
 use std::io::Read;
 
-/// A reader that counts how often it is read, and remembers whether a read failed. Its reader is reached by [`Counted::read`] alone, so no
+/// A reader that counts how often it is read, and remembers whether a read failed, and why. Its reader is reached by [`Counted::read`] alone, so no
 /// read of it goes uncounted, and nothing else sets the flag.
 #[derive(Drop)]
 pub struct Counted<'r, R> {
     reader: &'r mut R,
     reads: u32,
     failed: bool,
+    error: Option<io::Error>,
 }
 
 impl<'r, R: Read> Counted<'r, R> {
@@ -26,6 +27,7 @@ impl<'r, R: Read> Counted<'r, R> {
             reader,
             reads: 0,
             failed: false,
+            error: None,
         }
     }
 
@@ -43,6 +45,11 @@ impl<'r, R: Read> Counted<'r, R> {
         self.failed
     }
 
+    /// The last error that the reader answered.
+    pub fn error(&self) -> Option<io::Error> {
+        self.error
+    }
+
     /// Reads once. Answers the reader's error.
     pub fn read(&mut self, buf: &mut [u8]) -> io::Result<usize>
         requires { self.old.reads < 4294967295 }
@@ -56,8 +63,9 @@ impl<'r, R: Read> Counted<'r, R> {
     {
         self.reads += 1;
         let given = self.reader.read(buf);
-        if given.is_err() {
+        if let Err(error) = given {
             self.failed = true;
+            self.error = Some(error);
         }
         given
     }

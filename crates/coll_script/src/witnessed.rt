@@ -4,12 +4,13 @@ ghost use Rattle.std.specs.Io.KnownBytes.{Appends};
 use std::io;
 use std::io::Write;
 
-/// A writer that remembers whether an answer couldn't be written to it. What is told besides goes to `stream`, past the flag, since
+/// A writer that remembers whether an answer couldn't be written to it, and why. What is told besides goes to `stream`, past the flag, since
 /// nobody is left to be told where that fails.
 #[derive(Drop)]
 pub struct Witnessed<'w, W> {
     pub stream: &'w mut W,
     failed: bool,
+    error: Option<io::Error>,
 }
 
 impl<'w, W: Write> Witnessed<'w, W> {
@@ -22,6 +23,7 @@ impl<'w, W: Write> Witnessed<'w, W> {
         Witnessed {
             stream,
             failed: false,
+            error: None,
         }
     }
 
@@ -30,6 +32,11 @@ impl<'w, W: Write> Witnessed<'w, W> {
         ensures { result ≡ self.now.failed }
     {
         self.failed
+    }
+
+    /// The last error that the writer answered.
+    pub fn error(&self) -> Option<io::Error> {
+        self.error
     }
 
     /// Writes all bytes, and flushes them. Answers the writer's error.
@@ -44,8 +51,9 @@ impl<'w, W: Write> Witnessed<'w, W> {
             Ok(()) => self.stream.flush(),
             Err(error) => Err(error),
         };
-        if written.is_err() {
+        if let Err(error) = written {
             self.failed = true;
+            self.error = Some(error);
         }
         written
     }
