@@ -15,6 +15,7 @@ use std::io::Read;
 pub struct Host<'m, M> {
     pub machine: &'m M,
     failed: bool,
+    error: Option<io::Error>,
 }
 
 impl<'m, M: Files> Host<'m, M> {
@@ -25,6 +26,7 @@ impl<'m, M: Files> Host<'m, M> {
         Host {
             machine,
             failed: false,
+            error: None,
         }
     }
 
@@ -48,11 +50,17 @@ impl<'m, M: Files> Host<'m, M> {
         opened
     }
 
-    /// Takes up whether a file failed while it was read.
+    /// Why a file failed while it was read.
+    pub(crate) fn error(&self) -> Option<io::Error> {
+        self.error
+    }
+
+    /// Takes up whether a file failed while it was read, and why.
     pub(crate) fn heed<R: Read>(&mut self, file: &Counted<'_, R>)
         ensures { self.new.failed ≡ (self.old.failed || file.now.failed) }
     {
         self.failed = self.failed || file.has_failed();
+        self.error = file.error();
     }
 
     /// Writes a file, whole or not at all.

@@ -18,6 +18,7 @@ use coll_diagnosis::explain_job;
 use coll_script::{Counted, JobFault, Witnessed, plain_job, write_lines};
 use std::alloc::Global;
 use std::fs::Files;
+use std::io;
 use std::io::{Read, Write};
 use std::rt::Clock;
 use std::sync::Wait;
@@ -157,22 +158,43 @@ pub fn do_task<
     match task.file {
         None => {
             let answer = write_answer(host, alloc, screen, task, input, output, errors);
-            ended(None, answer, errors.stream)
+            let why = error_of(&answer, input.error(), output.error());
+            ended(None, answer, why, errors.stream)
         }
         Some(name) => {
             let answer = answer_file(host, alloc, screen, task, name, output, errors);
-            ended(Some(name), answer, errors.stream)
+            let why = error_of(&answer, host.error(), output.error());
+            ended(Some(name), answer, why, errors.stream)
         }
     }
 }
 
-/// The exit status of an answer. A fault is told.
-fn ended<E: Write>(file: Option<&str>, answer: Result<u8, JobFault>, errors: &mut E) -> u8
+/// The error of the stream whose fault is answered, of those of the input and of the output.
+fn error_of(
+    answer: &Result<u8, JobFault>,
+    read: Option<io::Error>,
+    written: Option<io::Error>,
+) -> Option<io::Error> {
+    match answer {
+        Err(JobFault::Read) => read,
+        Err(JobFault::Write) => written,
+        _ => None,
+    }
+}
+
+/// The exit status of an answer. A fault is told, with the error of its stream.
+fn ended<E: Write>(
+    file: Option<&str>,
+    answer: Result<u8, JobFault>,
+    why: Option<io::Error>,
+    errors: &mut E,
+) -> u8
     ensures { MatchResult answer (λ status. result ≡ status) (λ fault. result ≡ status_of fault) }
 {
-    match answer {
-        Ok(status) => status,
-        Err(fault) => told(file, fault, errors),
+    match (answer, why) {
+        (Ok(status), _) => status,
+        (Err(fault), Some(error)) => told_with(file, fault, error, errors),
+        (Err(fault), None) => told(file, fault, errors),
     }
 }
 
@@ -309,7 +331,7 @@ fn show<W: Write, E: Write>(
     };
     match write_lines(output, text.as_str().as_bytes()) {
         Ok(()) => 0,
-        Err(_) => told(None, JobFault::Write, errors),
+        Err(_) => ended(None, Err(JobFault::Write), output.error(), errors),
     }
 }
 
@@ -317,11 +339,32 @@ fn show<W: Write, E: Write>(
 pub fn told<E: Write>(file: Option<&str>, fault: JobFault, errors: &mut E) -> u8
     ensures { result ≡ status_of fault }
 {
+    name_file(file, fault, errors);
+    let _ = fault.print(errors);
+    fault.status()
+}
+
+/// Tells a fault with the error of its stream. Where whoever read the output has gone nothing is told, as other tools do.
+fn told_with<E: Write>(
+    file: Option<&str>,
+    fault: JobFault,
+    error: io::Error,
+    errors: &mut E,
+) -> u8
+    ensures { result ≡ status_of fault }
+{
+    if fault != JobFault::Write || error.kind() != io::ErrorKind::BrokenPipe {
+        name_file(file, fault, errors);
+        let _ = writeln!(errors, "{fault}: {error}");
+    }
+    fault.status()
+}
+
+/// Names the text's file before a fault that isn't one of the output.
+fn name_file<E: Write>(file: Option<&str>, fault: JobFault, errors: &mut E) {
     if let Some(name) = file {
         if fault != JobFault::Write {
             let _ = write!(errors, "{name}: ");
         }
     }
-    let _ = fault.print(errors);
-    fault.status()
 }
