@@ -1,6 +1,6 @@
 //! The words behind `draw`.
 
-ghost use Rattle.std.specs.Prelude.{◌≡◌, ◌≤◌};
+ghost use Rattle.std.specs.Prelude.{◌≤◌, IfOk};
 ghost use Rattle.coll_job.specs.Tasks.{workers_of};
 
 use crate::drawing::{Draft, DrawForm};
@@ -28,8 +28,10 @@ pub(crate) fn draw_command<'a>(alloc: Global) -> Result<Command<'a>, AllocError>
     let signature = Arg::new(alloc, SIGNATURE)
         .value_name("SIGNATURE")
         .required(true)
+        .num_args(1..)
+        .action(ArgAction::Append)
         .help(
-            "A collective as a job text says it behind `post C`, as one word: \"allreduce sum i32 1\"",
+            "A collective as a job text says it behind `post C`, with quotes or without: allreduce sum i32 1",
         );
     let members = Arg::new(alloc, MEMBERS)
         .long("members")
@@ -84,24 +86,40 @@ fn out_file<'a>(alloc: Global) -> Arg<'a> {
         .help("Writes to the file OUT, all of it or nothing")
 }
 
-/// The drawing that the words behind `draw` ask for: of a run, of waits, or else of a collective.
-pub(crate) fn draw_task<'w>(matches: &ArgMatches<'w>) -> Task<'w>
-    ensures { workers_of result.way ≤ 8 }
+/// The drawing that the words behind `draw` ask for: of a run, of waits, or else of a collective, whose words are put together in
+/// `signature`.
+pub(crate) fn draw_task<'w>(
+    matches: &ArgMatches<'w>,
+    signature: &'w mut String,
+) -> Result<Task<'w>, AllocError>
+    ensures { IfOk result (λ task. workers_of task.way ≤ 8) }
 {
     if let Some(run) = matches.subcommand_matches("run") {
         let way = Way::DrawRun {
             workers: workers_in(run),
             file: run.get_str(OUT),
         };
-        return task_on(way, run);
+        return Ok(task_on(way, run));
     }
     if let Some(waits) = matches.subcommand_matches("waits") {
-        return task_on(Way::Explain(waits_options(waits)), waits);
+        return Ok(task_on(Way::Explain(waits_options(waits)), waits));
     }
-    Task {
-        way: Way::Draw(draft_of(matches)),
+    join(matches.get_strs(SIGNATURE), signature)?;
+    Ok(Task {
+        way: Way::Draw(draft_of(matches, signature.as_str())),
         file: None,
+    })
+}
+
+/// Puts words together, with a space between each two.
+fn join(words: Option<&[&str]>, joined: &mut String) -> Result<(), AllocError> {
+    for word in words.unwrap_or(&[]) {
+        if !joined.is_empty() {
+            joined.push(' ')?;
+        }
+        joined.push_str(word)?;
     }
+    Ok(())
 }
 
 /// How the waits are drawn that the words behind `draw waits` ask for.
@@ -117,15 +135,15 @@ fn waits_options(matches: &ArgMatches<'_>) -> ExplainOptions {
     }
 }
 
-/// The drawing of a collective that the words behind `draw` ask for.
-fn draft_of<'w>(matches: &ArgMatches<'w>) -> Draft<'w> {
+/// The drawing of a collective with that signature that the words behind `draw` ask for.
+fn draft_of<'w>(matches: &ArgMatches<'w>, words: &'w str) -> Draft<'w> {
     let form = if matches.get_flag(SVG) {
         DrawForm::Svg
     } else {
         DrawForm::Text
     };
     Draft {
-        words: matches.get_str(SIGNATURE).unwrap_or(""),
+        words,
         members: matches.get_one::<u8>(MEMBERS).unwrap_or(1),
         form,
         file: matches.get_str(OUT),

@@ -73,7 +73,8 @@ pub fn run_on<
     ensures statuses { result ≤ 6 }
     ensures unwritten { 3 < result → result ≢ 6 → Keeps (W.contents output.old) (W.contents output.new) }
 {
-    let parsed = task_of(alloc, screen.takes_colors(), words);
+    let mut signature = String::new(alloc);
+    let parsed = task_of(alloc, screen.takes_colors(), words, &mut signature);
     do_parsed(
         &mut Host::new(machine),
         alloc,

@@ -57,7 +57,7 @@ Its lines are `rank R req Q start S : VALUES`, here with the value 6 three times
   colljob run --workers 2 examples/sum_of_three.job
 
 The schedules of a collective are drawn without a text; what a run did is drawn too:
-  colljob draw \"allreduce sum i32 1\" --members 6
+  colljob draw allreduce sum i32 1 --members 6
   colljob draw run examples/sum_of_three.job
 
 Exit status: 0 done; 1 a file can't be opened, read fault, write fault; 2 a fault of the text or of the words;
@@ -175,11 +175,12 @@ pub(crate) fn text_file<'a>(alloc: Global) -> Arg<'a> {
 }
 
 /// The task that the words name. Else the error has what a user is told. Whether colours are wanted is said by the words, or
-/// left to whether standard error takes them.
+/// left to whether standard error takes them. The words of a signature are put together in `signature`.
 pub fn task_of<'w>(
     alloc: Global,
     takes_colors: bool,
     words: &'w [String],
+    signature: &'w mut String,
 ) -> Result<Task<'w>, Error>
     ensures { IfOk result (λ task. workers_of task.way ≤ 8) }
 {
@@ -198,7 +199,7 @@ pub fn task_of<'w>(
         return Ok(task_on(Way::Check(check_form_of(check, takes_colors)), check));
     }
     if let Some(draw) = matches.subcommand_matches("draw") {
-        return Ok(draw_task(draw));
+        return Ok(draw_task(draw, signature)?);
     }
     match matches.subcommand_matches("plain") {
         Some(plain) => Ok(task_on(Way::Plain, plain)),
