@@ -116,6 +116,7 @@ fn faultless(
             CheckForm::Json => Form::Json,
         },
         is_strict: false,
+        is_whole: false,
     };
     let explained = explain_text(alloc, name, options, text)?;
     let told = match form {

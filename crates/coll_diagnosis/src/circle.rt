@@ -7,12 +7,7 @@ use std::alloc::{AllocError, Global};
 
 /// The ranks, of those that wait, that wait for themselves by way of others, in rising order. Cubic in the ranks.
 pub(crate) fn circle(alloc: Global, stuck: &[Stuck]) -> Result<Vec<u8>, AllocError> {
-    let mut awaited = vec![in alloc; Members::NONE; MAX_RANKS]?;
-    for stuck in stuck {
-        if let Some(awaited) = awaited.get_mut(usize::from(stuck.rank)) {
-            note(stuck, awaited);
-        }
-    }
+    let mut awaited = awaited(alloc, stuck)?;
     for by in 0..MAX_RANKS as u8 {
         pass_on(by, &mut awaited);
     }
@@ -21,6 +16,17 @@ pub(crate) fn circle(alloc: Global, stuck: &[Stuck]) -> Result<Vec<u8>, AllocErr
         .filter(|(rank, awaited)| awaited.contains(*rank))
         .map(|(rank, _)| rank)
         .collect(alloc)
+}
+
+/// For whom each rank waits.
+pub(crate) fn awaited(alloc: Global, stuck: &[Stuck]) -> Result<Vec<Members>, AllocError> {
+    let mut awaited = vec![in alloc; Members::NONE; MAX_RANKS]?;
+    for stuck in stuck {
+        if let Some(awaited) = awaited.get_mut(usize::from(stuck.rank)) {
+            note(stuck, awaited);
+        }
+    }
+    Ok(awaited)
 }
 
 /// Notes for whom a rank waits.

@@ -1,35 +1,63 @@
 //! An explanation as a graph in the language of Graphviz.
 
-use crate::explanation::Explanation;
+use crate::explanation::{Explanation, Shown};
+use crate::members::Members;
 use crate::source::Source;
-use crate::standstill::{Pending, Standstill, Stuck};
+use crate::standstill::{Lack, Pending, Standstill, Stuck};
 use std::alloc::{AllocError, Global};
 
-/// A graph with an arrow from each rank that waits to each one that it lacks. An arrow is dashed where the outcome doesn't
-/// rest on what the lacking one gives.
+/// A graph with an arrow from each rank of a shortest circle to each one of it that it lacks; of the whole, those of all ranks that wait.
+/// An arrow is dashed where the outcome doesn't rest on what the lacking one gives.
 pub(crate) fn dot_form(
     alloc: Global,
+    is_whole: bool,
     text: &[u8],
     explanation: &Explanation,
 ) -> Result<String, AllocError> {
     let mut out = String::from_str(alloc, "digraph waits {\n  node [shape=box];\n")?;
     if let Some(shown) = &explanation.shown {
         let source = Source::new(alloc, text)?;
-        push_ranks(alloc, &source, &shown.standstill, &mut out)?;
-        push_arrows(&shown.standstill, &mut out)?;
+        let drawn = drawn(shown, is_whole);
+        push_left_out(shown, is_whole, &mut out)?;
+        push_ranks(alloc, &source, &shown.standstill, &drawn, &mut out)?;
+        push_arrows(&shown.standstill, &drawn, &mut out)?;
     }
     out.push_str("}\n")?;
     Ok(out)
+}
+
+/// The ranks that are drawn, of those that wait.
+fn drawn(shown: &Shown, is_whole: bool) -> Members {
+    if is_whole {
+        Members::ALL
+    } else {
+        Members::of(&shown.ring)
+    }
+}
+
+/// Says what isn't drawn.
+fn push_left_out(shown: &Shown, is_whole: bool, out: &mut String) -> Result<(), AllocError> {
+    let waiting = shown.standstill.stuck.len();
+    if is_whole || shown.ring.len() == waiting {
+        return Ok(());
+    }
+    writeln!(
+        out,
+        "  // a shortest circle of the {waiting} ranks that wait; --all draws them all"
+    )
 }
 
 fn push_ranks(
     alloc: Global,
     source: &Source<'_>,
     standstill: &Standstill,
+    drawn: &Members,
     out: &mut String,
 ) -> Result<(), AllocError> {
     for stuck in &standstill.stuck {
-        push_rank(alloc, source, stuck, out)?;
+        if drawn.contains(stuck.rank) {
+            push_rank(alloc, source, stuck, out)?;
+        }
     }
     Ok(())
 }
@@ -54,31 +82,48 @@ fn push_rank(
     }
 }
 
-fn push_arrows(standstill: &Standstill, out: &mut String) -> Result<(), AllocError> {
+fn push_arrows(
+    standstill: &Standstill,
+    drawn: &Members,
+    out: &mut String,
+) -> Result<(), AllocError> {
     for stuck in &standstill.stuck {
-        push_arrows_of(stuck, out)?;
-    }
-    Ok(())
-}
-
-fn push_arrows_of(stuck: &Stuck, out: &mut String) -> Result<(), AllocError> {
-    for request in &stuck.requests {
-        push_arrows_from(stuck.rank, request, out)?;
-    }
-    Ok(())
-}
-
-fn push_arrows_from(rank: u8, request: &Pending, out: &mut String) -> Result<(), AllocError> {
-    for lack in &request.lacks {
-        write!(
-            out,
-            "  {rank} -> {} [label=\"line {}\"",
-            lack.rank, lack.line
-        )?;
-        if !lack.is_needed {
-            out.push_str(", style=dashed")?;
+        if drawn.contains(stuck.rank) {
+            push_arrows_of(stuck, drawn, out)?;
         }
-        out.push_str("];\n")?;
     }
     Ok(())
+}
+
+fn push_arrows_of(stuck: &Stuck, drawn: &Members, out: &mut String) -> Result<(), AllocError> {
+    for request in &stuck.requests {
+        push_arrows_from(stuck.rank, request, drawn, out)?;
+    }
+    Ok(())
+}
+
+fn push_arrows_from(
+    rank: u8,
+    request: &Pending,
+    drawn: &Members,
+    out: &mut String,
+) -> Result<(), AllocError> {
+    for lack in &request.lacks {
+        if drawn.contains(lack.rank) {
+            push_arrow(rank, lack, out)?;
+        }
+    }
+    Ok(())
+}
+
+fn push_arrow(rank: u8, lack: &Lack, out: &mut String) -> Result<(), AllocError> {
+    write!(
+        out,
+        "  {rank} -> {} [label=\"line {}\"",
+        lack.rank, lack.line
+    )?;
+    if !lack.is_needed {
+        out.push_str(", style=dashed")?;
+    }
+    out.push_str("];\n")
 }

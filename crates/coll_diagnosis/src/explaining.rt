@@ -21,6 +21,8 @@ pub struct ExplainOptions {
     pub form: Form,
     /// Whether a stall with another library counts.
     pub is_strict: bool,
+    /// Whether lines and a graph have every rank that waits in full, and not a shortest circle alone.
+    pub is_whole: bool,
 }
 
 /// What an explanation is written as.
@@ -80,7 +82,7 @@ pub fn explain_text(
 {
     let explanation = explained(alloc, text)?;
     let status = explanation.verdict.status(options.is_strict);
-    let lines = written(alloc, name, options.form, text, &explanation, status)?;
+    let lines = written(alloc, name, options, text, &explanation, status)?;
     Ok(ExplainedText { lines, status })
 }
 
@@ -102,17 +104,18 @@ fn explained(alloc: Global, text: &[u8]) -> Result<Explanation, JobFault>
 fn written(
     alloc: Global,
     name: &str,
-    form: Form,
+    options: ExplainOptions,
     text: &[u8],
     explanation: &Explanation,
     status: u8,
 ) -> Result<String, JobFault>
     ensures { IsOkUnless result JobFault.Memory }
 {
-    let lines = match form {
-        Form::Text => text_form(alloc, name, text, explanation).ok(),
+    let is_whole = options.is_whole;
+    let lines = match options.form {
+        Form::Text => text_form(alloc, name, is_whole, text, explanation).ok(),
         Form::Json => json_form(alloc, text, explanation, status).ok(),
-        Form::Dot => dot_form(alloc, text, explanation).ok(),
+        Form::Dot => dot_form(alloc, is_whole, text, explanation).ok(),
     };
     lines.ok_or(JobFault::Memory)
 }

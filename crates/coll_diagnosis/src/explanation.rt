@@ -4,6 +4,7 @@ ghost use Rattle.coll_diagnosis.specs.Standing.{IsStandstill};
 use crate::course::{Choice, Course};
 use crate::cure::{Move, cure};
 use crate::job::Job;
+use crate::ring::shortest_ring;
 use crate::source::Source;
 use crate::standstill::{Facts, Standstill};
 use crate::verdict::Verdict;
@@ -30,6 +31,8 @@ pub struct Shown {
     /// What calls choose in it.
     pub choice: Choice,
     pub standstill: Standstill,
+    /// The fewest ranks that wait for one another, in the order in which each waits for the next.
+    pub ring: Vec<u8>,
 }
 
 impl Explanation {
@@ -83,10 +86,13 @@ fn stall_among(
     for choice in [Choice::Best, Choice::First, Choice::Last] {
         let course = Course::of(alloc, job, waiting, choice)?;
         if course.is_stuck() {
+            let standstill = true_standstill(alloc, script, &course)?;
+            let ring = shortest_ring(alloc, &standstill.stuck)?;
             return Ok(Some(Shown {
                 waiting,
                 choice,
-                standstill: true_standstill(alloc, script, &course)?,
+                standstill,
+                ring,
             }));
         }
     }

@@ -4,6 +4,7 @@ use crate::cure::Move;
 use crate::explanation::Explanation;
 use crate::source::Source;
 use crate::standstill::{Pending, Standstill};
+use crate::text_form::headline;
 use crate::verdict::Verdict;
 use serde::Serialize;
 use serde_json::Error;
@@ -25,6 +26,10 @@ struct Waits<'e> {
 struct Explained<'e> {
     reason: &'static str,
     verdict: &'static str,
+    /// The first line for a reader, which says what the verdict means.
+    headline: &'static str,
+    /// The fewest ranks that wait for one another, each for the next.
+    shortest: &'e [u8],
     circle: &'e [u8],
     behind: &'e [u8],
     ended: &'e [u8],
@@ -43,6 +48,8 @@ pub(crate) fn json_form(
     let mut end = Explained {
         reason: "explained",
         verdict: word(explanation.verdict),
+        headline: headline(explanation),
+        shortest: &[],
         circle: &[],
         behind: &[],
         ended: &[],
@@ -52,6 +59,7 @@ pub(crate) fn json_form(
     if let Some(shown) = &explanation.shown {
         let source = Source::new(alloc, text)?;
         push_waits(alloc, &source, &shown.standstill, &mut out)?;
+        end.shortest = &shown.ring;
         end.circle = &shown.standstill.circle;
         end.behind = &shown.standstill.behind;
         end.ended = &shown.standstill.ended;

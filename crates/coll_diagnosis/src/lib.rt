@@ -13,6 +13,7 @@
 //! | `course` | `Course`, how far the ranks come |
 //! | `verdict` | `Verdict`, whether runs stall, and its exit status |
 //! | `circle`, `standstill` | `Standstill`, who waits for whom where no rank can go on |
+//! | `ring` | the fewest ranks that wait for one another |
 //! | `source` | `Source`, the lines of a text, shown and moved |
 //! | `cure` | `Move`, a line that is moved so that the text never stalls |
 //! | `explanation` | `Explanation`, all of this of one text |
@@ -33,6 +34,7 @@ mod json_form;
 mod members;
 mod place;
 mod ranges;
+mod ring;
 mod section;
 mod source;
 mod standstill;

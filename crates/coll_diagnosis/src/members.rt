@@ -1,4 +1,5 @@
 use coll_kinds::MAX_RANKS;
+use std::alloc::{AllocError, Global};
 
 /// A set of members of a communicator, or of ranks of a job.
 #[derive(Clone, Copy, Debug, PartialEq, Eq)]
@@ -10,6 +11,19 @@ impl Members {
     pub const NONE: Members = Members {
         is_member: [false; MAX_RANKS],
     };
+
+    pub const ALL: Members = Members {
+        is_member: [true; MAX_RANKS],
+    };
+
+    /// These.
+    pub fn of(members: &[u8]) -> Members {
+        let mut all = Members::NONE;
+        for member in members {
+            all.insert(*member);
+        }
+        all
+    }
 
     /// This one alone.
     pub fn one(member: u8) -> Members {
@@ -27,6 +41,13 @@ impl Members {
         if let Some(is_member) = self.is_member.get_mut(usize::from(member)) {
             *is_member = true;
         }
+    }
+
+    /// Those of the set, in rising order.
+    pub fn listed(&self, alloc: Global) -> Result<Vec<u8>, AllocError> {
+        (0..MAX_RANKS as u8)
+            .filter(|member| self.contains(*member))
+            .collect(alloc)
     }
 
     /// Takes all members of the other set in.

@@ -2,6 +2,7 @@
 
 use crate::course::Choice;
 use crate::explanation::{Explanation, Shown};
+use crate::members::Members;
 use crate::ranges::push_ranks;
 use crate::source::Source;
 use crate::standstill::{Lack, Pending, Standstill, Stuck};
@@ -9,10 +10,11 @@ use crate::verdict::Verdict;
 use crate::waiting::Waiting;
 use std::alloc::{AllocError, Global};
 
-/// The lines of an explanation of the text that has this name.
+/// The lines of an explanation of the text that has this name: of a shortest circle in full, or of all ranks that wait for themselves.
 pub(crate) fn text_form(
     alloc: Global,
     name: &str,
+    is_whole: bool,
     text: &[u8],
     explanation: &Explanation,
 ) -> Result<String, AllocError> {
@@ -24,11 +26,14 @@ pub(crate) fn text_form(
     let mut form = TextForm {
         alloc,
         name,
+        is_whole,
+        is_shortened: false,
         source: Source::new(alloc, text)?,
         width: digits(last_line(&shown.standstill) as usize),
         shown,
         out,
     };
+    form.tell_ring()?;
     form.tell_circle()?;
     form.tell_others()?;
     form.tell_verdict(explanation)?;
@@ -36,7 +41,7 @@ pub(crate) fn text_form(
 }
 
 /// The first line.
-fn headline(explanation: &Explanation) -> &'static str {
+pub(crate) fn headline(explanation: &Explanation) -> &'static str {
     let choice = explanation.shown.as_ref().map(|shown| shown.choice);
     match (explanation.verdict, choice) {
         (Verdict::Never, _) => "never stalls: each wait ends in every run, with any MPI library",
@@ -47,10 +52,10 @@ fn headline(explanation: &Explanation) -> &'static str {
             "warning: no run of this engine stalls, but one of a library whose collectives wait for all their members may"
         }
         (Verdict::Perhaps, Some(Choice::Last)) => {
-            "warning: may stall, where a waitany takes a later one of several that are done"
+            "warning: may stall, neither proved to end nor proved to stall: it does where a waitany takes a later one of several that are done"
         }
         (Verdict::Perhaps, _) => {
-            "warning: may stall: which request a waitany, waitsome or test takes depends on time"
+            "warning: may stall, neither proved to end nor proved to stall: which request a waitany, waitsome or test takes depends on time"
         }
         (Verdict::AlwaysHere | Verdict::Always, _) => "stalled",
     }
@@ -75,6 +80,9 @@ pub fn digits(number: usize) -> usize {
 struct TextForm<'e> {
     alloc: Global,
     name: &'e str,
+    is_whole: bool,
+    /// Whether something is left out of what is told of all.
+    is_shortened: bool,
     source: Source<'e>,
     /// The columns of the numbers of lines.
     width: usize,
@@ -83,14 +91,46 @@ struct TextForm<'e> {
 }
 
 impl<'e> TextForm<'e> {
-    /// Tells each rank of the circle.
-    fn tell_circle(&mut self) -> Result<(), AllocError> {
-        let standstill = &self.shown.standstill;
-        for rank in &standstill.circle {
-            if let Some(stuck) = standstill.stuck_rank(*rank) {
+    /// Tells each rank of the shortest circle.
+    fn tell_ring(&mut self) -> Result<(), AllocError> {
+        let shown = self.shown;
+        for rank in &shown.ring {
+            if let Some(stuck) = shown.standstill.stuck_rank(*rank) {
                 self.tell_rank(stuck)?;
             }
         }
+        Ok(())
+    }
+
+    /// Tells the other ranks that wait for themselves, a line each where not all is told.
+    fn tell_circle(&mut self) -> Result<(), AllocError> {
+        let shown = self.shown;
+        for rank in &shown.standstill.circle {
+            if !shown.ring.contains(rank) {
+                if let Some(stuck) = shown.standstill.stuck_rank(*rank) {
+                    self.tell_other(stuck)?;
+                }
+            }
+        }
+        Ok(())
+    }
+
+    /// Tells a rank that waits for itself by way of others.
+    fn tell_other(&mut self, stuck: &Stuck) -> Result<(), AllocError> {
+        if self.is_whole {
+            return self.tell_rank(stuck);
+        }
+        self.begin_note()?;
+        write!(self.out, "rank {} waits in line ", stuck.rank)?;
+        self.push_line_number(stuck.line)?;
+        self.out.push_str(" for ")?;
+        let mut lacking = Members::NONE;
+        for request in &stuck.requests {
+            insert_lacking(&mut lacking, &request.lacks);
+        }
+        self.push_noun(&lacking.listed(self.alloc)?)?;
+        self.out.push('\n')?;
+        self.is_shortened = true;
         Ok(())
     }
 
@@ -149,18 +189,28 @@ impl<'e> TextForm<'e> {
         Ok(())
     }
 
-    /// Tells the members that a request lacks.
+    /// Tells the members that a request lacks: those of the shortest circle first, and the others in one line where not all is told.
     fn tell_lacks(&mut self, lacks: &[Lack]) -> Result<(), AllocError> {
+        let mut others = Members::NONE;
         for lack in lacks {
-            self.begin_note()?;
-            let reason = self.reason(lack);
-            writeln!(
-                self.out,
-                "lacks rank {}{}: its line {} stands behind its wait in line {}",
-                lack.rank, reason, lack.line, lack.behind
-            )?;
+            if self.is_whole || self.shown.ring.contains(&lack.rank) {
+                self.tell_lack(lack)?;
+            } else {
+                others.insert(lack.rank);
+                self.is_shortened = true;
+            }
         }
-        Ok(())
+        self.tell_ranks("lacks, too", &others.listed(self.alloc)?)
+    }
+
+    fn tell_lack(&mut self, lack: &Lack) -> Result<(), AllocError> {
+        self.begin_note()?;
+        let reason = self.reason(lack);
+        writeln!(
+            self.out,
+            "lacks rank {}{}: its line {} stands behind its wait in line {}",
+            lack.rank, reason, lack.line, lack.behind
+        )
     }
 
     /// Why a request waits for a member on which its outcome doesn't rest.
@@ -179,7 +229,13 @@ impl<'e> TextForm<'e> {
     fn tell_others(&mut self) -> Result<(), AllocError> {
         let standstill = &self.shown.standstill;
         self.tell_ranks("behind them", &standstill.behind)?;
-        self.tell_ranks("at the end", &standstill.ended)
+        self.tell_ranks("at the end", &standstill.ended)?;
+        if self.is_shortened {
+            self.begin_note()?;
+            self.out
+                .push_str("each in full: colljob explain --all\n")?;
+        }
+        Ok(())
     }
 
     fn tell_ranks(&mut self, what: &str, ranks: &[u8]) -> Result<(), AllocError> {
@@ -187,11 +243,16 @@ impl<'e> TextForm<'e> {
             return Ok(());
         }
         self.begin_note()?;
-        let noun = if ranks.len() == 1 { "rank" } else { "ranks" };
-        write!(self.out, "{what}: {noun} ")?;
-        push_ranks(&mut self.out, ranks)?;
+        write!(self.out, "{what}: ")?;
+        self.push_noun(ranks)?;
         self.out.push('\n')?;
         Ok(())
+    }
+
+    fn push_noun(&mut self, ranks: &[u8]) -> Result<(), AllocError> {
+        let noun = if ranks.len() == 1 { "rank" } else { "ranks" };
+        write!(self.out, "{noun} ")?;
+        push_ranks(&mut self.out, ranks)
     }
 
     /// Tells how far the verdict goes, and what cures the text.
@@ -252,6 +313,13 @@ impl<'e> TextForm<'e> {
             self.out.push(' ')?;
         }
         Ok(())
+    }
+}
+
+/// Takes the ranks in that a request lacks.
+fn insert_lacking(lacking: &mut Members, lacks: &[Lack]) {
+    for lack in lacks {
+        lacking.insert(lack.rank);
     }
 }
 

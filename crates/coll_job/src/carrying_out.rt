@@ -28,6 +28,7 @@ use std::thread::Threads;
 const EXPLAINED: ExplainOptions = ExplainOptions {
     form: Form::Text,
     is_strict: false,
+    is_whole: false,
 };
 
 /// Has a text carried out, writes the files on what the run did, and then the values. Answers the exit status. `file` is that of

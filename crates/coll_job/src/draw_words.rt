@@ -5,7 +5,7 @@ ghost use Rattle.coll_job.specs.Tasks.{workers_of};
 
 use crate::drawing::{Draft, DrawForm};
 use crate::task::{Task, Way};
-use crate::words::{task_on, text_file, workers_argument, workers_in};
+use crate::words::{all_ranks, is_whole, task_on, text_file, workers_argument, workers_in};
 use clap::builder::ValueParser;
 use clap::{Arg, ArgAction, ArgMatches, Command};
 use coll_diagnosis::{ExplainOptions, Form};
@@ -75,6 +75,7 @@ fn draw_waits_command<'a>(alloc: Global) -> Result<Command<'a>, AllocError> {
     Command::new(alloc, "waits")
         .about("Draws who waits for whom where the runs of a job text stall, as `explain` does")
         .arg(dot)?
+        .arg(all_ranks(alloc))?
         .arg(text_file(alloc))
 }
 
@@ -132,6 +133,7 @@ fn waits_options(matches: &ArgMatches<'_>) -> ExplainOptions {
     ExplainOptions {
         form,
         is_strict: false,
+        is_whole: is_whole(matches),
     }
 }
 

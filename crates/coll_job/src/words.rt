@@ -25,6 +25,8 @@ const FILE: &str = "file";
 
 const STRICT: &str = "strict";
 
+const ALL: &str = "all";
+
 const FORM: &str = "form";
 
 const EXPLANATION: &str = "explain";
@@ -62,7 +64,7 @@ The schedules of a collective are drawn without a text; what a run did is drawn 
 
 Exit status: 0 done; 1 a file can't be opened, read fault, write fault; 2 a fault of the text or of the words;
 3 stalled; 4 another refusal of the engine; 5 no memory, no thread, or a report that doesn't agree with the text;
-6 may stall.
+6 may stall, neither proved to end nor proved to stall.
 At a fault standard output stays empty, and one line on standard error tells it, behind the name of FILE; `check` tells all
 faults of a text, each with its line.";
 
@@ -138,7 +140,16 @@ fn explain_command<'a>(alloc: Global) -> Result<Command<'a>, AllocError> {
         )
         .arg(form)?
         .arg(strict)?
+        .arg(all_ranks(alloc))?
         .arg(text_file(alloc))
+}
+
+/// The word for all ranks that wait.
+pub(crate) fn all_ranks<'a>(alloc: Global) -> Arg<'a> {
+    Arg::new(alloc, ALL)
+        .long(ALL)
+        .action(ArgAction::SetTrue)
+        .help("Every rank that waits in full, and not a shortest circle alone; json always has all")
 }
 
 fn check_command<'a>(alloc: Global) -> Result<Command<'a>, AllocError> {
@@ -192,6 +203,7 @@ pub fn task_of<'w>(
         let options = ExplainOptions {
             form: form_of(explain),
             is_strict: explain.get_flag(STRICT),
+            is_whole: is_whole(explain),
         };
         return Ok(task_on(Way::Explain(options), explain));
     }
@@ -241,6 +253,11 @@ pub(crate) fn task_on<'w>(way: Way<'w>, matches: &ArgMatches<'w>) -> Task<'w>
         way,
         file: file_of(matches),
     }
+}
+
+/// Whether the words behind a subcommand ask for all ranks that wait.
+pub(crate) fn is_whole(matches: &ArgMatches<'_>) -> bool {
+    matches.get_flag(ALL)
 }
 
 /// The form that the words behind `check` name.
