@@ -9,6 +9,9 @@ import sys
 TOP = pathlib.Path(__file__).resolve().parent.parent
 WORDS = TOP / "crates/example_rows/data/words"
 VALUES = re.compile(r" \[possible values: ([^\]]*)\]")
+RANGE = re.compile(r"(\d+) to (\d+)")
+# What the script `colljob` answers itself, and the program doesn't know.
+OF_SCRIPT = [["prove", "Proves and builds the program, which then answers at once"]]
 
 
 class Option:
@@ -20,6 +23,9 @@ class Option:
         self.value = value and value.group(1)
         found = VALUES.search(told)
         self.values = found.group(1).split(", ") if found else []
+        numbers = RANGE.search(told)
+        if self.value and not found and numbers:
+            self.values = [str(number) for number in range(int(numbers[1]), int(numbers[2]) + 1)]
         self.told = told
 
 
@@ -104,33 +110,67 @@ def manual(whole, commands, version):
 # ---- completions
 
 
+def names_file(head):
+    return head.strip("[]<>.") == "FILE"
+
+
+def bash_value(option):
+    names = "|".join(option.names)
+    if option.values:
+        return f"                {names}) _colljob_words '{' '.join(option.values)}'; return ;;\n"
+    return f"                {names}) _colljob_files; return ;;\n"
+
+
+def bash_case(page):
+    values = "".join(bash_value(option) for option in page.options if option.value)
+    own = " ".join(each.name.split()[-1] for each in page.inner)
+    case = f"        '{page.name}')\n"
+    case += f'            case "$before" in\n{values}            esac\n' if values else ""
+    case += f"            own='{own}'\n" if own else ""
+    case += "            takes_job=1\n" if any(names_file(head) for head, _ in page.arguments) else ""
+    names = " ".join(name for option in page.options for name in option.names)
+    return case + f"            options='{names}'\n            ;;\n"
+
+
 def bash(whole, commands):
     names = " ".join(name for name, _ in whole.commands)
+    first = " ".join([names] + [name for name, _ in OF_SCRIPT])
     options = " ".join(name for option in whole.options for name in option.names)
-    cases = ""
-    for page in flat(commands):
-        all_names = " ".join(name for option in page.options for name in option.names)
-        values = "".join(
-            f"                {'|'.join(option.names)}) COMPREPLY=($(compgen -W '{' '.join(option.values)}' -- \"$word\")); return ;;\n"
-            for option in page.options
-            if option.values
-        )
-        values += "".join(
-            f"                {'|'.join(option.names)}) COMPREPLY=($(compgen -f -- \"$word\")); return ;;\n"
-            for option in page.options
-            if option.value and not option.values
-        )
-        inner = f'            case "$before" in\n{values}            esac\n' if values else ""
-        own = " ".join(each.name.split()[-1] for each in page.inner)
-        inner += f"            own='{own}'\n" if own else ""
-        cases += f"        '{page.name}')\n{inner}            options='{all_names}'\n            ;;\n"
-    cases += f"        help)\n            COMPREPLY=($(compgen -W '{names}' -- \"$word\"))\n            return\n            ;;\n"
+    cases = "".join(map(bash_case, flat(commands)))
+    cases += f"        help)\n            _colljob_words '{names}'\n            return\n            ;;\n"
     inner = " | ".join(f"'{each.name}'" for page in commands for each in page.inner)
     return f"""# Completions of colljob for bash; completions/generate.py writes this file.
+
+# Adds those of the words that go on as the word does.
+_colljob_words() {{
+    local found
+    mapfile -t found < <(compgen -W "$1" -- "$word")
+    COMPREPLY+=("${{found[@]}}")
+}}
+
+# Adds the files that go on so.
+_colljob_files() {{
+    local found
+    mapfile -t found < <(compgen -f -- "$word")
+    COMPREPLY+=("${{found[@]}}")
+}}
+
+# Adds the job texts that go on so, and the folders that may have some.
+_colljob_jobs() {{
+    local found
+    mapfile -t found < <(compgen -d -- "$word"; compgen -f -X '!*.job' -- "$word")
+    COMPREPLY+=("${{found[@]}}")
+}}
+
 _colljob() {{
-    local word=${{COMP_WORDS[COMP_CWORD]}} before=${{COMP_WORDS[COMP_CWORD - 1]}} command=${{COMP_WORDS[1]}} own options
+    local word=${{COMP_WORDS[COMP_CWORD]}} before=${{COMP_WORDS[COMP_CWORD - 1]}} command=${{COMP_WORDS[1]}} own options takes_job
+    COMPREPLY=()
     if [ "$COMP_CWORD" -eq 1 ]; then
-        COMPREPLY=($(compgen -W '{names} {options}' -- "$word"))
+        if [[ $word == -* ]]; then
+            _colljob_words '{options}'
+        else
+            _colljob_words '{first}'
+        fi
         return
     fi
     if [ "$COMP_CWORD" -gt 2 ]; then
@@ -142,11 +182,11 @@ _colljob() {{
 {cases}        *) return ;;
     esac
     if [[ $word == -* ]]; then
-        COMPREPLY=($(compgen -W "$options" -- "$word"))
-    else
-        [ "$COMP_CWORD" -eq 2 ] || own=
-        COMPREPLY=($(compgen -W "$own" -- "$word") $(compgen -f -- "$word"))
+        _colljob_words "$options"
+        return
     fi
+    [ "$COMP_CWORD" -eq 2 ] && _colljob_words "$own"
+    [ -z "$takes_job" ] || _colljob_jobs
 }}
 complete -o filenames -F _colljob colljob
 """
@@ -167,15 +207,22 @@ def zsh_option(option):
     return f"'({both})'{{{','.join(option.names)}}}'[{told}]{value}'"
 
 
+def zsh_argument(page, head):
+    name = head.strip("[]<>.")
+    own = " ".join(each.name.split()[-1] for each in page.inner)
+    if own:
+        return f"'*:{name}:({own})'"
+    return f"'::{name}:_files -g \"*.job(-.)\"'"
+
+
 def zsh(whole, commands):
-    listed = "".join(f"                '{name}:{quoted(told)}'\n" for name, told in whole.commands)
+    listed = "".join(f"                '{name}:{quoted(told)}'\n" for name, told in whole.commands + OF_SCRIPT)
     cases = ""
     for page in flat(commands):
         lines = [zsh_option(option) for option in page.options]
-        own = " ".join(each.name.split()[-1] for each in page.inner)
-        files = f"({own})" if own else "_files"
-        lines += [f"'::{head.strip('[]<>')}:{files}'" for head, _ in page.arguments]
+        lines += [zsh_argument(page, head) for head, _ in page.arguments]
         cases += f"                '{page.name}')\n                    _arguments " + " \\\n                        ".join(lines) + "\n                    ;;\n"
+    cases += f"                'help')\n                    _arguments '1:COMMAND:({' '.join(name for name, _ in whole.commands)})'\n                    ;;\n"
     own = " \\\n        ".join(zsh_option(option) for option in whole.options)
     inner = " | ".join(f"'{each.name}'" for page in commands for each in page.inner)
     return f"""#compdef colljob
