@@ -1,4 +1,4 @@
-use crate::patch::Patch;
+use crate::patch::{Patch, copied};
 use std::alloc::{AllocError, Global};
 
 /// A text whose faulty lines are mended one after another, so that the lines behind them can be judged.
@@ -81,6 +81,17 @@ impl<'t> Draft<'t> {
                 *line = Line::Mended(patch.block);
             }
         }
+    }
+
+    /// The same lines with these patches.
+    pub(crate) fn with(&self, alloc: Global, patches: &[Patch]) -> Result<Draft<'_>, AllocError> {
+        let mut lines = Vec::new(alloc);
+        for line in &self.lines {
+            lines.push(Line::Written(line.bytes()))?;
+        }
+        let mut draft = Draft { lines };
+        draft.mend(copied(alloc, patches)?);
+        Ok(draft)
     }
 
     /// In whose place each line of the draft stands. Linear in the text.

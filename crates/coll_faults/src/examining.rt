@@ -4,11 +4,11 @@ use crate::draft::Draft;
 use crate::finding::{Detail, Marked};
 use crate::line_faults::remark_of;
 use crate::mending::{Mending, first_accepted, mendings};
-use crate::patch::Patch;
+use crate::patch::copied;
 use crate::remark::{Proposal, Remark};
 use crate::scene::Scene;
 use crate::site::Site;
-use crate::suggestion::Suggestion;
+use crate::trying::suggested;
 use coll_script::Cause;
 use std::alloc::{AllocError, Global};
 
@@ -42,7 +42,7 @@ pub(crate) fn examine(
     let (marked, proposals) = marked(&site, remark);
     let mut marked = marked;
     let mut mending = None;
-    if let Some((suggestion, is_guess)) = first_tried(alloc, draft, line, proposals)? {
+    if let Some((suggestion, is_guess)) = suggested(&site, proposals, &mut marked.notes)? {
         mending = Some(Mending {
             patches: copied(alloc, suggestion.patches())?,
             is_sure: !is_guess,
@@ -86,32 +86,4 @@ fn marked(site: &Site<'_>, remark: Remark) -> (Marked, Vec<Proposal>) {
         suggestion: None,
     };
     (marked, proposals)
-}
-
-/// The first proposal that is accepted, and whether it is a guess.
-fn first_tried(
-    alloc: Global,
-    draft: &Draft<'_>,
-    line: u32,
-    proposals: Vec<Proposal>,
-) -> Result<Option<(Suggestion, bool)>, AllocError> {
-    for proposal in proposals {
-        let Proposal {
-            help,
-            patches,
-            is_guess,
-        } = proposal;
-        if let Some(suggestion) = Suggestion::tried(alloc, draft, line, help, patches)? {
-            return Ok(Some((suggestion, is_guess)));
-        }
-    }
-    Ok(None)
-}
-
-fn copied(alloc: Global, patches: &[Patch]) -> Result<Vec<Patch>, AllocError> {
-    let mut copies = Vec::new(alloc);
-    for patch in patches {
-        copies.push(patch.copied(alloc)?)?;
-    }
-    Ok(copies)
 }

@@ -12,7 +12,7 @@
 //! | `vocabulary` | the words of the format, and what other words may be meant to be |
 //! | `remark` | `Remark`, what is known of a faulty line |
 //! | `signature_faults`, `value_faults`, `request_faults`, `line_faults` | remarks by the rule that is broken |
-//! | `suggestion` | `Suggestion`, a change that was tried |
+//! | `suggestion`, `trying` | `Suggestion`, a change that was tried; how proposals for a line are tried |
 //! | `mending` | what stands in place of a faulty line while those behind it are judged |
 //! | `postings`, `difference`, `place_faults` | requests at one place that don't belong together |
 //! | `finding`, `examining`, `faults` | `Faults`, all that is found in one text |
@@ -35,6 +35,7 @@ mod scene;
 mod signature_faults;
 mod site;
 mod suggestion;
+mod trying;
 mod value_faults;
 mod vocabulary;
 mod words;

@@ -3,9 +3,9 @@
 use crate::patch::Patch;
 use crate::remark::Remark;
 use crate::request_faults::{named_twice, not_startable, too_many_requests, unknown_request};
-use crate::signature_faults::bad_signature;
+use crate::signature_faults::{bad_signature, incomplete};
 use crate::site::Site;
-use crate::value_faults::{ValueFault, comment, of_values};
+use crate::value_faults::{ValueFault, leave_comment, of_values};
 use crate::vocabulary::{VERBS, kind_words, word_meant};
 use crate::words::{first_word, shown, spliced};
 use coll_kinds::{MAX_COMMUNICATORS, MAX_RANKS, read_number};
@@ -169,7 +169,7 @@ fn bad_words(site: &Site<'_>) -> Result<Option<Remark>, AllocError> {
         return Ok(Some(too_many(site, 2)?));
     }
     match site.signed()? {
-        None => Ok(Some(Remark::of(alloc, site.words.len(), "the signature goes on here")?)),
+        None => Ok(Some(incomplete(site)?)),
         Some((end, _)) if site.begins("init") => Ok(Some(too_many(site, end)?)),
         Some(_) => of_values(site, ValueFault::Colon),
     }
@@ -186,9 +186,7 @@ fn too_many(site: &Site<'_>, at: usize) -> Result<Remark, AllocError> {
     };
     let mut remark = Remark::of(alloc, at, label)?;
     remark.count = count.max(1);
-    if site.word(at).first() == Some(&b'#') {
-        comment(site, &mut remark, at)?;
-    } else {
+    if !leave_comment(site, &mut remark, at)? {
         let help = if count == 1 {
             "leave it out"
         } else {
@@ -223,7 +221,9 @@ fn bad_number(site: &Site<'_>) -> Result<Remark, AllocError> {
         }
         at = at.saturating_add(1);
     }
-    Ok(Remark::of(alloc, at, "requests are numbers")?)
+    let mut remark = Remark::of(alloc, at, "requests are numbers")?;
+    leave_comment(site, &mut remark, at)?;
+    Ok(remark)
 }
 
 fn bad_rank(site: &Site<'_>) -> Result<Remark, AllocError> {
@@ -251,7 +251,9 @@ fn bad_rank(site: &Site<'_>) -> Result<Remark, AllocError> {
         at = at.saturating_add(1);
     }
     let last = ranks.saturating_sub(1);
-    Ok(Remark::new(alloc, at, format!(in alloc; "ranks are 0 to {last}")?))
+    let mut remark = Remark::new(alloc, at, format!(in alloc; "ranks are 0 to {last}")?);
+    leave_comment(site, &mut remark, at)?;
+    Ok(remark)
 }
 
 /// A rank that isn't a member of its communicator.

@@ -18,3 +18,12 @@ impl Patch {
         })
     }
 }
+
+/// The same patches once more.
+pub(crate) fn copied(alloc: Global, patches: &[Patch]) -> Result<Vec<Patch>, AllocError> {
+    let mut copies = Vec::new(alloc);
+    for patch in patches {
+        copies.push(patch.copied(alloc)?)?;
+    }
+    Ok(copies)
+}

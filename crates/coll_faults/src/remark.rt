@@ -1,4 +1,4 @@
-use crate::patch::Patch;
+use crate::patch::{Patch, copied};
 use std::alloc::{AllocError, Global};
 
 /// What is known of a faulty line.
@@ -62,5 +62,24 @@ impl Remark {
             is_guess: true,
         })?;
         Ok(())
+    }
+}
+
+impl Proposal {
+    /// The same proposal once more.
+    pub(crate) fn copied(&self, alloc: Global) -> Result<Proposal, AllocError> {
+        Ok(Proposal {
+            help: String::from_str(alloc, self.help.as_str())?,
+            patches: copied(alloc, &self.patches)?,
+            is_guess: self.is_guess,
+        })
+    }
+
+    /// Whether another line stands in place of that one, and all other lines stay.
+    pub(crate) fn changes_alone(&self, line: u32) -> bool {
+        match self.patches.as_slice() {
+            [patch] => patch.line == line && !patch.block.contains(&b'\n'),
+            _ => false,
+        }
     }
 }

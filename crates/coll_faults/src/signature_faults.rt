@@ -2,6 +2,7 @@
 
 use crate::remark::Remark;
 use crate::site::Site;
+use crate::value_faults::space_colon;
 use crate::vocabulary::{
     allowed_words, is_fraction, kind_words, listed, operation_words, type_words, word_meant,
 };
@@ -126,6 +127,9 @@ fn unknown_type(site: &Site<'_>, at: usize) -> Result<Remark, AllocError> {
 /// Of a signature whose words can be read, what is wrong with them.
 fn checked(site: &Site<'_>, fields: &Fields) -> Result<Remark, AllocError> {
     let alloc = site.alloc;
+    if fields.kind.has_counts() {
+        return bad_counts(site, fields.count);
+    }
     if site.number(fields.count).is_none() {
         return count_due(site, fields.count);
     }
@@ -153,6 +157,61 @@ fn checked(site: &Site<'_>, fields: &Fields) -> Result<Remark, AllocError> {
     Ok(Remark::new(alloc, fields.count, size(site, fields)?))
 }
 
+/// What is known of a signature that isn't complete.
+pub(crate) fn incomplete(site: &Site<'_>) -> Result<Remark, AllocError> {
+    let ty = KIND.saturating_add(1);
+    let has_counts = Kind::from_word(site.word(KIND)).is_some_and(|kind| kind.has_counts());
+    if has_counts && Datatype::from_word(site.word(ty)).is_some() {
+        return bad_counts(site, ty.saturating_add(1));
+    }
+    Ok(Remark::of(site.alloc, site.words.len(), "the signature goes on here")?)
+}
+
+/// The first of the members' counts that breaks a rule.
+fn bad_counts(site: &Site<'_>, first: usize) -> Result<Remark, AllocError> {
+    let alloc = site.alloc;
+    let members = site.scene.group(site.number(1).unwrap_or(0)).len();
+    for member in 0..members {
+        let at = first.saturating_add(member);
+        match site.number(at) {
+            None => return member_count_due(site, at, member, members),
+            Some(count) if count > u128::from(MAX_COUNT) => {
+                let label = format!(in alloc; "a count is at most {MAX_COUNT}")?;
+                return Ok(Remark::new(alloc, at, label));
+            }
+            Some(_) => {}
+        }
+    }
+    let label = format!(in alloc; "all members together would give more than {MAX_LEN} bytes")?;
+    let mut remark = Remark::new(alloc, first, label);
+    remark.count = members.max(1);
+    Ok(remark)
+}
+
+/// What stands in the place of a member's count.
+fn member_count_due(
+    site: &Site<'_>,
+    at: usize,
+    member: usize,
+    members: usize,
+) -> Result<Remark, AllocError> {
+    let alloc = site.alloc;
+    let word = site.word(at);
+    if word.is_empty() || word == b":".as_slice() {
+        let verb = if member == 1 { "is" } else { "are" };
+        let label = format!(in alloc;
+            "a count for each of {members} members, here {verb} {member}"
+        )?;
+        return Ok(Remark::new(alloc, at, label));
+    }
+    let label = format!(in alloc;
+        "a count for each of {members} members: that of member {member} stands here"
+    )?;
+    let mut remark = Remark::new(alloc, at, label);
+    space_colon(site, &mut remark, at)?;
+    Ok(remark)
+}
+
 /// What a count breaks that is a number.
 fn size(site: &Site<'_>, fields: &Fields) -> Result<String, AllocError> {
     let alloc = site.alloc;
@@ -171,5 +230,6 @@ fn count_due(site: &Site<'_>, at: usize) -> Result<Remark, AllocError> {
         let help = format!(in alloc; "the count is missing, as `{values}`")?;
         remark.guess(help, site.spliced(at, 0, by.as_str())?)?;
     }
+    space_colon(site, &mut remark, at)?;
     Ok(remark)
 }

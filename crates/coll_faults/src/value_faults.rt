@@ -4,7 +4,7 @@ use crate::remark::Remark;
 use crate::site::{Due, Site, last_signed};
 use crate::words::shown;
 use coll_history::History;
-use coll_kinds::{Datatype, read_element};
+use coll_kinds::{Datatype, read_element, read_number};
 use std::alloc::{AllocError, Global};
 
 /// Where the values of a line begin, and what is due there.
@@ -85,21 +85,78 @@ fn colon_due(site: &Site<'_>, values: &Values<'_>) -> Result<Remark, AllocError>
         let label = format!(in alloc; "`:` and {due} {verb} missing here")?;
         return Ok(Remark::new(alloc, at, label));
     }
+    let further = further_numbers(site, at);
+    if values.due.sig.kind.has_counts() && further > 0 {
+        return too_many_counts(site, at, further);
+    }
     let mut remark = Remark::of(alloc, at, "`:` is due here")?;
-    if site.word(at).first() == Some(&b'#') {
-        comment(site, &mut remark, at)?;
+    if leave_comment(site, &mut remark, at)? {
         return Ok(remark);
     }
+    space_colon(site, &mut remark, at)?;
     let help = String::from_str(alloc, "put `:` before the values")?;
     site.propose(&mut remark, help, at, 0, ":")?;
     Ok(remark)
 }
 
-/// Proposes that a comment stands on a line of its own.
-pub(crate) fn comment(site: &Site<'_>, remark: &mut Remark, at: usize) -> Result<(), AllocError> {
+/// How many numbers stand before the colon from that word on; 0 where no colon stands behind them.
+fn further_numbers(site: &Site<'_>, at: usize) -> usize {
+    let words = site.words.iter().skip(at);
+    let count = words
+        .take_while(|word| read_number(word.bytes).is_some())
+        .count();
+    if site.word(at.saturating_add(count)) == b":".as_slice() {
+        count
+    } else {
+        0
+    }
+}
+
+/// Speaks of counts behind those of all members.
+fn too_many_counts(site: &Site<'_>, at: usize, further: usize) -> Result<Remark, AllocError> {
+    let alloc = site.alloc;
+    let members = site.scene.group(site.number(1).unwrap_or(0)).len();
+    let all = members.saturating_add(further);
+    let label = format!(in alloc; "a count for each of {members} members, here are {all}")?;
+    let mut remark = Remark::new(alloc, at, label);
+    remark.count = further;
+    let help = if further == 1 {
+        "leave it out"
+    } else {
+        "leave them out"
+    };
+    let help = String::from_str(alloc, help)?;
+    site.propose(&mut remark, help, at, further, "")?;
+    Ok(remark)
+}
+
+/// Whether the word begins a comment; then it is proposed that it stands on a line of its own.
+pub(crate) fn leave_comment(
+    site: &Site<'_>,
+    remark: &mut Remark,
+    at: usize,
+) -> Result<bool, AllocError> {
+    if site.word(at).first() != Some(&b'#') {
+        return Ok(false);
+    }
     let help = String::from_str(site.alloc, "a comment stands on a line of its own")?;
     let count = site.words.len().saturating_sub(at);
     site.propose(remark, help, at, count, "")?;
+    Ok(true)
+}
+
+/// Proposes spaces round a colon that stands in a longer word.
+pub(crate) fn space_colon(
+    site: &Site<'_>,
+    remark: &mut Remark,
+    at: usize,
+) -> Result<(), AllocError> {
+    let word = site.word(at);
+    if word.len() > 1 && word.contains(&b':') {
+        let by = shown(site.alloc, word)?.replace(site.alloc, ":", " : ")?;
+        let help = String::from_str(site.alloc, "`:` is a word of its own, with spaces round it")?;
+        site.propose(remark, help, at, 1, by.as_str().trim())?;
+    }
     Ok(())
 }
 
@@ -134,7 +191,83 @@ fn wrong_count(site: &Site<'_>, values: &Values<'_>) -> Result<Remark, AllocErro
         let help = String::from_str(alloc, "leave the values out")?;
         site.propose(&mut remark, help, values.colon, got.saturating_add(1), "")?;
     }
+    part(site, &mut remark, values)?;
+    leave_later_comment(site, &mut remark, first)?;
     Ok(remark)
+}
+
+/// Proposes that the first comment behind values stands on a line of its own.
+fn leave_later_comment(
+    site: &Site<'_>,
+    remark: &mut Remark,
+    first: usize,
+) -> Result<(), AllocError> {
+    let mut at = first;
+    for word in site.words.iter().skip(first) {
+        if word.bytes.first() == Some(&b'#') {
+            break;
+        }
+        at = at.saturating_add(1);
+    }
+    leave_comment(site, remark, at)?;
+    Ok(())
+}
+
+/// Proposes the numbers of the values parted as the type asks, where they are as many as are due: by spaces, and in a pair by a comma.
+fn part(site: &Site<'_>, remark: &mut Remark, values: &Values<'_>) -> Result<(), AllocError> {
+    let first = values.colon.saturating_add(1);
+    let is_pair = values.due.sig.ty.is_pair();
+    let parted = parted_from(site, first, is_pair)?;
+    let each = if is_pair { 2 } else { 1 };
+    if parted.numbers != values.due.values.saturating_mul(each) {
+        return Ok(());
+    }
+    let by = parted.words.as_str();
+    let help = if is_pair {
+        format!(in site.alloc; "a comma stands between the two of a pair: `{by}`")?
+    } else {
+        format!(in site.alloc; "spaces stand between values: `{by}`")?
+    };
+    let count = site.words.len().saturating_sub(first);
+    site.propose(remark, help, first, count, by)
+}
+
+/// Numbers as words of values.
+#[derive(Drop)]
+struct Parted {
+    words: String,
+    numbers: usize,
+}
+
+/// What stands between commas and spaces from a word on, in pairs or each by itself.
+fn parted_from(site: &Site<'_>, first: usize, is_pair: bool) -> Result<Parted, AllocError> {
+    let mut parted = Parted {
+        words: String::new(site.alloc),
+        numbers: 0,
+    };
+    for word in site.words.iter().skip(first) {
+        push_numbers(site.alloc, &mut parted, word.bytes, is_pair)?;
+    }
+    Ok(parted)
+}
+
+fn push_numbers(
+    alloc: Global,
+    parted: &mut Parted,
+    word: &[u8],
+    is_pair: bool,
+) -> Result<(), AllocError> {
+    for number in word.split(|byte| *byte == b',') {
+        if !number.is_empty() {
+            if parted.numbers > 0 {
+                let is_second = is_pair && parted.numbers % 2 == 1;
+                parted.words.push(if is_second { ',' } else { ' ' })?;
+            }
+            parted.words.push_str(shown(alloc, number)?.as_str())?;
+            parted.numbers = parted.numbers.saturating_add(1);
+        }
+    }
+    Ok(())
 }
 
 fn bad_value(site: &Site<'_>, values: &Values<'_>) -> Result<Remark, AllocError> {
@@ -159,6 +292,8 @@ fn bad_value(site: &Site<'_>, values: &Values<'_>) -> Result<Remark, AllocError>
         let help = format!(in alloc; "without a sign: {by}")?;
         site.propose(&mut remark, help, at, 1, by.as_str())?;
     }
+    leave_comment(site, &mut remark, at)?;
+    part(site, &mut remark, values)?;
     Ok(remark)
 }
 

@@ -159,43 +159,41 @@ pub fn do_task<
     match task.file {
         None => {
             let answer = write_answer(host, alloc, screen, task, input, output, errors);
-            let why = error_of(&answer, input.error(), output.error());
-            ended(None, answer, why, errors.stream)
+            ended(None, answer, input.error(), output.error(), errors.stream)
         }
         Some(name) => {
             let answer = answer_file(host, alloc, screen, task, name, output, errors);
-            let why = error_of(&answer, host.error(), output.error());
-            ended(Some(name), answer, why, errors.stream)
+            ended(Some(name), answer, host.error(), output.error(), errors.stream)
         }
     }
 }
 
-/// The error of the stream whose fault is answered, of those of the input and of the output.
-fn error_of(
-    answer: &Result<u8, JobFault>,
-    read: Option<io::Error>,
-    written: Option<io::Error>,
-) -> Option<io::Error> {
-    match answer {
-        Err(JobFault::Read) => read,
-        Err(JobFault::Write) => written,
-        _ => None,
-    }
-}
-
-/// The exit status of an answer. A fault is told, with the error of its stream.
+/// The exit status of an answer. A fault is told, one of reading or of writing with the error that the stream gave.
 fn ended<E: Write>(
     file: Option<&str>,
     answer: Result<u8, JobFault>,
-    why: Option<io::Error>,
+    read: Option<io::Error>,
+    written: Option<io::Error>,
     errors: &mut E,
 ) -> u8
     ensures { MatchResult answer (λ status. result ≡ status) (λ fault. result ≡ status_of fault) }
 {
-    match (answer, why) {
-        (Ok(status), _) => status,
-        (Err(fault), Some(error)) => told_with(file, fault, error, errors),
-        (Err(fault), None) => told(file, fault, errors),
+    match answer {
+        Ok(status) => status,
+        Err(fault) => told_with(file, fault, error_of(fault, read, written), errors),
+    }
+}
+
+/// The error of the stream that the fault is one of.
+fn error_of(
+    fault: JobFault,
+    read: Option<io::Error>,
+    written: Option<io::Error>,
+) -> Option<io::Error> {
+    match fault {
+        JobFault::Read => read,
+        JobFault::Write => written,
+        _ => None,
     }
 }
 
@@ -332,7 +330,7 @@ fn show<W: Write, E: Write>(
     };
     match write_lines(output, text.as_str().as_bytes()) {
         Ok(()) => 0,
-        Err(_) => ended(None, Err(JobFault::Write), output.error(), errors),
+        Err(_) => told_with(None, JobFault::Write, output.error(), errors),
     }
 }
 
@@ -340,32 +338,46 @@ fn show<W: Write, E: Write>(
 pub fn told<E: Write>(file: Option<&str>, fault: JobFault, errors: &mut E) -> u8
     ensures { result ≡ status_of fault }
 {
-    name_file(file, fault, errors);
-    let _ = fault.print(errors);
-    fault.status()
+    told_with(file, fault, None, errors)
 }
 
-/// Tells a fault with the error of its stream. Where whoever read the output has gone nothing is told, as other tools do.
+/// Tells a fault with the error of its stream, if it has one. Where whoever read the output has gone nothing is told, as other tools do.
 fn told_with<E: Write>(
     file: Option<&str>,
     fault: JobFault,
-    error: io::Error,
+    error: Option<io::Error>,
     errors: &mut E,
 ) -> u8
     ensures { result ≡ status_of fault }
 {
-    if fault != JobFault::Write || error.kind() != io::ErrorKind::BrokenPipe {
-        name_file(file, fault, errors);
-        let _ = writeln!(errors, "{fault}: {error}");
+    if !is_gone(error) {
+        let _ = tell(file, fault, error, errors);
     }
     fault.status()
 }
 
-/// Names the text's file before a fault that isn't one of the output.
-fn name_file<E: Write>(file: Option<&str>, fault: JobFault, errors: &mut E) {
+/// Whether nobody reads what was written.
+fn is_gone(error: Option<io::Error>) -> bool {
+    match error {
+        Some(error) => error.kind() == io::ErrorKind::BrokenPipe,
+        None => false,
+    }
+}
+
+/// Writes the line of a fault.
+fn tell<E: Write>(
+    file: Option<&str>,
+    fault: JobFault,
+    error: Option<io::Error>,
+    errors: &mut E,
+) -> io::Result<()> {
     if let Some(name) = file {
         if fault != JobFault::Write {
-            let _ = write!(errors, "{name}: ");
+            write!(errors, "{name}: ")?;
         }
+    }
+    match error {
+        Some(error) => writeln!(errors, "{fault}: {error}"),
+        None => fault.print(errors),
     }
 }

@@ -7,10 +7,22 @@ use std::thread::Threads;
 
 /// The stored texts of `draws/`, and the words of a command line that print them: a drawing on standard output, of waits with the
 /// status of a stall, or what is wrong with the words on standard error.
-pub const DRAWS: [(&str, &[&str]); 7] = [
+pub const DRAWS: [(&str, &[&str]); 9] = [
     (
         "allreduce_of_six.txt",
         &["draw", "allreduce sum i32 1", "--members", "6"],
+    ),
+    (
+        "allreduce_of_six.txt",
+        &[
+            "draw",
+            "allreduce",
+            "sum",
+            "i32",
+            "1",
+            "--members",
+            "6",
+        ],
     ),
     (
         "exscan_of_five.txt",
@@ -27,6 +39,10 @@ pub const DRAWS: [(&str, &[&str]); 7] = [
     (
         "crossed_barriers.dot",
         &["draw", "waits", "--dot", "crossed_barriers.job"],
+    ),
+    (
+        "many_circles.dot",
+        &["draw", "waits", "--dot", "--all", "stalls/many_circles.job"],
     ),
     (
         "other_operation.fault",

@@ -1,7 +1,7 @@
 //! Answers the stored examples, directly and by threads: each job text of the folder that this program runs in, against
 //! the lines or the fault that are stored beside it, and why it stalls. It prints one line for each text, then one for each
 //! job text of `stalls/`, which is only explained, one for each of `mistakes/`, which is only checked, one for each text of `runs/`, whose
-//! run's files are compared, one for files that aren't written, and then one for each text of `words/` and `draws/`, which the program
+//! run's files are compared, one for files that aren't written, one for files that were there before, and then one for each text of `words/` and `draws/`, which the program
 //! prints of its own words. Then it goes on as `colljob` does with its own words and standard input, which has a text with a fault: so it
 //! ends with the status for that, and writes no more.
 #![tactic(auto)]
@@ -9,6 +9,7 @@
 mod answer;
 mod draw;
 mod example;
+mod kept;
 mod mistake;
 mod shown;
 mod stall;
@@ -17,6 +18,7 @@ mod words;
 use coll_job::main_of;
 use draw::{DRAWS, is_drawn};
 use example::Example;
+use kept::is_mode_kept;
 use mistake::is_checked;
 use shown::{SHOWN, is_kept_back, is_shown};
 use stall::is_explained;
@@ -54,6 +56,7 @@ fn answer_all<M: Threads + Wait + Sync + Files + Clock>(
         print(rt, name, is_shown(rt, machine, name)?)?;
     }
     print(rt, "unwritten", is_kept_back(machine, rt.alloc())?)?;
+    print(rt, "kept", is_mode_kept(rt, machine)?)?;
     for (text, words) in TEXTS {
         print(rt, text, are_answered(rt, machine, text, words)?)?;
     }

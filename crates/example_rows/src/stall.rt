@@ -9,7 +9,7 @@ use std::thread::Threads;
 /// The forms of an explanation, which are the endings of the files that have them.
 const FORMS: [&str; 3] = ["text", "json", "dot"];
 
-/// Whether the text `stalls/NAME.job` is explained as stored, in each form that is stored beside it.
+/// Whether the text `stalls/NAME.job` is explained as stored, in each form that is stored beside it: of all ranks in `NAME.all`.
 pub fn is_explained<M: Threads + Wait + Sync + Files + Clock>(
     rt: &HostRuntime,
     machine: &M,
@@ -24,6 +24,12 @@ pub fn is_explained<M: Threads + Wait + Sync + Files + Clock>(
             if Answer::to(machine, rt.alloc(), &words, b"")? != answer(rt.alloc(), status, lines) {
                 return Ok(false);
             }
+        }
+    }
+    if let Ok(lines) = fs::read(rt, format!(in rt.alloc(); "stalls/{name}.all")?) {
+        let words = ["explain", "--all", file.as_str()];
+        if Answer::to(machine, rt.alloc(), &words, b"")? != answer(rt.alloc(), status, lines) {
+            return Ok(false);
         }
     }
     let strict = ["explain", "--strict", file.as_str()];

@@ -5,7 +5,7 @@ use coll_job::run;
 use std::alloc::Global;
 use std::fs::Files;
 use std::io;
-use std::io::{Cursor, Write};
+use std::io::{Cursor, ErrorKind, Read, Write};
 use std::rt::Clock;
 use std::sync::Wait;
 use std::test::Fail;
@@ -21,13 +21,15 @@ const ITS_LINES: &str = "rank 0 req 0 start 0 : 3\nrank 1 req 0 start 0 : 3\n";
 struct Short {
     taken: Vec<u8>,
     room: usize,
+    why: ErrorKind,
 }
 
 impl Short {
-    fn new(alloc: Global, room: usize) -> Short {
+    fn new(alloc: Global, room: usize, why: ErrorKind) -> Short {
         Short {
             taken: Vec::new(alloc),
             room,
+            why,
         }
     }
 }
@@ -35,16 +37,26 @@ impl Short {
 impl Write for Short {
     fn write(&mut self, buf: &[u8]) -> io::Result<usize> {
         if self.taken.len() + buf.len() > self.room {
-            return Err(io::Error::from(io::ErrorKind::StorageFull));
+            return Err(io::Error::from(self.why));
         }
         match self.taken.extend_from_slice(buf) {
             Ok(()) => Ok(buf.len()),
-            Err(_) => Err(io::Error::from(io::ErrorKind::OutOfMemory)),
+            Err(_) => Err(io::Error::from(ErrorKind::OutOfMemory)),
         }
     }
 
     fn flush(&mut self) -> io::Result<()> {
         Ok(())
+    }
+}
+
+/// A reader that always fails.
+#[derive(Drop)]
+struct Broken;
+
+impl Read for Broken {
+    fn read(&mut self, _buf: &mut [u8]) -> io::Result<usize> {
+        Err(io::Error::from(ErrorKind::ConnectionReset))
     }
 }
 
@@ -56,23 +68,29 @@ fn seen<M: Threads + Wait + Sync + Files + Clock>(
     text: &str,
     room: usize,
 ) -> Result<(u8, String, String), Fail> {
+    let mut output = Short::new(alloc, room, ErrorKind::StorageFull);
+    let mut input = Cursor::new(text.as_bytes());
+    let (status, told) = answered(machine, alloc, words, &mut input, &mut output)?;
+    let lines = String::from_utf8(output.taken).ok().ok_or("text")?;
+    Ok((status, lines, told))
+}
+
+/// The exit status, and what went to standard error.
+fn answered<M: Threads + Wait + Sync + Files + Clock, R: Read, W: Write>(
+    machine: &M,
+    alloc: Global,
+    words: &[&str],
+    input: &mut R,
+    output: &mut W,
+) -> Result<(u8, String), Fail> {
     let mut owned = Vec::new(alloc);
     for word in words {
         owned.push(String::from_str(alloc, word)?)?;
     }
-    let mut output = Short::new(alloc, room);
-    let mut errors = Short::new(alloc, 4096);
-    let status = run(
-        machine,
-        alloc,
-        &owned,
-        &mut Cursor::new(text.as_bytes()),
-        &mut output,
-        &mut errors,
-    );
+    let mut errors = Short::new(alloc, 4096, ErrorKind::StorageFull);
+    let status = run(machine, alloc, &owned, input, output, &mut errors);
     let told = String::from_utf8(errors.taken).ok().ok_or("text")?;
-    let lines = String::from_utf8(output.taken).ok().ok_or("text")?;
-    Ok((status, lines, told))
+    Ok((status, told))
 }
 
 const TASKS: [&[&str]; 4] = [
@@ -92,11 +110,33 @@ fn answers_and_faults(rt: HostRuntime) -> Result<(), Fail> {
                 4096,
                 (2, "", "line 3: bad rank\n"),
             ),
-            (SUM_OF_TWO, 10, (1, "", "write fault\n")),
+            (
+                SUM_OF_TWO,
+                10,
+                (1, "", "write fault: no storage space\n"),
+            ),
         ] {
             let (status, lines, told) = seen(&rt, rt.alloc(), task, text, room)?;
             assert_eq!(rt; (status, lines.as_str(), told.as_str()), want);
         }
+    }
+    Ok(())
+}
+
+/// Nothing is told where whoever read the output has gone, and the reason where the input fails.
+#[test]
+fn streams_that_fail(rt: HostRuntime) -> Result<(), Fail> {
+    for task in TASKS {
+        let mut gone = Short::new(rt.alloc(), 0, ErrorKind::BrokenPipe);
+        let mut input = Cursor::new(SUM_OF_TWO.as_bytes());
+        let (status, told) = answered(&rt, rt.alloc(), task, &mut input, &mut gone)?;
+        assert_eq!(rt; (status, told.as_str()), (1, ""));
+        let mut output = Short::new(rt.alloc(), 4096, ErrorKind::StorageFull);
+        let (status, told) = answered(&rt, rt.alloc(), task, &mut Broken, &mut output)?;
+        assert_eq!(rt;
+            (status, told.as_str()),
+            (1, "read fault: connection reset\n")
+        );
     }
     Ok(())
 }
@@ -179,7 +219,7 @@ fn words(rt: HostRuntime) -> Result<(), Fail> {
     let (status, lines, told) = seen(&rt, rt.alloc(), &["colljob", "--help"], "", 10)?;
     assert_eq!(rt;
         (status, lines.as_str(), told.as_str()),
-        (1, "", "write fault\n")
+        (1, "", "write fault: no storage space\n")
     );
     Ok(())
 }
@@ -191,7 +231,7 @@ round 0  o<---->o   2 messages of 0 bytes
 ";
 
 /// Words behind `draw`, the room of standard output, and what is seen then.
-const DRAWINGS: [(&[&str], usize, (u8, &str, &str)); 4] = [
+const DRAWINGS: [(&[&str], usize, (u8, &str, &str)); 5] = [
     (
         &["colljob", "draw", "barrier", "--members", "2"],
         4096,
@@ -200,7 +240,16 @@ const DRAWINGS: [(&[&str], usize, (u8, &str, &str)); 4] = [
     (
         &["colljob", "draw", "barrier", "--members", "2"],
         10,
-        (1, "", "write fault\n"),
+        (1, "", "write fault: no storage space\n"),
+    ),
+    (
+        &["colljob", "draw", "allreduce", "--members=6", "sum", "i23", "1"],
+        4096,
+        (
+            2,
+            "",
+            "error: bad signature\n  | allreduce sum i23 1\n  |               ^^^ no type has this name\n  = help: did you mean `i32`?\n",
+        ),
     ),
     (
         &["colljob", "draw", "barrier 1", "--members", "2"],

@@ -1,0 +1,128 @@
+//! Proposals for a line are tried. Where a line has several mistakes, that of each one is put upon that of the one before.
+
+use crate::draft::Draft;
+use crate::line_faults::remark_of;
+use crate::patch::copied;
+use crate::remark::{Proposal, Remark};
+use crate::scene::Scene;
+use crate::site::Site;
+use crate::suggestion::Suggestion;
+use coll_history::{History, ScriptFault};
+use coll_kinds::MAX_TEXT;
+use coll_script::Cause;
+use std::alloc::{AllocError, Global};
+
+/// The first of the proposals that is accepted, by itself or with those for the further mistakes of the line, and whether some of it is a
+/// guess. Where there is none, what is proposed for the first mistakes goes to the notes, with what is known of the next one.
+pub(crate) fn suggested(
+    site: &Site<'_>,
+    proposals: Vec<Proposal>,
+    notes: &mut Vec<String>,
+) -> Result<Option<(Suggestion, bool)>, AllocError> {
+    let mut tried = tried(site, proposals)?;
+    for _ in &site.words {
+        match tried {
+            Trial::Accepted(suggestion, is_guess) => return Ok(Some((suggestion, is_guess))),
+            Trial::Refused(proposal) => tried = further(site, proposal, notes)?,
+            Trial::Nothing => return Ok(None),
+        }
+    }
+    Ok(None)
+}
+
+/// What became of proposals.
+#[derive(Drop)]
+enum Trial {
+    /// One was accepted, which may be a guess.
+    Accepted(Suggestion, bool),
+    /// None was, and this is the first that changes the line alone.
+    Refused(Proposal),
+    /// There is none that changes the line alone.
+    Nothing,
+}
+
+/// Tries proposals, the likeliest first.
+fn tried(site: &Site<'_>, proposals: Vec<Proposal>) -> Result<Trial, AllocError> {
+    let mut first = Trial::Nothing;
+    for proposal in proposals {
+        let Proposal {
+            help,
+            patches,
+            is_guess,
+        } = proposal.copied(site.alloc)?;
+        if let Some(suggestion) = Suggestion::tried(
+            site.alloc, site.draft, site.line, help, patches,
+        )? {
+            return Ok(Trial::Accepted(suggestion, is_guess));
+        }
+        if matches!(&first, Trial::Nothing) && proposal.changes_alone(site.line) {
+            first = Trial::Refused(proposal);
+        }
+    }
+    Ok(first)
+}
+
+/// Tries what is proposed for the next mistake of a line in which this proposal mends the mistakes before. Where nothing is, the notes
+/// get what is known.
+fn further(site: &Site<'_>, done: Proposal, notes: &mut Vec<String>) -> Result<Trial, AllocError> {
+    let draft = site.draft.with(site.alloc, &done.patches)?;
+    let Some(remark) = next_remark(site.alloc, &draft, site.scene, site.line)? else {
+        return Ok(Trial::Nothing);
+    };
+    let Remark {
+        label,
+        proposals,
+        ..
+    } = remark;
+    let found = tried(site, upon(site.alloc, &done, proposals)?)?;
+    if matches!(&found, Trial::Nothing) && !done.is_guess {
+        notes.push(done.help)?;
+        notes.push(format!(in site.alloc; "further in this line: {label}")?)?;
+    }
+    Ok(found)
+}
+
+/// What is known of the line of the draft, none before which has a fault.
+fn next_remark(
+    alloc: Global,
+    draft: &Draft<'_>,
+    scene: &Scene,
+    line: u32,
+) -> Result<Option<Remark>, AllocError> {
+    match next_cause(alloc, draft, line)? {
+        Some(cause) => remark_of(&Site::new(alloc, draft, scene, line)?, cause),
+        None => Ok(None),
+    }
+}
+
+/// The rule that the line of the draft breaks, none before which does.
+fn next_cause(alloc: Global, draft: &Draft<'_>, line: u32) -> Result<Option<Cause>, AllocError> {
+    let front = draft.front(alloc, line, &[])?;
+    if front.len() > MAX_TEXT {
+        return Ok(None);
+    }
+    match History::read(alloc, &front) {
+        Ok(_history) => Ok(None),
+        Err(ScriptFault::Text(fault)) => Ok(Some(fault.cause)),
+        Err(ScriptFault::NoMemory) => Err(AllocError),
+    }
+}
+
+/// Proposals for a line that another proposal has changed already.
+fn upon(
+    alloc: Global,
+    done: &Proposal,
+    proposals: Vec<Proposal>,
+) -> Result<Vec<Proposal>, AllocError> {
+    let mut all = Vec::new(alloc);
+    for proposal in proposals {
+        let first = done.help.as_str();
+        let then = proposal.help.as_str();
+        all.push(Proposal {
+            help: format!(in alloc; "{first}; {then}")?,
+            patches: copied(alloc, &proposal.patches)?,
+            is_guess: done.is_guess || proposal.is_guess,
+        })?;
+    }
+    Ok(all)
+}
