@@ -350,13 +350,13 @@ fn told_with<E: Write>(
 ) -> u8
     ensures { result ≡ status_of fault }
 {
-    if !is_gone(error) {
+    if fault != JobFault::Write || !is_gone(error) {
         let _ = tell(file, fault, error, errors);
     }
     fault.status()
 }
 
-/// Whether nobody reads what was written.
+/// Whether whoever read what was written has gone.
 fn is_gone(error: Option<io::Error>) -> bool {
     match error {
         Some(error) => error.kind() == io::ErrorKind::BrokenPipe,
