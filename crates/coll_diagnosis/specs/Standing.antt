@@ -16,6 +16,7 @@ use Rattle.coll_history.specs.Code.{requests_view, rows_view}
 use Rattle.coll_history.specs.Histories.{History, is_persistent, starts}
 use Rattle.coll_history.specs.Requests.{requests}
 use Rattle.coll_diagnosis.specs.declared.cure.Move.{Move}
+use Rattle.coll_diagnosis.specs.declared.explanation.Shown.{Shown}
 use Rattle.coll_diagnosis.specs.declared.standstill.Lack.{Lack}
 use Rattle.coll_diagnosis.specs.declared.standstill.Pending.{Pending}
 use Rattle.coll_diagnosis.specs.declared.standstill.Stuck.{Stuck}
@@ -197,6 +198,11 @@ IsStandstill h standstill =
     × (requests_view ranks ≡ requests h)
     × (rows_view groups ≡ h.groups)
     × (standstill_holds h.commands ranks groups standstill ≡ true)
+
+-- what is shown of a stall: where the ranks stand, and some of them that wait for one another
+pub record IsShown (h : History) (shown : Shown) : Type 0 where
+  pub standing : IsStandstill h shown.standstill
+  pub ring : circle_holds shown.ring.items shown.standstill.stuck.items ≡ true
 
 -- the line is moved behind a later one
 abbrev pub IsLater : Move → Type 0

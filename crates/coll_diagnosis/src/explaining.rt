@@ -1,10 +1,11 @@
 //! From a reader to a writer: a text explained.
 
-ghost use Rattle.std.specs.Prelude.{◌≡◌, ◌≢◌, IfOk, IfErr, IfSome, OnOk, IsOkUnless};
-ghost use Rattle.std.specs.Io.KnownBytes.{Keeps};
+ghost use Rattle.std.specs.Prelude.{◌≡◌, ◌≢◌, ℕ, List, IfOk, IfErr, IfSome, OnOk, IsOkUnless};
+ghost use Rattle.std.specs.Io.KnownBytes.{Appends, Keeps};
+ghost use Rattle.std.specs.String.{string_bytes};
 ghost use Rattle.coll_script.specs.Meaning.{HasMeaning};
 ghost use Rattle.coll_script.specs.Plain.{HasCause, IsFaultOf, IsInputFault};
-ghost use Rattle.coll_diagnosis.specs.Verdicts.{IsStatus};
+ghost use Rattle.coll_diagnosis.specs.Verdicts.{Begins, IsStatus, Says, heading};
 
 use crate::dot_form::dot_form;
 use crate::explanation::Explanation;
@@ -56,6 +57,8 @@ pub fn explain_job<R: Read, W: Write>(
     // Only a text that has a meaning is explained.
     ensures meaning { OnOk result (IfSome (R.remaining reader.old.reader.now) HasMeaning) }
     ensures status { IfOk result IsStatus }
+    // What was written, and nothing else, is an explanation with that status.
+    ensures said { IfOk result (λ status. (lines : List ℕ) × Says options status lines × Appends (W.contents writer.old.stream.now) (W.contents writer.new.stream.now) lines) }
     // The fault of a text is the one that its definition gives.
     ensures faults { IfErr result (IsInputFault (R.remaining reader.old.reader.now)) }
     // A read fault is answered only where the reader failed, and a write fault only where the writer did.
@@ -78,6 +81,7 @@ pub fn explain_text(
 ) -> Result<ExplainedText, JobFault>
     ensures meaning { OnOk result (HasMeaning text.now) }
     ensures status { IfOk result (λ explained. IsStatus explained.status) }
+    ensures said { IfOk result (λ explained. Says options explained.status (string_bytes explained.lines)) }
     ensures faults { IfErr result (IsFaultOf text.now) }
 {
     let explanation = explained(alloc, text)?;
@@ -109,7 +113,8 @@ fn written(
     explanation: &Explanation,
     status: u8,
 ) -> Result<String, JobFault>
-    ensures { IsOkUnless result JobFault.Memory }
+    ensures refusal { IsOkUnless result JobFault.Memory }
+    ensures words { IfOk result (λ lines. options.form ≡ Form.Text → Begins (heading explanation.now.verdict) (string_bytes lines)) }
 {
     let is_whole = options.is_whole;
     let lines = match options.form {

@@ -1,5 +1,5 @@
 ghost use Rattle.std.specs.Prelude.{IfOk, IfSome};
-ghost use Rattle.coll_diagnosis.specs.Standing.{IsStandstill};
+ghost use Rattle.coll_diagnosis.specs.Standing.{IsShown, IsStandstill};
 
 use crate::course::{Choice, Course};
 use crate::cure::{Move, cure};
@@ -38,13 +38,13 @@ pub struct Shown {
 impl Explanation {
     ghost use Rattle.std.specs.Prelude.{◌≡◌, false, None, IfOk, IfSome};
     ghost use Rattle.coll_diagnosis.specs.declared.verdict.Verdict.TheVariants.{Never};
-    ghost use Rattle.coll_diagnosis.specs.Standing.{IsLater, IsStandstill};
+    ghost use Rattle.coll_diagnosis.specs.Standing.{IsLater, IsShown};
     ghost use Rattle.coll_diagnosis.specs.Verdicts.{is_always_here};
 
     /// Judges a text without a fault. No run is searched for: each course lets all ranks go on while they can.
     pub fn of(alloc: Global, text: &[u8], script: &Script) -> Result<Explanation, Refusal>
         // What is shown is true of the commands of the text.
-        ensures shown { IfOk result (λ e. IfSome e.shown (λ shown. IsStandstill script.now shown.standstill)) }
+        ensures shown { IfOk result (λ e. IfSome e.shown (IsShown script.now)) }
         ensures never { IfOk result (λ e. e.verdict ≡ Never → e.shown ≡ None) }
         ensures cure { IfOk result (λ e. IfSome e.cure IsLater) }
         ensures uncured { IfOk result (λ e. is_always_here e.verdict ≡ false → e.cure ≡ None) }
@@ -81,13 +81,16 @@ fn stall_among(
     job: &Job,
     waiting: Waiting,
 ) -> Result<Option<Shown>, Refusal>
-    ensures { IfOk result (λ found. IfSome found (λ shown. IsStandstill script.now shown.standstill)) }
+    ensures { IfOk result (λ found. IfSome found (IsShown script.now)) }
 {
     for choice in [Choice::Best, Choice::First, Choice::Last] {
         let course = Course::of(alloc, job, waiting, choice)?;
         if course.is_stuck() {
             let standstill = true_standstill(alloc, script, &course)?;
             let ring = shortest_ring(alloc, &standstill.stuck)?;
+            if !standstill.is_circle(&ring) {
+                return Err(Refusal::Torn);
+            }
             return Ok(Some(Shown {
                 waiting,
                 choice,

@@ -113,7 +113,7 @@ impl Standstill {
         ensures { result ≡ standstill_holds facts.now.issued.now facts.now.ranks.now facts.now.groups.now self.now }
     {
         self.all_hold(facts)
-            && self.circle_holds()
+            && self.is_circle(&self.circle)
             && self.rest_holds()
             && self.ends_hold(facts.ranks.len())
     }
@@ -125,25 +125,26 @@ impl Standstill {
         self.stuck.iter().all(|stuck| stuck.holds(facts))
     }
 
-    /// Whether there are ranks in the circle, and each of them waits for one of them.
-    fn circle_holds(&self) -> bool
-        ensures { result ≡ circle_holds self.now.circle.items self.now.stuck.items }
+    /// Whether these are ranks each of which waits for one of them.
+    pub(crate) fn is_circle(&self, ranks: &[u8]) -> bool
+        ensures { result ≡ circle_holds ranks.now self.now.stuck.items }
     {
-        !self.circle.is_empty() && self.all_wait()
+        !ranks.is_empty() && self.all_wait(ranks)
     }
 
-    /// Whether each rank of the circle waits for one of them.
-    fn all_wait(&self) -> bool
-        ensures { result ≡ list_all (λ rank. list_any (waits_for_one self.now.circle.items rank) self.now.stuck.items) self.now.circle.items }
+    fn all_wait(&self, ranks: &[u8]) -> bool
+        ensures { result ≡ list_all (λ rank. list_any (waits_for_one ranks.now rank) self.now.stuck.items) ranks.now }
     {
-        self.circle.iter().all(|rank| self.waits_for_one(*rank))
+        ranks.iter().all(|rank| self.waits_for_one(*rank, ranks))
     }
 
-    /// Whether that rank waits for one of the circle.
-    fn waits_for_one(&self, rank: u8) -> bool
-        ensures { result ≡ list_any (waits_for_one self.now.circle.items rank) self.now.stuck.items }
+    /// Whether that rank waits for one of these.
+    fn waits_for_one(&self, rank: u8, ranks: &[u8]) -> bool
+        ensures { result ≡ list_any (waits_for_one ranks.now rank) self.now.stuck.items }
     {
-        self.stuck.iter().any(|stuck| stuck.rank == rank && stuck.waits_for_one(&self.circle))
+        self.stuck
+            .iter()
+            .any(|stuck| stuck.rank == rank && stuck.waits_for_one(ranks))
     }
 
     /// Whether each rank that waits is in the circle or after it.

@@ -1,5 +1,9 @@
 //! An explanation as lines for a reader.
 
+ghost use Rattle.std.specs.Prelude.{◌≡◌, ◌++◌, ◌∷◌, IfOk};
+ghost use Rattle.std.specs.String.{string_bytes};
+ghost use Rattle.coll_diagnosis.specs.Verdicts.{Begins, heading};
+
 use crate::course::Choice;
 use crate::explanation::{Explanation, Shown};
 use crate::members::Members;
@@ -17,11 +21,31 @@ pub(crate) fn text_form(
     is_whole: bool,
     text: &[u8],
     explanation: &Explanation,
+) -> Result<String, AllocError>
+    ensures { IfOk result (λ lines. Begins (heading explanation.now.verdict) (string_bytes lines)) }
+{
+    let head = headline(explanation);
+    let rest = rest_form(alloc, name, is_whole, text, explanation)?;
+    after(alloc, head, rest.as_str())
+}
+
+/// The lines after a first one.
+fn after(alloc: Global, head: &str, rest: &str) -> Result<String, AllocError>
+    ensures { IfOk result (λ text. string_bytes text ≡ head.now ++ 10 ∷ rest.now) }
+{
+    format!(in alloc; "{head}\n{rest}")
+}
+
+/// The lines after the first.
+fn rest_form(
+    alloc: Global,
+    name: &str,
+    is_whole: bool,
+    text: &[u8],
+    explanation: &Explanation,
 ) -> Result<String, AllocError> {
-    let mut out = String::from_str(alloc, headline(explanation))?;
-    out.push('\n')?;
     let Some(shown) = &explanation.shown else {
-        return Ok(out);
+        return Ok(String::new(alloc));
     };
     let mut form = TextForm {
         alloc,
@@ -31,7 +55,7 @@ pub(crate) fn text_form(
         source: Source::new(alloc, text)?,
         width: digits(last_line(&shown.standstill) as usize),
         shown,
-        out,
+        out: String::new(alloc),
     };
     form.tell_ring()?;
     form.tell_circle()?;
@@ -41,7 +65,9 @@ pub(crate) fn text_form(
 }
 
 /// The first line.
-pub(crate) fn headline(explanation: &Explanation) -> &'static str {
+pub(crate) fn headline(explanation: &Explanation) -> &'static str
+    ensures { Begins (heading explanation.now.verdict) result.now }
+{
     let choice = explanation.shown.as_ref().map(|shown| shown.choice);
     match (explanation.verdict, choice) {
         (Verdict::Never, _) => "never stalls: each wait ends in every run, with any MPI library",
@@ -232,8 +258,7 @@ impl<'e> TextForm<'e> {
         self.tell_ranks("at the end", &standstill.ended)?;
         if self.is_shortened {
             self.begin_note()?;
-            self.out
-                .push_str("each in full: colljob explain --all\n")?;
+            self.out.push_str("each in full: colljob explain --all\n")?;
         }
         Ok(())
     }
