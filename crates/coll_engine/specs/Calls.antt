@@ -12,6 +12,8 @@ use Rattle.coll_machine.specs.Refusals.{first_of, refusal, unless}
 use Rattle.coll_machine.specs.Runs.{Runs}
 use Rattle.coll_machine.specs.Settings.{Setting, group, size}
 use Rattle.coll_machine.specs.States.{Machine, State}
+use Rattle.coll_sched.specs.Schedules.{Parts as Schedule}
+use Rattle.coll_plans.specs.Plans.{family}
 use Rattle.coll_core.specs.Calls.{Refuses}
 use Rattle.coll_core.specs.Phases.{about_in}
 use Rattle.coll_core.specs.declared.about.About.{About}
@@ -25,6 +27,12 @@ use Rattle.coll_engine.specs.Lengths.{IsOutcomeLength}
 abbrev pub planned_for : Setting → ℕ → ℕ → Signature → Planned
 planned_for g rank comm sig =
     record { sig = sig; n = size g comm; member = unwrap_or (member_of rank (group g comm)) 0 }
+
+-- and its schedule
+abbrev pub schedule_for : Setting → ℕ → ℕ → Signature → Schedule
+schedule_for g rank comm sig =
+    let plan = planned_for g rank comm sig in
+    family plan.sig plan.n plan.member
 
 abbrev pub post_by : Setting → ℕ → ℕ → Signature → List ℕ → Call
 post_by g rank comm sig bytes = Post rank comm (planned_for g rank comm sig) bytes

@@ -1,3 +1,5 @@
 pub mod Planning
 pub mod Starts
 pub mod Telling
+pub mod RankThreads
+pub mod RankPrograms

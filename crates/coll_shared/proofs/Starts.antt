@@ -73,6 +73,6 @@ starts-all rank list lists was now i long le h =
     subst (λ (bs : List Begun). PushesStarts rank bs was now) (take-zip list lists i long le) h
 
 -- a refused start, in the words of the call
-pub denies-at : (g : Setting) (rank : ℕ) (b d : Begun) (why : Refusal) → b ≡ d → DeniesStart g rank b.0 b.1 why
-    → DeniesStart g rank d.0 d.1 why
-denies-at g rank b d why is at = subst (λ (b : Begun). DeniesStart g rank b.0 b.1 why) is at
+pub denies-at : (g : Setting) (made rank : ℕ) (b d : Begun) (why : Refusal) → b ≡ d → DeniesStart g made rank b.0 b.1 why
+    → DeniesStart g made rank d.0 d.1 why
+denies-at g made rank b d why is at = subst (λ (b : Begun). DeniesStart g made rank b.0 b.1 why) is at

@@ -35,7 +35,7 @@ pub record DeniesBytes (g : Setting) (p : Holding) (comm : ℕ) (sig : Signature
   pub n_is : offer.plan.n ≡ length (group_in p.groups comm)
   pub member_is : member_of p.rank (group_in p.groups comm) ≡ Some offer.plan.member
   pub bytes_are : offer.bytes ≡ bytes
-  pub denied : IsDenied g (post_of p.rank comm offer) why
+  pub denied : IsDenied g p.made (post_of p.rank comm offer) why
 
 -- a port of an engine that was just opened
 abbrev pub opened : List (List ℕ) → ℕ → Holding

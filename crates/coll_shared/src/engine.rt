@@ -19,10 +19,13 @@ use std::alloc::Global;
 use std::sync::ledger::{Blank, Share};
 use std::sync::{Arc, Wait};
 
-/// What an engine is opened with that is to have as much room as one can have. Its sizes are in range.
+/// What an engine is opened with that is to have much room: 4,096 live requests at one time; of each member 65,536 posts and
+/// initialisations on each communicator; of each slot as many requests as it can have, one after the other; 1,048,576 starts of each
+/// request; and a trace of 1,048,576 entries. These sizes are in range.
 pub fn roomy(ranks: u8, groups: Vec<Vec<u8>>) -> Config
     ensures ranks { result.ranks ≡ ranks }
     ensures groups { result.groups ≡ groups }
+    ensures room { (result.slots ≡ 4096) × (result.places ≡ 65536) × (result.wear ≡ 4294967295) × (result.starts ≡ 1048576) × (result.trace ≡ 1048576) }
     ensures sizes { Fits result Slots × Fits result Places × Fits result Wear × Fits result Starts × Fits result Trace }
 {
     Config {

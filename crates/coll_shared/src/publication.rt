@@ -157,13 +157,13 @@ impl<L: Entries> Publication<L> {
         before: u64,
     ) -> Result<(Tally<L>, Option<Completed<L>>), Publication<L>>
         ensures counted { IfOk result (λ r. IfSome r.1 (λ completed. r.0 ≡ before + 1)) }
-        ensures completed { IfOk result (λ r. IfSome r.1 (λ completed. (completed.rank ≡ rank) × (completed.ticket ≡ request))) }
+        ensures completed { IfOk result (λ r. IfSome r.1 (λ completed. (completed.rank ≡ rank) × (completed.ticket ≡ request) × (completed.made ≡ before))) }
         ensures look { IfOk result (λ r. IfNone r.1 (r.0 ≡ before)) }
     {
         let Publication { content, tally } = self;
         match content {
             Content::Completed(completed) => {
-                if is_one_more(&tally, before) && completed.is_for(rank, request) {
+                if is_one_more(&tally, before) && completed.is_for(rank, request, before) {
                     return Ok((tally, Some(completed)));
                 }
                 let content = Content::Completed(completed);

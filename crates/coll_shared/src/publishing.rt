@@ -89,7 +89,7 @@ impl<L: Entries> Combiner<L> {
         ensures counted { OnOk result.1 (result.0 ≡ tally + 1) }
         ensures posted { IfOk result.1 (λ made. IsPosted rank (Some made.0) comm offer.plan.sig offer.bytes made.1) }
         ensures err { OnErr result.1 (result.0 ≡ tally) }
-        ensures refused { IfErr result.1 (λ refused. IsDenied L.setting (post_of rank comm offer) refused.why) }
+        ensures refused { IfErr result.1 (λ refused. IsDenied L.setting tally (post_of rank comm offer) refused.why) }
         ensures back { IfErr result.1 (λ refused. refused.back ≡ offer) }
     {
         let (mut held, prepared) = match self.lead_post(alloc, rank, &mut offer) {
@@ -110,7 +110,7 @@ impl<L: Entries> Combiner<L> {
                 (self.enter(rt), prepared)
             }
         };
-        held.locked.traced.keeps_setting();
+        held.locked.traced.audit(&mut tally);
         let posted = held
             .locked
             .traced
@@ -133,7 +133,7 @@ impl<L: Entries> Combiner<L> {
         ensures counted { OnOk result.1 (result.0 ≡ tally + 1) }
         ensures started { IfOk result.1 (λ receipt. IsStarted rank (Some ticket) bytes receipt) }
         ensures err { OnErr result.1 (result.0 ≡ tally) }
-        ensures refused { IfErr result.1 (λ refused. IsDenied L.setting (Start rank ticket bytes) refused.why) }
+        ensures refused { IfErr result.1 (λ refused. IsDenied L.setting tally (Start rank ticket bytes) refused.why) }
         ensures back { IfErr result.1 (λ refused. refused.back ≡ bytes) }
     {
         let mut held = match self.try_lead(rank) {
@@ -152,7 +152,7 @@ impl<L: Entries> Combiner<L> {
                 self.enter(rt)
             }
         };
-        held.locked.traced.keeps_setting();
+        held.locked.traced.audit(&mut tally);
         let started = held.locked.traced.start(&mut tally, rank, ticket, bytes);
         self.release(held);
         self.has_led(rank);

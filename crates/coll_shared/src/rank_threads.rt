@@ -1,6 +1,9 @@
 //! Threads that begin together: one for each rank of an engine, and progress threads for all. They are started and joined here.
 
-ghost use Rattle.std.specs.Prelude.{◌+◌, ◌≤◌, vec_capacity, vec_len};
+ghost use Rattle.std.specs.Prelude.{◌≡◌, ◌≤◌, [], All, IfOk, IfSome, map, vec_capacity, vec_len};
+ghost use Rattle.std.specs.Bool.{OnTrue};
+ghost use Rattle.coll_traced.specs.Awaiting.{IsSetback};
+ghost use Rattle.coll_shared.specs.RankThreads.{AreEnds};
 
 mod ends;
 mod start;
@@ -13,14 +16,35 @@ use coll_traced::Entries;
 pub use ends::Ends;
 use start::Start;
 use std::alloc::{AllocError, Global};
+use std::snapshot::Snapshot;
 use std::sync::Wait;
 use std::thread;
-use std::thread::{JoinHandle, Scope, Threads};
+use std::thread::{Promise, PromisedHandle, Scope, Threads};
 pub use task::RankTask;
+
+/// What the thread of a rank promises: an end of its task.
+#[derive(Drop)]
+struct EndOf<K>(Snapshot<K>);
+
+impl<T, K: RankTask<T>> Promise<T> for EndOf<K> {
+    ghost kept_by = { λ p end. K.IsEnd p.0.value end };
+}
+
+/// What a progress thread promises: it ended as it was to, or for a reason that `Engine::work` tells.
+#[derive(Clone, Copy)]
+struct Progress;
+
+impl Promise<Option<Refusal>> for Progress {
+    ghost use Rattle.std.specs.Prelude.{IfSome};
+    ghost use Rattle.coll_traced.specs.Awaiting.{IsSetback};
+
+    ghost kept_by = { λ _ end. IfSome end IsSetback };
+}
 
 /// Runs each rank's task in a thread of its own, with `workers` progress threads beside them, and joins them all. They
 /// begin together, once all have been started. `tasks` are in rising rank. `gate` may hold a progress thread up at a
-/// combination.
+/// combination. Where all could be started, each task ended as it says by `IsEnd`, in the order of the tasks, and there is an end of
+/// each progress thread.
 ///
 /// # Errors
 ///
@@ -38,7 +62,11 @@ pub fn run_rank_threads<
     engine: &Engine<L>,
     tasks: Vec<K>,
     workers: u8,
-) -> Result<Ends<T>, AllocError> {
+) -> Result<Ends<T>, AllocError>
+    ensures ranks { IfOk result (λ ends. OnTrue ends.all_started (AreEnds K.IsEnd tasks.items ends.ranks.items)) }
+    ensures workers { IfOk result (λ ends. OnTrue ends.all_started (vec_len ends.workers ≡ workers)) }
+    ensures setbacks { IfOk result (λ ends. All (λ end. IfSome end IsSetback) ends.workers.items) }
+{
     let start = Start::new();
     let held = &start;
     thread::scope(thread::scope_env(), rt, |scope| {
@@ -63,7 +91,11 @@ fn run_in_scope<
     engine: &'s Engine<L>,
     tasks: Vec<K>,
     workers: u8,
-) -> Result<Ends<T>, AllocError> {
+) -> Result<Ends<T>, AllocError>
+    ensures ranks { IfOk result (λ ends. OnTrue ends.all_started (AreEnds K.IsEnd tasks.items ends.ranks.items)) }
+    ensures workers { IfOk result (λ ends. OnTrue ends.all_started (vec_len ends.workers ≡ workers)) }
+    ensures setbacks { IfOk result (λ ends. All (λ end. IfSome end IsSetback) ends.workers.items) }
+{
     let mut ranks = Vec::with_capacity(alloc, tasks.len())?;
     let mut rank_threads = Vec::with_capacity(alloc, tasks.len())?;
     let mut worker_threads = Vec::with_capacity(alloc, workers as usize)?;
@@ -71,9 +103,9 @@ fn run_in_scope<
     let all_started = start_ranks(rt, scope, start, tasks, &mut rank_threads)
         && start_workers(rt, scope, gate, start, engine, workers, &mut worker_threads);
     start.give(rt, all_started);
-    join_all(rt, rank_threads, &mut ranks);
+    join_ranks(rt, rank_threads, &mut ranks);
     engine.stop(rt);
-    join_all(rt, worker_threads, &mut worker_ends);
+    join_workers(rt, worker_threads, &mut worker_ends);
     Ok(Ends {
         all_started,
         ranks,
@@ -81,7 +113,7 @@ fn run_in_scope<
     })
 }
 
-/// Starts the threads of the ranks, the last one first, up to one that can't be started. Answers whether there was none.
+/// Starts the threads of the ranks, in their order, up to one that can't be started. Returns whether there was none.
 fn start_ranks<
     's,
     E,
@@ -92,14 +124,17 @@ fn start_ranks<
     rt: &'s R,
     scope: &Scope<'s, E>,
     start: &'s Start,
-    mut tasks: Vec<K>,
-    threads: &mut Vec<JoinHandle<T>>,
+    tasks: Vec<K>,
+    threads: &mut Vec<PromisedHandle<T, EndOf<K>>>,
 ) -> bool
-    requires room { vec_len threads.old + vec_len tasks ≤ vec_capacity threads.old }
-    ensures few { vec_len threads.new ≤ vec_len threads.old + vec_len tasks }
+    requires none { threads.old.items ≡ [] }
+    requires room { vec_len tasks ≤ vec_capacity threads.old }
+    ensures few { vec_len threads.new ≤ vec_len tasks }
+    ensures all { OnTrue result (map (λ thread. thread.promise.0.value) threads.new.items ≡ tasks.items) }
 {
-    while let Some(task) = tasks.pop() {
-        match scope.spawn(move || run_rank(rt, start, task)) {
+    for task in tasks {
+        let promise = EndOf(Snapshot::of(&task));
+        match scope.spawn_with(promise, move || run_rank(rt, start, task)) {
             Ok(thread) => threads.push_reserved(thread),
             Err(_) => return false,
         }
@@ -107,7 +142,7 @@ fn start_ranks<
     true
 }
 
-/// Starts `workers` progress threads, up to one that can't be started. Answers whether there was none.
+/// Starts `workers` progress threads, up to one that can't be started. Returns whether there was none.
 fn start_workers<'s, E, L: Entries + Send + Sync, R: Threads + Wait + Sync, G: Gate + Sync>(
     rt: &'s R,
     scope: &Scope<'s, E>,
@@ -115,13 +150,15 @@ fn start_workers<'s, E, L: Entries + Send + Sync, R: Threads + Wait + Sync, G: G
     start: &'s Start,
     engine: &'s Engine<L>,
     workers: u8,
-    threads: &mut Vec<JoinHandle<Option<Refusal>>>,
+    threads: &mut Vec<PromisedHandle<Option<Refusal>, Progress>>,
 ) -> bool
-    requires room { vec_len threads.old + workers ≤ vec_capacity threads.old }
-    ensures few { vec_len threads.new ≤ vec_len threads.old + workers }
+    requires none { threads.old.items ≡ [] }
+    requires room { workers ≤ vec_capacity threads.old }
+    ensures few { vec_len threads.new ≤ workers }
+    ensures all { OnTrue result (vec_len threads.new ≡ workers) }
 {
     for _ in 0..workers {
-        match scope.spawn(move || run_worker(rt, gate, start, engine)) {
+        match scope.spawn_with(Progress, move || run_worker(rt, gate, start, engine)) {
             Ok(thread) => threads.push_reserved(thread),
             Err(_) => return false,
         }
@@ -130,7 +167,9 @@ fn start_workers<'s, E, L: Entries + Send + Sync, R: Threads + Wait + Sync, G: G
 }
 
 /// Does a rank's task, once it is known whether all threads have been started.
-fn run_rank<R: Wait, T, K: RankTask<T>>(rt: &R, start: &Start, task: K) -> T {
+fn run_rank<R: Wait, T, K: RankTask<T>>(rt: &R, start: &Start, task: K) -> T
+    ensures { K.IsEnd task result }
+{
     let all_started = start.wait(rt);
     task.run(all_started)
 }
@@ -141,7 +180,9 @@ fn run_worker<L: Entries, R: Wait, G: Gate>(
     gate: &G,
     start: &Start,
     engine: &Engine<L>,
-) -> Option<Refusal> {
+) -> Option<Refusal>
+    ensures { IfSome result IsSetback }
+{
     if start.wait(rt) {
         engine.work(rt, gate).err()
     } else {
@@ -149,11 +190,33 @@ fn run_worker<L: Entries, R: Wait, G: Gate>(
     }
 }
 
-/// Waits for the threads, the last one first.
-fn join_all<T: Drop, R: Threads>(rt: &R, mut threads: Vec<JoinHandle<T>>, ends: &mut Vec<T>)
-    requires room { vec_len ends.old + vec_len threads ≤ vec_capacity ends.old }
+/// Waits for the threads of the ranks, in their order.
+fn join_ranks<T: Drop, K: RankTask<T> + Drop, R: Threads>(
+    rt: &R,
+    threads: Vec<PromisedHandle<T, EndOf<K>>>,
+    ends: &mut Vec<T>,
+)
+    requires none { ends.old.items ≡ [] }
+    requires room { vec_len threads ≤ vec_capacity ends.old }
+    ensures { AreEnds (λ thread end. K.IsEnd thread.promise.0.value end) threads.items ends.new.items }
 {
-    while let Some(thread) = threads.pop() {
+    for thread in threads {
+        ends.push_reserved(thread.join(rt));
+    }
+}
+
+/// Waits for the progress threads.
+fn join_workers<R: Threads>(
+    rt: &R,
+    threads: Vec<PromisedHandle<Option<Refusal>, Progress>>,
+    ends: &mut Vec<Option<Refusal>>,
+)
+    requires none { ends.old.items ≡ [] }
+    requires room { vec_len threads ≤ vec_capacity ends.old }
+    ensures all { vec_len ends.new ≡ vec_len threads }
+    ensures setbacks { All (λ end. IfSome end IsSetback) ends.new.items }
+{
+    for thread in threads {
         ends.push_reserved(thread.join(rt));
     }
 }

@@ -132,7 +132,7 @@ impl<L: Entries> PublicationRecord<L> {
         before: u64,
     ) -> Option<(Tally<L>, Option<Completed<L>>)>
         ensures counted { IfSome result (λ r. IfSome r.1 (λ completed. r.0 ≡ before + 1)) }
-        ensures completed { IfSome result (λ r. IfSome r.1 (λ completed. (completed.rank ≡ rank) × (completed.ticket ≡ request))) }
+        ensures completed { IfSome result (λ r. IfSome r.1 (λ completed. (completed.rank ≡ rank) × (completed.ticket ≡ request) × (completed.made ≡ before))) }
         ensures look { IfSome result (λ r. IfNone r.1 (r.0 ≡ before)) }
     {
         if !self.is_answered() {

@@ -3,6 +3,7 @@
 ghost use Rattle.std.specs.Prelude.{◌≡◌, ◌+◌, ◌⊎◌, IfErr, IfNone, IfOk, IfSome, None, OnErr, Some, true};
 ghost use Rattle.coll_traced.specs.Awaiting.{IsHindrance};
 ghost use Rattle.coll_traced.specs.Tests.{RefusesOne, TestsOne};
+ghost use Rattle.coll_traced.specs.Unfinished.{WasPending};
 
 use crate::combiner::{Combiner, Held, pause};
 use crate::gate::Gate;
@@ -88,7 +89,7 @@ impl<L: Entries> Combiner<L> {
         tally: Tally<L>,
     ) -> (Tally<L>, Result<Option<Completed<L>>, Refusal>)
         ensures counted { IfOk result.1 (λ found. IfSome found (λ completed. result.0 ≡ tally + 1)) }
-        ensures completed { IfOk result.1 (λ found. IfSome found (λ completed. (completed.rank ≡ rank) × (completed.ticket ≡ ticket))) }
+        ensures completed { IfOk result.1 (λ found. IfSome found (λ completed. (completed.rank ≡ rank) × (completed.ticket ≡ ticket) × (completed.made ≡ tally))) }
         ensures none { IfOk result.1 (λ found. IfNone found (result.0 ≡ tally)) }
         ensures err { OnErr result.1 (result.0 ≡ tally) }
         ensures refused { IfErr result.1 (IsHindrance L.setting) }
@@ -113,7 +114,7 @@ impl<L: Entries> Combiner<L> {
         unreachable!()
     }
 
-    /// Waits until the request isn't Pending, and completes it if it is Done.
+    /// Waits until the request isn't Pending, and completes it if it is Done. It is given up only where a last look finds it Pending.
     pub(crate) fn wait<R: Wait, G: Gate>(
         &self,
         rt: &R,
@@ -122,15 +123,16 @@ impl<L: Entries> Combiner<L> {
         request: &mut Request,
         first: Tally<L>,
     ) -> (Tally<L>, Result<(Option<Outcome>, Receipts), Refusal>)
-        ensures told { IfOk result.1 (λ r. TestsOne L.setting rank request.old request.new true r.0 r.1) }
+        ensures told { IfOk result.1 (λ r. TestsOne L.setting first rank request.old request.new true r.0 r.1) }
         ensures counted { IfOk result.1 (λ r. IfSome r.0 (λ outcome. result.0 ≡ first + 1)) }
         ensures none { IfOk result.1 (λ r. r.0 ≡ None → result.0 ≡ first) }
-        ensures refused { IfErr result.1 (λ why. RefusesOne L.setting rank request.old (Some why) ⊎ IsHindrance L.setting why) }
+        ensures refused { IfErr result.1 (λ why. RefusesOne L.setting first rank request.old (Some why) ⊎ (IsHindrance L.setting why × WasPending L.setting first rank request.old)) }
         ensures err { OnErr result.1 ((request.new ≡ request.old) × (result.0 ≡ first)) }
     {
         let mut tally = first;
+        let mut hindrance = None;
         for _ in rt.forever() {
-            if let Some(ticket) = request.ticket() {
+            if let (Some(ticket), None) = (request.ticket(), hindrance) {
                 let (back, found) = self.wait_published(rt, gate, rank, ticket, tally);
                 tally = back;
                 match found {
@@ -140,17 +142,22 @@ impl<L: Entries> Combiner<L> {
                         return (tally, Ok((Some(outcome), receipts)));
                     }
                     Ok(None) => {}
-                    Err(why) => return (tally, Err(why)),
+                    Err(why) => hindrance = Some(why),
                 }
             }
             let mut held = self.enter(rt);
+            held.locked.traced.audit(&mut tally);
             let looked = held.locked.traced.tested(&mut tally, rank, request);
             self.release(held);
             match looked {
                 Ok((tested, receipts)) if tested.flag => {
                     return (tally, Ok((tested.outcome, receipts)));
                 }
-                Ok(_) => {}
+                Ok(_) => {
+                    if let Some(why) = hindrance {
+                        return (tally, Err(why));
+                    }
+                }
                 Err(why) => return (tally, Err(why)),
             }
         }

@@ -46,6 +46,11 @@ pub record IsKeeping (core : Parts) (entries : List Entry) (spoken_for limit : �
 pub traced_in : {g : Setting} {config : Config} {p : Parts} {es : List Entry} {n : ℕ} → IsKept g config p es n → IsKeeping p es n config.trace
 traced_in k = record { legal = k.legal; limit_is = k.limit_is; reserves = k.reserves }
 
+-- the trace is legal in the setting of the ledger's type
+pub legal_kept : {g : Setting} {config : Config} {p : Parts} {es : List Entry} {n : ℕ} → IsKept g config p es n
+    → LegalTrace g es (seen p).state
+legal_kept {g} {config} {p} {es} {n} k = subst (λ (h : Setting). LegalTrace h es (seen p).state) (k.opened ∙ k.set) k.legal
+
 -- how the entries that are spoken for change is fixed by the entry
 same_reserves : (e : Entry) (n a b : ℕ) → Reserves e n a → Reserves e n b → a ≡ b
 same_reserves (Posted rank t comm place sig bytes) n a b x y = let x : a ≡ n + 1 = x in let y : b ≡ n + 1 = y in omega arith

@@ -8,3 +8,4 @@ pub mod Telling
 pub mod Awaiting
 pub mod PortWaits
 pub mod Places
+pub mod Rows

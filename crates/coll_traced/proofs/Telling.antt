@@ -1,5 +1,5 @@
 -- What the tests of requests tell once the hold of a lock has ended.
-use Rattle.std.proofs.Common.{◌≡◌, ◌+◌, ◌++◌, ℕ, Bool, true, false, not, List, [], ◌∷◌, length, drop, map, Option, Some, None, Vec, is_some, refl, sym, ap, subst, ◌∙◌, arith, length-append}
+use Rattle.std.proofs.Common.{◌≡◌, ◌+◌, ◌≤◌, ◌++◌, ℕ, Bool, true, false, not, List, [], ◌∷◌, length, drop, map, Option, Some, None, Vec, is_some, refl, sym, ap, subst, ◌∙◌, arith, length-append}
 use Rattle.std.specs.Prelude.{All, IfNone, IfSome, OnSome, filter, position, slice_index_or, if◌then◌else◌}
 use Rattle.std.specs.Bool.{OnFalse, OnTrue}
 use Rattle.std.specs.Global.{Global}
@@ -16,6 +16,7 @@ use Rattle.coll_machine.specs.Entries.{Entry}
 use Rattle.coll_machine.specs.Runs.{Event, Runs}
 use Rattle.coll_machine.specs.Settings.{Setting}
 use Rattle.coll_machine.specs.States.{Machine}
+use Rattle.coll_machine.specs.Traces.{LegalTrace}
 use Rattle.coll_core.specs.declared.outcome.Outcome.{Outcome}
 use Rattle.coll_core.specs.declared.phase.Phase.{Phase}
 use Rattle.coll_core.specs.declared.phase.Phase.TheVariants.{Idle, Pending, Done}
@@ -26,16 +27,26 @@ use Rattle.coll_complete.specs.declared.any.Any.TheVariants.{Undefined, Unfinish
 use Rattle.coll_complete.specs.Anys.{completion_any, is_undefined, left_at, position_of}
 use Rattle.coll_complete.specs.Completing.{CompletesBy, Pushes, completion, completion_if, completions, done_positions}
 use Rattle.coll_complete.specs.Requests.{done_by, free_refusal, hold_after, is_active, is_done, is_pending, left_of, list_refusal, pending_by, refusal_at}
+use Rattle.coll_traced.specs.Awaiting.{IsUnfinished}
 use Rattle.coll_traced.specs.Doing.{DidTraced}
 use Rattle.coll_traced.specs.Endings.{ending, endings}
+use Rattle.coll_traced.specs.Moments.{IsMoment}
 use Rattle.coll_traced.specs.Tests.{CompletesAll, RefusesFree, RefusesList, RefusesOne, TestsAll, TestsAny, TestsOne, TestsSome}
 use Rattle.coll_traced.specs.Traced.{Traced}
+use Rattle.coll_traced.specs.Unfinished.{HadPending, WasPending, WasUnfinished}
 
 abbrev Outcomes : Type 0
 Outcomes = Vec (ℕ × Outcome) Global
 
 abbrev Tickets : Type 0
 Tickets = List (Option Ticket)
+
+-- what a caller knows of what lies under the lock, when it tests
+abbrev Moment : Setting → Traced → ℕ → Type 0
+Moment g h a = (setting h.core ≡ g) × LegalTrace g h.entries (seen h.core).state × (a ≤ length h.entries)
+
+moment_of : (g : Setting) (h : Traced) (a : ℕ) → Moment g h a → IsMoment g a h.entries (seen h.core).state
+moment_of g h a m = record { legal = m.1; has_made = m.2 }
 
 -- what was appended
 pub appended : {X : Type 0} (before old new es : List X) → before ≡ old → new ≡ old ++ es → drop (length before) new ≡ es
@@ -69,20 +80,32 @@ one_appended h k a b es before made did was is =
 
 -- ---- refusals
 
-pub refuses_one : (g : Setting) (h : Traced) (rank : ℕ) (r : Option Ticket) (why : Option Refusal) → setting h.core ≡ g
-    → why ≡ refusal_at (setting h.core) (seen h.core).state rank r → RefusesOne g rank r why
-refuses_one g h rank r why set is =
-    record { engine = seen h.core; why_is = is ∙ ap (λ (g : Setting). refusal_at g (seen h.core).state rank r) set }
+pub refuses_one : (g : Setting) (h : Traced) (a rank : ℕ) (r : Option Ticket) (why : Option Refusal) → Moment g h a
+    → why ≡ refusal_at (setting h.core) (seen h.core).state rank r → RefusesOne g a rank r why
+refuses_one g h a rank r why m is = record {
+  before = h.entries;
+  engine = seen h.core;
+  moment = moment_of g h a m;
+  why_is = is ∙ ap (λ (g : Setting). refusal_at g (seen h.core).state rank r) m.0;
+}
 
-pub refuses_list : (g : Setting) (h : Traced) (rank : ℕ) (list : Tickets) (why : Option Refusal) → setting h.core ≡ g
-    → why ≡ list_refusal (setting h.core) (seen h.core).state rank list → RefusesList g rank list why
-refuses_list g h rank list why set is =
-    record { engine = seen h.core; why_is = is ∙ ap (λ (g : Setting). list_refusal g (seen h.core).state rank list) set }
+pub refuses_list : (g : Setting) (h : Traced) (a rank : ℕ) (list : Tickets) (why : Option Refusal) → Moment g h a
+    → why ≡ list_refusal (setting h.core) (seen h.core).state rank list → RefusesList g a rank list why
+refuses_list g h a rank list why m is = record {
+  before = h.entries;
+  engine = seen h.core;
+  moment = moment_of g h a m;
+  why_is = is ∙ ap (λ (g : Setting). list_refusal g (seen h.core).state rank list) m.0;
+}
 
-pub refuses_free : (g : Setting) (h : Traced) (rank : ℕ) (r : Option Ticket) (why : Option Refusal) → setting h.core ≡ g
-    → why ≡ free_refusal (setting h.core) (seen h.core).state rank r → RefusesFree g rank r why
-refuses_free g h rank r why set is =
-    record { engine = seen h.core; why_is = is ∙ ap (λ (g : Setting). free_refusal g (seen h.core).state rank r) set }
+pub refuses_free : (g : Setting) (h : Traced) (a rank : ℕ) (r : Option Ticket) (why : Option Refusal) → Moment g h a
+    → why ≡ free_refusal (setting h.core) (seen h.core).state rank r → RefusesFree g a rank r why
+refuses_free g h a rank r why m is = record {
+  before = h.entries;
+  engine = seen h.core;
+  moment = moment_of g h a m;
+  why_is = is ∙ ap (λ (g : Setting). free_refusal g (seen h.core).state rank r) m.0;
+}
 
 -- ---- one request
 
@@ -119,17 +142,19 @@ one_pending h k a b rank old new flag o flag_is done did left e =
     (left ∙ left_pending (seen h.core) old pending, omega arith)
 
 pub tests_one : (g : Setting) (h k : Traced) (a b rank : ℕ) (old new : Option Ticket) (flag : Bool) (o : Option Outcome)
-    (before made : List Entry) → setting h.core ≡ g → None ≡ refusal_at (setting h.core) (seen h.core).state rank old
+    (before made : List Entry) → Moment g h a → None ≡ refusal_at (setting h.core) (seen h.core).state rank old
     → flag ≡ not (is_pending (seen h.core) old) → is_some o ≡ is_done (seen h.core) old
     → DidTraced h a (completion_if rank old o) k b → new ≡ left_of (seen h.core) old → before ≡ h.entries
-    → made ≡ drop (length before) k.entries → TestsOne g rank old new flag o made
-tests_one g h k a b rank old new flag o before made set fits flag_is done did left was is = record {
+    → made ≡ drop (length before) k.entries → TestsOne g a rank old new flag o made
+tests_one g h k a b rank old new flag o before made m fits flag_is done did left was is = record {
+  before = h.entries;
   engine = seen h.core;
+  moment = moment_of g h a m;
   after = seen k.core;
-  accepted = accepted_one g h rank old set fits;
+  accepted = accepted_one g h rank old m.0 fits;
   flag_is = flag_is;
   outcome_is = done;
-  runs = ran g h k a b (completion_if rank old o) set did;
+  runs = ran g h k a b (completion_if rank old o) m.0 did;
   request = left;
   entries_are = shown h k a b (completion_if rank old o) before made did was is;
 }
@@ -147,17 +172,19 @@ one_counted h k a b rank r (Some o) e did = did.counted ∙ ap (λ n. a + n) (on
 -- ---- a list for one request
 
 pub tests_any : (g : Setting) (h k : Traced) (a b rank : ℕ) (old new : Tickets) (any : Any) (before made : List Entry)
-    → setting h.core ≡ g → None ≡ list_refusal (setting h.core) (seen h.core).state rank old
+    → Moment g h a → None ≡ list_refusal (setting h.core) (seen h.core).state rank old
     → is_undefined any ≡ not (list_any (is_active (seen h.core)) old) → position_of any ≡ position (is_done (seen h.core)) old
     → DidTraced h a (completion_any rank old any) k b → new ≡ left_at (seen h.core) (position_of any) old → before ≡ h.entries
-    → made ≡ drop (length before) k.entries → TestsAny g rank old new any made
-tests_any g h k a b rank old new any before made set fits undefined lowest did left was is = record {
+    → made ≡ drop (length before) k.entries → TestsAny g a rank old new any made
+tests_any g h k a b rank old new any before made m fits undefined lowest did left was is = record {
+  before = h.entries;
   engine = seen h.core;
+  moment = moment_of g h a m;
   after = seen k.core;
-  accepted = accepted_list g h rank old set fits;
+  accepted = accepted_list g h rank old m.0 fits;
   undefined = undefined;
   lowest = lowest;
-  runs = ran g h k a b (completion_any rank old any) set did;
+  runs = ran g h k a b (completion_any rank old any) m.0 did;
   requests = left;
   entries_are = shown h k a b (completion_any rank old any) before made did was is;
 }
@@ -230,21 +257,25 @@ none_shown h k before made same was is =
     ∙ (ap (λ (x : Traced). drop (length h.entries) x.entries) same ∙ none_more h.entries))
 
 pub tests_all : (g : Setting) (h k : Traced) (a b rank : ℕ) (old new : Tickets) (was is : Outcomes) (flag : Bool) (before made : List Entry)
-    → setting h.core ≡ g → None ≡ list_refusal (setting h.core) (seen h.core).state rank old
+    → Moment g h a → None ≡ list_refusal (setting h.core) (seen h.core).state rank old
     → flag ≡ not (list_any (is_pending (seen h.core)) old) → OnFalse flag (Unchanged h k a b old new was is)
     → OnTrue flag (Pushes was.items is.items (CompletesBy rank old (seen h.core) (λ es. DidTraced h a es k b)))
     → OnTrue flag (new ≡ map (left_of (seen h.core)) old) → before ≡ h.entries → made ≡ drop (length before) k.entries
-    → TestsAll g rank old new was.items is.items flag made
-tests_all g h k a b rank old new was is true before made set fits flag_is off p left begun made_is = record {
+    → TestsAll g a rank old new was.items is.items flag made
+tests_all g h k a b rank old new was is true before made m fits flag_is off p left begun made_is = record {
+  before = h.entries;
   engine = seen h.core;
-  accepted = accepted_list g h rank old set fits;
+  moment = moment_of g h a m;
+  accepted = accepted_list g h rank old m.0 fits;
   flag_is = flag_is;
   unfinished = λ e. absurd (false≢true (sym e));
-  completes = λ e. all_told g h k a b rank old new was.items is.items before made set p left begun made_is;
+  completes = λ e. all_told g h k a b rank old new was.items is.items before made m.0 p left begun made_is;
 }
-tests_all g h k a b rank old new was is false before made set fits flag_is off p left begun made_is = record {
+tests_all g h k a b rank old new was is false before made m fits flag_is off p left begun made_is = record {
+  before = h.entries;
   engine = seen h.core;
-  accepted = accepted_list g h rank old set fits;
+  moment = moment_of g h a m;
+  accepted = accepted_list g h rank old m.0 fits;
   flag_is = flag_is;
   unfinished = λ e. (off.2, ap (λ (v : Outcomes). v.items) off.3, none_shown h k before made off.0 begun made_is);
   completes = λ e. absurd (false≢true e);
@@ -292,23 +323,27 @@ some_appended h k a b rank old new was is None before made off p begun made_is =
     none_appended h k before made off.0 begun made_is
 
 pub tests_some : (g : Setting) (h k : Traced) (a b rank : ℕ) (old new : Tickets) (was is : Outcomes) (count : Option ℕ) (before made : List Entry)
-    → setting h.core ≡ g → None ≡ list_refusal (setting h.core) (seen h.core).state rank old
+    → Moment g h a → None ≡ list_refusal (setting h.core) (seen h.core).state rank old
     → is_some count ≡ list_any (is_active (seen h.core)) old → IfSome count (λ n. n ≡ length (done_positions (seen h.core) old))
     → IfNone count (Unchanged h k a b old new was is)
     → OnSome count (Pushes was.items is.items (CompletesBy rank old (seen h.core) (λ es. DidTraced h a es k b)))
     → OnSome count (new ≡ map (left_of (seen h.core)) old) → before ≡ h.entries → made ≡ drop (length before) k.entries
-    → TestsSome g rank old new was.items is.items count made
-tests_some g h k a b rank old new was is (Some n) before made set fits undefined count_is off p left begun made_is = record {
+    → TestsSome g a rank old new was.items is.items count made
+tests_some g h k a b rank old new was is (Some n) before made m fits undefined count_is off p left begun made_is = record {
+  before = h.entries;
   engine = seen h.core;
-  accepted = accepted_list g h rank old set fits;
+  moment = moment_of g h a m;
+  accepted = accepted_list g h rank old m.0 fits;
   undefined = undefined;
   count_is = count_is;
   inactive = λ e. absurd (false≢true (sym e));
-  completes = λ e. all_told g h k a b rank old new was.items is.items before made set p left begun made_is;
+  completes = λ e. all_told g h k a b rank old new was.items is.items before made m.0 p left begun made_is;
 }
-tests_some g h k a b rank old new was is None before made set fits undefined count_is off p left begun made_is = record {
+tests_some g h k a b rank old new was is None before made m fits undefined count_is off p left begun made_is = record {
+  before = h.entries;
   engine = seen h.core;
-  accepted = accepted_list g h rank old set fits;
+  moment = moment_of g h a m;
+  accepted = accepted_list g h rank old m.0 fits;
   undefined = undefined;
   count_is = count_is;
   inactive = λ e. (off.2, ap (λ (v : Outcomes). v.items) off.3, none_shown h k before made off.0 begun made_is);
@@ -333,3 +368,49 @@ pub some_waits_stay : (h k : Traced) (a b rank : ℕ) (old new : Tickets) (was i
     → (k.waits ≡ h.waits) × (k.stalled ≡ h.stalled)
 some_waits_stay h k a b rank old new was is (Some n) off p = (p.2.did.waits_are, p.2.did.stalled_is)
 some_waits_stay h k a b rank old new was is None off p = (ap (λ (x : Traced). x.waits) off.0, ap (λ (x : Traced). x.stalled) off.0)
+
+-- ---- what isn't finished
+
+pub was_pending : (g : Setting) (a rank : ℕ) (old new : Option Ticket) (flag : Bool) (o : Option Outcome) (es : List Entry)
+    → TestsOne g a rank old new flag o es → flag ≡ false → WasPending g a rank old
+was_pending g a rank old new flag o es k none = record {
+  before = k.before;
+  engine = k.engine;
+  moment = k.moment;
+  accepted = k.accepted;
+  pending = negated (is_pending k.engine old) (sym none ∙ k.flag_is);
+}
+
+pub had_pending : (g : Setting) (a rank : ℕ) (old new : Tickets) (was is : List (ℕ × Outcome)) (flag : Bool) (es : List Entry)
+    → TestsAll g a rank old new was is flag es → flag ≡ false → HadPending g a rank old
+had_pending g a rank old new was is flag es k none = record {
+  before = k.before;
+  engine = k.engine;
+  moment = k.moment;
+  accepted = k.accepted;
+  pending = negated (list_any (is_pending k.engine) old) (sym none ∙ k.flag_is);
+}
+
+pub was_unfinished : (g : Setting) (a rank : ℕ) (old new : Tickets) (any : Any) (es : List Entry) → TestsAny g a rank old new any es
+    → any ≡ Unfinished → WasUnfinished g a rank old
+was_unfinished g a rank old new any es k none = record {
+  before = k.before;
+  engine = k.engine;
+  moment = k.moment;
+  accepted = k.accepted;
+  unfinished = record {
+    active = negated (list_any (is_active k.engine) old) (ap is_undefined (sym none) ∙ k.undefined);
+    none_done = sym k.lowest ∙ ap position_of none;
+  };
+}
+
+-- and where the list was looked at by itself
+pub surveyed : (g : Setting) (h : Traced) (a rank : ℕ) (list : Tickets) → Moment g h a
+    → None ≡ list_refusal (setting h.core) (seen h.core).state rank list → IsUnfinished (seen h.core) list → WasUnfinished g a rank list
+surveyed g h a rank list m fits u = record {
+  before = h.entries;
+  engine = seen h.core;
+  moment = moment_of g h a m;
+  accepted = accepted_list g h rank list m.0 fits;
+  unfinished = u;
+}

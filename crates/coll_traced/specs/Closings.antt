@@ -7,6 +7,7 @@ use Rattle.coll_kinds.specs.declared.refusal.Refusal.TheVariants.{StillActive, T
 use Rattle.coll_machine.specs.Entries.{Entry, Posted, Inited, Started, Retired, Freed}
 use Rattle.coll_machine.specs.States.{Request, State}
 use Rattle.coll_machine.specs.Settings.{Setting}
+use Rattle.coll_machine.specs.Traces.{LegalTrace}
 use Rattle.coll_report.specs.Told.{IsIdle}
 use Rattle.coll_core.specs.Cores.{seen, setting}
 use Rattle.coll_report.specs.Traces.{completes_by, entries_of}
@@ -58,8 +59,9 @@ Objects t ends why =
     ((rank : ℕ) × (why ≡ StillActive rank) × IsFirstBusy (seen t.core).state rank)
     ⊎ (IsIdle (seen t.core).state × (ends ≢ ends_of (setting t.core).ranks t.entries) × (why ≡ Torn))
 
--- the same, without naming what lay under the lock
+-- the same, without naming what lay under the lock: an engine with that setting and a legal trace
 pub record IsObjected (g : Setting) (ends : List (ℕ × ℕ)) (why : Refusal) : Type 0 where
   pub at : Traced
   pub setting_is : setting at.core ≡ g
+  pub legal : LegalTrace g at.entries (seen at.core).state
   pub objects : Objects at ends why

@@ -1,5 +1,6 @@
 -- a core with its trace; what ports wait for, when nothing can go on, and what calls tell
 pub mod Traced
+pub mod Moments
 pub mod Waits
 pub mod Stalls
 pub mod Calls
@@ -7,6 +8,7 @@ pub mod Denials
 pub mod Endings
 pub mod Tests
 pub mod Awaiting
+pub mod Unfinished
 pub mod Operations
 pub mod Closings
 -- what a core with its trace did, as the completion calls over it tell
@@ -17,3 +19,5 @@ pub mod Places
 pub mod Receipts
 pub mod Recorded
 pub mod Prepared
+-- a worked engine of which these records are false
+pub mod Rows

@@ -22,6 +22,6 @@ IsMade (operation.Post post) rank t e = IsPosted rank (Some t) post.comm post.of
 IsMade (operation.Start start) rank t e = (t ≡ start.ticket) × IsStarted rank (Some t) start.given e
 
 -- what lay under the lock denied it
-pub record IsRefused (g : Setting) (o : Operation) (rank : ℕ) : Type 0 where
+pub record IsRefused (g : Setting) (made : ℕ) (o : Operation) (rank : ℕ) : Type 0 where
   pub why : Refusal
-  pub denied : IsDenied g (call_of o rank) why
+  pub denied : IsDenied g made (call_of o rank) why

@@ -1,5 +1,5 @@
 -- What a completion hands out, in the words of the machine and of the trace.
-use Rattle.std.specs.Prelude.{ℕ, List, [], ◌∷◌, Option, Some, None}
+use Rattle.std.specs.Prelude.{Bool, ℕ, List, [], ◌∷◌, Option, Some, None, if◌then◌else◌}
 use Rattle.coll_kinds.specs.declared.ticket.Ticket.{Ticket}
 use Rattle.coll_machine.specs.Calls as calls
 use Rattle.coll_machine.specs.Calls.{Reply}
@@ -19,8 +19,13 @@ abbrev pub release : ℕ → Option Ticket → List Entry
 release rank None = []
 release rank (Some t) = Freed rank t ∷ []
 
+-- what the caller has in place of a request that was completed: the request, or null
+abbrev pub left_by : Bool → Ticket → Option Ticket
+left_by stays t = if stays then Some t else None
+
 -- a request that was completed for its port, and the entry of that
 pub record CompletedFor : Type 0 where
   pub rank : ℕ
   pub ticket : Ticket
+  pub made : ℕ  -- the entries that the port had made before
   pub entry : Entry

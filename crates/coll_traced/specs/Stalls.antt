@@ -4,6 +4,7 @@ use Rattle.coll_kinds.specs.declared.ticket.Ticket.{Ticket}
 use Rattle.coll_machine.specs.Calls.{Retire}
 use Rattle.coll_machine.specs.Refusals.{refusal}
 use Rattle.coll_machine.specs.Settings.{Setting}
+use Rattle.coll_machine.specs.Traces.{LegalTrace}
 use Rattle.coll_core.specs.declared.phase.Phase.TheVariants.{Done}
 use Rattle.coll_core.specs.Cores.{Parts, seen, setting}
 use Rattle.coll_core.specs.Phases.{IsQuiet, phase_in}
@@ -26,10 +27,11 @@ pub record IsStalled (t : Traced) : Type 0 where
   pub quiet : IsQuiet t.core
   pub blocked : All (IsBlocked t.core) t.waits
 
--- an engine with that setting was stalled at some time
+-- an engine with that setting, whose trace was legal, was stalled at some time
 pub record WasStalled (g : Setting) : Type 0 where
   pub at : Traced
   pub setting_is : setting at.core ≡ g
+  pub legal : LegalTrace g at.entries (seen at.core).state
   pub stalled : IsStalled at
 
 -- a mark of a stall is right

@@ -1,5 +1,6 @@
--- What completion calls tell, without naming what lay under the lock: in some state of an engine with that setting, which accepted the
--- requests, they are the tests of `coll_complete`, and the receipts are the entries of what they completed.
+-- What completion calls tell, without naming what lay under the lock: at a moment of an engine with that setting, which accepted the
+-- requests and had at least the entries that the port had made, they are the tests of `coll_complete`, and the receipts are the
+-- entries of what they completed.
 use Rattle.std.specs.Prelude.{◌≡◌, Bool, true, false, not, ℕ, List, [], length, map, position}
 use Rattle.std.specs.Prelude.{Option, Some, None, is_some, IfSome}
 use Rattle.std.specs.List.{list_any}
@@ -16,11 +17,14 @@ use Rattle.coll_complete.specs.Anys.{completion_any, is_undefined, left_at, posi
 use Rattle.coll_complete.specs.Completing.{CompletesDone, Pushes, completion_if, completions, done_positions}
 use Rattle.coll_complete.specs.Requests.{free_refusal, is_active, is_done, is_pending, left_of, list_refusal, refusal_at}
 use Rattle.coll_traced.specs.Endings.{endings}
+use Rattle.coll_traced.specs.Moments.{IsMoment}
 
 -- the test of one request, which is `new` then
-pub record TestsOne (g : Setting) (rank : ℕ) (old new : Option Ticket) (flag : Bool) (outcome : Option Outcome)
+pub record TestsOne (g : Setting) (made rank : ℕ) (old new : Option Ticket) (flag : Bool) (outcome : Option Outcome)
     (entries : List Entry) : Type 0 where
+  pub before : List Entry
   pub engine : Machine
+  pub moment : IsMoment g made before engine.state
   pub after : Machine
   pub accepted : refusal_at g engine.state rank old ≡ None
   pub flag_is : flag ≡ not (is_pending engine old)
@@ -30,8 +34,10 @@ pub record TestsOne (g : Setting) (rank : ℕ) (old new : Option Ticket) (flag :
   pub entries_are : entries ≡ endings (completion_if rank old outcome)
 
 -- the test of a list for one request
-pub record TestsAny (g : Setting) (rank : ℕ) (old new : List (Option Ticket)) (any : Any) (entries : List Entry) : Type 0 where
+pub record TestsAny (g : Setting) (made rank : ℕ) (old new : List (Option Ticket)) (any : Any) (entries : List Entry) : Type 0 where
+  pub before : List Entry
   pub engine : Machine
+  pub moment : IsMoment g made before engine.state
   pub after : Machine
   pub accepted : list_refusal g engine.state rank old ≡ None
   pub undefined : is_undefined any ≡ not (list_any (is_active engine) old)
@@ -54,18 +60,22 @@ pub record CompletesAll (g : Setting) (rank : ℕ) (old new : List (Option Ticke
   pub entries_are : entries ≡ endings (completions rank old outs)
 
 -- the test of a list for all requests; `was` and `is` are the outcomes before it and after it
-pub record TestsAll (g : Setting) (rank : ℕ) (old new : List (Option Ticket)) (was is : List (ℕ × Outcome)) (flag : Bool)
+pub record TestsAll (g : Setting) (made rank : ℕ) (old new : List (Option Ticket)) (was is : List (ℕ × Outcome)) (flag : Bool)
     (entries : List Entry) : Type 0 where
+  pub before : List Entry
   pub engine : Machine
+  pub moment : IsMoment g made before engine.state
   pub accepted : list_refusal g engine.state rank old ≡ None
   pub flag_is : flag ≡ not (list_any (is_pending engine) old)
   pub unfinished : flag ≡ false → (new ≡ old) × (is ≡ was) × (entries ≡ [])
   pub completes : flag ≡ true → Pushes was is (CompletesAll g rank old new engine entries)
 
 -- the test of a list for some requests
-pub record TestsSome (g : Setting) (rank : ℕ) (old new : List (Option Ticket)) (was is : List (ℕ × Outcome)) (count : Option ℕ)
+pub record TestsSome (g : Setting) (made rank : ℕ) (old new : List (Option Ticket)) (was is : List (ℕ × Outcome)) (count : Option ℕ)
     (entries : List Entry) : Type 0 where
+  pub before : List Entry
   pub engine : Machine
+  pub moment : IsMoment g made before engine.state
   pub accepted : list_refusal g engine.state rank old ≡ None
   pub undefined : is_some count ≡ list_any (is_active engine) old
   pub count_is : IfSome count (λ n. n ≡ length (done_positions engine old))
@@ -73,15 +83,21 @@ pub record TestsSome (g : Setting) (rank : ℕ) (old new : List (Option Ticket))
   pub completes : is_some count ≡ true → Pushes was is (CompletesAll g rank old new engine entries)
 
 -- what the test of a request, or of a list, is refused with, if it is
-pub record RefusesOne (g : Setting) (rank : ℕ) (request : Option Ticket) (why : Option Refusal) : Type 0 where
+pub record RefusesOne (g : Setting) (made rank : ℕ) (request : Option Ticket) (why : Option Refusal) : Type 0 where
+  pub before : List Entry
   pub engine : Machine
+  pub moment : IsMoment g made before engine.state
   pub why_is : why ≡ refusal_at g engine.state rank request
 
-pub record RefusesList (g : Setting) (rank : ℕ) (list : List (Option Ticket)) (why : Option Refusal) : Type 0 where
+pub record RefusesList (g : Setting) (made rank : ℕ) (list : List (Option Ticket)) (why : Option Refusal) : Type 0 where
+  pub before : List Entry
   pub engine : Machine
+  pub moment : IsMoment g made before engine.state
   pub why_is : why ≡ list_refusal g engine.state rank list
 
 -- what a free is refused with, if it is
-pub record RefusesFree (g : Setting) (rank : ℕ) (request : Option Ticket) (why : Option Refusal) : Type 0 where
+pub record RefusesFree (g : Setting) (made rank : ℕ) (request : Option Ticket) (why : Option Refusal) : Type 0 where
+  pub before : List Entry
   pub engine : Machine
+  pub moment : IsMoment g made before engine.state
   pub why_is : why ≡ free_refusal g engine.state rank request

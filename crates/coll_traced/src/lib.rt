@@ -15,6 +15,7 @@
 //! | `prepared` | `Prepared`, the memory of a post, which is taken before the lock |
 //! | `recent` | `Recent`, long bytes that further entries can share |
 //! | `copied_config` | a copy of what an engine is opened with |
+//! | `laws` | that the records of a port's answers aren't true of everything |
 //! | `balance` | what a trace tells of its ranks when the engine is to be closed |
 //! | `spent` | `Spent`, what is left of a port |
 //! | `replacement` | `Replacement`, what takes an engine's place when it is closed |
@@ -23,6 +24,7 @@
 mod awaited;
 mod balance;
 mod copied_config;
+pub mod laws;
 mod operation;
 mod port_wait;
 mod post_operation;

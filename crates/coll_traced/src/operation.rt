@@ -54,7 +54,7 @@ impl Operation {
     ) -> Option<(Ticket, Appended)>
         ensures entry { IfSome result (λ r. traced.new.entries ≡ traced.old.entries ++ r.1 ∷ []) }
         ensures made { IfSome result (λ r. IsMade self rank r.0 r.1) }
-        ensures refused { IsNone result → IsRefused L.setting self rank }
+        ensures refused { IsNone result → IsRefused L.setting mine.old self rank }
         ensures counted { IfSome result (λ r. mine.new ≡ mine.old + 1) }
         ensures none { IsNone result → (traced.new.entries ≡ traced.old.entries) × (mine.new ≡ mine.old) }
     {

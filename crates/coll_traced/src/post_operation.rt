@@ -77,7 +77,7 @@ impl PostOperation {
     ) -> Option<(Ticket, Appended)>
         ensures entry { IfSome result (λ r. traced.new.entries ≡ traced.old.entries ++ r.1 ∷ []) }
         ensures posted { IfSome result (λ r. IsPosted rank (Some r.0) self.comm self.offer.plan.sig self.offer.bytes r.1) }
-        ensures refused { IsNone result → (why : Refusal) × IsDenied L.setting (post_of rank self.comm self.offer) why }
+        ensures refused { IsNone result → (why : Refusal) × IsDenied L.setting mine.old (post_of rank self.comm self.offer) why }
         ensures counted { IfSome result (λ r. mine.new ≡ mine.old + 1) }
         ensures none { IsNone result → (traced.new.entries ≡ traced.old.entries) × (mine.new ≡ mine.old) }
     {
@@ -88,7 +88,7 @@ impl PostOperation {
             bytes,
             sig,
         } = self;
-        traced.keeps_setting();
+        traced.audit(mine);
         match traced.post(mine, rank, comm, offer, Ok(prepared)) {
             Ok((ticket, _receipt)) => {
                 let place = traced.last_place();

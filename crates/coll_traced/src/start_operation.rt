@@ -53,7 +53,7 @@ impl StartOperation {
         ensures entry { IfSome result (λ r. traced.new.entries ≡ traced.old.entries ++ r.1 ∷ []) }
         ensures started { IfSome result (λ r. IsStarted rank (Some self.ticket) self.given r.1) }
         ensures ticket { IfSome result (λ r. r.0 ≡ self.ticket) }
-        ensures refused { IsNone result → (why : Refusal) × IsDenied L.setting (Start rank self.ticket self.given) why }
+        ensures refused { IsNone result → (why : Refusal) × IsDenied L.setting mine.old (Start rank self.ticket self.given) why }
         ensures counted { IfSome result (λ r. mine.new ≡ mine.old + 1) }
         ensures none { IsNone result → (traced.new.entries ≡ traced.old.entries) × (mine.new ≡ mine.old) }
     {
@@ -62,7 +62,7 @@ impl StartOperation {
             given,
             bytes,
         } = self;
-        traced.keeps_setting();
+        traced.audit(mine);
         match traced.start(mine, rank, ticket, given) {
             Ok(_receipt) => {
                 let start = traced.last_place();

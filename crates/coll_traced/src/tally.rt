@@ -1,6 +1,6 @@
 //! The ledger of the trace's entries, and a rank's count of its own.
 
-ghost use Rattle.std.specs.Prelude.{◌≡◌, ◌+◌, ◌<◌, ◌^◌, ℕ};
+ghost use Rattle.std.specs.Prelude.{◌≡◌, ◌+◌, ◌<◌, ◌≤◌, ◌^◌, ℕ};
 
 use std::marker::{Brand, Model};
 use std::sync::ledger::{Blank, Book, Ledger, Share};
@@ -65,6 +65,15 @@ impl<L: Entries> Tally<L> {
     {
         let Tally { share, .. } = self;
         share
+    }
+
+    /// There are at least as many entries. It does nothing at run time.
+    pub(crate) fn audit(&mut self, book: &mut Book<L>)
+        ensures made { self.new ≡ self.old }
+        ensures total { book.new.total ≡ book.old.total }
+        ensures bound { self.old ≤ book.old.total }
+    {
+        book.audit(&mut self.share);
     }
 
     /// One entry more.

@@ -71,6 +71,16 @@ impl<L: Entries> Trace<L> {
         }
     }
 
+    /// It has at least the entries that the tally counts. It does nothing at run time.
+    pub(crate) fn audit(&mut self, mine: &mut Tally<L>)
+        ensures same { self.new ≡ self.old }
+        ensures made { mine.new ≡ mine.old }
+        ensures bound { mine.old ≤ length self.old.entries }
+    {
+        let book = &mut self.book;
+        mine.audit(book);
+    }
+
     /// Makes memory for an entry and the one that it speaks for: TraceFull where these would pass the limit, then NoMemory.
     pub(crate) fn make_room(&mut self, limit: u32) -> Result<(), Refusal>
         requires { length self.old.entries + self.old.reserved ≤ limit }

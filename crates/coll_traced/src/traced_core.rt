@@ -13,14 +13,16 @@ mod waiting;
 
 ghost use Rattle.std.specs.Prelude.{◌≡◌, [], Some, false, true, is_some, replicate, IfErr, IfOk};
 ghost use Rattle.coll_machine.specs.States.{found};
+ghost use Rattle.coll_machine.specs.Traces.{LegalTrace};
 ghost use Rattle.coll_core.specs.Configs.{idle, setting_by, IsUnopened};
 ghost use Rattle.coll_core.specs.Cores.{seen, setting};
 ghost use Rattle.coll_core.specs.Phases.{about_in};
+ghost use Rattle.coll_traced.specs.Moments.{IsMoment};
 ghost use Rattle.coll_traced.specs.Waits.{Awake};
 
 use crate::copied_config::copied_config;
 use crate::recent::Recent;
-use crate::tally::Entries;
+use crate::tally::{Entries, Tally};
 use crate::trace::Trace;
 use crate::waits::Waits;
 use coll_core::{About, Config, Core};
@@ -97,10 +99,22 @@ impl<L: Entries> TracedCore<L> {
         })
     }
 
-    /// Its setting is that of its ledger's type, for proofs of callers.
-    pub fn keeps_setting(&self)
-        ensures { setting self.now.core ≡ L.setting }
+    /// Its setting is that of its ledger's type, and its trace is legal, for proofs of callers. It does nothing at run time.
+    pub fn keeps_legal(&self)
+        ensures setting { setting self.now.core ≡ L.setting }
+        ensures legal { LegalTrace L.setting self.now.entries (seen self.now.core).state }
     {
         let _config = &self.config;
+    }
+
+    /// It is at a moment of its engine at which the caller had made no more entries than there were, for proofs of callers. It does
+    /// nothing at run time.
+    pub fn audit(&mut self, mine: &mut Tally<L>)
+        ensures same { self.new ≡ self.old }
+        ensures tally { mine.new ≡ mine.old }
+        ensures setting { setting self.new.core ≡ L.setting }
+        ensures moment { IsMoment L.setting mine.new self.new.entries (seen self.new.core).state }
+    {
+        self.trace.audit(mine);
     }
 }

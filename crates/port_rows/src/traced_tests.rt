@@ -105,6 +105,7 @@ fn summed<L: Entries>(
         return Err(Refusal::Torn);
     };
     let (_left, at_zero, _receipts) = completed.open();
+    traced.audit(one);
     let (tested, _receipts) = traced.tested(one, 1, &mut second)?;
     match tested.outcome {
         Some(at_one) => Ok((at_zero, at_one)),
@@ -165,6 +166,7 @@ fn stalls_in<L: Entries>(alloc: Global, config: Config, entries: Blank) -> Resul
     let mut traced = TracedCore::open(alloc, config, book)?;
     let mut first = posted(alloc, &mut traced, &mut zero, 0, 40)?;
     go_on(&mut traced)?;
+    traced.audit(&mut zero);
     let (tested, _receipts) = traced.tested(&mut zero, 0, &mut first)?;
     if tested.flag {
         return Ok(false);

@@ -1,15 +1,18 @@
 //! Posts, initialisations, starts and frees.
 
-ghost use Rattle.std.specs.Prelude.{◌≡◌, ◌⊎◌, None, Some, IfErr, IfOk, OnErr, OnOk};
+ghost use Rattle.std.specs.Prelude.{◌≡◌, ◌⊎◌, None, Some, IfErr, IfOk, IfSome, OnErr, OnOk};
 ghost use Rattle.std.specs.Result.{result_err};
 ghost use Rattle.coll_machine.specs.Runs.{Runs};
 ghost use Rattle.coll_core.specs.Cores.{seen, setting};
 ghost use Rattle.coll_core.specs.Posts.{planned};
+ghost use Rattle.coll_core.specs.Progress.{BeginsSchedule, KeepsProgress};
+ghost use Rattle.coll_core.specs.Requests.{schedule, shown};
+ghost use Rattle.coll_arena.specs.Slots.{record_in};
 ghost use Rattle.coll_complete.specs.Completing.{freeing};
 ghost use Rattle.coll_complete.specs.Requests.{free_refusal};
 ghost use Rattle.coll_complete.specs.Starting.{StartsAt};
 ghost use Rattle.coll_engine.specs.Lengths.{IsLength};
-ghost use Rattle.coll_engine.specs.Calls.{Denies, DeniesStart, InitsTo, PostsTo, early_refusal, init_by, planned_for, post_by};
+ghost use Rattle.coll_engine.specs.Calls.{Denies, DeniesStart, InitsTo, PostsTo, early_refusal, init_by, planned_for, post_by, schedule_for};
 
 use crate::engine::Engine;
 use coll_complete::{Request, request_free};
@@ -53,6 +56,7 @@ impl Engine {
     ) -> Result<Request, Refusal>
         ensures setting { setting self.new ≡ setting self.old }
         ensures posted { IfOk result (PostsTo (setting self.old) (seen self.old) (post_by (setting self.old) rank comm sig bytes.now) (seen self.new)) }
+        ensures begins { IfOk result (λ made. IfSome made (λ ticket. BeginsSchedule self.old self.new ticket.slot (schedule_for (setting self.old) rank comm sig))) }
         ensures refused { IfErr result (Denies (setting self.old) (seen self.old) (post_by (setting self.old) rank comm sig bytes.now)) }
         ensures err { OnErr result (seen self.new ≡ seen self.old) }
     {
@@ -80,6 +84,7 @@ impl Engine {
     pub fn init(&mut self, rank: u8, comm: u32, sig: Signature) -> Result<Request, Refusal>
         ensures setting { setting self.new ≡ setting self.old }
         ensures made { IfOk result (InitsTo (setting self.old) (seen self.old) (init_by (setting self.old) rank comm sig) (seen self.new)) }
+        ensures progress { IfOk result (λ made. IfSome made (λ ticket. KeepsProgress self.old self.new ticket.slot)) }
         ensures refused { IfErr result (Denies (setting self.old) (seen self.old) (init_by (setting self.old) rank comm sig)) }
         ensures err { OnErr result (seen self.new ≡ seen self.old) }
     {
@@ -106,6 +111,7 @@ impl Engine {
     pub fn start(&mut self, rank: u8, request: &Request, bytes: &[u8]) -> Result<(), Refusal>
         ensures setting { setting self.new ≡ setting self.old }
         ensures starts { OnOk result (StartsAt (setting self.old) rank (seen self.old) (request.now, bytes.now) (seen self.new)) }
+        ensures begins { OnOk result (IfSome request.now (λ ticket. IfSome (record_in self.old.arena ticket.slot) (λ x. BeginsSchedule self.old self.new ticket.slot (schedule (shown x))))) }
         ensures refused { IfErr result (DeniesStart (setting self.old) rank (seen self.old) (request.now, bytes.now)) }
         ensures err { OnErr result (seen self.new ≡ seen self.old) }
     {

@@ -1,5 +1,5 @@
 //! A port's tests and waits. What they tell was so while the port had the engine. A wait for a list looks with the lock, and registers what
-//! it waits for before it gives the lock up.
+//! it waits for before it gives the lock up; it is given up only where a last look finds it unfinished.
 
 ghost use Rattle.std.specs.Prelude.{◌≡◌, ◌+◌, ◌<◌, ◌≤◌, ◌⊎◌, IfErr, IfOk, IfSome, None, OnErr, Some, length, true, vec_capacity, vec_len};
 ghost use Rattle.std.specs.Result.{result_err};
@@ -7,6 +7,7 @@ ghost use Rattle.coll_complete.specs.Anys.{position_of};
 ghost use Rattle.coll_complete.specs.Requests.{AreDistinct};
 ghost use Rattle.coll_traced.specs.Awaiting.{IsHindrance};
 ghost use Rattle.coll_traced.specs.Tests.{RefusesList, RefusesOne, TestsAll, TestsAny, TestsOne, TestsSome, any_of};
+ghost use Rattle.coll_traced.specs.Unfinished.{HadPending, WasPending, WasUnfinished};
 
 use crate::gate::Gate;
 use crate::port::Port;
@@ -30,16 +31,17 @@ impl<L: Entries> Port<L> {
     ) -> Result<(Tested, Receipts), Refusal>
         ensures rank { self.new.rank ≡ self.old.rank }
         ensures groups { self.new.groups ≡ self.old.groups }
-        ensures told { IfOk result (λ r. TestsOne L.setting self.old.rank request.old request.new r.0.flag r.0.outcome r.1) }
+        ensures told { IfOk result (λ r. TestsOne L.setting self.old.made self.old.rank request.old request.new r.0.flag r.0.outcome r.1) }
         ensures made { IfOk result (λ r. IfSome r.0.outcome (λ outcome. self.new.made ≡ self.old.made + 1)) }
         ensures none { IfOk result (λ r. r.0.outcome ≡ None → self.new.made ≡ self.old.made) }
-        ensures refused { RefusesOne L.setting self.old.rank request.old (result_err result) }
+        ensures refused { RefusesOne L.setting self.old.made self.old.rank request.old (result_err result) }
         ensures err { OnErr result ((self.new.made ≡ self.old.made) × (request.new ≡ request.old)) }
     {
         let Some(tally) = &mut self.tally else {
             unreachable!()
         };
         let mut held = self.combiner.enter_to_test(rt);
+        held.locked.traced.audit(tally);
         let tested = held.locked.traced.tested(tally, self.rank, request);
         self.combiner.release(held);
         tested
@@ -59,16 +61,17 @@ impl<L: Entries> Port<L> {
     ) -> Result<(Any, Receipts), Refusal>
         ensures rank { self.new.rank ≡ self.old.rank }
         ensures groups { self.new.groups ≡ self.old.groups }
-        ensures told { IfOk result (λ r. TestsAny L.setting self.old.rank requests.old requests.new r.0 r.1) }
+        ensures told { IfOk result (λ r. TestsAny L.setting self.old.made self.old.rank requests.old requests.new r.0 r.1) }
         ensures made { IfOk result (λ r. IfSome (position_of r.0) (λ at. self.new.made ≡ self.old.made + 1)) }
         ensures none { IfOk result (λ r. position_of r.0 ≡ None → self.new.made ≡ self.old.made) }
-        ensures refused { RefusesList L.setting self.old.rank requests.old (result_err result) }
+        ensures refused { RefusesList L.setting self.old.made self.old.rank requests.old (result_err result) }
         ensures err { OnErr result ((self.new.made ≡ self.old.made) × (requests.new ≡ requests.old)) }
     {
         let Some(tally) = &mut self.tally else {
             unreachable!()
         };
         let mut held = self.combiner.enter_to_test(rt);
+        held.locked.traced.audit(tally);
         let tested = held.locked.traced.tested_any(tally, self.rank, requests);
         self.combiner.release(held);
         tested
@@ -90,15 +93,16 @@ impl<L: Entries> Port<L> {
         requires room { vec_len out.old + length requests.old ≤ vec_capacity out.old }
         ensures rank { self.new.rank ≡ self.old.rank }
         ensures groups { self.new.groups ≡ self.old.groups }
-        ensures told { IfOk result (λ r. TestsAll L.setting self.old.rank requests.old requests.new out.old.items out.new.items r.0 r.1) }
+        ensures told { IfOk result (λ r. TestsAll L.setting self.old.made self.old.rank requests.old requests.new out.old.items out.new.items r.0 r.1) }
         ensures made { IfOk result (λ r. self.new.made + vec_len out.old ≡ self.old.made + vec_len out.new) }
-        ensures refused { RefusesList L.setting self.old.rank requests.old (result_err result) }
+        ensures refused { RefusesList L.setting self.old.made self.old.rank requests.old (result_err result) }
         ensures err { OnErr result ((self.new.made ≡ self.old.made) × (requests.new ≡ requests.old) × (out.new ≡ out.old)) }
     {
         let Some(tally) = &mut self.tally else {
             unreachable!()
         };
         let mut held = self.combiner.enter_to_test(rt);
+        held.locked.traced.audit(tally);
         let tested = held
             .locked
             .traced
@@ -123,16 +127,17 @@ impl<L: Entries> Port<L> {
         requires room { vec_len out.old + length requests.old ≤ vec_capacity out.old }
         ensures rank { self.new.rank ≡ self.old.rank }
         ensures groups { self.new.groups ≡ self.old.groups }
-        ensures told { IfOk result (λ r. TestsSome L.setting self.old.rank requests.old requests.new out.old.items out.new.items r.0 r.1) }
+        ensures told { IfOk result (λ r. TestsSome L.setting self.old.made self.old.rank requests.old requests.new out.old.items out.new.items r.0 r.1) }
         ensures made { IfOk result (λ r. IfSome r.0 (λ n. self.new.made ≡ self.old.made + n)) }
         ensures inactive { IfOk result (λ r. r.0 ≡ None → self.new.made ≡ self.old.made) }
-        ensures refused { RefusesList L.setting self.old.rank requests.old (result_err result) }
+        ensures refused { RefusesList L.setting self.old.made self.old.rank requests.old (result_err result) }
         ensures err { OnErr result ((self.new.made ≡ self.old.made) × (requests.new ≡ requests.old) × (out.new ≡ out.old)) }
     {
         let Some(tally) = &mut self.tally else {
             unreachable!()
         };
         let mut held = self.combiner.enter_to_test(rt);
+        held.locked.traced.audit(tally);
         let tested = held
             .locked
             .traced
@@ -157,10 +162,10 @@ impl<L: Entries> Port<L> {
     ) -> Result<(Option<Outcome>, Receipts), Refusal>
         ensures rank { self.new.rank ≡ self.old.rank }
         ensures groups { self.new.groups ≡ self.old.groups }
-        ensures told { IfOk result (λ r. TestsOne L.setting self.old.rank request.old request.new true r.0 r.1) }
+        ensures told { IfOk result (λ r. TestsOne L.setting self.old.made self.old.rank request.old request.new true r.0 r.1) }
         ensures made { IfOk result (λ r. IfSome r.0 (λ outcome. self.new.made ≡ self.old.made + 1)) }
         ensures none { IfOk result (λ r. r.0 ≡ None → self.new.made ≡ self.old.made) }
-        ensures refused { IfErr result (λ why. RefusesOne L.setting self.old.rank request.old (Some why) ⊎ IsHindrance L.setting why) }
+        ensures refused { IfErr result (λ why. RefusesOne L.setting self.old.made self.old.rank request.old (Some why) ⊎ (IsHindrance L.setting why × WasPending L.setting self.old.made self.old.rank request.old)) }
         ensures err { OnErr result ((self.new.made ≡ self.old.made) × (request.new ≡ request.old)) }
     {
         let Some(first) = self.tally.take() else {
@@ -186,18 +191,20 @@ impl<L: Entries> Port<L> {
     ) -> Result<(Option<(usize, Outcome)>, Receipts), Refusal>
         ensures rank { self.new.rank ≡ self.old.rank }
         ensures groups { self.new.groups ≡ self.old.groups }
-        ensures told { IfOk result (λ r. TestsAny L.setting self.old.rank requests.old requests.new (any_of r.0) r.1) }
+        ensures told { IfOk result (λ r. TestsAny L.setting self.old.made self.old.rank requests.old requests.new (any_of r.0) r.1) }
         ensures made { IfOk result (λ r. IfSome r.0 (λ at. self.new.made ≡ self.old.made + 1)) }
         ensures none { IfOk result (λ r. r.0 ≡ None → self.new.made ≡ self.old.made) }
-        ensures refused { IfErr result (λ why. RefusesList L.setting self.old.rank requests.old (Some why) ⊎ IsHindrance L.setting why) }
+        ensures refused { IfErr result (λ why. RefusesList L.setting self.old.made self.old.rank requests.old (Some why) ⊎ (IsHindrance L.setting why × WasUnfinished L.setting self.old.made self.old.rank requests.old)) }
         ensures err { OnErr result ((self.new.made ≡ self.old.made) × (requests.new ≡ requests.old)) }
     {
         let rank = self.rank;
         let Some(tally) = &mut self.tally else {
             unreachable!()
         };
+        let mut hindrance = None;
         for _ in rt.forever() {
             let mut held = self.combiner.enter(rt);
+            held.locked.traced.audit(tally);
             let (any, receipts) = match held.locked.traced.tested_any(tally, rank, requests) {
                 Ok(told) => told,
                 Err(why) => {
@@ -209,8 +216,14 @@ impl<L: Entries> Port<L> {
                 Any::At(position, outcome) => Some((position, outcome)),
                 Any::Undefined => None,
                 Any::Unfinished => {
-                    self.combiner
-                        .wait_listed(rt, gate, held, rank, Awaited::Any(requests))?;
+                    if let Some(why) = hindrance {
+                        self.combiner.release(held);
+                        return Err(why);
+                    }
+                    hindrance = self
+                        .combiner
+                        .wait_listed(rt, gate, held, rank, Awaited::Any(requests))
+                        .err();
                     continue;
                 }
             };
@@ -237,21 +250,29 @@ impl<L: Entries> Port<L> {
         requires room { vec_len out.old + length requests.old ≤ vec_capacity out.old }
         ensures rank { self.new.rank ≡ self.old.rank }
         ensures groups { self.new.groups ≡ self.old.groups }
-        ensures told { IfOk result (λ r. TestsAll L.setting self.old.rank requests.old requests.new out.old.items out.new.items true r) }
+        ensures told { IfOk result (λ r. TestsAll L.setting self.old.made self.old.rank requests.old requests.new out.old.items out.new.items true r) }
         ensures made { IfOk result (λ r. self.new.made + vec_len out.old ≡ self.old.made + vec_len out.new) }
-        ensures refused { IfErr result (λ why. RefusesList L.setting self.old.rank requests.old (Some why) ⊎ IsHindrance L.setting why) }
+        ensures refused { IfErr result (λ why. RefusesList L.setting self.old.made self.old.rank requests.old (Some why) ⊎ (IsHindrance L.setting why × HadPending L.setting self.old.made self.old.rank requests.old)) }
         ensures err { OnErr result ((self.new.made ≡ self.old.made) × (requests.new ≡ requests.old) × (out.new ≡ out.old)) }
     {
         let rank = self.rank;
         let Some(tally) = &mut self.tally else {
             unreachable!()
         };
+        let mut hindrance = None;
         for _ in rt.forever() {
             let mut held = self.combiner.enter(rt);
+            held.locked.traced.audit(tally);
             let told = match held.locked.traced.tested_all(tally, rank, requests, out) {
                 Ok((false, _)) => {
-                    self.combiner
-                        .wait_listed(rt, gate, held, rank, Awaited::All(requests))?;
+                    if let Some(why) = hindrance {
+                        self.combiner.release(held);
+                        return Err(why);
+                    }
+                    hindrance = self
+                        .combiner
+                        .wait_listed(rt, gate, held, rank, Awaited::All(requests))
+                        .err();
                     continue;
                 }
                 Ok((true, receipts)) => Ok(receipts),
@@ -281,23 +302,31 @@ impl<L: Entries> Port<L> {
         requires room { vec_len out.old + length requests.old ≤ vec_capacity out.old }
         ensures rank { self.new.rank ≡ self.old.rank }
         ensures groups { self.new.groups ≡ self.old.groups }
-        ensures told { IfOk result (λ r. TestsSome L.setting self.old.rank requests.old requests.new out.old.items out.new.items r.0 r.1) }
+        ensures told { IfOk result (λ r. TestsSome L.setting self.old.made self.old.rank requests.old requests.new out.old.items out.new.items r.0 r.1) }
         ensures some { IfOk result (λ r. IfSome r.0 (λ n. 0 < n)) }
         ensures made { IfOk result (λ r. IfSome r.0 (λ n. self.new.made ≡ self.old.made + n)) }
         ensures inactive { IfOk result (λ r. r.0 ≡ None → self.new.made ≡ self.old.made) }
-        ensures refused { IfErr result (λ why. RefusesList L.setting self.old.rank requests.old (Some why) ⊎ IsHindrance L.setting why) }
+        ensures refused { IfErr result (λ why. RefusesList L.setting self.old.made self.old.rank requests.old (Some why) ⊎ (IsHindrance L.setting why × WasUnfinished L.setting self.old.made self.old.rank requests.old)) }
         ensures err { OnErr result ((self.new.made ≡ self.old.made) × (requests.new ≡ requests.old) × (out.new ≡ out.old)) }
     {
         let rank = self.rank;
         let Some(tally) = &mut self.tally else {
             unreachable!()
         };
+        let mut hindrance = None;
         for _ in rt.forever() {
             let mut held = self.combiner.enter(rt);
+            held.locked.traced.audit(tally);
             let told = match held.locked.traced.waited_some(tally, rank, requests, out) {
                 Ok(None) => {
-                    self.combiner
-                        .wait_listed(rt, gate, held, rank, Awaited::Any(requests))?;
+                    if let Some(why) = hindrance {
+                        self.combiner.release(held);
+                        return Err(why);
+                    }
+                    hindrance = self
+                        .combiner
+                        .wait_listed(rt, gate, held, rank, Awaited::Any(requests))
+                        .err();
                     continue;
                 }
                 Ok(Some(answer)) => Ok(answer),

@@ -35,7 +35,7 @@ impl<L: Entries> Port<L> {
         ensures made { OnOk result (self.new.made ≡ self.old.made + 1) }
         ensures receipt { IfOk result (λ r. IsPosted self.old.rank r.0 comm offer.plan.sig offer.bytes r.1) }
         ensures err { OnErr result (self.new.made ≡ self.old.made) }
-        ensures refused { IfErr result (λ refused. IsDenied L.setting (post_of self.old.rank comm offer) refused.why) }
+        ensures refused { IfErr result (λ refused. IsDenied L.setting self.old.made (post_of self.old.rank comm offer) refused.why) }
         ensures back { IfErr result (λ refused. refused.back ≡ offer) }
     {
         let Some(tally) = self.tally.take() else {
@@ -100,14 +100,14 @@ impl<L: Entries> Port<L> {
         ensures made { OnOk result (self.new.made ≡ self.old.made + 1) }
         ensures receipt { IfOk result (λ r. IsInited self.old.rank r.0 comm plan.sig r.1) }
         ensures err { OnErr result (self.new.made ≡ self.old.made) }
-        ensures refused { IfErr result (λ refused. IsDenied L.setting (init_of self.old.rank comm plan) refused.why) }
+        ensures refused { IfErr result (λ refused. IsDenied L.setting self.old.made (init_of self.old.rank comm plan) refused.why) }
         ensures back { IfErr result (λ refused. refused.back ≡ plan) }
     {
         let Some(tally) = &mut self.tally else {
             unreachable!()
         };
         let mut held = self.combiner.enter(rt);
-        held.locked.traced.keeps_setting();
+        held.locked.traced.audit(tally);
         let made = held.locked.traced.init(tally, self.rank, comm, plan);
         self.combiner.release(held);
         match made {
@@ -127,7 +127,7 @@ impl<L: Entries> Port<L> {
         ensures groups { self.new.groups ≡ self.old.groups }
         ensures made { OnOk result (self.new.made ≡ self.old.made + 1) }
         ensures receipt { IfOk result (λ receipt. receipt ∷ [] ≡ release self.old.rank request.old) }
-        ensures refused { RefusesFree L.setting self.old.rank request.old (result_err result) }
+        ensures refused { RefusesFree L.setting self.old.made self.old.rank request.old (result_err result) }
         ensures null { OnOk result (request.new ≡ None) }
         ensures err { OnErr result ((self.new.made ≡ self.old.made) × (request.new ≡ request.old)) }
     {
@@ -135,6 +135,7 @@ impl<L: Entries> Port<L> {
             unreachable!()
         };
         let mut held = self.combiner.enter(rt);
+        held.locked.traced.audit(tally);
         let freed = held.locked.traced.freed(tally, self.rank, request);
         self.combiner.release(held);
         freed

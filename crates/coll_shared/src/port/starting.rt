@@ -32,7 +32,7 @@ impl<L: Entries> Port<L> {
         ensures made { OnOk result (self.new.made ≡ self.old.made + 1) }
         ensures receipt { IfOk result (λ receipt. IsStarted self.old.rank request.now bytes receipt) }
         ensures err { OnErr result (self.new.made ≡ self.old.made) }
-        ensures refused { IfErr result (λ refused. DeniesStart L.setting self.old.rank request.now bytes refused.why) }
+        ensures refused { IfErr result (λ refused. DeniesStart L.setting self.old.made self.old.rank request.now bytes refused.why) }
         ensures back { IfErr result (λ refused. refused.back ≡ bytes) }
     {
         let Some(ticket) = request.ticket() else {
@@ -64,7 +64,7 @@ impl<L: Entries> Port<L> {
         ensures receipt { IfOk result (λ receipt. IsStarted self.old.rank request.now bytes.old receipt) }
         ensures taken { OnOk result (bytes.new ≡ []) }
         ensures err { OnErr result (self.new.made ≡ self.old.made) }
-        ensures refused { IfErr result (λ why. DeniesStart L.setting self.old.rank request.now bytes.old why) }
+        ensures refused { IfErr result (λ why. DeniesStart L.setting self.old.made self.old.rank request.now bytes.old why) }
         ensures back { OnErr result (bytes.new ≡ bytes.old) }
     {
         match self.start(rt, request, mem::replace(bytes, Contribution::empty())) {
@@ -99,7 +99,7 @@ impl<L: Entries> Port<L> {
         ensures within { IfErr result (λ halted. halted.at < length requests.now) }
         ensures err { IfErr result (λ halted. self.new.made ≡ self.old.made + halted.at) }
         ensures before { IfErr result (λ halted. PushesStarts self.old.rank (take halted.at (zip requests.now given.items)) receipts.old.items receipts.new.items) }
-        ensures refused { IfErr result (λ halted. DeniesStart L.setting self.old.rank (slice_index_or requests.now halted.at None) (slice_index_or given.items halted.at []) halted.why) }
+        ensures refused { IfErr result (λ halted. DeniesStart L.setting (self.old.made + halted.at) self.old.rank (slice_index_or requests.now halted.at None) (slice_index_or given.items halted.at []) halted.why) }
         ensures back { IfErr result (λ halted. halted.back.items ≡ unused halted.at given.items) }
     {
         for (at, request) in requests.iter().enumerate() {

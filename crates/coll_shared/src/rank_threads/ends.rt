@@ -1,4 +1,4 @@
-ghost use Rattle.std.specs.Prelude.{◌≡◌, All, IfErr, IfOk, None, true};
+ghost use Rattle.std.specs.Prelude.{◌≡◌, ◌⊎◌, All, Contains, IfErr, IfOk, None, Some, false, true};
 
 use coll_kinds::Refusal;
 
@@ -23,6 +23,7 @@ impl<T: Drop> Ends<T> {
         ensures started { IfOk result (λ ranks. self.all_started ≡ true) }
         ensures workers { IfOk result (λ ranks. All (λ end. end ≡ None) self.workers.items) }
         ensures ranks { IfOk result (λ ranks. ranks ≡ self.ranks) }
+        ensures refused { IfErr result (λ why. ((self.all_started ≡ false) × (why ≡ Refusal.NoMemory)) ⊎ Contains self.workers.items (Some why)) }
     {
         let Ends {
             all_started,

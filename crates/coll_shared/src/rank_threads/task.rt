@@ -1,6 +1,10 @@
 /// What the thread of a rank does with the rank's port; it ends with a `T`.
 pub trait RankTask<T> {
+    /// How the task may end.
+    ghost IsEnd: { Self → T → Type 0 } = { λ _ _. Unit {0} };
+
     /// Uses the port, and ends it. Where some thread couldn't be started, `all_started` is false, and the port
     /// is only ended.
-    fn run(self, all_started: bool) -> T;
+    fn run(self, all_started: bool) -> T
+        ensures { IsEnd self result };
 }

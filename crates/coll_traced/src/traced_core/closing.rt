@@ -1,6 +1,7 @@
 //! Whether the engine can be closed, and what is taken out of it then.
 
 ghost use Rattle.std.specs.Prelude.{◌≡◌, ◌<◌, ℕ, IfSome, IsNone, length};
+ghost use Rattle.coll_machine.specs.Traces.{LegalTrace};
 ghost use Rattle.coll_core.specs.Cores.{seen, setting};
 ghost use Rattle.coll_traced.specs.Closings.{IsBalanced, IsFirstBusy, Objects, ends_of};
 ghost use Rattle.coll_report.specs.Told.{IsIdle};
@@ -41,7 +42,9 @@ impl<L: Entries> TracedCore<L> {
         ensures ends { IsNone result → ends.now ≡ ends_of (setting self.now.core).ranks self.now.entries }
         ensures refused { IfSome result (Objects self.now ends.now) }
         ensures setting { setting self.now.core ≡ L.setting }
+        ensures legal { LegalTrace L.setting self.now.entries (seen self.now.core).state }
     {
+        self.keeps_legal();
         let ranks = self.ranks();
         if let Some(rank) = self.first_busy() {
             return Some(Refusal::StillActive { rank });

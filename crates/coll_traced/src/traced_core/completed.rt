@@ -1,5 +1,5 @@
 ghost use Rattle.std.specs.Prelude.{◌≡◌, ◌↔◌, [], ◌∷◌, IsTrue, Some, true};
-ghost use Rattle.coll_traced.specs.Outcomes.{retired};
+ghost use Rattle.coll_traced.specs.Outcomes.{left_by, retired};
 ghost use Rattle.coll_traced.specs.Tests.{TestsOne};
 
 use crate::tally::Entries;
@@ -9,58 +9,78 @@ use coll_core::Outcome;
 use coll_kinds::Ticket;
 use std::marker::{Model, PhantomData};
 
-/// A request that was completed for a port which waits for just that one. Contracts see the port's rank, the ticket and the entry. Only
-/// `TracedCore::complete_for` makes one.
+/// A request that was completed for a port which waits for just that one. Contracts see the port's rank, the ticket, how many entries
+/// the port had made before, and the entry of the completion. Only `TracedCore::complete_for` makes one.
 #[derive(Drop)]
 pub struct Completed<L: Entries> {
     pub(crate) rank: u8,
+    /// Whether the port keeps its hold: a persistent request's.
+    stays: bool,
     pub(crate) ticket: Ticket,
-    left: Request,
+    /// How many entries the port had made before.
+    made: u64,
     pub(crate) outcome: Outcome,
     engine: PhantomData<L>,
 }
 
 impl<L: Entries> Model for Completed<L> {
     ghost use Rattle.std.specs.Prelude.{[], ◌∷◌, Some, true};
-    ghost use Rattle.coll_traced.specs.Outcomes.{CompletedFor, retired};
+    ghost use Rattle.coll_traced.specs.Outcomes.{CompletedFor, left_by, retired};
     ghost use Rattle.coll_traced.specs.Tests.{TestsOne};
 
     ghost Value = { CompletedFor };
 
-    ghost view = { λ c. record { rank = c.rank; ticket = c.ticket; entry = retired c.rank c.ticket c.outcome } };
+    ghost view = { λ c. record { rank = c.rank; ticket = c.ticket; made = c.made; entry = retired c.rank c.ticket c.outcome } };
 
-    ghost invariant = { λ c. TestsOne L.setting c.rank (Some c.ticket) c.left true (Some c.outcome) (retired c.rank c.ticket c.outcome ∷ []) };
+    ghost invariant = { λ c. TestsOne L.setting c.made c.rank (Some c.ticket) (left_by c.stays c.ticket) true (Some c.outcome) (retired c.rank c.ticket c.outcome ∷ []) };
+}
+
+/// What is left of a request that was completed.
+fn left(stays: bool, ticket: Ticket) -> Request
+    ensures { result ≡ left_by stays ticket }
+{
+    if stays {
+        Request::of(ticket)
+    } else {
+        Request::null()
+    }
 }
 
 impl<L: Entries> Completed<L> {
-    /// Of what the test of a request told, which left `left` of it.
-    pub(super) fn new(rank: u8, ticket: Ticket, left: Request, outcome: Outcome) -> Self
-        requires { TestsOne L.setting rank (Some ticket) left true (Some outcome) (retired rank ticket outcome ∷ []) }
-        ensures { result ≡ record { rank = rank; ticket = ticket; entry = retired rank ticket outcome } }
+    /// Of what the test of a request told, which a port with so many entries then holds further or not.
+    pub(super) fn new(rank: u8, ticket: Ticket, made: u64, stays: bool, outcome: Outcome) -> Self
+        requires { TestsOne L.setting made rank (Some ticket) (left_by stays ticket) true (Some outcome) (retired rank ticket outcome ∷ []) }
+        ensures { result ≡ record { rank = rank; ticket = ticket; made = made; entry = retired rank ticket outcome } }
     {
         Completed {
             rank,
+            stays,
             ticket,
-            left,
+            made,
             outcome,
             engine: PhantomData,
         }
     }
 
-    /// Whether it is for the rank, and of the request that the ticket names.
-    pub fn is_for(&self, rank: u8, ticket: Ticket) -> bool
-        ensures { IsTrue result ↔ ((self.now.rank ≡ rank) × (self.now.ticket ≡ ticket)) }
+    /// Whether it is for the rank's port with so many entries, and of the request that the ticket names.
+    pub fn is_for(&self, rank: u8, ticket: Ticket, made: u64) -> bool
+        ensures { IsTrue result ↔ ((self.now.rank ≡ rank) × (self.now.ticket ≡ ticket) × (self.now.made ≡ made)) }
     {
-        self.rank == rank && self.ticket == ticket
+        self.rank == rank && self.ticket == ticket && self.made == made
     }
 
     /// What is left of the request, its outcome, and what shows its entry.
     pub fn open(self) -> (Request, Outcome, Receipts)
-        ensures told { TestsOne L.setting self.rank (Some self.ticket) result.0 true (Some result.1) result.2 }
+        ensures told { TestsOne L.setting self.made self.rank (Some self.ticket) result.0 true (Some result.1) result.2 }
         ensures entry { result.2 ≡ self.entry ∷ [] }
     {
         let receipts = Receipts::of(&self);
-        let Completed { left, outcome, .. } = self;
-        (left, outcome, receipts)
+        let Completed {
+            stays,
+            ticket,
+            outcome,
+            ..
+        } = self;
+        (left(stays, ticket), outcome, receipts)
     }
 }

@@ -1,4 +1,5 @@
 //! The tests of requests with receipts, in words that outlast the hold of a lock. The state of each is that of `coll_complete`'s call.
+//! That the trace has the entries of the caller's tally is told by `TracedCore::audit`.
 
 ghost use Rattle.std.specs.Prelude.{◌≡◌, ◌+◌, ◌≤◌, ◌∷◌, ◌++◌, [], IfOk, IfSome, None, OnErr, OnOk, drop, false, is_some, length, not, position, vec_capacity, vec_len};
 ghost use Rattle.std.specs.List.{list_any};
@@ -9,7 +10,9 @@ ghost use Rattle.coll_complete.specs.Completing.{done_positions};
 ghost use Rattle.coll_complete.specs.Requests.{AreDistinct, is_active, is_done, is_pending, list_refusal, refusal_at};
 ghost use Rattle.coll_report.specs.Views.{trace_seen};
 ghost use Rattle.coll_traced.specs.Outcomes.{release};
+ghost use Rattle.coll_complete.specs.declared.any.Any.TheVariants.{Unfinished};
 ghost use Rattle.coll_traced.specs.Tests.{RefusesFree, RefusesList, RefusesOne, TestsAll, TestsAny, TestsOne, TestsSome};
+ghost use Rattle.coll_traced.specs.Unfinished.{HadPending, WasPending, WasUnfinished};
 
 use crate::tally::{Entries, Tally};
 use crate::trace::{Receipt, Receipts};
@@ -46,20 +49,22 @@ impl<L: Entries> TracedCore<L> {
         rank: u8,
         request: &mut Request,
     ) -> Result<(Tested, Receipts), Refusal>
+        requires { mine.old ≤ length self.old.entries }
         ensures setting { setting self.new.core ≡ setting self.old.core }
         ensures waits { (self.new.waits ≡ self.old.waits) × (self.new.stalled ≡ self.old.stalled) }
         ensures flag { IfOk result (λ r. r.0.flag ≡ not (is_pending (seen self.old.core) request.old)) }
         ensures outcome { IfOk result (λ r. is_some r.0.outcome ≡ is_done (seen self.old.core) request.old) }
         ensures appended { IfOk result (λ r. self.new.entries ≡ self.old.entries ++ r.1) }
-        ensures told { IfOk result (λ r. TestsOne L.setting rank request.old request.new r.0.flag r.0.outcome r.1) }
+        ensures told { IfOk result (λ r. TestsOne L.setting mine.old rank request.old request.new r.0.flag r.0.outcome r.1) }
         ensures counted { IfOk result (λ r. IfSome r.0.outcome (λ outcome. mine.new ≡ mine.old + 1)) }
         ensures none { IfOk result (λ r. r.0.outcome ≡ None → (self.new ≡ self.old) × (mine.new ≡ mine.old)) }
         ensures pending { IfOk result (λ r. r.0.flag ≡ false → (request.new ≡ request.old) × (mine.new ≡ mine.old)) }
+        ensures unfinished { IfOk result (λ r. r.0.flag ≡ false → WasPending L.setting mine.old rank request.old) }
         ensures refusal { result_err result ≡ refusal_at (setting self.old.core) (seen self.old.core).state rank request.old }
-        ensures refused { RefusesOne L.setting rank request.old (result_err result) }
+        ensures refused { RefusesOne L.setting mine.old rank request.old (result_err result) }
         ensures err { OnErr result ((self.new ≡ self.old) × (request.new ≡ request.old) × (mine.new ≡ mine.old)) }
     {
-        self.keeps_setting();
+        self.keeps_legal();
         let before = self.moment();
         match test_on(self, mine, rank, request) {
             Ok(tested) => Ok((tested, self.since(before))),
@@ -80,18 +85,20 @@ impl<L: Entries> TracedCore<L> {
         rank: u8,
         requests: &mut [Request],
     ) -> Result<(Any, Receipts), Refusal>
+        requires { mine.old ≤ length self.old.entries }
         ensures waits { (self.new.waits ≡ self.old.waits) × (self.new.stalled ≡ self.old.stalled) }
         ensures undefined { IfOk result (λ r. is_undefined r.0 ≡ not (list_any (is_active (seen self.old.core)) requests.old)) }
         ensures lowest { IfOk result (λ r. position_of r.0 ≡ position (is_done (seen self.old.core)) requests.old) }
         ensures appended { IfOk result (λ r. self.new.entries ≡ self.old.entries ++ r.1) }
-        ensures told { IfOk result (λ r. TestsAny L.setting rank requests.old requests.new r.0 r.1) }
+        ensures told { IfOk result (λ r. TestsAny L.setting mine.old rank requests.old requests.new r.0 r.1) }
         ensures counted { IfOk result (λ r. IfSome (position_of r.0) (λ at. mine.new ≡ mine.old + 1)) }
         ensures none { IfOk result (λ r. position_of r.0 ≡ None → (self.new ≡ self.old) × (mine.new ≡ mine.old)) }
+        ensures unfinished { IfOk result (λ r. r.0 ≡ Unfinished → WasUnfinished L.setting mine.old rank requests.old) }
         ensures refusal { result_err result ≡ list_refusal (setting self.old.core) (seen self.old.core).state rank requests.old }
-        ensures refused { RefusesList L.setting rank requests.old (result_err result) }
+        ensures refused { RefusesList L.setting mine.old rank requests.old (result_err result) }
         ensures err { OnErr result ((self.new ≡ self.old) × (requests.new ≡ requests.old) × (mine.new ≡ mine.old)) }
     {
-        self.keeps_setting();
+        self.keeps_legal();
         let before = self.moment();
         match test_any_on(self, mine, rank, requests) {
             Ok(any) => Ok((any, self.since(before))),
@@ -112,19 +119,21 @@ impl<L: Entries> TracedCore<L> {
         requests: &mut [Request],
         out: &mut Vec<(usize, Outcome)>,
     ) -> Result<(bool, Receipts), Refusal>
+        requires made { mine.old ≤ length self.old.entries }
         requires distinct { AreDistinct requests.old }
         requires room { vec_len out.old + length requests.old ≤ vec_capacity out.old }
         ensures waits { (self.new.waits ≡ self.old.waits) × (self.new.stalled ≡ self.old.stalled) }
         ensures flag { IfOk result (λ r. r.0 ≡ not (list_any (is_pending (seen self.old.core)) requests.old)) }
         ensures appended { IfOk result (λ r. self.new.entries ≡ self.old.entries ++ r.1) }
-        ensures told { IfOk result (λ r. TestsAll L.setting rank requests.old requests.new out.old.items out.new.items r.0 r.1) }
+        ensures told { IfOk result (λ r. TestsAll L.setting mine.old rank requests.old requests.new out.old.items out.new.items r.0 r.1) }
         ensures counted { IfOk result (λ r. mine.new + vec_len out.old ≡ mine.old + vec_len out.new) }
         ensures unfinished { IfOk result (λ r. r.0 ≡ false → (self.new ≡ self.old) × (requests.new ≡ requests.old) × (out.new ≡ out.old) × (mine.new ≡ mine.old)) }
+        ensures pending { IfOk result (λ r. r.0 ≡ false → HadPending L.setting mine.old rank requests.old) }
         ensures refusal { result_err result ≡ list_refusal (setting self.old.core) (seen self.old.core).state rank requests.old }
-        ensures refused { RefusesList L.setting rank requests.old (result_err result) }
+        ensures refused { RefusesList L.setting mine.old rank requests.old (result_err result) }
         ensures err { OnErr result ((self.new ≡ self.old) × (requests.new ≡ requests.old) × (out.new ≡ out.old) × (mine.new ≡ mine.old)) }
     {
-        self.keeps_setting();
+        self.keeps_legal();
         let before = self.moment();
         match test_all_on(self, mine, rank, requests, out) {
             Ok(flag) => Ok((flag, self.since(before))),
@@ -145,20 +154,21 @@ impl<L: Entries> TracedCore<L> {
         requests: &mut [Request],
         out: &mut Vec<(usize, Outcome)>,
     ) -> Result<(Option<usize>, Receipts), Refusal>
+        requires made { mine.old ≤ length self.old.entries }
         requires distinct { AreDistinct requests.old }
         requires room { vec_len out.old + length requests.old ≤ vec_capacity out.old }
         ensures waits { (self.new.waits ≡ self.old.waits) × (self.new.stalled ≡ self.old.stalled) }
         ensures active { IfOk result (λ r. is_some r.0 ≡ list_any (is_active (seen self.old.core)) requests.old) }
         ensures count { IfOk result (λ r. IfSome r.0 (λ n. n ≡ length (done_positions (seen self.old.core) requests.old))) }
         ensures appended { IfOk result (λ r. self.new.entries ≡ self.old.entries ++ r.1) }
-        ensures told { IfOk result (λ r. TestsSome L.setting rank requests.old requests.new out.old.items out.new.items r.0 r.1) }
+        ensures told { IfOk result (λ r. TestsSome L.setting mine.old rank requests.old requests.new out.old.items out.new.items r.0 r.1) }
         ensures counted { IfOk result (λ r. IfSome r.0 (λ n. mine.new ≡ mine.old + n)) }
         ensures inactive { IfOk result (λ r. r.0 ≡ None → (self.new ≡ self.old) × (mine.new ≡ mine.old)) }
         ensures refusal { result_err result ≡ list_refusal (setting self.old.core) (seen self.old.core).state rank requests.old }
-        ensures refused { RefusesList L.setting rank requests.old (result_err result) }
+        ensures refused { RefusesList L.setting mine.old rank requests.old (result_err result) }
         ensures err { OnErr result ((self.new ≡ self.old) × (requests.new ≡ requests.old) × (out.new ≡ out.old) × (mine.new ≡ mine.old)) }
     {
-        self.keeps_setting();
+        self.keeps_legal();
         let before = self.moment();
         match test_some_on(self, mine, rank, requests, out) {
             Ok(count) => Ok((count, self.since(before))),
@@ -178,15 +188,16 @@ impl<L: Entries> TracedCore<L> {
         rank: u8,
         request: &mut Request,
     ) -> Result<Receipt, Refusal>
+        requires { mine.old ≤ length self.old.entries }
         ensures waits { (self.new.waits ≡ self.old.waits) × (self.new.stalled ≡ self.old.stalled) }
         ensures appended { IfOk result (λ receipt. self.new.entries ≡ self.old.entries ++ receipt ∷ []) }
         ensures entry { IfOk result (λ receipt. receipt ∷ [] ≡ release rank request.old) }
         ensures counted { OnOk result (mine.new ≡ mine.old + 1) }
         ensures null { OnOk result (request.new ≡ None) }
-        ensures refused { RefusesFree L.setting rank request.old (result_err result) }
+        ensures refused { RefusesFree L.setting mine.old rank request.old (result_err result) }
         ensures err { OnErr result ((self.new ≡ self.old) × (request.new ≡ request.old) × (mine.new ≡ mine.old)) }
     {
-        self.keeps_setting();
+        self.keeps_legal();
         let Some(ticket) = request.ticket() else {
             return Err(Refusal::Stale);
         };

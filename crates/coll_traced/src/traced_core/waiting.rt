@@ -8,6 +8,7 @@ ghost use Rattle.coll_core.specs.declared.phase.Phase.TheVariants.{Pending};
 ghost use Rattle.coll_complete.specs.Requests.{AreDistinct, list_refusal};
 ghost use Rattle.coll_traced.specs.Awaiting.{IsListed, IsUnfinished, IsUnmet, NeedsNoWait, WaitsFor, one_in};
 ghost use Rattle.coll_traced.specs.Tests.{RefusesList, RefusesOne, TestsAll, TestsAny, TestsOne, TestsSome, any_of};
+ghost use Rattle.coll_traced.specs.Unfinished.{WasUnfinished};
 ghost use Rattle.coll_traced.specs.Waits.{Awake, ForOne};
 
 use crate::awaited::Awaited;
@@ -28,20 +29,22 @@ impl<L: Entries> TracedCore<L> {
         requests: &mut [Request],
         out: &mut Vec<(usize, Outcome)>,
     ) -> Result<Option<(Option<usize>, Receipts)>, Refusal>
+        requires made { mine.old ≤ length self.old.entries }
         requires distinct { AreDistinct requests.old }
         requires room { vec_len out.old + length requests.old ≤ vec_capacity out.old }
         ensures waits { (self.new.waits ≡ self.old.waits) × (self.new.stalled ≡ self.old.stalled) }
-        ensures told { IfOk result (λ found. IfSome found (λ r. TestsSome L.setting rank requests.old requests.new out.old.items out.new.items r.0 r.1)) }
+        ensures told { IfOk result (λ found. IfSome found (λ r. TestsSome L.setting mine.old rank requests.old requests.new out.old.items out.new.items r.0 r.1)) }
         ensures some { IfOk result (λ found. IfSome found (λ r. IfSome r.0 (λ n. 0 < n))) }
         ensures counted { IfOk result (λ found. IfSome found (λ r. IfSome r.0 (λ n. mine.new ≡ mine.old + n))) }
         ensures inactive { IfOk result (λ found. IfSome found (λ r. r.0 ≡ None → mine.new ≡ mine.old)) }
         ensures unfinished { IfOk result (λ found. IsNone found → IsUnfinished (seen self.old.core) requests.old) }
+        ensures moment { IfOk result (λ found. IsNone found → WasUnfinished L.setting mine.old rank requests.old) }
         ensures pending { IfOk result (λ found. IsNone found → (self.new ≡ self.old) × (requests.new ≡ requests.old) × (out.new ≡ out.old) × (mine.new ≡ mine.old)) }
         ensures refusal { result_err result ≡ list_refusal (setting self.old.core) (seen self.old.core).state rank requests.old }
-        ensures refused { IfErr result (λ why. RefusesList L.setting rank requests.old (Some why)) }
+        ensures refused { IfErr result (λ why. RefusesList L.setting mine.old rank requests.old (Some why)) }
         ensures err { OnErr result ((requests.new ≡ requests.old) × (out.new ≡ out.old) × (mine.new ≡ mine.old)) }
     {
-        self.keeps_setting();
+        self.keeps_legal();
         let survey = match Survey::of(self, rank, requests) {
             Ok(survey) => survey,
             Err(why) => return Err(why),
@@ -122,6 +125,7 @@ impl<L: Entries> TracedCore<L> {
         ensures setting { setting self.new.core ≡ setting self.old.core }
         ensures rank { IfSome result (λ completed. completed.rank ≡ rank) }
         ensures ticket { IfSome result (λ completed. one_in self.old.waits rank ≡ Some completed.ticket) }
+        ensures made { IfSome result (λ completed. completed.made ≡ mine.old) }
         ensures entry { IfSome result (λ completed. self.new.entries ≡ self.old.entries ++ completed.entry ∷ []) }
         ensures awake { IfSome result (λ completed. self.new.waits ≡ slice_set self.old.waits rank Awake) }
         ensures counted { IfSome result (λ completed. mine.new ≡ mine.old + 1) }
@@ -129,6 +133,8 @@ impl<L: Entries> TracedCore<L> {
         ensures none { IsNone result → (self.new ≡ self.old) × (mine.new ≡ mine.old) }
     {
         let ticket = self.waits.one_of(rank)?;
+        let before = mine.made();
+        self.audit(mine);
         let mut request = Request::of(ticket);
         let (tested, _receipts) = match self.tested(mine, rank, &mut request) {
             Ok(answer) => answer,
@@ -138,6 +144,6 @@ impl<L: Entries> TracedCore<L> {
             return None;
         };
         self.wake(rank);
-        Some(Completed::new(rank, ticket, request, outcome))
+        Some(Completed::new(rank, ticket, before, !request.is_null(), outcome))
     }
 }

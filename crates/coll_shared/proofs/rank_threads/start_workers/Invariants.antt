@@ -1,7 +1,5 @@
-use Rattle.std.proofs.Common.{◌≡◌, ◌+◌, ◌≤◌, vec_capacity, vec_len}
+use Rattle.std.proofs.Common.{◌≡◌, vec_capacity, vec_len}
 use Rattle.coll_shared.proofs.rank_threads.start_workers.Given as goal
 
 abbrev pub invariant-loop : goal.invariant-loop
-invariant-loop g l =
-    (vec_len l.threads ≡ vec_len l.initial.threads + l.counter)
-    × (vec_len l.initial.threads + l.workers ≤ vec_capacity l.threads)
+invariant-loop g l = (vec_len l.threads ≡ l.counter) × (vec_capacity l.threads ≡ vec_capacity l.initial.threads)

@@ -13,6 +13,6 @@ returns-clause-refused g c =
       | in-None+in_default w ↦ w.bytes-is ∙ w.start-operation.ensures
     ] in
     let Denies : List ℕ → Type 0 = λ xs.
-    IfErr c.start-started.result (λ refused. IsDenied g.L.Entries.setting (Start c.args.rank c.args.ticket xs) refused.why) in
+    IfErr c.start-started.result (λ refused. IsDenied g.L.Entries.setting c.args.tally (Start c.args.rank c.args.ticket xs) refused.why) in
     let told : Denies c.match-try_lead.bytes = search rules in
     subst Denies same told

@@ -1,4 +1,4 @@
-use Rattle.std.proofs.Common.{inl, inr, ap, refl, subst}
+use Rattle.std.proofs.Common.{inl, inr, refl, subst}
 use Rattle.coll_core.specs.Posts.{post_of}
 use Rattle.coll_traced.specs.Denials.{IsDenied}
 use Rattle.coll_shared.specs.Ports.{Holding}
@@ -12,7 +12,6 @@ returns-in-Err-clause-refused g c =
 
 pub returns-in-Err-post-clause-refused : goal.returns-in-Err-post-clause-refused
 returns-in-Err-post-clause-refused g c =
-    let rank = ap (λ (p : Holding). p.rank) c.ready_plan.ensures.same in
     inr
     (record {
       offer = record { plan = c.in-Ok.plan; bytes = c.args.bytes };
@@ -20,5 +19,5 @@ returns-in-Err-post-clause-refused g c =
       n_is = c.in-Ok.ensures.n;
       member_is = c.in-Ok.ensures.member;
       bytes_are = refl;
-      denied = subst (λ k. IsDenied g.L.Entries.setting (post_of k c.args.comm (record { plan = c.in-Ok.plan; bytes = c.args.bytes })) c.in-Err-post.refused.why) rank c.in-Err-post.ensures.refused;
+      denied = subst (λ (p : Holding). IsDenied g.L.Entries.setting p.made (post_of p.rank c.args.comm (record { plan = c.in-Ok.plan; bytes = c.args.bytes })) c.in-Err-post.refused.why) c.ready_plan.ensures.same c.in-Err-post.ensures.refused;
     })

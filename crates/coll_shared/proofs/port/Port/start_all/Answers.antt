@@ -1,4 +1,4 @@
-use Rattle.std.proofs.Common.{◌≡◌, ◌+◌, ◌<◌, length, vec_capacity, vec_len, arith, sym, subst, ◌∙◌}
+use Rattle.std.proofs.Common.{◌≡◌, ◌+◌, ◌<◌, ℕ, length, vec_capacity, vec_len, arith, sym, subst, ◌∙◌}
 use Rattle.coll_complete.proofs.Starts.{begun-at, given-set}
 use Rattle.coll_traced.specs.Calls.{IsStarted}
 use Rattle.coll_traced.specs.Denials.{DeniesStart}
@@ -42,8 +42,13 @@ returns-in-Err-clause-refused g c =
     let now = c.loop-at.given.items in
     let was = c.loop-at.invariant in
     let long : length list ≡ length given = sym c.requires.given ∙ c.args.given.ok.0 in
-    let denied = subst (λ k. DeniesStart g.L.Entries.setting k c.index-requests-at.result c.index_mut.result.now c.in-Err.why) was.rank c.in-Err.ensures.refused in
-    denies-at g.L.Entries.setting c.args.self.now.rank _ _ c.in-Err.why
+    let Denied : ℕ → ℕ → Type 0 = λ made rank.
+    DeniesStart g.L.Entries.setting made rank c.index-requests-at.result c.index_mut.result.now c.in-Err.why in
+    let there : Denied (c.args.self.now.made + c.loop-at.at) c.loop-at.self.rank =
+    subst (λ made. Denied made c.loop-at.self.rank) was.made c.in-Err.ensures.refused in
+    let denied : Denied (c.args.self.now.made + c.loop-at.at) c.args.self.now.rank =
+    subst (λ rank. Denied (c.args.self.now.made + c.loop-at.at) rank) was.rank there in
+    denies-at g.L.Entries.setting (c.args.self.now.made + c.loop-at.at) c.args.self.now.rank _ _ c.in-Err.why
     (begun-at list given now c.loop-at.at c.index-requests-at.result c.index_mut.result.now was.given long c.loop-at-test.true
     c.index-requests-at.is c.index_mut.ensures.value) denied
 

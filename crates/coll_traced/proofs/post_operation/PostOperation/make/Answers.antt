@@ -9,4 +9,4 @@ last-requires g c =
 
 pub returns-in-Err-clause-refused : goal.returns-in-Err-clause-refused
 returns-in-Err-clause-refused g c =
-    λ _. (c.in-Err.field-0.why, record { at = c.args.traced.now; setting_is = c.keeps_setting.ensures; denies = c.in-Err.ensures.refused })
+    λ _. (c.in-Err.field-0.why, record { at = c.audit.new.self; setting_is = c.audit.ensures.setting; moment = c.audit.ensures.moment; denies = c.in-Err.ensures.refused })
