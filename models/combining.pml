@@ -21,6 +21,8 @@
  *          UNWOKEN            a parked port is answered, and isn't woken
  *          STALL_WHILE_OUT    a stall is told though a combination is out
  *          STALL_BEFORE_SERVE a stall is looked for before the records are served, and what is published counts as a rest
+ *          LASTING_STALL      a stall that was told stays told, though a request is ready again
+ *          UNSEEN_DROP        who gives the lock up doesn't look for ports that were dropped meanwhile
  */
 #ifndef RANKS
 #define RANKS 2
@@ -68,6 +70,7 @@ byte written;               /* pieces whose results were written */
 byte waits_for[RANKS];      /* the collectives of a registered wait */
 byte any;                   /* ranks that wait for any of several */
 byte parked, away, ended;   /* ranks */
+byte dropped;               /* ranks whose ports were let go, until a combiner notes that they have ended */
 byte idle;                  /* progress threads that sleep, or are about to */
 bit stalled, stopped;
 
@@ -124,6 +127,7 @@ inline abandon() { refusals--; request[work] = COMBINING; work = 0 }
 #define PUBLISHED 1
 #define REGISTERED 2
 #define ANSWERED 3
+#define CALLED 4        /* as Registered, and the parked port is to go on */
 byte word[RANKS];
 #define NONE 0
 #define A_POST 1
@@ -135,12 +139,23 @@ byte operation[RANKS], operand[RANKS];
 byte reply[RANKS];
 
 inline answer(rank, what) {
-    reply[rank] = what; waits_for[rank] = 0; any = any & ~BIT(rank); word[rank] = ANSWERED;
+    reply[rank] = what; waits_for[rank] = 0; any = any & ~BIT(rank); word[rank] = ANSWERED; wakes(rank)
+}
+
+inline wakes(rank) {
     if
     :: parked & BIT(rank) -> parked = parked & ~BIT(rank);
 #ifndef UNWOKEN
         wake = wake | BIT(rank)
 #endif
+    :: else
+    fi
+}
+
+/* a called port has taken the lock */
+inline heed() {
+    if
+    :: word[me] == CALLED -> word[me] = REGISTERED
     :: else
     fi
 }
@@ -167,6 +182,13 @@ inline serve() {
 }
 
 inline advance() {
+#ifndef LASTING_STALL
+    look(count, found);
+    if
+    :: count != 0 -> stalled = 0
+    :: else
+    fi;
+#endif
     count = 0; i = 0;
     do
     :: i < RANKS * COLLECTIVES && count < STEPS ->
@@ -255,7 +277,7 @@ inline tell_stall() {
 }
 
 /* who goes on with what is ready */
-#define NOT_NEEDED 0    /* nothing is ready, or a waiting port comes to its turn by itself */
+#define NOT_NEEDED 0    /* nothing is ready, or a waiting port that looks takes the lock by itself */
 #define WORKER 1
 #define NOBODY 2
 #define PORT 3          /* and the rank */
@@ -304,7 +326,7 @@ inline choose(who) {
 inline call(who) {
     if
     :: who == WORKER -> ring = 1
-    :: who >= PORT -> i = who - PORT; answer(i, LOOK)
+    :: who >= PORT -> i = who - PORT; word[i] = CALLED; wakes(i)
     :: else
     fi;
     who = 0
@@ -318,6 +340,7 @@ inline hand_on(leaving) {
 #ifdef EARLY_SUCCESSOR
     choose(who); call(who);
 #endif
+    ended = ended | dropped; dropped = 0;
     serve(); advance(); settle();
 #ifdef UNTOLD_STALL
     if
@@ -397,16 +420,22 @@ byte asleep, worker_asleep, rung;
 #define WRITTEN skip
 #define NOTE_DUE skip
 #endif
+/* after the unlock: what was published meanwhile may be served at once; ports that were dropped meanwhile have to be looked for */
+#ifdef UNSEEN_DROP
+#define SAW_DROP false
+#else
+#define SAW_DROP (dropped != 0)
+#endif
 #ifdef NO_SECOND_LOOK
 #define SECOND_LOOK skip
 #else
 #define SECOND_LOOK \
     d_step { is_published(more) }; \
     if \
-    :: more -> more = 0; \
+    :: more || SAW_DROP -> more = 0; \
         if \
         :: atomic { lock == FREE -> lock = HELD }; goto Release \
-        :: lock != FREE \
+        :: lock != FREE || !SAW_DROP \
         fi \
     :: else \
     fi
@@ -430,6 +459,8 @@ byte ending[RANKS];
 #define POLL 4          /* tests until it is complete */
 #define WAIT_ANY 5      /* of the collectives whose bits are set */
 #define AWAIT 6         /* outside the engine, until that rank has ended */
+#define TRY 7           /* waits, and goes on also where that is refused as Stalled */
+#define DROP 8          /* lets the port go unfinished */
 #define LINES 8
 byte command[RANKS * LINES], argument[RANKS * LINES], length[RANKS];
 inline line(rank, what, on) { command[(rank) * LINES + length[rank]] = what; argument[(rank) * LINES + length[rank]] = on; length[rank] = length[rank] + 1 }
@@ -446,6 +477,8 @@ inline line(rank, what, on) { command[(rank) * LINES + length[rank]] = what; arg
 #define TO_OVER 7
 #define TO_TEST 8
 #define TO_COMPUTE_FOR_TEST 9
+#define TO_WAIT 10
+#define TO_GIVE_UP 11
 #define ME me
 proctype Port(byte me) {
     byte at, what, on, next, wake, who, first, work, piece, due, spurious = SPURIOUS;
@@ -455,16 +488,18 @@ Next: true;
     if
     :: what == END -> goto Finish
     :: what == POST -> goto Posts
-    :: what == WAIT -> goto Waits
+    :: (what == WAIT || what == TRY) && REQUEST(me, on) != COMPLETED -> goto Waits
+    :: (what == WAIT || what == TRY) && REQUEST(me, on) == COMPLETED -> goto Next
     :: what == WAIT_ANY -> goto Looks
     :: what == TEST || what == POLL -> goto Tests
+    :: what == DROP -> goto Drops
     :: what == AWAIT -> (over & BIT(on)); goto Next
     fi;
 
 Posts:
     if
-    :: atomic { lock == FREE -> lock = HELD }; d_step { REQUEST(me, on) = SENDING; next = TO_NEXT }; goto Release
-    :: lock != FREE
+    :: atomic { lock == FREE -> lock = HELD }; d_step { REQUEST(me, on) = SENDING; next = TO_NEXT }; goto Release    /* it leads */
+    :: true
     fi;
     d_step { operation[me] = A_POST; operand[me] = on; word[me] = PUBLISHED; posting = posting | BIT(me) };
 TakesEntry:
@@ -474,8 +509,16 @@ TakesEntry:
     :: word[me] != ANSWERED -> ENTER; next = TO_TAKE_ENTRY; goto Release
     fi;
 
-Waits: true;
+Waits:
+    if
+    :: atomic { lock == FREE -> lock = HELD }; got = 1      /* it leads */
+    :: true
+    fi;
     d_step { inside = inside | BIT(me); wanted[me] = BIT(on); operation[me] = A_WAIT; operand[me] = on; word[me] = PUBLISHED };
+    if
+    :: got -> got = 0; goto Turn
+    :: else
+    fi;
 Spins:
     if
     :: word[me] == ANSWERED
@@ -506,19 +549,18 @@ Looks:
         :: else -> break
         od;
         if
-        :: !got ->
-            waits_for[me] = wanted[me]; word[me] = REGISTERED;
-            any = (what == WAIT_ANY -> any | BIT(me) : any & ~BIT(me))
+        :: !got && what == WAIT_ANY -> waits_for[me] = wanted[me]; word[me] = REGISTERED; any = any | BIT(me)
         :: else
         fi
     };
     if
     :: got -> d_step { got = 0; inside = inside & ~BIT(me); next = TO_NEXT }; goto Release
-    :: else
+    :: !got && what != WAIT_ANY -> next = TO_WAIT; goto Release     /* it publishes its wait once more */
+    :: !got && what == WAIT_ANY
     fi;
 
 Turn: true;
-    d_step { serve(); advance(); settle(); look(first, out); out = 0 };
+    d_step { heed(); serve(); advance(); settle(); look(first, out); out = 0 };
     if
     :: word[me] == ANSWERED -> d_step { first = 0; next = TO_TAKE }; goto Release
     :: word[me] != ANSWERED && first == 2 ->
@@ -530,7 +572,8 @@ Turn: true;
 #endif
     :: word[me] != ANSWERED && first == 1 -> d_step { first = 0; next = TO_SPIN }; goto Release
     :: word[me] != ANSWERED && first == 0 && stalled ->
-        d_step { waits_for[me] = 0; any = any & ~BIT(me); word[me] = EMPTY; ending[me] = STALLED; inside = inside & ~BIT(me); next = TO_FINISH }; goto Release
+        d_step { waits_for[me] = 0; any = any & ~BIT(me); ending[me] = (what == TRY -> WELL : STALLED); inside = inside & ~BIT(me); next = TO_GIVE_UP };
+        goto Release
     :: word[me] != ANSWERED && first == 0 && !stalled ->
         d_step { is_published(more) };
         if
@@ -549,7 +592,7 @@ Computes:       /* the lock is free */
     ENTER;
     if
     :: refusals > 0 ->
-        d_step { abandon(); piece = 0; away = away & ~BIT(me); waits_for[me] = 0; word[me] = EMPTY; ending[me] = REFUSED; inside = inside & ~BIT(me); next = TO_FINISH };
+        d_step { abandon(); piece = 0; away = away & ~BIT(me); waits_for[me] = 0; any = any & ~BIT(me); ending[me] = REFUSED; inside = inside & ~BIT(me); next = TO_GIVE_UP };
         goto Release
     :: true -> d_step { commit(); away = away & ~BIT(me); NOTE_DUE };
         if
@@ -576,7 +619,7 @@ Parks: true;
     fi;
     if
     :: word[me] == REGISTERED -> goto Parks
-    :: else -> goto Takes
+    :: else -> goto Spins
     fi;
 
 Tests:
@@ -620,9 +663,24 @@ ComputesForTest:
         goto Release
     fi;
 
+GivesUp: true;  /* until here its word stays Registered */
+    d_step { word[me] = EMPTY; reply[me] = NONE };
+    if
+    :: ending[me] == WELL -> goto Next
+    :: else
+    fi;
 Finish:
     ENTER;
     d_step { ended = ended | BIT(me); inside = inside & ~BIT(me); leaving = 1; next = TO_OVER };
+
+    goto Release;
+
+Drops: true;    /* without waiting for the lock */
+    d_step { dropped = dropped | BIT(me); inside = inside & ~BIT(me); next = TO_OVER };
+    if
+    :: atomic { lock == FREE -> lock = HELD }
+    :: lock != FREE -> goto Over
+    fi;
 
 Release: true;
     d_step { hand_on(leaving); leaving = 0 };
@@ -640,8 +698,12 @@ Release: true;
     :: d_step { next == TO_FINISH -> next = 0 }; goto Finish
     :: d_step { next == TO_TEST -> next = 0 }; goto Tests
     :: d_step { next == TO_COMPUTE_FOR_TEST -> next = 0 }; goto ComputesForTest
-    :: next == TO_OVER -> over = over | BIT(me)
-    fi
+    :: d_step { next == TO_WAIT -> next = 0 }; goto Waits
+    :: d_step { next == TO_GIVE_UP -> next = 0 }; goto GivesUp
+    :: next == TO_OVER
+    fi;
+Over:
+    over = over | BIT(me)
 }
 
 /* ---------------------------------------------------------------- a progress thread */
@@ -714,8 +776,8 @@ Stops:
 #ifdef WATCHED
 #define IS_BUSY(n) (request[n] == SENDING || request[n] == COMBINING || request[n] == OUT)
 #define IS_MET(n) ((waits_for[(n) / COLLECTIVES] & BIT((n) % COLLECTIVES)) && request[n] == DONE)
-#define RESTS(rank) ((ended & BIT(rank)) || word[rank] == REGISTERED)
-#define IS_LOST(rank) ((parked & BIT(rank)) && word[rank] != REGISTERED)
+#define RESTS(rank) ((ended & BIT(rank)) || waits_for[rank] != 0)
+#define IS_LOST(rank) ((parked & BIT(rank)) && (word[rank] != REGISTERED || waits_for[rank] == 0))
 #if RANKS * COLLECTIVES == 2
 #define SOME_REQUEST(P) (P(0) || P(1))
 #elif RANKS * COLLECTIVES == 3

@@ -88,6 +88,24 @@ inline program() {
 inline verdict() { assert(stalled); ends(0, STALLED); ends(1, WELL) }
 #endif
 
+#ifdef RESUMED          /* a stall is told, and both ranks go on and post what the other needs */
+inline program() {
+    members[0] = 3; members[1] = 3; combines[1] = 1;
+    line(0, POST, 0); line(0, TRY, 0); line(0, POST, 1); line(0, WAIT, 0); line(0, WAIT, 1);
+    line(1, POST, 1); line(1, TRY, 1); line(1, POST, 0); line(1, WAIT, 1); line(1, WAIT, 0)
+}
+inline verdict() { all_end_well }
+#endif
+
+#ifdef DROPPED          /* rank 1 lets its port go without its post */
+inline program() {
+    members[0] = 3; combines[0] = 1;
+    line(0, POST, 0); line(0, WAIT, 0);
+    line(1, DROP, 0)
+}
+inline verdict() { assert(stalled); ends(0, STALLED); ends(1, WELL) }
+#endif
+
 #ifdef MIXED            /* one waits, one only tests, one waits in vain */
 inline program() {
     members[0] = 3; combines[0] = 1; members[1] = 6;

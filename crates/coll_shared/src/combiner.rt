@@ -4,19 +4,18 @@ mod held;
 
 ghost use Rattle.std.specs.Prelude.{◌≡◌, IfErr};
 
+use crate::backoff::{Backoff, LOOKS_SHARED, looks_for};
 use crate::locked::{Locked, Successor};
 use crate::record::PublicationRecord;
-use crate::tuning::{LOOKS, QUICK, ROUNDS};
+use crate::tuning::ROUNDS;
 use coll_kinds::Refusal;
 use coll_traced::{Entries, Ranks, TracedCore};
 use crossbeam_utils::CachePadded;
 use crossbeam_utils::sync::EventCount;
 pub(crate) use held::Held;
 use std::alloc::Global;
-use std::hint::spin_loop;
-use std::sync::atomic::{AtomicU64, Ordering};
+use std::sync::atomic::{AtomicBool, AtomicU64, Ordering};
 use std::sync::{Mutex, Wait};
-use std::thread::yield_now;
 
 /// The lock round an engine, and its ports' publication records. The thread that has the lock is the combiner: it serves the records of
 /// all ports.
@@ -32,15 +31,10 @@ pub(crate) struct Combiner<L: Entries> {
     sleepers: CachePadded<AtomicU64>,
     /// The ranks whose ports were dropped unfinished, as bits, until a combiner notes that they have ended.
     departed: CachePadded<AtomicU64>,
-}
-
-/// A pause before the next look, with a turn for other threads after the first ones.
-pub(crate) fn pause(look: u32) {
-    if look < QUICK {
-        spin_loop();
-    } else {
-        yield_now();
-    }
+    /// How often a thread looks before it sleeps.
+    looks: AtomicU64,
+    /// Whether the lock was given up with a request ready, for a waiting port that looks to go on with it.
+    beckons: CachePadded<AtomicBool>,
 }
 
 fn zero() -> CachePadded<AtomicU64> {
@@ -63,6 +57,8 @@ impl<L: Entries> Combiner<L> {
             idlers: EventCount::new(),
             sleepers: zero(),
             departed: zero(),
+            looks: AtomicU64::new(LOOKS_SHARED),
+            beckons: CachePadded::new(AtomicBool::new(false)),
         })
     }
 
@@ -92,6 +88,17 @@ impl<L: Entries> Combiner<L> {
         }
     }
 
+    /// So many threads use the engine, on so many processors.
+    pub(crate) fn fit(&self, threads: usize, processors: usize) {
+        self.looks
+            .store(looks_for(threads, processors), Ordering::SeqCst);
+    }
+
+    /// For a wait that begins.
+    pub(crate) fn backoff(&self) -> Backoff {
+        Backoff::new(self.looks.load(Ordering::SeqCst))
+    }
+
     /// Takes the lock.
     pub(crate) fn enter<R: Wait>(&self, rt: &R) -> Held<'_, L> {
         if let Some(held) = self.try_enter() {
@@ -104,13 +111,29 @@ impl<L: Entries> Combiner<L> {
     }
 
     fn await_lock<R: Wait>(&self, rt: &R) -> Held<'_, L> {
-        for look in 0..LOOKS {
+        let mut backoff = self.backoff();
+        for _ in rt.forever() {
             if let Some(held) = self.try_enter() {
                 return held;
             }
-            pause(look);
+            if backoff.is_completed() {
+                break;
+            }
+            backoff.spin();
         }
         Held::new(self.locked.lock(rt))
+    }
+
+    /// Whether a waiting port that looks is to take the lock, and go on with what is ready.
+    pub(crate) fn beckons(&self) -> bool {
+        self.beckons.load(Ordering::SeqCst)
+    }
+
+    /// Says whether one is to. The word is in the caches of all that look, so it is written only where it changes.
+    pub(crate) fn beckon(&self, is_ready: bool) {
+        if self.beckons() != is_ready {
+            self.beckons.store(is_ready, Ordering::SeqCst);
+        }
     }
 
     /// Whether a thread asks for the lock.
@@ -176,7 +199,7 @@ impl<L: Entries> Combiner<L> {
     fn serve(&self, held: &mut Held<'_, L>) {
         for (rank, record) in (0..=u8::MAX).zip(self.records.iter()) {
             if record.is_published() && record.serve(&mut held.locked.traced, rank) {
-                held.answered(rank);
+                held.wakes(rank);
             }
         }
     }
@@ -188,7 +211,7 @@ impl<L: Entries> Combiner<L> {
         }
         for (rank, record) in (0..=u8::MAX).zip(self.records.iter()) {
             if ranks.has(rank) && record.answer(&mut held.locked.traced, rank) {
-                held.answered(rank);
+                held.wakes(rank);
             }
         }
     }
@@ -204,9 +227,17 @@ impl<L: Entries> Combiner<L> {
 
     /// Tells all that wait, where nothing can go on.
     fn tell_stall(&self, held: &mut Held<'_, L>) {
-        if held.locked.traced.tell_stall() {
+        if held.locked.tell_stall() {
             let waiting = held.locked.traced.waiting();
             self.answer(held, waiting);
+        }
+    }
+
+    /// Calls a parked port to go on with what is ready. It waits as before.
+    fn call(&self, held: &mut Held<'_, L>, rank: u8) {
+        if let Some(record) = self.record(rank) {
+            record.call();
+            held.wakes(rank);
         }
     }
 
@@ -221,6 +252,7 @@ impl<L: Entries> Combiner<L> {
     /// The only way to give the lock up. It takes the lock again, without waiting, for what was published meanwhile, a few times; for
     /// ports that were dropped, of which there are few, each time.
     pub(crate) fn release<'a>(&'a self, mut held: Held<'a, L>) {
+        let returns = held.returns;
         for round in 1..u32::MAX {
             self.let_go(held);
             let is_asked = round < ROUNDS && self.published() > 0;
@@ -231,6 +263,7 @@ impl<L: Entries> Combiner<L> {
                 return;
             };
             held = again;
+            held.returns = returns;
         }
         self.let_go(held);
     }
@@ -240,8 +273,10 @@ impl<L: Entries> Combiner<L> {
         self.combine(&mut held);
         self.tell_stall(&mut held);
         let next = held.locked.successor();
-        if let Successor::Port(rank) = next {
-            self.answer(&mut held, Ranks::NONE.with(rank));
+        match next {
+            Successor::Port(rank) => self.call(&mut held, rank),
+            Successor::Looking if !held.returns => self.beckon(true),
+            _ => {}
         }
         let wake = held.unlock();
         self.wake(wake);

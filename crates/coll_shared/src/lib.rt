@@ -8,7 +8,7 @@
 //! | `port` | `Port`, a rank's way into the engine |
 //! | `closing` | `close`, which ends an engine and makes its report |
 //! | `rank_threads` | `run_rank_threads`, which runs a task for each rank in a thread of its own |
-//! | `gate` | `Gate`, which may hold a thread up before and after a combination |
+//! | `gate` | `Gate`, which may hold a thread up before a combination, and is told of its end |
 //! | `inspect` | `Inspect`, what looks at an engine under its lock |
 //! | `record` | `PublicationRecord`, a port's place to say what it wants |
 //! | `publication` | `Publication`, what lies there: an operation, a wait, or the answer |
@@ -17,8 +17,9 @@
 //! | `locked` | `Locked`, what the lock guards |
 //! | `publishing` | posts and starts, which the combiner makes where the lock isn't free |
 //! | `waiter` | waits: to look at the record, to take the lock, and to park |
+//! | `backoff` | how long a thread looks before it sleeps |
 //! | `turn` | what a waiting port, a test and a progress thread do with the lock |
-//! | `tuning` | how long threads look, and how much they do in a row |
+//! | `tuning` | how much a thread does in a row |
 //! | `plans` | `Plans`, those that a port made last |
 //!
 //! ```
@@ -33,6 +34,7 @@
 //! ```
 #![tactic(auto)]
 
+mod backoff;
 mod closing;
 mod combiner;
 mod engine;

@@ -1,7 +1,8 @@
 //! What the engine's lock guards.
 
-ghost use Rattle.std.specs.Prelude.{◌≡◌, IfErr};
+ghost use Rattle.std.specs.Prelude.{◌≡◌, IfErr, IsTrue};
 ghost use Rattle.coll_traced.specs.Awaiting.{IsSetback};
+ghost use Rattle.coll_traced.specs.Stalls.{WasStalled};
 
 use crate::tuning::STEPS;
 use coll_core::{DoneWork, Stepped, Work};
@@ -22,14 +23,18 @@ pub(crate) struct Locked<L: Entries> {
     pub(crate) finished: bool,
     /// Progress threads are to end.
     pub(crate) stopped: bool,
+    /// A stall was told, and nothing was ready since.
+    stalled: bool,
     pieces: u64,
 }
 
 /// Who goes on with what is ready once the lock is free.
 #[derive(Clone, Copy, Debug, PartialEq, Eq)]
 pub(crate) enum Successor {
-    /// Nobody has to: nothing is ready, or a waiting port takes the lock by itself.
+    /// Nobody has to: nothing is ready.
     NotNeeded,
+    /// A waiting port that neither sleeps nor computes.
+    Looking,
     /// A progress thread that sleeps.
     Worker,
     /// A port that sleeps.
@@ -47,6 +52,7 @@ impl<L: Entries> Locked<L> {
             idle: 0,
             finished: false,
             stopped: false,
+            stalled: false,
             pieces: 0,
         }
     }
@@ -57,6 +63,7 @@ impl<L: Entries> Locked<L> {
         if !self.traced.is_ready() {
             return;
         }
+        self.stalled = false;
         for _step in 0..STEPS {
             match self.traced.move_on() {
                 Ok(Stepped::Moved) => {}
@@ -110,6 +117,23 @@ impl<L: Entries> Locked<L> {
         }
     }
 
+    /// Whether a stall was told, and nothing has been ready since.
+    pub(crate) fn is_stalled(&self) -> bool
+        ensures { IsTrue result → WasStalled L.setting }
+    {
+        self.stalled && self.traced.is_stalled()
+    }
+
+    /// Notes that nothing can go on, where that is so and isn't noted. Returns whether it did that.
+    pub(crate) fn tell_stall(&mut self) -> bool {
+        if self.stalled || !self.traced.stall_now() {
+            return false;
+        }
+        self.traced.tell_stall();
+        self.stalled = true;
+        true
+    }
+
     /// A waiting port gives its wait up.
     pub(crate) fn give_up(&mut self, rank: Option<u8>) {
         if let Some(rank) = rank {
@@ -118,14 +142,17 @@ impl<L: Entries> Locked<L> {
     }
 
     /// The ranks whose waiting ports take the lock by themselves: they neither sleep nor compute.
-    fn spinning(&self) -> Ranks {
+    fn looking(&self) -> Ranks {
         self.traced.waiting().but(self.parked).but(self.away)
     }
 
     /// Who goes on, where the thread that has the lock doesn't.
     pub(crate) fn successor(&self) -> Successor {
-        if !self.traced.is_ready() || !self.spinning().is_empty() {
+        if !self.traced.is_ready() {
             return Successor::NotNeeded;
+        }
+        if !self.looking().is_empty() {
+            return Successor::Looking;
         }
         if self.idle > 0 {
             return Successor::Worker;

@@ -100,6 +100,7 @@ fn run_in_scope<
     let mut rank_threads = Vec::with_capacity(alloc, tasks.len())?;
     let mut worker_threads = Vec::with_capacity(alloc, workers as usize)?;
     let mut worker_ends = Vec::with_capacity(alloc, workers as usize)?;
+    fit(rt, engine, tasks.len(), workers);
     let all_started = start_ranks(rt, scope, start, tasks, &mut rank_threads)
         && start_workers(rt, scope, gate, start, engine, workers, &mut worker_threads);
     start.give(rt, all_started);
@@ -111,6 +112,13 @@ fn run_in_scope<
         ranks,
         workers: worker_ends,
     })
+}
+
+/// Tells the engine how many threads use it, on how many processors. Where the system doesn't say, they share one.
+fn fit<L: Entries, R: Threads>(rt: &R, engine: &Engine<L>, ranks: usize, workers: u8) {
+    let processors = thread::available_parallelism(rt).map_or(1, |count| count.get());
+    let threads = ranks.saturating_add(usize::from(workers));
+    engine.combiner.fit(threads, processors);
 }
 
 /// Starts the threads of the ranks, in their order, up to one that can't be started. Returns whether there was none.

@@ -18,6 +18,9 @@ const REGISTERED: u64 = 2;
 
 const ANSWERED: u64 = 3;
 
+/// As Registered, and the parked port is to go on.
+const CALLED: u64 = 4;
+
 /// A port's place to say what it wants. The word tells whose the slot is: the port's while Empty or Answered, else the combiner's. A
 /// parked port sleeps on the word.
 #[derive(Drop)]
@@ -64,6 +67,18 @@ impl<L: Entries> PublicationRecord<L> {
     /// The port, which has the engine's lock, has registered a wait for some of a list.
     pub(crate) fn register<R: Wait>(&self, _rt: &R) {
         self.word.store(REGISTERED, Ordering::SeqCst);
+    }
+
+    /// The combiner calls the port, which is parked: it is to take the lock, and waits as before.
+    pub(crate) fn call(&self) {
+        self.word.store(CALLED, Ordering::SeqCst);
+    }
+
+    /// The port has taken the engine's lock, as it was called to.
+    pub(crate) fn heed(&self) {
+        if self.word.load(Ordering::SeqCst) == CALLED {
+            self.word.store(REGISTERED, Ordering::SeqCst);
+        }
     }
 
     /// The combiner does what was published here, or registers the port. Returns whether there is an answer now; then the port is awake.
@@ -178,7 +193,7 @@ impl<L: Entries> PublicationRecord<L> {
         self.word.store(EMPTY, Ordering::SeqCst);
     }
 
-    /// The port sleeps as long as it is registered.
+    /// The port sleeps until it is answered or called.
     pub(crate) fn park<R: Wait>(&self, rt: &R) {
         for _ in rt.forever() {
             if self.word.load(Ordering::SeqCst) != REGISTERED {

@@ -3,11 +3,12 @@
 ghost use Rattle.std.specs.Prelude.{◌≡◌, IfErr};
 ghost use Rattle.coll_traced.specs.Awaiting.{IsHindrance, IsSetback};
 
-use crate::combiner::{Combiner, Held, pause};
+use crate::backoff::Backoff;
+use crate::combiner::{Combiner, Held};
 use crate::gate::Gate;
 use crate::locked::Successor;
 use crate::record::PublicationRecord;
-use crate::tuning::{CHAIN, HOLD, STEPS};
+use crate::tuning::{CHAIN, LONG, STEPS};
 use coll_core::{Stepped, Work};
 use coll_kinds::Refusal;
 use coll_traced::Entries;
@@ -40,8 +41,6 @@ enum Next {
 struct Effort {
     steps: u32,
     combinations: u32,
-    /// How often in a row nothing was ready.
-    looks: u32,
 }
 
 impl<L: Entries> Combiner<L> {
@@ -65,15 +64,17 @@ impl<L: Entries> Combiner<L> {
         mut held: Held<'a, L>,
         rank: u8,
         record: &PublicationRecord<L>,
-        may_park: bool,
+        backoff: &mut Backoff,
     ) -> Result<Turn, Refusal>
         ensures { IfErr result (IsHindrance L.setting) }
     {
         let mut written = None;
         let mut effort = Effort::default();
+        self.beckon(false);
+        record.heed();
         for _ in rt.forever() {
             self.combine(&mut held);
-            match self.next(&mut held, rank, record, may_park, &mut effort) {
+            match self.next(&mut held, rank, record, backoff, &mut effort) {
                 Ok(Next::Again) => {}
                 Ok(Next::Compute(work)) => {
                     let (again, piece) = self.compute(rt, gate, held, Some(rank), written, work)?;
@@ -100,7 +101,7 @@ impl<L: Entries> Combiner<L> {
         held: &mut Held<'_, L>,
         rank: u8,
         record: &PublicationRecord<L>,
-        may_park: bool,
+        backoff: &mut Backoff,
         effort: &mut Effort,
     ) -> Result<Next, Refusal>
         ensures { IfErr result (IsHindrance L.setting) }
@@ -113,22 +114,24 @@ impl<L: Entries> Combiner<L> {
             return Ok(Next::End(Turn::Spin));
         }
         if held.locked.traced.is_ready() {
+            backoff.reset();
             return Ok(match held.locked.step()? {
                 Stepped::Out(work) => effort.compute(work),
                 _ => effort.step(),
             });
         }
-        if held.locked.traced.is_stalled() {
+        if held.locked.is_stalled() {
             return Err(Refusal::Stalled);
         }
-        if effort.looks < HOLD && !self.is_wanted() {
-            return Ok(effort.look());
-        }
-        if may_park {
+        if backoff.is_completed() {
             held.locked.parked = held.locked.parked.with(rank);
             return Ok(Next::End(Turn::Park));
         }
-        Ok(Next::End(Turn::Spin))
+        if self.is_wanted() || (backoff.has_doubled() && held.locked.traced.stall_now()) {
+            return Ok(Next::End(Turn::Spin));
+        }
+        backoff.spin();
+        Ok(Next::Again)
     }
 
     /// Computes a combination with the lock free, after the gate was told of the one that was written before; and writes its result.
@@ -151,6 +154,7 @@ impl<L: Entries> Combiner<L> {
     {
         let piece = held.locked.next_piece();
         held.locked.set_away(rank, true);
+        held.returns = work.left().len() < LONG;
         self.leave(gate, held, written);
         gate.before(piece);
         let computed = work.run();
@@ -255,22 +259,13 @@ impl Effort {
 
     /// A step was made.
     fn step(&mut self) -> Next {
-        self.looks = 0;
         self.steps = self.steps.saturating_add(1);
         Next::Again
     }
 
     /// A combination is computed.
     fn compute(&mut self, work: Work) -> Next {
-        self.looks = 0;
         self.combinations = self.combinations.saturating_add(1);
         Next::Compute(work)
-    }
-
-    /// Nothing was ready.
-    fn look(&mut self) -> Next {
-        pause(self.looks);
-        self.looks = self.looks.saturating_add(1);
-        Next::Again
     }
 }

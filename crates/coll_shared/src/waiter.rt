@@ -5,11 +5,11 @@ ghost use Rattle.coll_traced.specs.Awaiting.{IsHindrance};
 ghost use Rattle.coll_traced.specs.Tests.{RefusesOne, TestsOne};
 ghost use Rattle.coll_traced.specs.Unfinished.{WasPending};
 
-use crate::combiner::{Combiner, Held, pause};
+use crate::backoff::Backoff;
+use crate::combiner::{Combiner, Held};
 use crate::gate::Gate;
 use crate::publication::Content;
 use crate::record::PublicationRecord;
-use crate::tuning::{LOOKS, SELDOM};
 use crate::turn::Turn;
 use coll_complete::Request;
 use coll_core::Outcome;
@@ -18,28 +18,33 @@ use coll_traced::{Awaited, Completed, Entries, Receipts, Tally};
 use std::sync::Wait;
 
 impl<L: Entries> Combiner<L> {
-    /// Looks for an answer in the record, and now and then whether the lock is free. None where there is an answer.
+    /// Looks for an answer in the record, and takes the lock where it is to go on, or seldom to see whether it is free, or in the end. None
+    /// where there is an answer.
     pub(crate) fn spin<R: Wait>(
         &self,
         rt: &R,
         record: &PublicationRecord<L>,
+        backoff: &mut Backoff,
     ) -> Option<Held<'_, L>> {
-        for look in 0..LOOKS {
+        for _ in rt.forever() {
             if record.is_answered() {
                 record.set_leads(false);
                 return None;
             }
-            if look % SELDOM == SELDOM - 1 {
+            if backoff.is_completed() {
+                break;
+            }
+            if backoff.is_to_try() || self.beckons() {
                 if let Some(held) = self.try_enter() {
                     return Some(held);
                 }
             }
-            pause(look);
+            backoff.spin();
         }
         Some(self.enter(rt))
     }
 
-    /// A port that is noted as parked sleeps until its record is answered.
+    /// A port that is noted as parked sleeps until it is answered or called.
     fn park<R: Wait>(&self, rt: &R, record: &PublicationRecord<L>) {
         self.falls_asleep();
         record.park(rt);
@@ -57,24 +62,21 @@ impl<L: Entries> Combiner<L> {
     ) -> Result<(), Refusal>
         ensures { IfErr result (IsHindrance L.setting) }
     {
-        let mut may_park = false;
+        let mut backoff = self.backoff();
         for _ in rt.forever() {
             let turn = match held {
-                Some(held) => self.turn(rt, gate, held, rank, record, may_park)?,
+                Some(held) => self.turn(rt, gate, held, rank, record, &mut backoff)?,
                 None => Turn::Spin,
             };
             match turn {
                 Turn::Over => return Ok(()),
-                Turn::Park => {
-                    self.park(rt, record);
-                    return Ok(());
-                }
-                Turn::Spin => match self.spin(rt, record) {
-                    Some(again) => held = Some(again),
-                    None => return Ok(()),
-                },
+                Turn::Spin => {}
+                Turn::Park => self.park(rt, record),
             }
-            may_park = true;
+            match self.spin(rt, record, &mut backoff) {
+                Some(again) => held = Some(again),
+                None => return Ok(()),
+            }
         }
         unreachable!()
     }

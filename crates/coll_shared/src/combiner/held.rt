@@ -6,8 +6,10 @@ use std::sync::MutexGuard;
 /// one.
 pub(crate) struct Held<'a, L: Entries> {
     pub(crate) locked: MutexGuard<'a, Locked<L>>,
-    /// The ranks whose parked ports were answered under this hold.
+    /// The ranks whose parked ports were answered or called under this hold.
     wake: Ranks,
+    /// The thread takes the lock again at once, and goes on with what is ready.
+    pub(crate) returns: bool,
 }
 
 impl<'a, L: Entries> Held<'a, L> {
@@ -15,11 +17,12 @@ impl<'a, L: Entries> Held<'a, L> {
         Held {
             locked,
             wake: Ranks::NONE,
+            returns: false,
         }
     }
 
-    /// A rank's record was answered: a parked port is woken once the lock is free.
-    pub(super) fn answered(&mut self, rank: u8) {
+    /// A rank's record was answered, or its port called: a parked port is woken once the lock is free.
+    pub(super) fn wakes(&mut self, rank: u8) {
         if self.locked.parked.has(rank) {
             self.locked.parked = self.locked.parked.without(rank);
             self.wake = self.wake.with(rank);
@@ -28,7 +31,11 @@ impl<'a, L: Entries> Held<'a, L> {
 
     /// Gives the lock up, and nothing else. Returns the ranks to wake.
     pub(super) fn unlock(self) -> Ranks {
-        let Held { locked, wake } = self;
+        let Held {
+            locked,
+            wake,
+            returns: _,
+        } = self;
         drop(locked);
         wake
     }
