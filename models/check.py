@@ -3,6 +3,7 @@
 
     models/check.py [WORD ..]    (only configurations whose names have one of the words)
 
+It ends with 0 where all came out as they must, with 1 where some came out otherwise, and else with 2 where some searches weren't finished.
 It needs `spin` 6.5 and `gcc` (Debian: apt-get install spin gcc). --quick leaves out what takes longer than ten seconds, --jobs N
 searches N at a time. What --quick leaves takes some six minutes on one processor, mostly for the compiler; the whole half an hour, and at most 5 GiB for each search.
 """
@@ -21,6 +22,8 @@ HERE = os.path.dirname(os.path.abspath(__file__))
 MEBIBYTES = 5000
 SECONDS = 1200
 HOLDS, FAILS = "holds", "fails"
+# how a configuration came out: as it must, otherwise, or with no result, since its search was cut off or couldn't begin
+RIGHT, WRONG, OPEN = "ok", "WRONG", "OPEN"
 # a search for ends that aren't proper and for failed assertions, or for runs in which a rank never ends
 SAFE, LIVE = "safe", "live"
 
@@ -39,6 +42,10 @@ PROTOCOL = [
     (HOLDS, SAFE, True, "crossed, 2 ranks, 1 worker", f"CROSSED WATCHED {TWO} {WORKER}"),
     (HOLDS, SAFE, False, "crossed, 2 ranks, 2 workers", f"CROSSED WATCHED {TWO} WORKERS=2"),
     (HOLDS, SAFE, True, "absentee, 2 ranks, 1 worker", f"ABSENTEE WATCHED {TWO} {WORKER}"),
+    (HOLDS, SAFE, True, "resumed, 2 ranks", f"RESUMED WATCHED {TWO}"),
+    (HOLDS, SAFE, True, "resumed, 2 ranks, 1 worker", f"RESUMED WATCHED {TWO} {WORKER} STEPS=8"),
+    (HOLDS, SAFE, True, "dropped, 2 ranks", "DROPPED WATCHED"),
+    (HOLDS, SAFE, True, "dropped, 2 ranks, 1 worker", f"DROPPED WATCHED {WORKER}"),
     (HOLDS, SAFE, True, "lists, 2 ranks", f"LISTS WATCHED {TWO}"),
     (HOLDS, SAFE, True, "lists, 2 ranks, 1 worker", f"LISTS WATCHED {TWO} {WORKER} STEPS=8"),
     (HOLDS, SAFE, True, "stall, 3 ranks", f"STALL WATCHED {THREE} {TWO}"),
@@ -73,6 +80,8 @@ FAULTS = [
     (FAILS, SAFE, True, "unwoken", "ONE UNWOKEN"),
     (FAILS, SAFE, True, "stall while a combination is out", "ONE STALL_WHILE_OUT"),
     (FAILS, SAFE, True, "stall before serving", "ONE STALL_BEFORE_SERVE"),
+    (FAILS, SAFE, True, "lasting stall", f"RESUMED {TWO} LASTING_STALL"),
+    (FAILS, SAFE, True, "unseen drop", "DROPPED UNSEEN_DROP"),
 ]
 
 
@@ -91,9 +100,9 @@ def searched(kind, flags, folder):
     made = ["-DNFAIR=3"] if live else ["-DSAFETY"]
     log = os.path.join(folder, "log")
     if run(["spin", *defines, "-a", "combining.pml"], log) != 0:
-        return open(log).read(), "", 0.0
+        return "spin refuses: " + open(log).read(), "", 0.0
     if run(["gcc", "-O1", "-w", *made, "-DCOLLAPSE", f"-DMEMLIM={MEBIBYTES}", "-o", "pan", "pan.c"], log) != 0:
-        return open(log).read(), "", 0.0
+        return "gcc refuses: " + open(log).read(), "", 0.0
     began = time.monotonic()
     ended = run(["timeout", str(SECONDS), "./pan", *(["-a", "-f"] if live else []), "-m1000000", "-w22"], log)
     seconds = time.monotonic() - began
@@ -110,7 +119,7 @@ def searched(kind, flags, folder):
 
 
 def judged(configuration):
-    """One line on a configuration, and whether it came out as it must."""
+    """One line on a configuration, and how it came out."""
     must, kind, _quick, name, flags = configuration
     folder = tempfile.mkdtemp(prefix="combining")
     try:
@@ -118,9 +127,12 @@ def judged(configuration):
     finally:
         shutil.rmtree(folder)
     is_fault = re.search("invalid end state|assertion violated|acceptance cycle", what) is not None
-    right = what == HOLDS if must == HOLDS else is_fault
-    line = f"{'ok ' if right else 'BAD'} {name:45} {kind}  {what[:50]:50} {states:>12} {seconds:7.1f} s"
-    return line, right
+    if what != HOLDS and not is_fault:
+        how = OPEN
+    else:
+        how = RIGHT if is_fault == (must == FAILS) else WRONG
+    line = f"{how:5} {name:45} {kind}  {what[:50]:50} {states:>12} {seconds:7.1f} s"
+    return line, how
 
 
 def main():
@@ -129,17 +141,17 @@ def main():
     words.add_argument("--quick", action="store_true")
     words.add_argument("--jobs", type=int, default=1)
     asked = words.parse_args()
-    right = True
+    came = []
     for title, configurations in [("the protocol holds", PROTOCOL), ("each fault is found", FAULTS)]:
         print(title, flush=True)
         wanted = [c for c in configurations if not asked.names or any(word in c[3] for word in asked.names)]
         wanted = [c for c in wanted if c[2] or not asked.quick]
         with concurrent.futures.ThreadPoolExecutor(asked.jobs) as pool:
-            for line, is_right in pool.map(judged, wanted):
+            for line, how in pool.map(judged, wanted):
                 print(line, flush=True)
-                right = right and is_right
-    print("all as it must be" if right else "some came out otherwise")
-    sys.exit(0 if right else 1)
+                came.append(how)
+    print(f"{came.count(RIGHT)} came out as they must, {came.count(WRONG)} otherwise, {came.count(OPEN)} weren't finished")
+    sys.exit(1 if WRONG in came else 2 if OPEN in came else 0)
 
 
 if __name__ == "__main__":

@@ -7,7 +7,6 @@ ghost use Rattle.std.specs.Prelude.{◌≡◌, IfErr};
 use crate::backoff::{Backoff, LOOKS_SHARED, looks_for};
 use crate::locked::{Locked, Successor};
 use crate::record::PublicationRecord;
-use crate::tuning::ROUNDS;
 use coll_kinds::Refusal;
 use coll_traced::{Entries, Ranks, TracedCore};
 use crossbeam_utils::CachePadded;
@@ -16,6 +15,9 @@ pub(crate) use held::Held;
 use std::alloc::Global;
 use std::sync::atomic::{AtomicBool, AtomicU64, Ordering};
 use std::sync::{Mutex, Wait};
+
+/// How often who gives the lock up takes it again for what was published meanwhile.
+const ROUNDS: u32 = 4;
 
 /// The lock round an engine, and its ports' publication records. The thread that has the lock is the combiner: it serves the records of
 /// all ports.

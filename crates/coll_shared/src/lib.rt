@@ -19,7 +19,6 @@
 //! | `waiter` | waits: to look at the record, to take the lock, and to park |
 //! | `backoff` | how long a thread looks before it sleeps |
 //! | `turn` | what a waiting port, a test and a progress thread do with the lock |
-//! | `tuning` | how much a thread does in a row |
 //! | `plans` | `Plans`, those that a port made last |
 //!
 //! ```
@@ -48,7 +47,6 @@ mod publishing;
 mod rank_programs;
 mod rank_threads;
 mod record;
-mod tuning;
 mod turn;
 mod waiter;
 

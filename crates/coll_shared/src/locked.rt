@@ -4,10 +4,12 @@ ghost use Rattle.std.specs.Prelude.{◌≡◌, IfErr, IsTrue};
 ghost use Rattle.coll_traced.specs.Awaiting.{IsSetback};
 ghost use Rattle.coll_traced.specs.Stalls.{WasStalled};
 
-use crate::tuning::STEPS;
 use coll_core::{DoneWork, Stepped, Work};
 use coll_kinds::{Refusal, Refused};
 use coll_traced::{Entries, Ranks, TracedCore};
+
+/// How many steps are made in a row, before others are looked at.
+pub(crate) const STEPS: u32 = 64;
 
 /// What the lock guards: the core with its trace, and what is known of threads.
 #[derive(Drop)]

@@ -6,13 +6,18 @@ ghost use Rattle.coll_traced.specs.Awaiting.{IsHindrance, IsSetback};
 use crate::backoff::Backoff;
 use crate::combiner::{Combiner, Held};
 use crate::gate::Gate;
-use crate::locked::Successor;
+use crate::locked::{STEPS, Successor};
 use crate::record::PublicationRecord;
-use crate::tuning::{CHAIN, LONG, STEPS};
 use coll_core::{Stepped, Work};
 use coll_kinds::Refusal;
 use coll_traced::Entries;
 use std::sync::Wait;
+
+/// How many combinations a waiting port computes in a row.
+const CHAIN: u32 = 16;
+
+/// From how many bytes on a combination is long: others that wait may compute the next ones meanwhile.
+const LONG: usize = 4_096;
 
 /// How the turn of a waiting port ended, which has given the lock up.
 #[derive(Drop)]

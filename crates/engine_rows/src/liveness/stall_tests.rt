@@ -81,3 +81,34 @@ fn no_stall_while_one_tests(rt: HostRuntime) {
         assert_played(&rt, rt.alloc(), &scenario, workers);
     }
 }
+
+/// Ranks 0 and 1 wait for one another, are told so, and go on: rank 0 waits again before rank 1 posts what it waits for.
+#[test]
+fn a_stall_is_over_once_a_rank_posts(rt: HostRuntime) {
+    for workers in [0u8, 1] {
+        let scenario = Scenario {
+            groups: &[&[0, 1], &[0, 1]],
+            acts: &[
+                &[
+                    Act::Sum(0, 1),
+                    Act::WaitStalled(0),
+                    Act::Until(Event::Mark(0)),
+                    Act::Sum(1, 10),
+                    Act::WaitSum(0, 3),
+                    Act::WaitSum(1, 30),
+                ],
+                &[
+                    Act::Sum(1, 20),
+                    Act::WaitStalled(0),
+                    Act::Set(0),
+                    Act::Until(Event::Sleepers(u64::from(workers) + 1)),
+                    Act::Sum(0, 2),
+                    Act::WaitSum(0, 30),
+                    Act::WaitSum(1, 3),
+                ],
+            ],
+            holds: &[],
+        };
+        assert_played(&rt, rt.alloc(), &scenario, workers);
+    }
+}
