@@ -4,7 +4,7 @@ mod held;
 
 ghost use Rattle.std.specs.Prelude.{◌≡◌, IfErr};
 
-use crate::backoff::{Backoff, LOOKS_SHARED, looks_for};
+use crate::backoff::Turns;
 use crate::locked::{Locked, Successor};
 use crate::record::PublicationRecord;
 use coll_kinds::Refusal;
@@ -33,8 +33,7 @@ pub(crate) struct Combiner<L: Entries> {
     sleepers: CachePadded<AtomicU64>,
     /// The ranks whose ports were dropped unfinished, as bits, until a combiner notes that they have ended.
     departed: CachePadded<AtomicU64>,
-    /// How often a thread looks before it sleeps.
-    looks: AtomicU64,
+    pub(crate) turns: CachePadded<Turns>,
     /// Whether the lock was given up with a request ready, for a waiting port that looks to go on with it.
     beckons: CachePadded<AtomicBool>,
 }
@@ -59,7 +58,7 @@ impl<L: Entries> Combiner<L> {
             idlers: EventCount::new(),
             sleepers: zero(),
             departed: zero(),
-            looks: AtomicU64::new(LOOKS_SHARED),
+            turns: CachePadded::new(Turns::new()),
             beckons: CachePadded::new(AtomicBool::new(false)),
         })
     }
@@ -90,17 +89,6 @@ impl<L: Entries> Combiner<L> {
         }
     }
 
-    /// So many threads use the engine, on so many processors.
-    pub(crate) fn fit(&self, threads: usize, processors: usize) {
-        self.looks
-            .store(looks_for(threads, processors), Ordering::SeqCst);
-    }
-
-    /// For a wait that begins.
-    pub(crate) fn backoff(&self) -> Backoff {
-        Backoff::new(self.looks.load(Ordering::SeqCst))
-    }
-
     /// Takes the lock.
     pub(crate) fn enter<R: Wait>(&self, rt: &R) -> Held<'_, L> {
         if let Some(held) = self.try_enter() {
@@ -113,7 +101,7 @@ impl<L: Entries> Combiner<L> {
     }
 
     fn await_lock<R: Wait>(&self, rt: &R) -> Held<'_, L> {
-        let mut backoff = self.backoff();
+        let mut backoff = self.turns.begin_without();
         for _ in rt.forever() {
             if let Some(held) = self.try_enter() {
                 return held;
@@ -121,7 +109,7 @@ impl<L: Entries> Combiner<L> {
             if backoff.is_completed() {
                 break;
             }
-            backoff.spin();
+            backoff.snooze();
         }
         Held::new(self.locked.lock(rt))
     }

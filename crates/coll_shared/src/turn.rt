@@ -132,10 +132,13 @@ impl<L: Entries> Combiner<L> {
             held.locked.parked = held.locked.parked.with(rank);
             return Ok(Next::End(Turn::Park));
         }
-        if self.is_wanted() || (backoff.has_doubled() && held.locked.traced.stall_now()) {
+        if !backoff.is_spinning()
+            || self.is_wanted()
+            || (backoff.has_doubled() && held.locked.traced.stall_now())
+        {
             return Ok(Next::End(Turn::Spin));
         }
-        backoff.spin();
+        backoff.snooze();
         Ok(Next::Again)
     }
 

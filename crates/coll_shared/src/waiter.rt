@@ -29,17 +29,18 @@ impl<L: Entries> Combiner<L> {
         for _ in rt.forever() {
             if record.is_answered() {
                 record.set_leads(false);
+                self.turns.end(backoff);
                 return None;
             }
             if backoff.is_completed() {
                 break;
             }
-            if backoff.is_to_try() || self.beckons() {
+            if (record.is_published() && backoff.is_to_try()) || self.beckons() {
                 if let Some(held) = self.try_enter() {
                     return Some(held);
                 }
             }
-            backoff.spin();
+            backoff.snooze();
         }
         Some(self.enter(rt))
     }
@@ -62,7 +63,7 @@ impl<L: Entries> Combiner<L> {
     ) -> Result<(), Refusal>
         ensures { IfErr result (IsHindrance L.setting) }
     {
-        let mut backoff = self.backoff();
+        let mut backoff = self.turns.begin();
         for _ in rt.forever() {
             let turn = match held {
                 Some(held) => self.turn(rt, gate, held, rank, record, &mut backoff)?,
