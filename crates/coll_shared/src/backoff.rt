@@ -9,7 +9,7 @@ use std::thread::yield_now;
 const SPINS: u64 = 20;
 
 /// How often it looks with a turn for other threads before each look.
-const SNOOZES: u64 = 200;
+const SNOOZES: u64 = 2_000;
 
 /// How often it looks in a row where turns are long, and each thread has a processor of its own: nobody needs its processor meanwhile.
 const LOOKS_ALONE: u64 = 10_000;
