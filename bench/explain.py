@@ -4,7 +4,8 @@
 Each text has 2 to 6 ranks, some communicators, and collectives that are posted or started in an order of each rank's own among
 communicators, with waits, waits for any and some, and tests in between. It is explained once and run with 0 to 8 progress threads, three
 times. A text that never stalls must end in each run, one that stalls in every run must stall in each. Ends with 1 where one doesn't, and
-shows the text. Told is also how many of the texts that may stall did so in some run, and in each.
+shows the text. So it does where the shortest circle that is told is no circle, or a search of all circles finds a shorter one. Told is also
+how many of the texts that may stall did so in some run, and in each.
 """
 import collections
 import json
@@ -117,11 +118,35 @@ def random_text(rng):
     return "\n".join(lines) + "\n"
 
 
+def shortest_length(awaited):
+    """The length of a shortest circle, by a search in breadth from each rank; 0 where there is none."""
+    best = 0
+    for first in awaited:
+        reached, steps = {first}, 0
+        while reached and steps <= len(awaited):
+            reached, steps = set().union(*(awaited.get(rank, set()) for rank in reached)), steps + 1
+            if first in reached:
+                best = min(best or steps, steps)
+                break
+    return best
+
+
+def is_shortest(objects):
+    """Whether the ranks of `shortest` wait each for the next, and no circle has fewer."""
+    awaited = {it["rank"]: {lack["rank"] for request in it["requests"] for lack in request["lacks"]} for it in objects[:-1]}
+    ring = objects[-1]["shortest"]
+    waits = all(after in awaited[rank] for rank, after in zip(ring, ring[1:] + ring[:1]))
+    return waits and len(ring) == shortest_length(awaited)
+
+
 def verdict(program, text):
     ended = subprocess.run([program, "explain", "--format", "json"], input=text.encode(), capture_output=True, timeout=SECONDS)
     if ended.returncode not in (0, 3, 6):
         return f"{ended.returncode} {ended.stderr.decode()}"
-    return json.loads(ended.stdout.decode().splitlines()[-1])["verdict"]
+    objects = [json.loads(line) for line in ended.stdout.decode().splitlines()]
+    if not is_shortest(objects):
+        return f"no shortest circle: {objects[-1]['shortest']}"
+    return objects[-1]["verdict"]
 
 
 def stalls(program, text, workers):

@@ -178,31 +178,48 @@ impl<'e> TextForm<'e> {
     /// Tells the lines in which the requests were posted or started.
     fn tell_requests(&mut self, requests: &[Pending]) -> Result<(), AllocError> {
         for request in requests {
-            let columns = self.tell_line(request.line)?;
-            self.mark(columns, '-')?;
-            write!(self.out, " request {}: ", request.request)?;
-            if request.is_persistent {
-                write!(self.out, "start {} of ", request.start)?;
+            if self.is_told(request) {
+                self.tell_request(request)?;
             }
-            writeln!(
-                self.out,
-                "communicator {}, place {}",
-                request.comm, request.place
-            )?;
         }
         Ok(())
     }
 
+    /// Whether a request is told: where not all is, one that lacks a rank of the shortest circle.
+    fn is_told(&self, request: &Pending) -> bool {
+        let ring = &self.shown.ring;
+        self.is_whole || request.lacks.iter().any(|lack| ring.contains(&lack.rank))
+    }
+
+    fn tell_request(&mut self, request: &Pending) -> Result<(), AllocError> {
+        let columns = self.tell_line(request.line)?;
+        self.mark(columns, '-')?;
+        write!(self.out, " request {}: ", request.request)?;
+        if request.is_persistent {
+            write!(self.out, "start {} of ", request.start)?;
+        }
+        writeln!(
+            self.out,
+            "communicator {}, place {}",
+            request.comm, request.place
+        )
+    }
+
     /// Names the requests that a call waits for.
     fn tell_awaited(&mut self, requests: &[Pending]) -> Result<(), AllocError> {
-        self.out.push_str(" waits for ")?;
-        let mut is_first = true;
+        let mut word = " waits for";
+        let mut others: usize = 0;
         for request in requests {
-            if !is_first {
-                self.out.push_str(", ")?;
+            if self.is_told(request) {
+                write!(self.out, "{word} request {}", request.request)?;
+                word = ",";
+            } else {
+                others = others.saturating_add(1);
             }
-            is_first = false;
-            write!(self.out, "request {}", request.request)?;
+        }
+        if others > 0 {
+            self.is_shortened = true;
+            write!(self.out, " and {others} more")?;
         }
         self.out.push('\n')?;
         Ok(())
@@ -210,7 +227,9 @@ impl<'e> TextForm<'e> {
 
     fn tell_all_lacks(&mut self, requests: &[Pending]) -> Result<(), AllocError> {
         for request in requests {
-            self.tell_lacks(&request.lacks)?;
+            if self.is_told(request) {
+                self.tell_lacks(&request.lacks)?;
+            }
         }
         Ok(())
     }
