@@ -61,7 +61,7 @@ _colljob() {
                 --format) _colljob_words 'text json dot'; return ;;
             esac
             takes_job=1
-            options='--format --strict -h --help'
+            options='--format --strict --all -h --help'
             ;;
         'check')
             case "$before" in
@@ -89,7 +89,7 @@ _colljob() {
             ;;
         'draw waits')
             takes_job=1
-            options='--dot -h --help'
+            options='--dot --all -h --help'
             ;;
         help)
             _colljob_words 'run plain explain check draw help'
