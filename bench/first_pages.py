@@ -1,6 +1,6 @@
 #!/usr/bin/env python3
-"""Compares the example on each crate's first page, word for word, with crates/library_example, which the gate proves and whose output it
-compares. Lines may be broken in other places there. Ends with 1 where an example differs, or a crate that library_example uses has none.
+"""Compares the example on each crate's first page, word for word, with tests/library_example, which tools/run_tests runs and whose output
+it compares. Lines may be broken in other places there. Ends with 1 where an example differs, or a crate that library_example uses has none.
 
     bench/first_pages.py
 """
@@ -19,7 +19,7 @@ def words(text):
 
 
 def main():
-    carried_out = [words(source.read_text()) for source in (CRATES / "library_example" / "src").glob("*.rt")]
+    carried_out = [words(source.read_text()) for source in (CRATES.parent / "tests" / "library_example").glob("*.rattle")]
     differs = False
     for crate in CALLED:
         page = (CRATES / crate / "src" / "lib.rt").read_text()

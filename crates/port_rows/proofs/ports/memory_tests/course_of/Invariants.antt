@@ -1,8 +1,0 @@
-use Rattle.coll_core.specs.Configs.{setting_by}
-use Rattle.port_rows.proofs.ports.memory_tests.course_of.Given as goal
-
-abbrev pub ghosts-course_in-L-Ledger : goal.ghosts-course_in-L-Ledger
-ghosts-course_in-L-Ledger g a = record { name = a.entries.name; parts = a.entries.parts }
-
-abbrev pub ghosts-course_in-L-Entries : goal.ghosts-course_in-L-Entries
-ghosts-course_in-L-Entries g a = record { setting = setting_by a.config }

@@ -1,0 +1,13 @@
+//! Schedules and plans as rows.
+//!
+//! | Module | Has |
+//! |---|---|
+//! | `schedules` | which schedules of one member are accepted |
+//! | `rounds` | the rounds of a barrier |
+//! | `exchanges` | the most exchanges of a member's plan |
+//! | `trees` | the same of the builders of binomial trees |
+
+pub mod exchanges;
+pub mod rounds;
+pub mod schedules;
+pub mod trees;

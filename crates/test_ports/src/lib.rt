@@ -1,0 +1,16 @@
+//! Tests of ports: worked rows of an engine in one thread, from its opening to its report. All of it is built for tests alone.
+//! The folder `tests/test_ports` has the tests that no proof reads: traces, reports, entries, memory that is refused.
+//!
+//! | Module | Has |
+//! |---|---|
+//! | `calls` | the calls of a port |
+//! | `signatures` | the signatures of the rows |
+//! | `ports` | the rows, each answer compared with the one that must come |
+#![tactic(auto)]
+
+#[cfg(test)]
+mod calls;
+#[cfg(test)]
+mod ports;
+#[cfg(test)]
+mod signatures;
