@@ -163,7 +163,13 @@ pub fn do_task<
         }
         Some(name) => {
             let answer = answer_file(host, alloc, screen, task, name, output, errors);
-            ended(Some(name), answer, host.error(), output.error(), errors.stream)
+            ended(
+                Some(name),
+                answer,
+                host.error(),
+                output.error(),
+                errors.stream,
+            )
         }
     }
 }

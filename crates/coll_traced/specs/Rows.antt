@@ -26,13 +26,13 @@ HasNoEntry = (entries : List Entry) (s : State) → IsMoment silent 1 entries s 
 abbrev pub TestsNone : Type 0
 TestsNone =
     ((rank : ℕ) (t : Ticket) (new : Option Ticket) (flag : Bool) (o : Option Outcome) (es : List Entry)
-        → TestsOne silent 0 rank (Some t) new flag o es → ⊥)
+    → TestsOne silent 0 rank (Some t) new flag o es → ⊥)
     × ((rank : ℕ) (t : Ticket) (new : List (Option Ticket)) (any : Any) (es : List Entry)
-        → TestsAny silent 0 rank (Some t ∷ []) new any es → ⊥)
+    → TestsAny silent 0 rank (Some t ∷ []) new any es → ⊥)
     × ((rank : ℕ) (t : Ticket) (new : List (Option Ticket)) (was is : List (ℕ × Outcome)) (flag : Bool) (es : List Entry)
-        → TestsAll silent 0 rank (Some t ∷ []) new was is flag es → ⊥)
+    → TestsAll silent 0 rank (Some t ∷ []) new was is flag es → ⊥)
     × ((rank : ℕ) (t : Ticket) (new : List (Option Ticket)) (was is : List (ℕ × Outcome)) (count : Option ℕ) (es : List Entry)
-        → TestsSome silent 0 rank (Some t ∷ []) new was is count es → ⊥)
+    → TestsSome silent 0 rank (Some t ∷ []) new was is count es → ⊥)
 
 -- each test of a ticket is refused, and only as stale; that of a null request isn't
 abbrev pub RefusesStale : Type 0

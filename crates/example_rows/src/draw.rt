@@ -14,15 +14,7 @@ pub const DRAWS: [(&str, &[&str]); 9] = [
     ),
     (
         "allreduce_of_six.txt",
-        &[
-            "draw",
-            "allreduce",
-            "sum",
-            "i32",
-            "1",
-            "--members",
-            "6",
-        ],
+        &["draw", "allreduce", "sum", "i32", "1", "--members", "6"],
     ),
     (
         "exscan_of_five.txt",
