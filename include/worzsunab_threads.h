@@ -11,7 +11,6 @@
 #define WORZSUNAB_THREADS_H
 
 #include <pthread.h>
-#include <sched.h>
 #include <string.h>
 
 #include "worzsunab.h"
@@ -22,9 +21,8 @@ extern "C" {
 
 enum {
     WZ_MOST_RANKS = 64,
-    WZ_LOOKS = 600,  /* how often a thread looks at its record, or at the lock, before it offers its processor */
-    WZ_OFFERS = 20,  /* and how often it offers it before it sleeps */
-    WZ_HOLDS = 30    /* how often a wait that has the lock looks at the records of the others before it gives the lock up */
+    WZ_LOOKS = 600, /* how often a thread looks at its record, or at the lock, before it sleeps */
+    WZ_HOLDS = 30   /* how often a wait that has the lock looks at the records of the others before it gives the lock up */
 };
 
 /* Once a rank gives so many bytes, combinations are computed with the lock free. */
@@ -32,23 +30,39 @@ enum {
 #define WZ_LONG 4096
 #endif
 
-/* What a rank asks for: the arguments of wz_post, wz_post_allgatherv, wz_start, wz_test, or wz_phase. The last two wait. */
-enum { WZ_ASK_POST, WZ_ASK_POST_ALLGATHERV, WZ_ASK_START, WZ_ASK_WAIT, WZ_ASK_REST };
+/* What a rank asks for: wz_post, wz_post_allgatherv or wz_start; or a wait, from WZ_ASK_WAIT on, for a request, for any, some or all of a
+   list, or until any of a list isn't pending. */
+enum {
+    WZ_ASK_POST, WZ_ASK_POST_ALLGATHERV, WZ_ASK_START,
+    WZ_ASK_WAIT, WZ_ASK_ANY, WZ_ASK_SOME, WZ_ASK_ALL, WZ_ASK_FOR_ANY
+};
+
+/* Its arguments, by the names that they have in worzsunab.h. */
 typedef struct wz_ask {
     int what;
+    uint8_t type;
     uint32_t comm;
     const wz_call *call;
-    uint8_t type;
     const uint32_t *counts;
-    size_t many;
+    size_t many; /* of counts, parts or list */
     const void *bytes;
     size_t length;
     const wz_request *started;
     wz_request *request;
+    wz_part *parts;
+    const wz_request *const *list;
+    size_t passed; /* WZ_ASK_ALL: so many parts at the front aren't pending any longer */
     void *out;
     size_t room;
-    size_t *count;
+    size_t *count; /* or the index, or how many were completed */
 } wz_ask;
+
+static inline wz_ask wz_ask_(int what) {
+    wz_ask ask;
+    memset(&ask, 0, sizeof ask);
+    ask.what = what;
+    return ask;
+}
 
 /* How far a record is: it was answered, or is empty; its rank asks; its rank waits for a request that is pending. */
 enum { WZ_ANSWERED, WZ_ASKS, WZ_WAITS };
@@ -140,10 +154,43 @@ static inline int32_t wz_noted_(wz_shared *shared, uint8_t rank, int32_t code) {
     return code;
 }
 
+/* Under the lock: as wz_test_some, but WZ_PENDING where some are active and none is done. */
+static inline int32_t wz_do_some_(wz_engine *engine, uint8_t rank, const wz_ask *ask) {
+    int32_t code = wz_test_some(engine, rank, ask->parts, ask->many, ask->out, ask->room, ask->count);
+    return code == WZ_DONE && *ask->count == 0 ? WZ_PENDING : code;
+}
+
+/* Under the lock: as wz_test_all. It looks at no part again that it has passed. */
+static inline int32_t wz_do_all_(wz_engine *engine, uint8_t rank, wz_ask *ask) {
+    for (; ask->passed < ask->many; ask->passed++) {
+        uint8_t phase = WZ_IDLE;
+        if (wz_phase(engine, rank, &ask->parts[ask->passed].request, &phase) == WZ_DONE && phase == WZ_IS_PENDING) return WZ_PENDING;
+    }
+    return wz_test_all(engine, rank, ask->parts, ask->many, ask->out, ask->room);
+}
+
+/* Under the lock: finds the first of the list that is done; WZ_PENDING where some are active and none is. */
+static inline int32_t wz_do_for_any_(wz_engine *engine, uint8_t rank, const wz_ask *ask) {
+    bool active = false;
+    for (size_t i = 0; i < ask->many; i++) {
+        uint8_t phase = WZ_IDLE;
+        if (ask->list[i]->generation == 0) continue;
+        int32_t code = wz_phase(engine, rank, ask->list[i], &phase);
+        if (code == WZ_DONE && phase != WZ_IS_DONE) {
+            active = active || phase == WZ_IS_PENDING;
+            continue;
+        }
+        if (code == WZ_DONE) *ask->count = i;
+        return code;
+    }
+    if (active) return WZ_PENDING;
+    *ask->count = WZ_UNDEFINED;
+    return WZ_DONE;
+}
+
 /* Under the lock: the call that is asked for. */
-static inline int32_t wz_do_(wz_shared *shared, uint8_t rank, const wz_ask *ask) {
+static inline int32_t wz_do_(wz_shared *shared, uint8_t rank, wz_ask *ask) {
     wz_engine *engine = &shared->engine;
-    uint8_t phase = WZ_IDLE;
     int32_t code;
     switch (ask->what) {
     case WZ_ASK_POST: code = wz_post(engine, rank, ask->comm, ask->call, ask->bytes, ask->length, ask->request); break;
@@ -151,10 +198,10 @@ static inline int32_t wz_do_(wz_shared *shared, uint8_t rank, const wz_ask *ask)
         code = wz_post_allgatherv(engine, rank, ask->comm, ask->type, ask->counts, ask->many, ask->bytes, ask->length, ask->request);
         break;
     case WZ_ASK_START: code = wz_start(engine, rank, ask->started, ask->bytes, ask->length); break;
-    case WZ_ASK_REST:
-        code = wz_phase(engine, rank, ask->request, &phase);
-        if (phase == WZ_IS_PENDING) code = WZ_PENDING;
-        break;
+    case WZ_ASK_ANY: code = wz_test_any(engine, rank, ask->parts, ask->many, ask->out, ask->room, ask->count); break;
+    case WZ_ASK_SOME: code = wz_do_some_(engine, rank, ask); break;
+    case WZ_ASK_ALL: code = wz_do_all_(engine, rank, ask); break;
+    case WZ_ASK_FOR_ANY: code = wz_do_for_any_(engine, rank, ask); break;
     default: code = wz_test(engine, rank, ask->request, ask->out, ask->room, ask->count); break;
     }
     return wz_noted_(shared, rank, code);
@@ -279,7 +326,7 @@ static inline void wz_sleep_(wz_record *me) {
 
 /* Asks for a call, and gives its answer. A record that is asked by and not read yet is carried out by its own thread in the end; one that
    waits is answered by whoever makes progress. */
-static inline int32_t wz_asked_(wz_shared *shared, uint8_t rank, const wz_ask *ask) {
+static inline int32_t wz_asked_(wz_shared *shared, uint8_t rank, wz_ask *ask) {
     if (rank >= shared->ranks) {
         wz_lock_(shared);
         int32_t code = wz_do_(shared, rank, ask);
@@ -289,11 +336,10 @@ static inline int32_t wz_asked_(wz_shared *shared, uint8_t rank, const wz_ask *a
     wz_record *me = &shared->records[rank];
     me->ask = *ask;
     __atomic_store_n(&me->stage, WZ_ASKS, __ATOMIC_RELEASE);
-    for (int look = 0; look < WZ_LOOKS + WZ_OFFERS; look++) {
+    for (int look = 0; look < WZ_LOOKS; look++) {
         int stage = __atomic_load_n(&me->stage, __ATOMIC_ACQUIRE);
         if (stage == WZ_ANSWERED) return me->answer;
         if (stage == WZ_ASKS && wz_try_lock_(shared)) wz_lead_(shared, me);
-        if (look >= WZ_LOOKS) sched_yield();
     }
     if (__atomic_load_n(&me->stage, __ATOMIC_ACQUIRE) == WZ_ASKS) {
         wz_lock_(shared);
@@ -312,7 +358,12 @@ static inline wz_reason wz_shared_reason(const wz_shared *shared, uint8_t rank) 
 /* As wz_post, with progress. WZ_NO_MEMORY of the progress isn't answered here: a wait meets it. */
 static inline int32_t wz_shared_post(wz_shared *shared, uint8_t rank, uint32_t comm, const wz_call *call, const void *bytes,
                                      size_t length, wz_request *request) {
-    wz_ask ask = { WZ_ASK_POST, comm, call, 0, NULL, 0, bytes, length, NULL, request, NULL, 0, NULL };
+    wz_ask ask = wz_ask_(WZ_ASK_POST);
+    ask.comm = comm;
+    ask.call = call;
+    ask.bytes = bytes;
+    ask.length = length;
+    ask.request = request;
     return wz_asked_(shared, rank, &ask);
 }
 
@@ -320,7 +371,14 @@ static inline int32_t wz_shared_post(wz_shared *shared, uint8_t rank, uint32_t c
 static inline int32_t wz_shared_post_allgatherv(wz_shared *shared, uint8_t rank, uint32_t comm, uint8_t type,
                                                 const uint32_t *counts, size_t many, const void *bytes, size_t length,
                                                 wz_request *request) {
-    wz_ask ask = { WZ_ASK_POST_ALLGATHERV, comm, NULL, type, counts, many, bytes, length, NULL, request, NULL, 0, NULL };
+    wz_ask ask = wz_ask_(WZ_ASK_POST_ALLGATHERV);
+    ask.comm = comm;
+    ask.type = type;
+    ask.counts = counts;
+    ask.many = many;
+    ask.bytes = bytes;
+    ask.length = length;
+    ask.request = request;
     return wz_asked_(shared, rank, &ask);
 }
 
@@ -344,7 +402,10 @@ static inline int32_t wz_shared_init_allgatherv(wz_shared *shared, uint8_t rank,
 /* As wz_start, with progress, as wz_shared_post. */
 static inline int32_t wz_shared_start(wz_shared *shared, uint8_t rank, const wz_request *request, const void *bytes,
                                       size_t length) {
-    wz_ask ask = { WZ_ASK_START, 0, NULL, 0, NULL, 0, bytes, length, request, NULL, NULL, 0, NULL };
+    wz_ask ask = wz_ask_(WZ_ASK_START);
+    ask.started = request;
+    ask.bytes = bytes;
+    ask.length = length;
     return wz_asked_(shared, rank, &ask);
 }
 
@@ -374,7 +435,11 @@ static inline int32_t wz_shared_test(wz_shared *shared, uint8_t rank, wz_request
    where progress was refused memory, with nothing changed: it can be waited for again. */
 static inline int32_t wz_shared_wait(wz_shared *shared, uint8_t rank, wz_request *request, void *out, size_t room,
                                      size_t *count) {
-    wz_ask ask = { WZ_ASK_WAIT, 0, NULL, 0, NULL, 0, NULL, 0, NULL, request, out, room, count };
+    wz_ask ask = wz_ask_(WZ_ASK_WAIT);
+    ask.request = request;
+    ask.out = out;
+    ask.room = room;
+    ask.count = count;
     return wz_asked_(shared, rank, &ask);
 }
 
@@ -460,18 +525,48 @@ static inline int32_t wz_shared_lent(wz_shared *shared, uint64_t *bytes) {
     return code;
 }
 
+/* An ask for requests of a list with their spans; *found is the index, or how many were completed. */
+static inline int32_t wz_asked_of_list_(wz_shared *shared, uint8_t rank, int what, wz_part *parts, size_t many, void *out,
+                                        size_t room, size_t *found) {
+    wz_ask ask = wz_ask_(what);
+    ask.parts = parts;
+    ask.many = many;
+    ask.out = out;
+    ask.room = room;
+    ask.count = found;
+    return wz_asked_(shared, rank, &ask);
+}
+
+/* Completes the lowest request of a list that is done (MPI_Waitany): as wz_test_any, and where that answers WZ_PENDING it waits.
+   WZ_STALLED and WZ_NO_MEMORY as wz_shared_wait, with none completed. */
+static inline int32_t wz_shared_wait_any(wz_shared *shared, uint8_t rank, wz_part *parts, size_t many, void *out, size_t room,
+                                         size_t *index) {
+    return wz_asked_of_list_(shared, rank, WZ_ASK_ANY, parts, many, out, room, index);
+}
+
+/* Completes each request of a list that is done, one at least (MPI_Waitsome): as wz_test_some, and where that would complete none of those
+   that are active it waits. WZ_STALLED and WZ_NO_MEMORY as wz_shared_wait, with none completed. */
+static inline int32_t wz_shared_wait_some(wz_shared *shared, uint8_t rank, wz_part *parts, size_t many, void *out, size_t room,
+                                          size_t *completed) {
+    return wz_asked_of_list_(shared, rank, WZ_ASK_SOME, parts, many, out, room, completed);
+}
+
 /* Completes all requests of a list (MPI_Waitall): as wz_test_all, and where that answers WZ_PENDING it waits. WZ_STALLED and WZ_NO_MEMORY
    as wz_shared_wait, with none completed. */
 static inline int32_t wz_shared_wait_all(wz_shared *shared, uint8_t rank, wz_part *parts, size_t many, void *out, size_t room) {
-    int32_t code = wz_shared_test_all(shared, rank, parts, many, out, room);
-    if (code != WZ_PENDING) return code;
-    for (size_t i = 0; i < many; i++) {
-        wz_ask ask = { WZ_ASK_REST, 0, NULL, 0, NULL, 0, NULL, 0, NULL, &parts[i].request, NULL, 0, NULL };
-        if (parts[i].request.generation == 0) continue;
-        code = wz_asked_(shared, rank, &ask);
-        if (code != WZ_DONE) return code;
-    }
-    return wz_shared_test_all(shared, rank, parts, many, out, room);
+    return wz_asked_of_list_(shared, rank, WZ_ASK_ALL, parts, many, out, room, NULL);
+}
+
+/* Waits until a request of a list is done, and completes none: *index is the position of the lowest that is, or WZ_UNDEFINED where none is
+   active. Null requests are passed over.
+   WZ_CLOSED, WZ_STALE, WZ_NOT_YOURS, where no request before that one is done; WZ_STALLED and WZ_NO_MEMORY as wz_shared_wait. */
+static inline int32_t wz_shared_wait_for_any(wz_shared *shared, uint8_t rank, const wz_request *const *list, size_t many,
+                                             size_t *index) {
+    wz_ask ask = wz_ask_(WZ_ASK_FOR_ANY);
+    ask.list = list;
+    ask.many = many;
+    ask.count = index;
+    return wz_asked_(shared, rank, &ask);
 }
 
 /* The rank's thread makes no further call, so others don't wait for it. */
