@@ -158,6 +158,43 @@ static void tell_samples(void) {
     }
 }
 
+/* Samples of TURNS_OF operations until rank 0 says that the time is over, with the threads where the system puts them: what a loaded machine makes
+   of the waiting. Beside it, c_interface_mpi.c does the same by MPI. */
+enum { TURNS_OF = 20, MOST_SAMPLES = 20000 };
+static double waits[MOST_SAMPLES];
+static double seconds = 0.7;
+
+static void waited(uint8_t me, const char *name, const wz_call *call, size_t length) {
+    const wz_call flag = { WZ_BCAST, WZ_NO_OPERATION, WZ_INT32, 0, 1 };
+    int32_t goes_on = 1, one = 1, sum = 0;
+    double end = now() + 1e9 * seconds;
+    int many = 0;
+    while (goes_on) {
+        wz_request request;
+        size_t count;
+        double from = now();
+        for (int turn = 0; turn < TURNS_OF; turn++) {
+            must(wz_shared_post(&shared, me, 0, call, &one, length, &request));
+            must(wz_shared_wait(&shared, me, &request, &sum, sizeof sum, &count));
+        }
+        if (me == 0) waits[many] = (now() - from) / TURNS_OF;
+        goes_on = ++many < MOST_SAMPLES / 10 && now() < end;
+        must(wz_shared_post(&shared, me, 0, &flag, &goes_on, me == 0 ? sizeof goes_on : 0, &request));
+        must(wz_shared_wait(&shared, me, &request, &goes_on, sizeof goes_on, &count));
+    }
+    if (me != 0) return;
+    qsort(waits, (size_t)many, sizeof waits[0], is_less);
+    printf("%s: %.0f %.0f\n", name, waits[many / 2], waits[many * 9 / 10]);
+}
+
+static void *waited_of(void *number) {
+    uint8_t me = (uint8_t)(size_t)number;
+    waited(me, "barrier", &barrier, 0);
+    waited(me, "allreduce of one i32", &allreduce, sizeof(int32_t));
+    wz_shared_leave(&shared, me);
+    return NULL;
+}
+
 /* Sums of rows of so many bytes, as many as take some time. */
 static uint32_t row_bytes;
 
@@ -182,12 +219,14 @@ int main(int argc, char **argv) {
     ranks = argc > 1 ? atoi(argv[1]) : 2;
     row_bytes = argc > 2 ? (uint32_t)atoi(argv[2]) : 0;
     if (ranks < 1 || ranks > MOST || row_bytes > ROW) return 1;
-    bool samples_alone = argc > 3 && strcmp(argv[3], "samples") == 0;
-    if (row_bytes == 0 && !samples_alone) one_thread();
-    if (argc > 3 && !samples_alone) return 0;
+    const char *mode = argc > 3 ? argv[3] : "";
+    bool samples_alone = strcmp(mode, "samples") == 0, waits_alone = strcmp(mode, "waits") == 0;
+    if (argc > 4) seconds = atof(argv[4]);
+    if (row_bytes == 0 && !samples_alone && !waits_alone) one_thread();
+    if (argc > 3 && !samples_alone && !waits_alone) return 0;
     must(wz_shared_open_world(&shared, (uint8_t)ranks));
-    for (size_t i = 0; i < (size_t)ranks; i++)
-        pthread_create(&threads[i], NULL, samples_alone ? sampled : row_bytes == 0 ? rank_of : rows_of, (void *)i);
+    void *(*play)(void *) = waits_alone ? waited_of : samples_alone ? sampled : row_bytes == 0 ? rank_of : rows_of;
+    for (size_t i = 0; i < (size_t)ranks; i++) pthread_create(&threads[i], NULL, play, (void *)i);
     for (int i = 0; i < ranks; i++) pthread_join(threads[i], NULL);
     if (samples_alone) tell_samples();
     must(wz_shared_close(&shared));

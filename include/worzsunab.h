@@ -17,11 +17,13 @@
 #include <stdbool.h>
 #include <stddef.h>
 #include <stdint.h>
-#include <stdio.h>
 
 #ifdef __cplusplus
 extern "C" {
 #endif
+
+/* 1 in a library that was proved as it was built, 0 in one that was built without proof. */
+extern const int32_t wz_proved;
 
 /* ---- collectives */
 
@@ -44,20 +46,20 @@ enum {
 
 /* Operations (wz_call.op), with their MPI names (MPI 4.1, 6.9.2 and 6.9.4). */
 enum {
-    WZ_MAX = 0,    /* MPI_MAX */
-    WZ_MIN = 1,    /* MPI_MIN */
-    WZ_SUM = 2,    /* MPI_SUM, wrapped to the type's bits */
-    WZ_PROD = 3,   /* MPI_PROD, wrapped to the type's bits */
-    WZ_LAND = 4,   /* MPI_LAND */
-    WZ_LOR = 5,    /* MPI_LOR */
-    WZ_LXOR = 6,   /* MPI_LXOR */
-    WZ_BAND = 7,   /* MPI_BAND */
-    WZ_BOR = 8,    /* MPI_BOR */
-    WZ_BXOR = 9,   /* MPI_BXOR */
-    WZ_LASTNZ = 10,  /* the second element where it isn't 0, else the first: like an operation of a user, not commutative */
-    WZ_MAXLOC = 11, /* MPI_MAXLOC */
-    WZ_MINLOC = 12, /* MPI_MINLOC */
-    WZ_NO_OPERATION = 255 /* of the kinds that have none */
+    WZ_NO_OPERATION = 0, /* of the kinds that have none */
+    WZ_MAX = 1,          /* MPI_MAX */
+    WZ_MIN = 2,          /* MPI_MIN */
+    WZ_SUM = 3,          /* MPI_SUM, wrapped to the type's bits */
+    WZ_PROD = 4,         /* MPI_PROD, wrapped to the type's bits */
+    WZ_LAND = 5,         /* MPI_LAND */
+    WZ_LOR = 6,          /* MPI_LOR */
+    WZ_LXOR = 7,         /* MPI_LXOR */
+    WZ_BAND = 8,         /* MPI_BAND */
+    WZ_BOR = 9,          /* MPI_BOR */
+    WZ_BXOR = 10,        /* MPI_BXOR */
+    WZ_LASTNZ = 11,      /* the second element where it isn't 0, else the first: like an operation of a user, not commutative */
+    WZ_MAXLOC = 12,      /* MPI_MAXLOC */
+    WZ_MINLOC = 13       /* MPI_MINLOC */
 };
 
 /* Types (wz_call.type), with the MPI type and the bytes of an element. Numbers are little-endian. */
@@ -84,17 +86,17 @@ typedef struct wz_call {
     uint32_t count; /* elements of a block: up to 65,536; nobody gives or gets more than 16,777,216 bytes */
 } wz_call;
 
-/* Why a call was refused, with what is known of it; a field that a refusal has no use for is 0. */
+/* Why a call was refused, with what is known of it; a field that a refusal has no use for is 0. WZ_STALLED is worzsunab_threads.h's. */
 typedef struct wz_reason {
     int32_t code;    /* WZ_BAD_COMM to WZ_BAD_CONFIG; 0: no call was refused */
-    uint8_t rank;    /* WZ_NOT_MEMBER: the rank that isn't one */
+    uint8_t rank;    /* WZ_NOT_MEMBER: the rank that isn't one; WZ_STALLED: the one that waits */
     uint8_t cause;   /* WZ_BAD_SIGNATURE: WZ_RULE_ROOT and so on; WZ_BAD_CONFIG: WZ_FIELD_RANKS and so on */
-    uint8_t first;   /* WZ_MISMATCH: the lowest rank that has that place */
-    bool persistent; /* WZ_MISMATCH: whether that rank's collective is persistent */
-    wz_call call;    /* WZ_MISMATCH: that rank's collective, without the counts of an allgatherv (wz_posted_at) */
-    uint32_t comm;   /* WZ_BAD_COMM: the number that names none */
-    uint32_t place;  /* WZ_MISMATCH: the place in the posting lists, from 0 on */
-    uint32_t want;   /* WZ_BAD_LENGTH: the bytes that are due; in wz_test, those of the outcome */
+    uint8_t first;   /* WZ_MISMATCH: the lowest rank that has that place; WZ_STALLED: the lowest that is waited for */
+    bool persistent; /* WZ_MISMATCH: whether that rank's collective is persistent; WZ_STALLED: whether the one waited for is */
+    wz_call call;    /* WZ_MISMATCH: that rank's collective; WZ_STALLED: the one waited for; without counts (wz_posted_at) */
+    uint32_t comm;   /* WZ_BAD_COMM: the number that names none; WZ_STALLED: the communicator */
+    uint32_t place;  /* WZ_MISMATCH, WZ_STALLED: the place in the posting lists, from 0 on */
+    uint32_t want;   /* WZ_BAD_LENGTH: the bytes that are due; in wz_test, those of the outcome; WZ_STALLED: how many are waited for */
     size_t got;      /* WZ_BAD_LENGTH: the bytes that were given, or the room */
 } wz_reason;
 
@@ -195,146 +197,6 @@ enum {
     WZ_TWICE = 24,          /* a request stands twice in a list */
     WZ_NO_PLACE = 25        /* no member has posted so much, or there is no such communicator */
 };
-
-/* A sentence for an answer. */
-static inline const char *wz_message(int32_t code) {
-    switch (code) {
-    case WZ_DONE: return "done";
-    case WZ_PENDING: return "the request isn't done yet";
-    case WZ_BAD_COMM: return "there is no such communicator";
-    case WZ_NOT_MEMBER: return "the rank isn't in the communicator's group";
-    case WZ_BAD_SIGNATURE: return "the root, operation, count or size breaks a rule";
-    case WZ_BAD_LENGTH: return "the bytes have another length than the call gives, or there is too little room for the outcome";
-    case WZ_MISMATCH: return "another member has another collective at that place";
-    case WZ_STALE: return "the request is null, completed or freed";
-    case WZ_NOT_YOURS: return "the request belongs to another rank";
-    case WZ_ACTIVE: return "the request to start or free is active";
-    case WZ_NOT_PERSISTENT: return "the request to start or free isn't persistent";
-    case WZ_PLACES_USED: return "the member has used all its places on the communicator";
-    case WZ_STARTS_USED: return "the request has had all its starts";
-    case WZ_FULL: return "no request slot is free";
-    case WZ_TRACE_FULL: return "the trace would pass its limit";
-    case WZ_STALLED: return "nothing can go on any more";
-    case WZ_STILL_ACTIVE: return "a rank has an active request at the close";
-    case WZ_TORN: return "the ports and the trace disagree at the close";
-    case WZ_NO_MEMORY: return "memory was refused";
-    case WZ_BAD_CONFIG: return "a limit or a communicator is out of its range";
-    case WZ_BAD_NUMBER: return "a number names no kind, operation or type";
-    case WZ_CLOSED: return "the engine is closed";
-    case WZ_OPEN: return "the engine is open already";
-    case WZ_NO_WORK: return "there is no combination";
-    case WZ_HAS_WORK: return "there is a combination already";
-    case WZ_TWICE: return "a request stands twice in the list";
-    case WZ_NO_PLACE: return "no member has posted so much on the communicator";
-    default: return "no answer of this library";
-    }
-}
-
-/* The name of an answer: of a refusal as docs/PROMISES.md has it. */
-static inline const char *wz_name(int32_t code) {
-    static const char *const names[] = {
-        "Done", "BadComm", "NotMember", "BadSignature", "BadLength", "Mismatch", "Stale", "NotYours", "Active", "NotPersistent",
-        "PlacesUsed", "StartsUsed", "Full", "TraceFull", "Stalled", "StillActive", "Torn", "NoMemory", "BadConfig", "BadNumber",
-        "Closed", "Open", "NoWork", "HasWork", "Twice", "NoPlace"
-    };
-    if (code == WZ_PENDING) return "Pending";
-    return code >= 0 && code <= WZ_NO_PLACE ? names[code] : "Unknown";
-}
-
-/* The word of a kind, an operation or a type, as job texts have it; "?" for a number that names none. */
-static inline const char *wz_kind_word(uint8_t kind) {
-    static const char *const words[] = { "barrier", "bcast", "gather", "scatter", "allgather", "alltoall", "reduce", "allreduce",
-                                         "rsblock", "scan", "exscan", "allgatherv" };
-    return kind <= WZ_ALLGATHERV ? words[kind] : "?";
-}
-
-static inline const char *wz_operation_word(uint8_t op) {
-    static const char *const words[] = { "max", "min", "sum", "prod", "land", "lor", "lxor", "band", "bor", "bxor", "lastnz",
-                                         "maxloc", "minloc" };
-    return op <= WZ_MINLOC ? words[op] : op == WZ_NO_OPERATION ? "no operation" : "?";
-}
-
-static inline const char *wz_type_word(uint8_t type) {
-    static const char *const words[] = { "i8", "i16", "i32", "i64", "u8", "u16", "u32", "u64", "byte", "2int" };
-    return type <= WZ_2INT ? words[type] : "?";
-}
-
-/* Writes a sentence with what is known of a refusal, as snprintf does: at most size bytes, the last of them 0. */
-static inline int wz_explain(const wz_reason *reason, char *text, size_t size) {
-    static const char *const rules[] = { "", "the root isn't a member, or isn't 0 for a collective without a root",
-                                         "the operation is missing, isn't for that type, or is one too many",
-                                         "a count is above 65,536, or one is given that has no meaning",
-                                         "some member gives or gets more than 16,777,216 bytes" };
-    static const char *const fields[] = { "", "number of ranks", "communicators", "slots", "places", "wear", "starts" };
-    const wz_call *call = &reason->call;
-    switch (reason->code) {
-    case WZ_BAD_COMM: return snprintf(text, size, "there is no communicator %lu", (unsigned long)reason->comm);
-    case WZ_NOT_MEMBER: return snprintf(text, size, "rank %u isn't in the communicator's group", reason->rank);
-    case WZ_BAD_SIGNATURE:
-        if (reason->cause < WZ_RULE_ROOT || reason->cause > WZ_RULE_SIZE) break;
-        return snprintf(text, size, "%s", rules[reason->cause]);
-    case WZ_BAD_LENGTH:
-        return snprintf(text, size, "%lu bytes are due, not %lu", (unsigned long)reason->want, (unsigned long)reason->got);
-    case WZ_MISMATCH:
-        return snprintf(text, size, "at place %lu rank %u has another collective: %s%s, %s, %s, root %u, count %lu",
-                        (unsigned long)reason->place, reason->first, reason->persistent ? "persistent " : "",
-                        wz_kind_word(call->kind), wz_operation_word(call->op), wz_type_word(call->type), call->root,
-                        (unsigned long)call->count);
-    case WZ_BAD_CONFIG:
-        if (reason->cause < WZ_FIELD_RANKS || reason->cause > WZ_FIELD_STARTS) break;
-        return snprintf(text, size, "what is given as %s is out of its range", fields[reason->cause]);
-    default: break;
-    }
-    return snprintf(text, size, "%s", wz_message(reason->code));
-}
-
-/* The MPI error class that an answer stands for (MPI 4.1, 9.4), by its name. */
-static inline const char *wz_mpi_class(int32_t code) {
-    switch (code) {
-    case WZ_DONE: return "MPI_SUCCESS";
-    case WZ_PENDING: return "MPI_ERR_PENDING";
-    case WZ_BAD_COMM: return "MPI_ERR_COMM";
-    case WZ_NOT_MEMBER: return "MPI_ERR_RANK";
-    case WZ_BAD_LENGTH: return "MPI_ERR_TRUNCATE";
-    case WZ_STALE:
-    case WZ_NOT_YOURS:
-    case WZ_ACTIVE:
-    case WZ_NOT_PERSISTENT:
-    case WZ_TWICE: return "MPI_ERR_REQUEST";
-    case WZ_BAD_SIGNATURE:
-    case WZ_MISMATCH:
-    case WZ_BAD_CONFIG:
-    case WZ_BAD_NUMBER:
-    case WZ_CLOSED:
-    case WZ_OPEN:
-    case WZ_NO_WORK:
-    case WZ_HAS_WORK:
-    case WZ_NO_PLACE: return "MPI_ERR_ARG";
-    case WZ_NO_MEMORY: return "MPI_ERR_NO_MEM";
-    case WZ_PLACES_USED:
-    case WZ_STARTS_USED:
-    case WZ_FULL:
-    case WZ_TRACE_FULL:
-    case WZ_STALLED:
-    case WZ_STILL_ACTIVE:
-    case WZ_TORN: return "MPI_ERR_OTHER";
-    default: return "MPI_ERR_UNKNOWN";
-    }
-}
-
-/* The same of a refusal with what is known of it: the rules of signatures have classes of their own. */
-static inline const char *wz_reason_mpi_class(const wz_reason *reason) {
-    if (reason->code == WZ_BAD_SIGNATURE) {
-        switch (reason->cause) {
-        case WZ_RULE_ROOT: return "MPI_ERR_ROOT";
-        case WZ_RULE_OPERATION: return "MPI_ERR_OP";
-        case WZ_RULE_COUNT:
-        case WZ_RULE_SIZE: return "MPI_ERR_COUNT";
-        default: break;
-        }
-    }
-    return wz_mpi_class(reason->code);
-}
 
 /* ---- functions. After an answer that isn't WZ_DONE nothing has changed, in the engine, the request or the memory, unless
         it is said otherwise. Where the answer is 1 to 18, the engine's reason tells more of it; else that stays. The codes of
@@ -493,5 +355,7 @@ int32_t wz_start_all(wz_engine *engine, uint8_t rank, const wz_part *parts, size
 #ifdef __cplusplus
 }
 #endif
+
+#include "worzsunab_words.h"
 
 #endif

@@ -351,6 +351,26 @@ static void another_ranks_ticket(void) {
     DONE(wz_close(&engine));
 }
 
+/* What isn't said is 0: no operation, and root 0. */
+static void zeroed_calls(void) {
+    const wz_call calls[] = { { .kind = WZ_BCAST, .type = WZ_INT32, .count = 1 }, { .kind = WZ_ALLGATHER, .type = WZ_INT32, .count = 1 } };
+    wz_call none;
+    memset(&none, 0, sizeof none);
+    HOLDS(none.kind == WZ_BARRIER && none.op == WZ_NO_OPERATION);
+    for (int i = 0; i < 2; i++) {
+        wz_engine engine = opened(1, 8, 9);
+        wz_request request;
+        int32_t seven = 7, got = 0;
+        size_t count = 9;
+        DONE(wz_post(&engine, 0, 0, &calls[i], &seven, 4, &request));
+        DONE(wz_settle(&engine));
+        DONE(wz_test(&engine, 0, &request, &got, 4, &count));
+        HOLDS(got == 7 && count == 4);
+        DONE(wz_post(&engine, 0, 0, &none, NULL, 0, &request)); /* all zeros is a barrier */
+        DONE(wz_close(&engine));
+    }
+}
+
 /* Sums of raw bytes aren't defined. */
 static void byte_has_no_sum(void) {
     wz_engine engine = opened(1, 8, 9);
@@ -376,6 +396,7 @@ int main(void) {
     persistent_life();
     another_ranks_ticket();
     byte_has_no_sum();
+    zeroed_calls();
     puts("cases: all as it should be");
     return 0;
 }

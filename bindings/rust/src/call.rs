@@ -55,7 +55,7 @@ impl Kind {
 #[repr(u8)]
 pub enum Op {
     /// `MPI_MAX`
-    Max,
+    Max = 1,
     /// `MPI_MIN`
     Min,
     /// `MPI_SUM`, wrapped to the type's bits
@@ -83,7 +83,7 @@ pub enum Op {
 }
 
 impl Op {
-    /// By their numbers in C, with their words in job texts.
+    /// By their numbers in C from 1 on, with their words in job texts.
     const ALL: [(Op, &'static str); 13] = [
         (Op::Max, "max"),
         (Op::Min, "min"),
@@ -99,6 +99,11 @@ impl Op {
         (Op::MaxLoc, "maxloc"),
         (Op::MinLoc, "minloc"),
     ];
+
+    /// The operation that a number names, with its word.
+    fn named(number: u8) -> Option<(Op, &'static str)> {
+        Op::ALL.get(usize::from(number).checked_sub(1)?).copied()
+    }
 }
 
 /// The type of an element; numbers are little-endian.
@@ -143,7 +148,7 @@ impl Type {
     ];
 }
 
-const NO_OPERATION: u8 = 255;
+const NO_OPERATION: u8 = 0;
 
 /// What all members of a communicator have to agree on at one place of their posting lists.
 #[repr(C)]
@@ -224,7 +229,7 @@ impl Call {
 
     /// Its operation, where it has one.
     pub fn op(&self) -> Option<Op> {
-        Op::ALL.get(usize::from(self.op)).map(|(op, _)| *op)
+        Op::named(self.op).map(|(op, _)| op)
     }
 
     /// The type of its elements.
@@ -251,10 +256,24 @@ impl Call {
 }
 
 impl fmt::Display for Call {
+    /// What its kind has, in words: `bcast, i32, root 2, count 5`.
     fn fmt(&self, f: &mut fmt::Formatter<'_>) -> fmt::Result {
         let (_, kind) = Kind::ALL[self.kind as usize];
         let (_, ty) = Type::ALL[self.ty as usize];
-        let op = Op::ALL.get(usize::from(self.op)).map_or("no operation", |(_, word)| word);
-        write!(f, "{kind}, {op}, {ty}, root {}, count {}", self.root, self.count)
+        f.write_str(kind)?;
+        if self.kind == Kind::Barrier {
+            return Ok(());
+        }
+        if let Some((_, op)) = Op::named(self.op) {
+            write!(f, ", {op}")?;
+        }
+        write!(f, ", {ty}")?;
+        if matches!(self.kind, Kind::Bcast | Kind::Gather | Kind::Scatter | Kind::Reduce) {
+            write!(f, ", root {}", self.root)?;
+        }
+        if self.kind == Kind::Allgatherv {
+            return Ok(());
+        }
+        write!(f, ", count {}", self.count)
     }
 }

@@ -150,7 +150,7 @@ fn sentences_and_numbers() {
     let other = Mismatch { place: 3, first: 1, persistent: true, call: Call::bcast(2, Type::I32, 5) };
     assert_eq!(
         Refusal::Mismatch(other).to_string(),
-        "at place 3 rank 1 has another collective: persistent bcast, no operation, i32, root 2, count 5"
+        "at place 3 rank 1 has another collective: persistent bcast, i32, root 2, count 5"
     );
     let short = Refusal::BadLength { want: 8, got: 3 };
     assert_eq!((short.number(), short.to_string().as_str()), (4, "8 bytes are due, not 3"));
@@ -211,7 +211,7 @@ fn words_of_a_mismatch_are_those_of_job_texts() {
     let given = Call::allreduce(Op::MinLoc, Type::Pair, 1);
     let _given = engine.init(1, 0, given).unwrap();
     let why = engine.init(0, 0, SUM()).unwrap_err();
-    assert!(why.to_string().contains("persistent allreduce, minloc, 2int, root 0, count 1"), "{why}");
+    assert!(why.to_string().contains("persistent allreduce, minloc, 2int, count 1"), "{why}");
 }
 
 #[test]

@@ -25,22 +25,22 @@ kind_number Scan = 9
 kind_number Exscan = 10
 kind_number Allgatherv = 11
 
--- WZ_MAX and so on, WZ_NO_OPERATION for none
+-- WZ_NO_OPERATION for none, WZ_MAX and so on
 abbrev pub operation_number : Option Op → ℕ
-operation_number None = 255
-operation_number (Some Max) = 0
-operation_number (Some Min) = 1
-operation_number (Some Sum) = 2
-operation_number (Some Prod) = 3
-operation_number (Some Land) = 4
-operation_number (Some Lor) = 5
-operation_number (Some Lxor) = 6
-operation_number (Some Band) = 7
-operation_number (Some Bor) = 8
-operation_number (Some Bxor) = 9
-operation_number (Some LastNz) = 10
-operation_number (Some MaxLoc) = 11
-operation_number (Some MinLoc) = 12
+operation_number None = 0
+operation_number (Some Max) = 1
+operation_number (Some Min) = 2
+operation_number (Some Sum) = 3
+operation_number (Some Prod) = 4
+operation_number (Some Land) = 5
+operation_number (Some Lor) = 6
+operation_number (Some Lxor) = 7
+operation_number (Some Band) = 8
+operation_number (Some Bor) = 9
+operation_number (Some Bxor) = 10
+operation_number (Some LastNz) = 11
+operation_number (Some MaxLoc) = 12
+operation_number (Some MinLoc) = 13
 
 -- WZ_INT8 and so on
 abbrev pub datatype_number : Datatype → ℕ

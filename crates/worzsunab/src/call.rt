@@ -10,7 +10,7 @@ use coll_kinds::{Datatype, Kind, MAX_RANKS, Mode, Op, Signature};
 #[derive(Clone, Copy)]
 pub struct Call {
     pub kind: u8,
-    /// 255 for a collective without an operation.
+    /// 0 for a collective without an operation.
     pub op: u8,
     pub ty: u8,
     pub root: u8,
@@ -115,25 +115,25 @@ fn kind_number(kind: Kind) -> u8
     }
 }
 
-/// No operation has the number 255; none for a number that names nothing.
+/// No operation has the number 0; none for a number that names nothing.
 fn operation_of(number: u8) -> Option<Option<Op>>
     ensures { IfSome result (λ op. operation_number op ≡ number) }
 {
     match number {
-        0 => Some(Some(Op::Max)),
-        1 => Some(Some(Op::Min)),
-        2 => Some(Some(Op::Sum)),
-        3 => Some(Some(Op::Prod)),
-        4 => Some(Some(Op::Land)),
-        5 => Some(Some(Op::Lor)),
-        6 => Some(Some(Op::Lxor)),
-        7 => Some(Some(Op::Band)),
-        8 => Some(Some(Op::Bor)),
-        9 => Some(Some(Op::Bxor)),
-        10 => Some(Some(Op::LastNz)),
-        11 => Some(Some(Op::MaxLoc)),
-        12 => Some(Some(Op::MinLoc)),
-        255 => Some(None),
+        0 => Some(None),
+        1 => Some(Some(Op::Max)),
+        2 => Some(Some(Op::Min)),
+        3 => Some(Some(Op::Sum)),
+        4 => Some(Some(Op::Prod)),
+        5 => Some(Some(Op::Land)),
+        6 => Some(Some(Op::Lor)),
+        7 => Some(Some(Op::Lxor)),
+        8 => Some(Some(Op::Band)),
+        9 => Some(Some(Op::Bor)),
+        10 => Some(Some(Op::Bxor)),
+        11 => Some(Some(Op::LastNz)),
+        12 => Some(Some(Op::MaxLoc)),
+        13 => Some(Some(Op::MinLoc)),
         _ => None,
     }
 }
@@ -142,20 +142,20 @@ fn operation_number(op: Option<Op>) -> u8
     ensures { result ≡ operation_number op }
 {
     match op {
-        None => 255,
-        Some(Op::Max) => 0,
-        Some(Op::Min) => 1,
-        Some(Op::Sum) => 2,
-        Some(Op::Prod) => 3,
-        Some(Op::Land) => 4,
-        Some(Op::Lor) => 5,
-        Some(Op::Lxor) => 6,
-        Some(Op::Band) => 7,
-        Some(Op::Bor) => 8,
-        Some(Op::Bxor) => 9,
-        Some(Op::LastNz) => 10,
-        Some(Op::MaxLoc) => 11,
-        Some(Op::MinLoc) => 12,
+        None => 0,
+        Some(Op::Max) => 1,
+        Some(Op::Min) => 2,
+        Some(Op::Sum) => 3,
+        Some(Op::Prod) => 4,
+        Some(Op::Land) => 5,
+        Some(Op::Lor) => 6,
+        Some(Op::Lxor) => 7,
+        Some(Op::Band) => 8,
+        Some(Op::Bor) => 9,
+        Some(Op::Bxor) => 10,
+        Some(Op::LastNz) => 11,
+        Some(Op::MaxLoc) => 12,
+        Some(Op::MinLoc) => 13,
     }
 }
 

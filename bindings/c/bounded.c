@@ -1,0 +1,154 @@
+/* A post or a test does its own part and a fixed number of steps, also while other ranks' long rows are combined: linked with
+   -Wl,--wrap=wz_run_work -Wl,--wrap=wz_step -Wl,--wrap=wz_settle, it counts what each call makes.
+   bounded RANKS [times]: prints the longest microseconds of a post and of a test too. */
+#include <stdio.h>
+#include <stdlib.h>
+#include <time.h>
+
+#include "worzsunab_threads.h"
+
+enum { LONG = 65536, OVERLAPPING = 4, ROUNDS = 6, MOST = 8 };
+
+static wz_shared shared;
+static int ranks = 8;
+
+/* What this thread's call has made. */
+static __thread uint32_t combinations, steps;
+static __thread bool unbounded;
+
+int32_t __real_wz_run_work(wz_work *work);
+int32_t __wrap_wz_run_work(wz_work *work);
+int32_t __real_wz_step(wz_engine *engine, uint32_t budget, uint32_t *actions);
+int32_t __wrap_wz_step(wz_engine *engine, uint32_t budget, uint32_t *actions);
+int32_t __real_wz_settle(wz_engine *engine);
+int32_t __wrap_wz_settle(wz_engine *engine);
+
+int32_t __wrap_wz_run_work(wz_work *work) {
+    combinations++;
+    return __real_wz_run_work(work);
+}
+
+int32_t __wrap_wz_step(wz_engine *engine, uint32_t budget, uint32_t *actions) {
+    int32_t code = __real_wz_step(engine, budget, actions);
+    steps += *actions;
+    return code;
+}
+
+int32_t __wrap_wz_settle(wz_engine *engine) {
+    unbounded = true;
+    return __real_wz_settle(engine);
+}
+
+#define HOLDS(fact)                                                                    \
+    do {                                                                               \
+        if (!(fact)) {                                                                 \
+            fprintf(stderr, "%s:%d: not so: %s\n", __FILE__, __LINE__, #fact);         \
+            abort();                                                                   \
+        }                                                                              \
+    } while (0)
+
+#define DONE(call) HOLDS((call) == WZ_DONE)
+
+static double now(void) {
+    struct timespec t;
+    clock_gettime(CLOCK_MONOTONIC, &t);
+    return (double)t.tv_sec * 1e6 + (double)t.tv_nsec / 1e3;
+}
+
+static double begun, longest_post, longest_test; /* of rank 0 */
+
+static void begins(void) {
+    combinations = steps = 0;
+    unbounded = false;
+    begun = now();
+}
+
+/* The call that began makes at most one combination, or WZ_STEPS actions. */
+static void ends(double *longest) {
+    double time = now() - begun;
+    HOLDS(combinations <= 1 && steps <= WZ_STEPS && !unbounded);
+    if (time > *longest) *longest = time;
+}
+
+/* Rank 0 posts and tests short sums of its own while the others combine long rows, of which the last to post would have made all. */
+static void short_sums(void) {
+    for (int turn = 0; turn < 200; turn++) {
+        wz_request request;
+        int32_t one = 1, sum = 0;
+        begins();
+        DONE(wz_iallreduce(&shared, 0, 2, &one, &sum, 1, WZ_INT32, WZ_SUM, &request));
+        ends(&longest_post);
+        for (int32_t code = WZ_PENDING; code == WZ_PENDING;) {
+            begins();
+            code = wz_try(&shared, 0, &request);
+            ends(&longest_test);
+            HOLDS(code == WZ_DONE || code == WZ_PENDING);
+        }
+        HOLDS(sum == 1);
+    }
+}
+
+static void long_sums(uint8_t me) {
+    static int32_t rows[MOST][OVERLAPPING][LONG];
+    wz_request requests[OVERLAPPING];
+    for (int i = 0; i < OVERLAPPING; i++) {
+        for (int at = 0; at < LONG; at++) rows[me][i][at] = me + i + at;
+        combinations = steps = 0;
+        DONE(wz_iallreduce(&shared, me, 1, rows[me][i], rows[me][i], LONG, WZ_INT32, WZ_SUM, &requests[i]));
+        HOLDS(combinations <= 1 && steps <= WZ_STEPS && !unbounded);
+    }
+    DONE(wz_wait_all(&shared, me, OVERLAPPING, requests));
+    int32_t sum = 0, others = ranks - 1;
+    for (int r = 1; r < ranks; r++) sum += r;
+    for (int i = 0; i < OVERLAPPING; i++)
+        for (int at = 0; at < LONG; at++) HOLDS(rows[me][i][at] == sum + others * (i + at));
+}
+
+/* All ranks' tests alone make all progress. */
+static void polled(uint8_t me) {
+    static int32_t rows[MOST][LONG];
+    int32_t code = WZ_PENDING;
+    wz_request request;
+    for (int at = 0; at < LONG; at++) rows[me][at] = at;
+    DONE(wz_iallreduce(&shared, me, 0, rows[me], rows[me], LONG, WZ_INT32, WZ_SUM, &request));
+    while (code == WZ_PENDING) {
+        combinations = steps = 0;
+        code = wz_try(&shared, me, &request);
+        HOLDS(combinations <= 1 && steps <= WZ_STEPS && !unbounded);
+    }
+    DONE(code);
+    for (int at = 0; at < LONG; at++) HOLDS(rows[me][at] == ranks * at);
+}
+
+static void *rank(void *number) {
+    uint8_t me = (uint8_t)(size_t)number;
+    for (int round = 0; round < ROUNDS; round++) {
+        if (me == 0) short_sums();
+        else long_sums(me);
+    }
+    polled(me);
+    wz_shared_leave(&shared, me);
+    return NULL;
+}
+
+int main(int argc, char **argv) {
+    pthread_t threads[MOST];
+    uint8_t members[2 * MOST], sizes[3];
+    if (argc > 1) ranks = atoi(argv[1]);
+    HOLDS(ranks >= 2 && ranks <= MOST);
+    /* communicator 0 has all, 1 all but rank 0, 2 rank 0 alone */
+    for (int i = 0; i < ranks; i++) members[i] = (uint8_t)i;
+    for (int i = 1; i < ranks; i++) members[ranks + i - 1] = (uint8_t)i;
+    members[2 * ranks - 1] = 0;
+    sizes[0] = (uint8_t)ranks;
+    sizes[1] = (uint8_t)(ranks - 1);
+    sizes[2] = 1;
+    wz_limits limits = wz_greatest_limits((uint32_t)ranks);
+    DONE(wz_shared_open(&shared, &limits, sizes, 3, members, 2 * (size_t)ranks));
+    for (size_t i = 0; i < (size_t)ranks; i++) pthread_create(&threads[i], NULL, rank, (void *)i);
+    for (int i = 0; i < ranks; i++) pthread_join(threads[i], NULL);
+    DONE(wz_shared_close(&shared));
+    if (argc > 2) printf("longest post %.0f us, longest test %.0f us\n", longest_post, longest_test);
+    puts("bounded: all as it should be");
+    return 0;
+}
