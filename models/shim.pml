@@ -1,0 +1,465 @@
+/* How threads share one engine under include/worzsunab_threads.h: records, the lock, sleeping, and who makes progress. Run by shim.py; README.md
+ * says what is checked and what isn't.
+ *
+ * The words that threads read and write without the lock (stage, piece, sleeps, held) change in steps of their own, in one order for all. What is
+ * done to the engine under one hold of the lock is one step for each record that is served, and one for the progress that follows. How often a
+ * thread looks before it sleeps, and how often one that leads looks again, are free choices.
+ *
+ * Sizes:   RANKS, COLLECTIVES, PIECES (combinations of a collective)
+ * Forms:   LONG (combinations are computed with the lock free), CHAINED (a combination is ready once the one before it is there),
+ *          FAIR (for liveness)
+ * Faults:  NOT_WOKEN          who gives the lock up wakes none of those that ask
+ *          LOOKS_FIRST        who is about to sleep looks at its record before it says so
+ *          LOCK_UNSEEN        and doesn't look whether the lock is free
+ *          NOT_HANDED_ON      work is left without calling one who waits
+ *          ANSWERED_WORKER    one whose wait was answered while it computes counts as one who goes on
+ *          UNJUDGED_RETURN    who only returns a piece doesn't look for a stall
+ *          EARLY_STALL        a stall is told though work is left
+ *          STALL_WHILE_OUT    a stall is told though a combination is out
+ *          TAKES_MANY         who posts or tests goes on after its piece
+ */
+#ifndef RANKS
+#define RANKS 2
+#endif
+#ifndef COLLECTIVES
+#define COLLECTIVES 1
+#endif
+#ifndef PIECES
+#define PIECES 2
+#endif
+#define BIT(n) (1 << (n))
+
+hidden byte i, j;       /* scratch of one step */
+
+/* ---------------------------------------------------------------- the engine */
+byte members[COLLECTIVES];  /* which ranks */
+byte posted[COLLECTIVES];   /* which of them have posted */
+byte ready[COLLECTIVES];    /* combinations that can be made */
+byte missing[COLLECTIVES];  /* combinations that aren't there yet */
+#define IS_DONE(c) (posted[c] == members[c] && missing[c] == 0)
+
+/* ---------------------------------------------------------------- records */
+#define ANSWERED 0
+#define ASKED 1
+#define TESTED 2
+#define WAITING 3
+#define CALLED 4
+byte stage[RANKS];
+#define NONE 0
+#define OUT 1
+#define BACK 2
+byte piece[RANKS];
+bit sleeps[RANKS];
+#define A_POST 0
+#define A_TEST 1
+#define A_WAIT 2
+#define A_LEAVE 3
+byte kind[RANKS], about[RANKS], taken[RANKS];
+#define DONE 0
+#define PENDING 1
+#define STALLED 2
+byte reply[RANKS];
+byte pieces[RANKS];     /* that this call has computed */
+
+bit held;
+/* under the lock */
+byte waiting, gone, outside;
+bit stalled, unsettled;
+
+#define IS_OVER(r) (stage[r] == ANSWERED && piece[r] == NONE)
+#ifdef NOT_WOKEN
+#define IS_DUE(r) (stage[r] == ANSWERED || stage[r] == CALLED || piece[r] == BACK)
+#else
+#define IS_DUE(r) (stage[r] != WAITING || piece[r] == BACK)
+#endif
+#define NEEDS_LOCK(r) (stage[r] == ASKED || stage[r] == CALLED || piece[r] == BACK)
+
+/* ---------------------------------------------------------------- what the holder of the lock does */
+inline answer(r, what) {
+    if
+    :: stage[r] == WAITING || stage[r] == CALLED -> waiting--
+    :: else
+    fi;
+    reply[r] = what; stage[r] = ANSWERED
+}
+
+inline make_ready(c) {
+#ifdef CHAINED
+    ready[c] = (missing[c] > 0 -> 1 : 0)
+#else
+    ready[c] = missing[c]
+#endif
+}
+
+inline carry_out(r) {
+    if
+    :: kind[r] == A_POST ->
+        posted[about[r]] = posted[about[r]] | BIT(r);
+        if
+        :: posted[about[r]] == members[about[r]] -> make_ready(about[r])
+        :: else
+        fi;
+        stalled = 0; unsettled = 1; answer(r, DONE)
+    :: kind[r] == A_LEAVE -> gone++; answer(r, DONE)
+    :: (kind[r] == A_TEST || kind[r] == A_WAIT) && IS_DONE(about[r]) -> answer(r, DONE)
+    :: kind[r] == A_TEST && !IS_DONE(about[r]) && unsettled -> stage[r] = TESTED
+    :: kind[r] == A_TEST && !IS_DONE(about[r]) && !unsettled -> answer(r, PENDING)
+    :: kind[r] == A_WAIT && !IS_DONE(about[r]) ->
+        waiting++; stage[r] = WAITING;
+        if
+        :: stalled && !unsettled -> answer(r, STALLED)
+        :: else
+        fi
+    fi
+}
+
+inline take_back(r) {
+    missing[taken[r]]--;
+#ifdef CHAINED
+    make_ready(taken[r]);
+#endif
+    outside--; unsettled = 1; piece[r] = NONE
+}
+
+inline serve(r) {
+    if
+    :: piece[r] == BACK -> take_back(r)
+    :: else
+    fi;
+    if
+    :: stage[r] == ASKED -> carry_out(r)
+    :: else
+    fi
+}
+
+inline answer_waits() {
+    i = 0;
+    do
+    :: i < RANKS ->
+        if
+        :: stage[i] >= TESTED && IS_DONE(about[i]) -> answer(i, DONE)
+        :: stage[i] == TESTED && !IS_DONE(about[i]) -> answer(i, PENDING)
+        :: else
+        fi;
+        i++
+    :: else -> break
+    od
+}
+
+/* j becomes the first collective with a combination that can be made, or COLLECTIVES */
+inline find_work() {
+    j = 0;
+    do
+    :: j < COLLECTIVES && ready[j] == 0 -> j++
+    :: else -> break
+    od
+}
+
+inline progress(r) {
+    find_work();
+    if
+    :: j == COLLECTIVES -> unsettled = 0
+#ifdef LONG
+    :: j < COLLECTIVES && kind[r] != A_WAIT && waiting > 0      /* it is left to those who wait */
+    :: j < COLLECTIVES && !(kind[r] != A_WAIT && waiting > 0) ->
+        ready[j] = ready[j] - 1; taken[r] = j; outside++; piece[r] = OUT
+#else
+    :: j < COLLECTIVES ->                                       /* as many actions as one call makes */
+        ready[j] = ready[j] - 1; missing[j] = missing[j] - 1;
+#ifdef CHAINED
+        make_ready(j)
+#endif
+#endif
+    fi;
+    answer_waits()
+}
+
+#ifdef STALL_WHILE_OUT
+#define NOTHING_OUT true
+#else
+#define NOTHING_OUT (outside == 0)
+#endif
+#ifdef EARLY_STALL
+#define ALL_SETTLED true
+#else
+#define ALL_SETTLED (!unsettled)
+#endif
+
+/* where each rank waits or has left, and nothing can be done */
+inline judge() {
+    if
+    :: waiting + gone == RANKS && waiting > 0 && NOTHING_OUT && ALL_SETTLED ->
+        stalled = 1; i = 0;
+        do
+        :: i < COLLECTIVES -> assert(ready[i] == 0); i++
+        :: else -> break
+        od;
+        assert(outside == 0);
+        i = 0;
+        do
+        :: i < RANKS ->
+            if
+            :: stage[i] == WAITING || stage[i] == CALLED -> assert(!IS_DONE(about[i])); answer(i, STALLED)
+            :: else
+            fi;
+            i++
+        :: else -> break
+        od
+    :: else
+    fi
+}
+
+#ifdef ANSWERED_WORKER
+#define GOES_ON(r) (piece[r] != NONE)
+#else
+#define GOES_ON(r) (stage[r] == WAITING && piece[r] != NONE)
+#endif
+
+inline hand_on() {
+#ifndef NOT_HANDED_ON
+    if
+    :: unsettled && waiting > 0 ->
+        i = 0; j = RANKS;
+        do
+        :: i < RANKS ->
+            if
+            :: stage[i] == CALLED || GOES_ON(i) -> j = RANKS; break
+            :: stage[i] == WAITING && piece[i] == NONE && j == RANKS -> j = i; i++
+            :: else -> i++
+            fi
+        :: else -> break
+        od;
+        if
+        :: j < RANKS -> stage[j] = CALLED
+        :: else
+        fi
+    :: else
+    fi
+#else
+    skip
+#endif
+}
+
+/* ---------------------------------------------------------------- programs */
+#define END 0
+#define POST 1
+#define WAIT 2
+#define TEST 3
+#define POLL 4          /* tests until it is done */
+#define LINES 6
+byte command[RANKS * LINES], argument[RANKS * LINES], length[RANKS];
+byte ending[RANKS];     /* what its last wait told */
+byte over;              /* ranks whose programs have ended */
+#define EVERYONE ((1 << RANKS) - 1)
+inline line(r, what, on) { command[(r) * LINES + length[r]] = what; argument[(r) * LINES + length[r]] = on; length[r] = length[r] + 1 }
+#define ALL(what, on) j = 0; do :: j < RANKS -> line(j, what, on); j++ :: else -> break od
+byte must_stall;        /* ranks to which a stall must be told */
+
+inline program() {
+    i = 0;
+    do
+    :: i < COLLECTIVES -> members[i] = EVERYONE; missing[i] = PIECES; i++
+    :: else -> break
+    od;
+#if defined(ONE)
+    ALL(POST, 0); ALL(WAIT, 0)
+#elif defined(TWO)
+    ALL(POST, 0); ALL(POST, 1); ALL(WAIT, 1); ALL(WAIT, 0)
+#elif defined(POLLS)
+    ALL(POST, 0); ALL(POLL, 0)
+#elif defined(SOME_POLL)    /* the last rank tests, the others wait */
+    ALL(POST, 0); line(0, WAIT, 0); line(RANKS - 1, POLL, 0);
+#if RANKS == 3
+    line(1, WAIT, 0)
+#endif
+#elif defined(LEAVER)       /* the last to post may leave at once: those who wait have to do what it has made ready */
+    ALL(POST, 0); line(0, WAIT, 0);
+#if RANKS == 3
+    line(1, WAIT, 0)
+#endif
+#elif defined(TESTER)       /* rank 0 posts and tests a collective of its own beside those of the others */
+    members[0] = EVERYONE & ~1; members[1] = 1;
+    line(0, POST, 1); line(0, POLL, 1);
+    line(1, POST, 0); line(1, WAIT, 0);
+#if RANKS == 3
+    line(2, POST, 0); line(2, WAIT, 0)
+#endif
+#elif defined(CROSSED)      /* each waits for a collective that another posts later */
+    line(0, POST, 0); line(0, WAIT, 0); line(0, POST, 1);
+    line(1, POST, 1); line(1, WAIT, 1); line(1, POST, 0);
+#if RANKS == 3
+    line(2, POST, 0); line(2, POST, 1); line(2, WAIT, 1); must_stall = must_stall | 4;
+#endif
+    must_stall = must_stall | 3
+#elif defined(ABSENTEE)     /* rank 0 leaves without a post, after a collective of the others is to be combined */
+    members[1] = EVERYONE & ~1;
+    line(1, POST, 1); line(1, WAIT, 1); line(1, POST, 0); line(1, WAIT, 0);
+#if RANKS == 3
+    line(2, POST, 1); line(2, POST, 0); line(2, WAIT, 0); line(2, WAIT, 1); must_stall = must_stall | 4;
+#endif
+    must_stall = must_stall | 2
+#endif
+}
+
+#if RANKS == 3
+#define SOME_ASK (stage[0] == ASKED || stage[1] == ASKED || stage[2] == ASKED || piece[0] == BACK || piece[1] == BACK || piece[2] == BACK)
+#else
+#define SOME_ASK (stage[0] == ASKED || stage[1] == ASKED || piece[0] == BACK || piece[1] == BACK)
+#endif
+
+/* ---------------------------------------------------------------- a rank's thread */
+proctype Rank(byte me) {
+    byte at, what, next;
+    bit was;
+Next: true;
+    d_step {
+        what = command[me * LINES + at]; about[me] = argument[me * LINES + at]; at++; pieces[me] = 0;
+        kind[me] = (what == POST -> A_POST : (what == WAIT -> A_WAIT : (what == END -> A_LEAVE : A_TEST)));
+        stage[me] = ASKED
+    };
+
+Looks:
+    if
+    :: IS_OVER(me) -> goto Answered
+    :: atomic { !IS_OVER(me) && NEEDS_LOCK(me) && !held -> held = 1 }; goto Leads
+    :: !IS_OVER(me) && !(NEEDS_LOCK(me) && !held)      /* it has looked often enough */
+    fi;
+
+#ifdef LOOKS_FIRST
+    if
+    :: IS_OVER(me) -> goto Looks
+    :: else
+    fi;
+    if
+    :: NEEDS_LOCK(me) && !held -> goto Looks
+    :: else
+    fi;
+    sleeps[me] = 1;
+#else
+    sleeps[me] = 1;
+    if
+    :: stage[me] == ANSWERED ->
+        if
+        :: piece[me] == NONE -> sleeps[me] = 0; goto Looks
+        :: else
+        fi
+    :: else
+    fi;
+#ifndef LOCK_UNSEEN
+    if
+    :: stage[me] == ASKED || stage[me] == CALLED -> was = 1
+    :: else -> was = (piece[me] == BACK)
+    fi;
+    if
+    :: was && !held -> was = 0; sleeps[me] = 0; goto Looks
+    :: else -> was = 0
+    fi;
+#endif
+#endif
+    !sleeps[me];
+    goto Looks;
+
+Leads:
+    if
+    :: stage[me] == ANSWERED ->         /* only a piece is left to return */
+        next = 0;
+        do
+        :: next < RANKS -> d_step { serve(next) }; next++
+        :: else -> next = 0; break
+        od;
+        true;
+        d_step { answer_waits() };
+#ifndef UNJUDGED_RETURN
+        d_step { judge() };
+#endif
+#ifdef TAKES_MANY
+        d_step {
+            if
+            :: unsettled && stage[me] == ANSWERED -> progress(me)
+            :: else
+            fi
+        };
+#endif
+        goto Unlocks
+    :: stage[me] == CALLED -> stage[me] = WAITING
+    :: else
+    fi;
+Turn:
+    do
+    :: next < RANKS -> d_step { serve(next) }; next++
+    :: else -> next = 0; break
+    od;
+    true;
+    d_step {
+        if
+        :: unsettled -> progress(me)
+        :: else
+        fi
+    };
+    d_step { judge() };
+    if
+    :: stage[me] == ANSWERED || piece[me] == OUT
+    :: !(stage[me] == ANSWERED || piece[me] == OUT) && unsettled -> goto Turn
+    :: !(stage[me] == ANSWERED || piece[me] == OUT) && !unsettled       /* it has looked often enough */
+    :: !(stage[me] == ANSWERED || piece[me] == OUT) && !unsettled && SOME_ASK -> goto Turn
+    fi;
+
+Unlocks: true;
+    d_step { hand_on() };
+    held = 0;
+    do
+    :: next < RANKS ->
+        if
+        :: sleeps[next] ->
+            if
+            :: IS_DUE(next) -> sleeps[next] = 0
+            :: else
+            fi
+        :: else
+        fi;
+        next++
+    :: else -> next = 0; break
+    od;
+    if
+    :: piece[me] == OUT ->              /* it is computed with the lock free */
+        pieces[me] = pieces[me] + 1;
+        assert(kind[me] == A_WAIT || pieces[me] <= 1);
+        piece[me] = BACK
+    :: else
+    fi;
+    goto Looks;
+
+Answered:
+    if
+    :: what == END -> d_step { over = over | BIT(me) }; goto Ended
+    :: what == WAIT && reply[me] == STALLED -> d_step { ending[me] = STALLED; at = length[me] }; goto Next
+    :: what == POLL && reply[me] == PENDING -> at--; goto Next
+    :: else -> assert(reply[me] != STALLED); goto Next
+    fi;
+Ended:
+    skip
+}
+
+init {
+    d_step { program() };
+    atomic {
+        i = 0;
+        do
+        :: i < RANKS -> run Rank(i); i++
+        :: else -> break
+        od
+    };
+    over == EVERYONE;
+    (_nr_pr == 1);
+    d_step {
+        i = 0;
+        do
+        :: i < RANKS -> assert((ending[i] == STALLED) == ((must_stall & BIT(i)) != 0)); i++
+        :: else -> break
+        od
+    }
+}
+
+#ifdef FAIR
+ltl ends { <> (over == EVERYONE) }
+#endif

@@ -1,0 +1,121 @@
+#!/usr/bin/env python3
+"""Checks the model of the C shim's protocol (shim.pml) with Spin, in each configuration, and says which came out otherwise than it must.
+
+    models/shim.py [WORD ..]    (only configurations whose names have one of the words)
+
+It needs `spin` 6.5 and `gcc` (Debian: apt-get install spin gcc). --jobs N searches N at a time.
+"""
+
+import argparse
+import concurrent.futures
+import os
+import re
+import shutil
+import subprocess
+import sys
+import tempfile
+import time
+
+HERE = os.path.dirname(os.path.abspath(__file__))
+MEBIBYTES = 3000
+SECONDS = 600
+THREE, TWO = "RANKS=3", "COLLECTIVES=2"
+# whether it must hold, whether every run must end (else: no run ends but as it must), the name, the program and its flags
+CONFIGURATIONS = [
+    (True, False, "one, 2 ranks", "ONE"),
+    (True, False, "one, 2 ranks, long", "ONE LONG"),
+    (True, False, "one, 2 ranks, long, chained", "ONE LONG CHAINED"),
+    (True, False, "one, 3 ranks", f"ONE {THREE}"),
+    (True, False, "one, 3 ranks, long", f"ONE {THREE} LONG"),
+    (True, False, "two, 2 ranks", f"TWO {TWO}"),
+    (True, False, "two, 2 ranks, long", f"TWO {TWO} LONG"),
+    (True, False, "polls, 2 ranks, long", "POLLS LONG"),
+    (True, False, "some poll, 3 ranks, long", f"SOME_POLL {THREE} LONG"),
+    (True, False, "leaver, 2 ranks", "LEAVER"),
+    (True, False, "leaver, 2 ranks, long", "LEAVER LONG"),
+    (True, False, "leaver, 3 ranks", f"LEAVER {THREE}"),
+    (True, False, "leaver, 3 ranks, long", f"LEAVER {THREE} LONG"),
+    (True, False, "tester, 3 ranks, long", f"TESTER {THREE} {TWO} LONG"),
+    (True, False, "crossed, 2 ranks", f"CROSSED {TWO}"),
+    (True, False, "crossed, 2 ranks, long", f"CROSSED {TWO} LONG"),
+    (True, False, "crossed, 3 ranks", f"CROSSED {THREE} {TWO}"),
+    (True, False, "absentee, 2 ranks, long", f"ABSENTEE {TWO} LONG"),
+    (True, False, "absentee, 3 ranks", f"ABSENTEE {THREE} {TWO}"),
+    (True, False, "absentee, 3 ranks, long", f"ABSENTEE {THREE} {TWO} LONG PIECES=1"),
+    (True, True, "one ends, 2 ranks", "ONE"),
+    (True, True, "one ends, 2 ranks, long", "ONE LONG"),
+    (True, True, "leaver ends, 2 ranks, long", "LEAVER LONG"),
+    (False, False, "not woken", "ONE NOT_WOKEN"),
+    (False, False, "looks first", "ONE LOOKS_FIRST"),
+    (False, False, "lock unseen", "ONE LOCK_UNSEEN"),
+    (False, False, "not handed on", "LEAVER LONG NOT_HANDED_ON"),
+    (False, False, "not handed on, short", "LEAVER NOT_HANDED_ON"),
+    (False, False, "an answered worker counts", f"ABSENTEE {THREE} {TWO} LONG PIECES=1 ANSWERED_WORKER"),
+    (False, False, "return without a judgement", f"ABSENTEE {THREE} {TWO} LONG PIECES=1 UNJUDGED_RETURN"),
+    (False, False, "early stall", "ONE EARLY_STALL"),
+    (False, False, "stall while a combination is out", "ONE LONG STALL_WHILE_OUT"),
+    (False, False, "a post takes many", "POLLS LONG TAKES_MANY"),
+]
+
+
+def run(words, log):
+    """Runs a command in the folder of its log, and says how it ended."""
+    with open(log, "w") as out:
+        return subprocess.run(words, stdout=out, stderr=subprocess.STDOUT, cwd=os.path.dirname(log)).returncode
+
+
+def searched(ends, flags, folder):
+    """Searches one configuration in that folder: what Spin found, how many states it saw, and in how many seconds."""
+    shutil.copy(os.path.join(HERE, "shim.pml"), folder)
+    log = os.path.join(folder, "log")
+    defines = [f"-D{flag}" for flag in flags.split()] + (["-DFAIR"] if ends else [])
+    if run(["spin", *defines, "-a", "shim.pml"], log) != 0:
+        return open(log).read(), "", 0.0
+    made = ["-DNFAIR=3"] if ends else ["-DSAFETY"]
+    if run(["gcc", "-O0", "-w", *made, "-DCOLLAPSE", f"-DMEMLIM={MEBIBYTES}", "-o", "pan", "pan.c"], log) != 0:
+        return open(log).read(), "", 0.0
+    began = time.monotonic()
+    ended = run(["timeout", str(SECONDS), "./pan", *(["-a", "-f"] if ends else []), "-m1000000", "-w22"], log)
+    seconds = time.monotonic() - began
+    text = open(log).read()
+    states = re.search(r"(\d\S*) states, stored", text)
+    found = re.search(r"^pan:1: (.*?)(?: \(at depth.*)?$", text, re.M)
+    if ended == 124 or re.search("max search depth too small|reached -DMEMLIM|out of memory", text):
+        what = "not finished"
+    elif "errors: 0" in text:
+        what = "holds"
+    else:
+        what = found.group(1) if found else "no result"
+    return what, states.group(1) if states else "", seconds
+
+
+def judged(configuration):
+    """One line on a configuration, and whether it came out as it must."""
+    must_hold, ends, name, flags = configuration
+    folder = tempfile.mkdtemp(prefix="shim")
+    try:
+        what, states, seconds = searched(ends, flags, folder)
+    finally:
+        shutil.rmtree(folder)
+    is_fault = re.search("invalid end state|assertion violated|acceptance cycle", what) is not None
+    right = what == "holds" if must_hold else is_fault
+    return f"{'ok ' if right else 'BAD'} {name:36} {what[:60]:60} {states:>12} {seconds:7.1f} s", right
+
+
+def main():
+    words = argparse.ArgumentParser(description=__doc__, formatter_class=argparse.RawDescriptionHelpFormatter)
+    words.add_argument("names", nargs="*")
+    words.add_argument("--jobs", type=int, default=1)
+    asked = words.parse_args()
+    wanted = [c for c in CONFIGURATIONS if not asked.names or any(word in c[2] for word in asked.names)]
+    right = True
+    with concurrent.futures.ThreadPoolExecutor(asked.jobs) as pool:
+        for line, is_right in pool.map(judged, wanted):
+            print(line, flush=True)
+            right = right and is_right
+    print("all as it must be" if right else "some came out otherwise")
+    sys.exit(0 if right else 1)
+
+
+if __name__ == "__main__":
+    main()
