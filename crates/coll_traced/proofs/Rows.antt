@@ -1,6 +1,6 @@
 -- An engine without a communicator stays as it was opened.
 use Rattle.std.proofs.Common.{◌≡◌, ◌<◌, ◌+◌, ◌++◌, ◌⊎◌, ℕ, Bool, true, false, List, [], ◌∷◌, length, Option, Some, None, inl, inr, refl, sym, ap, subst, ◌∙◌, arith}
-use Rattle.std.specs.Prelude.{if◌then◌else◌}
+use Rattle.std.specs.Prelude.{◌==◌, if◌then◌else◌}
 use Rattle.coll_kinds.specs.declared.refusal.Refusal.{Refusal}
 use Rattle.coll_kinds.specs.declared.refusal.Refusal.TheVariants.{NoMemory, Stale, TraceFull}
 use Rattle.coll_kinds.specs.declared.ticket.Ticket.{Ticket}
@@ -19,12 +19,12 @@ use Rattle.coll_traced.specs.Moments.{IsMoment}
 use Rattle.coll_traced.specs.Rows.{AnswersCanBeWrong, silent}
 use Rattle.coll_traced.specs.Traced.{Denies, IsFull, Traced}
 
-either_none : (b : Bool) → (if b then None {A = Request} else None) ≡ None
-either_none true = refl
-either_none false = refl
+either_same : {X : Type 0} (b : Bool) (x : X) → (if b then x else x) ≡ x
+either_same true x = refl
+either_same false x = refl
 
 found_nothing : (t : Ticket) → found nothing t ≡ None
-found_nothing t = either_none _
+found_nothing t = either_same (nothing.generation t.slot == t.generation) None
 
 no_request : (t : Ticket) (q : Request) → found nothing t ≡ Some q → ⊥
 no_request t q is = let e : None ≡ Some q = sym (found_nothing t) ∙ is in absurd cc
@@ -41,8 +41,8 @@ refused why o is fits = let e : Some why ≡ None = sym is ∙ fits in absurd cc
 no_entry : (e : Entry) (u : State) → Enters silent nothing e u → ⊥
 no_entry (Posted rank t comm place sig bytes) u h = let e : None ≡ Some h.2.member = h.2.member_is in absurd cc
 no_entry (Inited rank t comm place sig) u h = let e : None ≡ Some h.2.member = h.2.member_is in absurd cc
-no_entry (Started rank t start bytes) u p = no_request t p.request p.is
-no_entry (Retired rank t comm place start bytes) u p = no_request t p.request p.is
+no_entry (Started rank t begin bytes) u p = no_request t p.request p.is
+no_entry (Retired rank t comm place begin bytes) u p = no_request t p.request p.is
 no_entry (Freed rank t) u p = refused Stale _ (not_freed rank t) p.accepted
 
 only : (es : List Entry) (s : State) → LegalTrace silent es s → (es ≡ []) × (s ≡ nothing)

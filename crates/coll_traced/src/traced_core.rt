@@ -11,7 +11,7 @@ mod stepping;
 mod testing;
 mod waiting;
 
-ghost use Rattle.std.specs.Prelude.{◌≡◌, [], Some, false, true, is_some, replicate, IfErr, IfOk};
+ghost use Rattle.std.specs.Prelude.{◌≡◌, ◌≤◌, [], Some, false, length, true, is_some, replicate, IfErr, IfOk};
 ghost use Rattle.coll_machine.specs.States.{found};
 ghost use Rattle.coll_machine.specs.Traces.{LegalTrace};
 ghost use Rattle.coll_core.specs.Configs.{idle, setting_by, IsUnopened};
@@ -113,7 +113,8 @@ impl<L: Entries> TracedCore<L> {
         ensures same { self.new ≡ self.old }
         ensures tally { mine.new ≡ mine.old }
         ensures setting { setting self.new.core ≡ L.setting }
-        ensures moment { IsMoment L.setting mine.new self.new.entries (seen self.new.core).state }
+        ensures bound { mine.new ≤ length self.new.entries }
+        ensures moment { IsMoment L.setting mine.old self.new.entries (seen self.new.core).state }
     {
         self.trace.audit(mine);
     }
