@@ -4,8 +4,8 @@ mod held;
 
 ghost use Rattle.std.specs.Prelude.{◌≡◌, IfErr};
 
-use crate::backoff::Turns;
 use crate::locked::{Locked, Successor};
+use crate::patience::Turns;
 use crate::record::PublicationRecord;
 use coll_kinds::Refusal;
 use coll_traced::{Entries, Ranks, TracedCore};
@@ -13,7 +13,8 @@ use crossbeam_utils::CachePadded;
 use crossbeam_utils::sync::EventCount;
 pub(crate) use held::Held;
 use std::alloc::Global;
-use std::sync::atomic::{AtomicBool, AtomicU64, Ordering};
+use std::hint::spin_loop;
+use std::sync::atomic::{AtomicU64, Ordering};
 use std::sync::{Mutex, Wait};
 
 /// How often who gives the lock up takes it again for what was published meanwhile.
@@ -34,8 +35,6 @@ pub(crate) struct Combiner<L: Entries> {
     /// The ranks whose ports were dropped unfinished, as bits, until a combiner notes that they have ended.
     departed: CachePadded<AtomicU64>,
     pub(crate) turns: CachePadded<Turns>,
-    /// Whether the lock was given up with a request ready, for a waiting port that looks to go on with it.
-    beckons: CachePadded<AtomicBool>,
 }
 
 fn zero() -> CachePadded<AtomicU64> {
@@ -59,7 +58,6 @@ impl<L: Entries> Combiner<L> {
             sleepers: zero(),
             departed: zero(),
             turns: CachePadded::new(Turns::new()),
-            beckons: CachePadded::new(AtomicBool::new(false)),
         })
     }
 
@@ -101,29 +99,13 @@ impl<L: Entries> Combiner<L> {
     }
 
     fn await_lock<R: Wait>(&self, rt: &R) -> Held<'_, L> {
-        let mut backoff = self.turns.begin_without();
-        for _ in rt.forever() {
+        for _ in 0..self.turns.without_turns().looks() {
             if let Some(held) = self.try_enter() {
                 return held;
             }
-            if backoff.is_completed() {
-                break;
-            }
-            backoff.snooze();
+            spin_loop();
         }
         Held::new(self.locked.lock(rt))
-    }
-
-    /// Whether a waiting port that looks is to take the lock, and go on with what is ready.
-    pub(crate) fn beckons(&self) -> bool {
-        self.beckons.load(Ordering::SeqCst)
-    }
-
-    /// Says whether one is to. The word is in the caches of all that look, so it is written only where it changes.
-    pub(crate) fn beckon(&self, is_ready: bool) {
-        if self.beckons() != is_ready {
-            self.beckons.store(is_ready, Ordering::SeqCst);
-        }
     }
 
     /// Whether a thread asks for the lock.
@@ -242,7 +224,6 @@ impl<L: Entries> Combiner<L> {
     /// The only way to give the lock up. It takes the lock again, without waiting, for what was published meanwhile, a few times; for
     /// ports that were dropped, of which there are few, each time.
     pub(crate) fn release<'a>(&'a self, mut held: Held<'a, L>) {
-        let returns = held.returns;
         for round in 1..u32::MAX {
             self.let_go(held);
             let is_asked = round < ROUNDS && self.published() > 0;
@@ -253,7 +234,6 @@ impl<L: Entries> Combiner<L> {
                 return;
             };
             held = again;
-            held.returns = returns;
         }
         self.let_go(held);
     }
@@ -263,10 +243,8 @@ impl<L: Entries> Combiner<L> {
         self.combine(&mut held);
         self.tell_stall(&mut held);
         let next = held.locked.successor();
-        match next {
-            Successor::Port(rank) => self.call(&mut held, rank),
-            Successor::Looking if !held.returns => self.beckon(true),
-            _ => {}
+        if let Successor::Port(rank) = next {
+            self.call(&mut held, rank);
         }
         let wake = held.unlock();
         self.wake(wake);

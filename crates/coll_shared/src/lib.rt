@@ -17,7 +17,7 @@
 //! | `locked` | `Locked`, what the lock guards |
 //! | `publishing` | posts and starts, which the combiner makes where the lock isn't free |
 //! | `waiter` | waits: to look at the record, to take the lock, and to park |
-//! | `backoff` | how long a thread looks before it sleeps |
+//! | `patience` | how long a thread looks before it sleeps, and whether it gives turns meanwhile |
 //! | `turn` | what a waiting port, a test and a progress thread do with the lock |
 //! | `plans` | `Plans`, those that a port made last |
 //!
@@ -33,13 +33,13 @@
 //! ```
 #![tactic(auto)]
 
-mod backoff;
 mod closing;
 mod combiner;
 mod engine;
 mod gate;
 mod inspect;
 mod locked;
+mod patience;
 mod plans;
 mod port;
 mod publication;

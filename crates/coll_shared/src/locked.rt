@@ -33,10 +33,8 @@ pub(crate) struct Locked<L: Entries> {
 /// Who goes on with what is ready once the lock is free.
 #[derive(Clone, Copy, Debug, PartialEq, Eq)]
 pub(crate) enum Successor {
-    /// Nobody has to: nothing is ready.
+    /// Nobody has to: nothing is ready, or a waiting port takes the lock by itself.
     NotNeeded,
-    /// A waiting port that neither sleeps nor computes.
-    Looking,
     /// A progress thread that sleeps.
     Worker,
     /// A port that sleeps.
@@ -144,17 +142,14 @@ impl<L: Entries> Locked<L> {
     }
 
     /// The ranks whose waiting ports take the lock by themselves: they neither sleep nor compute.
-    fn looking(&self) -> Ranks {
+    fn spinning(&self) -> Ranks {
         self.traced.waiting().but(self.parked).but(self.away)
     }
 
     /// Who goes on, where the thread that has the lock doesn't.
     pub(crate) fn successor(&self) -> Successor {
-        if !self.traced.is_ready() {
+        if !self.traced.is_ready() || !self.spinning().is_empty() {
             return Successor::NotNeeded;
-        }
-        if !self.looking().is_empty() {
-            return Successor::Looking;
         }
         if self.idle > 0 {
             return Successor::Worker;

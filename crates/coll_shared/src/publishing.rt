@@ -20,7 +20,7 @@ use std::sync::Wait;
 impl<L: Entries> Combiner<L> {
     /// Waits until there is an answer in the record, or serves it as the combiner.
     fn await_made<R: Wait>(&self, rt: &R, record: &PublicationRecord<L>) {
-        if let Some(held) = self.spin(rt, record, &mut self.turns.begin()) {
+        if let Some(held) = self.spin(rt, record, self.turns.patience()) {
             self.release(held);
             record.set_leads(true);
         }

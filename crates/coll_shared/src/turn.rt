@@ -3,21 +3,19 @@
 ghost use Rattle.std.specs.Prelude.{◌≡◌, IfErr};
 ghost use Rattle.coll_traced.specs.Awaiting.{IsHindrance, IsSetback};
 
-use crate::backoff::Backoff;
 use crate::combiner::{Combiner, Held};
 use crate::gate::Gate;
 use crate::locked::{STEPS, Successor};
+use crate::patience::Patience;
 use crate::record::PublicationRecord;
 use coll_core::{Stepped, Work};
 use coll_kinds::Refusal;
 use coll_traced::Entries;
+use std::hint::spin_loop;
 use std::sync::Wait;
 
 /// How many combinations a waiting port computes in a row.
 const CHAIN: u32 = 16;
-
-/// From how many bytes on a combination is long: others that wait may compute the next ones meanwhile.
-const LONG: usize = 4_096;
 
 /// How the turn of a waiting port ended, which has given the lock up.
 #[derive(Drop)]
@@ -46,6 +44,8 @@ enum Next {
 struct Effort {
     steps: u32,
     combinations: u32,
+    /// How often in a row nothing was ready.
+    looks: u32,
 }
 
 impl<L: Entries> Combiner<L> {
@@ -69,17 +69,17 @@ impl<L: Entries> Combiner<L> {
         mut held: Held<'a, L>,
         rank: u8,
         record: &PublicationRecord<L>,
-        backoff: &mut Backoff,
+        patience: Patience,
+        may_park: bool,
     ) -> Result<Turn, Refusal>
         ensures { IfErr result (IsHindrance L.setting) }
     {
         let mut written = None;
         let mut effort = Effort::default();
-        self.beckon(false);
         record.heed();
         for _ in rt.forever() {
             self.combine(&mut held);
-            match self.next(&mut held, rank, record, backoff, &mut effort) {
+            match self.next(&mut held, rank, record, patience, may_park, &mut effort) {
                 Ok(Next::Again) => {}
                 Ok(Next::Compute(work)) => {
                     let (again, piece) = self.compute(rt, gate, held, Some(rank), written, work)?;
@@ -106,7 +106,8 @@ impl<L: Entries> Combiner<L> {
         held: &mut Held<'_, L>,
         rank: u8,
         record: &PublicationRecord<L>,
-        backoff: &mut Backoff,
+        patience: Patience,
+        may_park: bool,
         effort: &mut Effort,
     ) -> Result<Next, Refusal>
         ensures { IfErr result (IsHindrance L.setting) }
@@ -119,7 +120,6 @@ impl<L: Entries> Combiner<L> {
             return Ok(Next::End(Turn::Spin));
         }
         if held.locked.traced.is_ready() {
-            backoff.reset();
             return Ok(match held.locked.step()? {
                 Stepped::Out(work) => effort.compute(work),
                 _ => effort.step(),
@@ -128,18 +128,17 @@ impl<L: Entries> Combiner<L> {
         if held.locked.is_stalled() {
             return Err(Refusal::Stalled);
         }
-        if backoff.is_completed() {
+        if effort.looks < patience.holds() && !self.is_wanted() {
+            let is_stalled = effort.is_doubled() && held.locked.traced.stall_now();
+            if !is_stalled {
+                return Ok(effort.look());
+            }
+        }
+        if may_park {
             held.locked.parked = held.locked.parked.with(rank);
             return Ok(Next::End(Turn::Park));
         }
-        if !backoff.is_spinning()
-            || self.is_wanted()
-            || (backoff.has_doubled() && held.locked.traced.stall_now())
-        {
-            return Ok(Next::End(Turn::Spin));
-        }
-        backoff.snooze();
-        Ok(Next::Again)
+        Ok(Next::End(Turn::Spin))
     }
 
     /// Computes a combination with the lock free, after the gate was told of the one that was written before; and writes its result.
@@ -162,7 +161,6 @@ impl<L: Entries> Combiner<L> {
     {
         let piece = held.locked.next_piece();
         held.locked.set_away(rank, true);
-        held.returns = work.left().len() < LONG;
         self.leave(gate, held, written);
         gate.before(piece);
         let computed = work.run();
@@ -267,13 +265,27 @@ impl Effort {
 
     /// A step was made.
     fn step(&mut self) -> Next {
+        self.looks = 0;
         self.steps = self.steps.saturating_add(1);
         Next::Again
     }
 
     /// A combination is computed.
     fn compute(&mut self, work: Work) -> Next {
+        self.looks = 0;
         self.combinations = self.combinations.saturating_add(1);
         Next::Compute(work)
+    }
+
+    /// Nothing was ready.
+    fn look(&mut self) -> Next {
+        spin_loop();
+        self.looks = self.looks.saturating_add(1);
+        Next::Again
+    }
+
+    /// Whether it is to be looked whether nothing can go on: after twice as many looks each time.
+    fn is_doubled(&self) -> bool {
+        self.looks.is_power_of_two()
     }
 }

@@ -5,9 +5,9 @@ ghost use Rattle.coll_traced.specs.Awaiting.{IsHindrance};
 ghost use Rattle.coll_traced.specs.Tests.{RefusesOne, TestsOne};
 ghost use Rattle.coll_traced.specs.Unfinished.{WasPending};
 
-use crate::backoff::Backoff;
 use crate::combiner::{Combiner, Held};
 use crate::gate::Gate;
+use crate::patience::Patience;
 use crate::publication::Content;
 use crate::record::PublicationRecord;
 use crate::turn::Turn;
@@ -18,38 +18,38 @@ use coll_traced::{Awaited, Completed, Entries, Receipts, Tally};
 use std::sync::Wait;
 
 impl<L: Entries> Combiner<L> {
-    /// Looks for an answer in the record, and takes the lock where it is to go on, or seldom to see whether it is free, or in the end. None
-    /// where there is an answer.
+    /// Looks for an answer in the record, and now and then whether the lock is free. None where there is an answer.
     pub(crate) fn spin<R: Wait>(
         &self,
         rt: &R,
         record: &PublicationRecord<L>,
-        backoff: &mut Backoff,
+        patience: Patience,
     ) -> Option<Held<'_, L>> {
-        for _ in rt.forever() {
+        for look in 0..patience.looks() {
             if record.is_answered() {
                 record.set_leads(false);
-                self.turns.end(backoff);
+                self.turns.ended(patience, look);
                 return None;
             }
-            if backoff.is_completed() {
-                break;
-            }
-            if (record.is_published() && backoff.is_to_try()) || self.beckons() {
+            if patience.tries(look) {
                 if let Some(held) = self.try_enter() {
                     return Some(held);
                 }
             }
-            backoff.snooze();
+            patience.pause(look);
         }
         Some(self.enter(rt))
     }
 
-    /// A port that is noted as parked sleeps until it is answered or called.
-    fn park<R: Wait>(&self, rt: &R, record: &PublicationRecord<L>) {
+    /// A port that is noted as parked sleeps until it is answered, or called: then it takes the lock.
+    fn park<R: Wait>(&self, rt: &R, record: &PublicationRecord<L>) -> Option<Held<'_, L>> {
         self.falls_asleep();
         record.park(rt);
         self.wakes_up();
+        if record.is_answered() {
+            return None;
+        }
+        Some(self.enter(rt))
     }
 
     /// A port whose wait is published or registered waits for the answer. It may have the lock.
@@ -63,21 +63,23 @@ impl<L: Entries> Combiner<L> {
     ) -> Result<(), Refusal>
         ensures { IfErr result (IsHindrance L.setting) }
     {
-        let mut backoff = self.turns.begin();
+        let patience = self.turns.patience();
+        let mut may_park = false;
         for _ in rt.forever() {
             let turn = match held {
-                Some(held) => self.turn(rt, gate, held, rank, record, &mut backoff)?,
+                Some(held) => self.turn(rt, gate, held, rank, record, patience, may_park)?,
                 None => Turn::Spin,
             };
-            match turn {
+            let found = match turn {
                 Turn::Over => return Ok(()),
-                Turn::Spin => {}
+                Turn::Spin => self.spin(rt, record, patience),
                 Turn::Park => self.park(rt, record),
-            }
-            match self.spin(rt, record, &mut backoff) {
-                Some(again) => held = Some(again),
-                None => return Ok(()),
-            }
+            };
+            let Some(again) = found else {
+                return Ok(());
+            };
+            held = Some(again);
+            may_park = true;
         }
         unreachable!()
     }

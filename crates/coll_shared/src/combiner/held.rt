@@ -8,8 +8,6 @@ pub(crate) struct Held<'a, L: Entries> {
     pub(crate) locked: MutexGuard<'a, Locked<L>>,
     /// The ranks whose parked ports were answered or called under this hold.
     wake: Ranks,
-    /// The thread takes the lock again at once, and goes on with what is ready.
-    pub(crate) returns: bool,
 }
 
 impl<'a, L: Entries> Held<'a, L> {
@@ -17,7 +15,6 @@ impl<'a, L: Entries> Held<'a, L> {
         Held {
             locked,
             wake: Ranks::NONE,
-            returns: false,
         }
     }
 
@@ -31,11 +28,7 @@ impl<'a, L: Entries> Held<'a, L> {
 
     /// Gives the lock up, and nothing else. Returns the ranks to wake.
     pub(super) fn unlock(self) -> Ranks {
-        let Held {
-            locked,
-            wake,
-            returns: _,
-        } = self;
+        let Held { locked, wake } = self;
         drop(locked);
         wake
     }
