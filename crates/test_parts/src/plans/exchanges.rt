@@ -222,8 +222,9 @@ const CHAIN: &[(usize, usize)] = &[(5, 4), (5, 5), (5, 4)];
 
 /// Whether each of three members has that shape.
 fn is_chain(alloc: Global, sig: Signature, shapes: &[(usize, usize)]) -> Result<bool, Refusal> {
-    for (r, want) in (0..3u8).zip(shapes.iter()) {
-        if shape_of(alloc, sig, 3, r)? != *want {
+    for r in 0..3u8 {
+        let shape = shape_of(alloc, sig, 3, r)?;
+        if shapes.get(usize::from(r)) != Some(&shape) {
             return Ok(false);
         }
     }
