@@ -96,11 +96,7 @@ fn run_recorded<M: Threads + Wait + Sync + Files + Clock, S: Screen + Sync, W: W
     ensures unwritten { IfOk result (λ status. 1 < status → Keeps (W.contents output.old.stream.now) (W.contents output.new.stream.now)) }
     ensures unwritten_fault { IfErr result (λ fault. fault ≢ JobFault.Write → Keeps (W.contents output.old.stream.now) (W.contents output.new.stream.now)) }
 {
-    let recorded = if is_shown {
-        shown_job(host.machine, alloc, screen, text, options.workers)
-    } else {
-        recorded_job(host.machine, alloc, text, options.workers, &NoWatch)
-    };
+    let recorded = watched_job(host.machine, alloc, screen, is_shown, text, options.workers);
     if let (Some(explanation), Err(JobFault::Stalled)) = (options.explanation, &recorded) {
         if !is_explained(host, alloc, file, text, explanation, errors)? {
             return Ok(UNWRITTEN);
@@ -112,6 +108,26 @@ fn run_recorded<M: Threads + Wait + Sync + Files + Clock, S: Screen + Sync, W: W
     }
     write_lines(output, &recording.lines)?;
     Ok(0)
+}
+
+/// Has a text carried out, and shows how far it is where somebody looks.
+fn watched_job<M: Threads + Wait + Sync + Clock, S: Screen + Sync>(
+    machine: &M,
+    alloc: Global,
+    screen: &S,
+    is_shown: bool,
+    text: &[u8],
+    workers: u8,
+) -> Result<Recording, JobFault>
+    requires { workers ≤ 8 }
+    ensures meaning { IfOk result (λ done. meaning text.now ≡ Ok done.lines.items) }
+    ensures faults { IfErr result (IsFaultOf text.now) }
+{
+    if is_shown {
+        shown_job(machine, alloc, screen, text, workers)
+    } else {
+        recorded_job(machine, alloc, text, workers, &NoWatch)
+    }
 }
 
 /// Has a text carried out, and shows how far it is.

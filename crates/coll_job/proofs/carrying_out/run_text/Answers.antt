@@ -1,6 +1,6 @@
 use Rattle.std.proofs.Common.{◌≡◌, ℕ, List, take, subst, sym}
 use Rattle.std.specs.Prelude.{IfSome}
-use Rattle.coll_job.proofs.Judging.{read-ok, read-err}
+use Rattle.coll_job.proofs.Judging.{answered-read, read-ok, read-err}
 use Rattle.coll_job.proofs.carrying_out.run_text.Goals as goal
 
 pub returns-clause-judged : goal.returns-clause-judged
@@ -14,3 +14,9 @@ returns-clause-judged_fault g c =
     let start = g.R.Read.remaining c.args.reader.now.reader.now in
     let read = subst (λ (text : List ℕ). IfSome start (λ input. text ≡ take 1048577 input)) (sym c.deref.ensures.value) c.in_ok-text.ensures.text in
     read-err c.run_recorded.result start c.deref.result.now read c.run_recorded.ensures.judged_fault
+
+pub returns-clause-answered : goal.returns-clause-answered
+returns-clause-answered g c =
+    let start = g.R.Read.remaining c.args.reader.now.reader.now in
+    let read = subst (λ (text : List ℕ). IfSome start (λ input. text ≡ take 1048577 input)) (sym c.deref.ensures.value) c.in_ok-text.ensures.text in
+    answered-read c.run_recorded.result start c.deref.result.now _ _ read c.run_recorded.ensures.answered
