@@ -1,95 +1,210 @@
 #!/bin/sh
 # Builds and runs every client over the library in a folder: as it is, under valgrind and under ThreadSanitizer, over the static
-# and the shared library. Compares the table of refusals with that of coll_kinds, and all answers with docs/C.md. Ends with 0 where
-# there was no finding.
-# check.sh FOLDER
-set -eu
+# and the shared library. Compares the table of refusals with that of coll_kinds, and all answers with docs/C.md.
+# Tells each check; one that has no tool here is named as skipped. The last line is `N passed, N failed`.
+# check.sh FOLDER [c|cpp|rust]..
+set -u
 here=$(dirname -- "$(readlink -f -- "$0")")
 lib=$(readlink -f -- "$1")
+shift
 work=$(mktemp -d)
 trap 'rm -rf -- "$work"' EXIT
+trap 'exit 130' INT
+trap 'exit 143' TERM HUP
+cc=${CC:-cc}
+cxx=${CXX:-c++}
 header="-I$here/../include"
 warnings="-Wall -Wextra -Wpedantic -Werror -O2 -g"
-c="${CC:-cc} -std=c11 -D_GNU_SOURCE $warnings $header"
-cxx="${CXX:-c++} -std=c++17 $warnings $header"
+c="$cc -std=c11 -D_GNU_SOURCE $warnings $header"
+cplus="$cxx -std=c++17 $warnings $header"
+static="$lib/libworzsunab.a -pthread"
+shared="-L$lib -lworzsunab -pthread -Wl,-rpath,$lib"
+# No check takes more than a minute on an idle machine; one that takes a quarter of an hour hangs.
+limit="timeout 900"
+passed=0
+failed=0
 
-for client in sum threads refusals cases; do
-    $c "$here/c/$client.c" "$lib/libworzsunab.a" -pthread -o "$work/$client"
-    $c "$here/c/$client.c" -L"$lib" -lworzsunab -pthread -Wl,-rpath,"$lib" -o "$work/$client.shared"
-    $c -fsanitize=thread "$here/c/$client.c" "$lib/libworzsunab.a" -pthread -o "$work/$client.tsan"
-done
-$c "$here/c/memory.c" "$lib/libworzsunab.a" -pthread -Wl,--wrap=malloc -Wl,--wrap=realloc -o "$work/memory"
-$cxx "$here/cpp/sum.cpp" "$lib/libworzsunab.a" -pthread -o "$work/cpp"
-$cxx -fsanitize=thread "$here/cpp/sum.cpp" "$lib/libworzsunab.a" -pthread -o "$work/cpp.tsan"
-# each header by itself, as C11 and as C++11, by each compiler that is there
-for name in worzsunab worzsunab_threads; do
-    for compiler in "${CC:-cc}" gcc clang; do
-        ! command -v "$compiler" > /dev/null || echo "#include \"$name.h\"" | "$compiler" -std=c11 $warnings $header -x c -fsyntax-only -
-    done
-    for compiler in "${CXX:-c++}" g++ clang++; do
-        ! command -v "$compiler" > /dev/null || echo "#include \"$name.h\"" | "$compiler" -std=c++11 $warnings $header -x c++ -fsyntax-only -
-    done
-done
-
-"$work/refusals" table > "$work/table"
-sed -n 's/^ *Refusal::\([A-Za-z]*\)\( {.*}\)\{0,1\} => \([0-9]*\),$/\3 \1/p' "$here/../crates/coll_kinds/src/refusal.rt" > "$work/refusals.want"
-cmp "$work/table" "$work/refusals.want"
-"$work/refusals" answers > "$work/answers"
-grep '^| -\{0,1\}[0-9]' "$here/../docs/C.md" > "$work/answers.want"
-cmp "$work/answers" "$work/answers.want"
-echo "refusals: the table is that of coll_kinds, and docs/C.md has each answer"
-
-# A minute or two in all; each step tells its seconds, and is given up after five minutes.
-run() {
-    begun=$(date +%s)
-    echo "== $*"
-    timeout 300 "$@"
-    echo "== $(($(date +%s) - begun)) s"
+has() {
+    command -v "$1" > /dev/null
 }
-run "$work/sum"
-run "$work/memory"
-for kind in "" .shared .tsan; do
-    run "$work/refusals$kind"
-    run "$work/cases$kind"
-    for ranks in 1 2 4 7; do run "$work/threads$kind" $ranks 200 quiet; done
-done
-run "$work/cpp"
-run "$work/cpp.tsan"
-if command -v valgrind > /dev/null; then
-    grind="valgrind -q --error-exitcode=9 --leak-check=full --errors-for-leak-kinds=all"
-    run $grind "$work/refusals"
-    run $grind "$work/cases"
-    run $grind "$work/memory"
-    run $grind "$work/sum"
-    run $grind --fair-sched=yes "$work/threads" 4 20 quiet
-    run $grind --fair-sched=yes "$work/cpp"
-else
-    echo "check.sh: there is no valgrind" >&2
-    exit 1
-fi
-if command -v cargo > /dev/null; then
-    cd "$here/rust"
-    export WORZSUNAB_LIB="$lib" CARGO_TARGET_DIR="$work/cargo"
-    run cargo test --offline --quiet
-    run cargo run --offline --quiet --example sums
-    grind="valgrind -q --error-exitcode=9 --leak-check=full --show-leak-kinds=definite --errors-for-leak-kinds=definite --fair-sched=yes"
-    for test in "$work"/cargo/debug/deps/collectives-*; do
-        [ ! -x "$test" ] || run $grind "$test" --test-threads=1
-    done
-    run $grind "$work/cargo/debug/examples/sums"
-    # The standard library was built without ThreadSanitizer, so src/lock.rs tells of the lock, and what that library does among its own
-    # functions is left out. The variable lets this compiler take the option, which is no stable one yet.
-    host=$(rustc -vV | sed -n 's/^host: //p')
-    if ls "$(rustc --print sysroot)/lib/rustlib/$host/lib/"librustc*_rt.tsan.a > /dev/null 2>&1; then
-        export RUSTC_BOOTSTRAP=1 TSAN_OPTIONS="suppressions=$here/rust/tsan.suppressions"
-        export RUSTFLAGS="-Zsanitizer=thread -Cunsafe-allow-abi-mismatch=sanitizer --cfg worzsunab_tsan"
-        run cargo test --offline --quiet --target "$host" --test collectives -- --test-threads=1
-        run cargo run --offline --quiet --target "$host" --example sums
+
+skip() {
+    echo "skipped: $1: $2"
+}
+
+# Runs a check, and shows what it said where it failed.
+check() {
+    name=$1
+    shift
+    if $limit "$@" > "$work/said" 2>&1 < /dev/null; then
+        passed=$((passed + 1))
+        echo "passed: $name"
     else
-        echo "check.sh: this rustc has no ThreadSanitizer, so the Rust crate isn't run under it" >&2
+        status=$?
+        failed=$((failed + 1))
+        cat "$work/said"
+        echo "FAILED: $name (status $status)"
     fi
-else
-    echo "check.sh: there is no cargo" >&2
-    exit 1
-fi
-echo "check.sh: no finding"
+}
+
+# Whether programs of a compiler run under ThreadSanitizer here.
+runs_threads_checked() {
+    echo 'int main(void) { return 0; }' > "$work/empty.c"
+    $1 -fsanitize=thread "$work/empty.c" -o "$work/empty" > /dev/null 2>&1 && "$work/empty" > /dev/null 2>&1
+}
+
+# The clients, and what each is run with: a line for each run.
+runs_of() {
+    case $1 in
+        threads) for ranks in 1 2 4 7; do echo "$ranks 200 quiet"; done ;;
+        waits) for ranks in 2 4 8; do echo "$ranks"; done ;;
+        *) echo ;;
+    esac
+}
+
+# Builds a client in one way, and runs it.
+try_client() {
+    client=$1
+    way=$2
+    shift 2
+    check "build $client, $way" "$@" -o "$work/$client.$way"
+    [ -x "$work/$client.$way" ] || return
+    runs_of "$client" > "$work/runs"
+    while read -r words; do
+        # shellcheck disable=SC2086
+        check "$client${words:+ $words}, $way" "$work/$client.$way" $words
+    done < "$work/runs"
+}
+
+# Each header by itself, as C11 and as C++11, by each compiler that is there.
+check_headers() {
+    language=$1
+    standard=$2
+    shift 2
+    for compiler in "$@"; do
+        for file in "$here"/../include/*.h; do
+            name=$(basename "$file")
+            ! has "$compiler" || check "$name by itself, $standard, $compiler" sh -c \
+                "echo '#include \"$name\"' | $compiler -std=$standard $warnings $header -x $language -fsyntax-only -"
+        done
+    done
+}
+
+# The table of refusals is that of coll_kinds, and docs/C.md has each answer.
+check_tables() {
+    [ -x "$work/refusals.static" ] || return
+    "$work/refusals.static" table > "$work/table" < /dev/null
+    sed -n 's/^ *Refusal::\([A-Za-z]*\)\( {.*}\)\{0,1\} => \([0-9]*\),$/\3 \1/p' "$here/../crates/coll_kinds/src/refusal.rt" > "$work/refusals.want"
+    check "the table of refusals is that of coll_kinds" cmp "$work/table" "$work/refusals.want"
+    "$work/refusals.static" answers > "$work/answers" < /dev/null
+    grep '^| -\{0,1\}[0-9]' "$here/../docs/C.md" > "$work/answers.want"
+    check "docs/C.md has each answer" cmp "$work/answers" "$work/answers.want"
+}
+
+check_c() {
+    has "$cc" || { skip "C" "there is no $cc"; return; }
+    runs_threads_checked "$cc" && checks_threads=yes || checks_threads=
+    [ "$checks_threads" ] || skip "C under ThreadSanitizer" "programs of $cc don't run under it here"
+    for client in sum threads refusals cases waits; do
+        [ -e "$here/c/$client.c" ] || continue
+        # shellcheck disable=SC2086
+        try_client $client static $c "$here/c/$client.c" $static
+        # shellcheck disable=SC2086
+        try_client $client shared $c "$here/c/$client.c" $shared
+        # shellcheck disable=SC2086
+        [ ! "$checks_threads" ] || try_client $client tsan $c -fsanitize=thread "$here/c/$client.c" $static
+    done
+    # shellcheck disable=SC2086
+    try_client memory static $c "$here/c/memory.c" $static -Wl,--wrap=malloc -Wl,--wrap=realloc
+    check_headers c c11 "$cc" gcc clang
+    check_tables
+    check_leaks refusals cases memory sum "threads 4 20 quiet"
+}
+
+# Clients under valgrind, each with its words.
+check_leaks() {
+    has valgrind || { skip "C and C++ under valgrind" "there is no valgrind"; return; }
+    for words in "$@"; do
+        client=$work/${words%% *}.static
+        arguments=${words#"${words%% *}"}
+        # shellcheck disable=SC2086
+        [ ! -x "$client" ] || check "$words, valgrind" valgrind -q --error-exitcode=9 --leak-check=full --errors-for-leak-kinds=all \
+            --fair-sched=yes "$client" $arguments
+    done
+}
+
+check_cpp() {
+    has "$cxx" || { skip "C++" "there is no $cxx"; return; }
+    # shellcheck disable=SC2086
+    try_client cpp static $cplus "$here/cpp/sum.cpp" $static
+    if runs_threads_checked "${CC:-cc}"; then
+        # shellcheck disable=SC2086
+        try_client cpp tsan $cplus -fsanitize=thread "$here/cpp/sum.cpp" $static
+    fi
+    check_headers c++ c++11 "$cxx" g++ clang++
+    check_leaks cpp
+}
+
+check_rust() {
+    has cargo || { skip "Rust" "there is no cargo"; return; }
+    cd "$here/rust" || exit 1
+    export WORZSUNAB_LIB="$lib" CARGO_TARGET_DIR="$work/cargo"
+    check "Rust: tests" cargo test --offline --quiet
+    check "Rust: sums" cargo run --offline --quiet --example sums
+    if has valgrind; then
+        for test in "$work"/cargo/debug/deps/collectives-*; do
+            case $test in
+                *.d) ;;
+                *) [ ! -x "$test" ] || check_rust_leaks "Rust: tests, valgrind" "$test" --test-threads=1 ;;
+            esac
+        done
+        check_rust_leaks "Rust: sums, valgrind" "$work/cargo/debug/examples/sums"
+    else
+        skip "Rust under valgrind" "there is no valgrind"
+    fi
+    check_rust_threads
+    cd "$here" || exit 1
+}
+
+check_rust_leaks() {
+    name=$1
+    shift
+    check "$name" valgrind -q --error-exitcode=9 --leak-check=full --show-leak-kinds=definite --errors-for-leak-kinds=definite --fair-sched=yes "$@"
+}
+
+# The standard library was built without ThreadSanitizer, so src/lock.rs tells of the lock, and what that library does among its own
+# functions is left out. The variable lets this compiler take the option, which is no stable one yet.
+check_rust_threads() {
+    host=$(rustc -vV | sed -n 's/^host: //p')
+    export RUSTC_BOOTSTRAP=1 TSAN_OPTIONS="suppressions=$here/rust/tsan.suppressions"
+    flags="-Zsanitizer=thread -Cunsafe-allow-abi-mismatch=sanitizer --cfg worzsunab_tsan"
+    echo 'fn main() {}' > "$work/empty.rs"
+    # shellcheck disable=SC2086
+    if rustc $flags --target "$host" "$work/empty.rs" -o "$work/empty.rust" > /dev/null 2>&1 && "$work/empty.rust" > /dev/null 2>&1; then
+        export RUSTFLAGS="$flags"
+        check "Rust: tests, tsan" cargo test --offline --quiet --target "$host" --test collectives -- --test-threads=1
+        check "Rust: sums, tsan" cargo run --offline --quiet --target "$host" --example sums
+    else
+        skip "Rust under ThreadSanitizer" "programs of this rustc don't run under it here"
+    fi
+    unset RUSTC_BOOTSTRAP TSAN_OPTIONS RUSTFLAGS
+}
+
+for part in "${@:-all}"; do
+    case $part in
+        c) check_c ;;
+        cpp) check_cpp ;;
+        rust) check_rust ;;
+        all)
+            check_c
+            check_cpp
+            check_rust
+            ;;
+        *)
+            echo "check.sh: FOLDER and c, cpp or rust are wanted, and not $part" >&2
+            exit 2
+            ;;
+    esac
+done
+echo "$passed passed, $failed failed"
+[ "$failed" -eq 0 ]
