@@ -4,6 +4,7 @@ The proved program answers where it is built and no source is newer. Else a quic
 proof, and kept. Modules that only some calls need are loaded where they need them, so that a call that finds its program starts at once.
 """
 
+import errno
 import os
 import signal
 import sys
@@ -16,6 +17,9 @@ NO_ANSWER = 70
 
 # The status where a file can't be opened or written.
 UNOPENED = 1
+
+# The numbers of standard output and standard error.
+OUTPUT, ERRORS = 1, 2
 
 # The options of `run` that the small program knows.
 OF_FIRST = {"workers", "quiet"}
@@ -84,11 +88,19 @@ def asked_for(top, words):
         return None
     except usage.Told as told:
         if told.status:
-            write(sys.stderr, told.text)
-        elif not write(sys.stdout, told.text):
-            write(sys.stderr, "write fault\n")
-            os._exit(UNOPENED)
+            write(ERRORS, told.text)
+        else:
+            show(told.text)
         sys.exit(told.status)
+
+
+def show(text):
+    """Shows what was asked for. Where whoever read it has gone nothing is told."""
+    fault = write(OUTPUT, text)
+    if fault:
+        if fault.errno != errno.EPIPE:
+            write(ERRORS, f"write fault: {os.strerror(fault.errno)} (os error {fault.errno})\n")
+        os._exit(UNOPENED)
 
 
 def is_for_first(task):
@@ -105,7 +117,7 @@ def words_of_first(task):
 
 
 def say(text):
-    write(sys.stderr, f"colljob: {text}\n")
+    write(ERRORS, f"colljob: {text}\n")
 
 
 def fail(text):
@@ -113,11 +125,12 @@ def fail(text):
     sys.exit(NO_ANSWER)
 
 
-def write(stream, text):
-    """Writes to a stream of this process. Whether that went well."""
+def write(number, text):
+    """Writes to a stream of this process, by its number. Gives the error where that fails."""
+    left = text.encode("utf-8", "surrogateescape")
     try:
-        stream.buffer.write(text.encode("utf-8", "surrogateescape"))
-        stream.buffer.flush()
-        return True
-    except (OSError, AttributeError):
-        return False
+        while left:
+            left = left[os.write(number, left):]
+        return None
+    except OSError as error:
+        return error

@@ -34,7 +34,7 @@ def build_whole(whole, kit, missing, words):
     try:
         return built(whole, kit, missing, words)
     except front_end.Refused as error:
-        answering.write(sys.stderr, str(error))
+        answering.write(answering.ERRORS, str(error))
         answering.fail("the kit's front end refuses the sources")
 
 
@@ -71,7 +71,7 @@ def check_files(task):
         if not fault and task.options.get(option) is not None:
             fault = write_fault(task.options[option])
     if fault:
-        answering.write(sys.stderr, fault + "\n")
+        answering.write(answering.ERRORS, fault + "\n")
         sys.exit(answering.UNOPENED)
 
 

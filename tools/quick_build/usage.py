@@ -15,11 +15,16 @@ SIMILAR = 0.7
 
 OPTION = re.compile(r" +(?:-(?P<short>\w), )?(?:    )?--(?P<long>[\w-]+)(?: <(?P<value>[^>]+)>)?  +(?P<help>.*)")
 POSITIONAL = re.compile(r"  (?P<shown>[\[<][A-Z]+[\]>](?:\.\.\.)?)  +")
+REQUIRED = re.compile(r"(?<!\[)--([\w-]+)(?= <)")
 SUBCOMMAND = re.compile(r"  (?P<name>[a-z]+)  +")
 VALUES = re.compile(r"\[possible values: ([^\]]*)\]")
 BOUNDS = re.compile(r"\b(\d+) to (\d+)\b")
 
 TRY_HELP = "\n\nFor more information, try '--help'.\n"
+
+
+# What no option has for a value.
+NONE = object()
 
 
 class Told(Exception):
@@ -93,6 +98,7 @@ class Command:
             elif section == "Options:" and OPTION.fullmatch(line):
                 self.options.append(Option(OPTION.fullmatch(line)))
         self.usage = re.search(r"^Usage: (.*(?:\n  .*)*)", help_text, re.MULTILINE)[1]
+        self.required = [self.by_long(name) for name in REQUIRED.findall(self.usage.splitlines()[0])]
 
     def by_long(self, name):
         return next((it for it in self.options if it.long == name), None)
@@ -109,17 +115,19 @@ class Command:
 
 
 class Task:
-    """What is asked for: the subcommand, its options with their values, and the file."""
+    """What is asked for: the subcommand, its options with their values, and the file, where it takes one."""
 
     def __init__(self, way):
         self.way, self.options, self.file = way, {}, None
 
 
 class Walk:
-    """The walk over the words behind a subcommand that has options and takes a file."""
+    """The walk over the words behind a subcommand that has options and takes a file, or other words that it needs."""
 
-    def __init__(self, command, name, way):
-        self.command, self.name, self.task = command, name, Task(way)
+    def __init__(self, command, path):
+        self.command, self.name, self.task = command, " ".join(path), Task(tuple(path))
+        # Whether the word that is no option names a file, and that word where it has come.
+        self.takes_file, self.word = command.positionals == ["[FILE]"], None
         # The option whose value comes next, and that value where it has come.
         self.waiting, self.value = None, None
 
@@ -137,13 +145,41 @@ class Walk:
             else:
                 self.take_file(word)
         self.settle()
+        self.check_needs()
         return self.task
+
+    def check_needs(self):
+        """Refuses words that lack others which they need."""
+        missing = [str(it) for it in self.command.required if it.long not in self.task.options]
+        if not self.takes_file and self.word is None:
+            missing.append(self.command.positionals[0])
+        if missing:
+            if any(self.command.by_long(name) not in self.command.required for name in self.task.options):
+                raise Unsure
+            raise self.lacks(missing, self.command.usage.splitlines()[0].replace("[OPTIONS] ", ""))
+        if self.name == "run" and "format" in self.task.options and "out" not in self.task.options:
+            if len(self.task.options) > 1:
+                raise Unsure
+            raise self.lacks(["--out <OUT>"], f"colljob run --out <OUT> --format <FORMAT> {self.shown_file()}")
+
+    def lacks(self, missing, usage):
+        return self.command.fault("the following required arguments were not provided:" + "".join(f"\n  {it}" for it in missing), usage)
+
+    def shown_file(self):
+        """How the file stands in a usage line: as one that may be there, or one that is."""
+        file = self.command.positionals[0]
+        return file if self.word is None else f"<{file.strip('[]')}>"
+
+    def usage_with(self, options):
+        """The usage with the options that were used, and further ones."""
+        used = [str(self.command.by_long(it)) for it in dict.fromkeys([*self.task.options, *options])]
+        return " ".join([f"colljob {self.name}", *used, self.shown_file()]) if used or self.word is not None else None
 
     def take_rest(self, words):
         """The words behind `--` are no options."""
-        for at, word in enumerate(words):
-            if at and self.task.file is not None:
-                raise self.command.fault(f"unexpected argument '{word}' found")
+        if not self.takes_file:
+            raise Unsure
+        for word in words:
             self.take_file(word)
 
     def take_long(self, word):
@@ -153,7 +189,10 @@ class Walk:
             raise self.unknown_long(name)
         if option.value is None:
             if equals:
-                raise Unsure
+                if not self.takes_file:
+                    raise Unsure
+                usage = self.usage_with([name])
+                raise self.command.fault(f"unexpected value '{value}' for '{option}' found; no more were expected", usage)
             self.settle()
             self.use(option, None)
         elif equals:
@@ -175,10 +214,15 @@ class Walk:
             self.use(option, None)
 
     def take_file(self, word):
-        self.settle()
-        if self.task.file is not None:
+        if self.word is not None:
+            if not self.takes_file:
+                raise Unsure
+            self.settle_quietly()
             raise self.command.fault(f"unexpected argument '{word}' found")
-        self.task.file = word
+        self.settle()
+        self.word = word
+        if self.takes_file:
+            self.task.file = word
 
     def settle(self):
         """The option that waits takes its value."""
@@ -190,10 +234,13 @@ class Walk:
             self.use(option, value)
 
     def settle_quietly(self):
+        """The same where another fault is told. An option with a value that it doesn't take counts as used, one that is used again doesn't."""
+        option, value = self.waiting, self.value
         try:
             self.settle()
         except Told:
-            pass
+            if value is not None and self.task.options.pop(option.long, NONE) is NONE:
+                self.task.options[option.long] = value
 
     def use(self, option, value):
         if option.long == "help":
@@ -206,16 +253,13 @@ class Walk:
 
     def unknown_long(self, name):
         """What is told of a long option that isn't there: with a similar one, or how a word like it is passed."""
+        if not self.takes_file:
+            raise Unsure
         self.settle_quietly()
         similar = self.command.similar_option(name)
-        used = [str(self.command.by_long(it)) for it in dict.fromkeys([*self.task.options, *([similar] if similar else [])])]
-        file = self.command.positionals[0]
-        if self.task.file is not None:
-            file = f"<{file.strip('[]')}>"
         said = f"unexpected argument '--{name}' found\n\n  tip: "
         said += f"a similar argument exists: '--{similar}'" if similar else f"to pass '--{name}' as a value, use '-- --{name}'"
-        is_plain = not used and self.task.file is None
-        return self.command.fault(said, None if is_plain else " ".join([f"colljob {self.name}", *used, file]))
+        return self.command.fault(said, self.usage_with([similar] if similar else []))
 
 
 class Words:
@@ -253,17 +297,14 @@ class Words:
 
     def task_below(self, path, words):
         command = self.command(*path)
-        if not command.subcommands:
-            if len(command.positionals) != 1 or command.positionals[0] != "[FILE]":
-                raise Unsure
-            return Walk(command, " ".join(path), tuple(path)).over(words)
-        if words[:1] and words[0] == "help":
-            raise self.help_of(command, words[1:], path)
-        if words[:1] and words[0] in command.subcommands:
-            return self.task_below([*path, words[0]], words[1:])
-        if words[:1] and words[0] in ("-h", "--help"):
-            raise Told(command.help_text, 0)
-        raise Unsure
+        if words and command.subcommands:
+            if words[0] == "help":
+                raise self.help_of(command, words[1:], path)
+            if words[0] in command.subcommands:
+                return self.task_below([*path, words[0]], words[1:])
+        if len(command.positionals) != 1:
+            raise Unsure
+        return Walk(command, path).over(words)
 
     def help_of(self, command, words, path):
         """The help that `help` and further words ask for."""
@@ -291,9 +332,12 @@ class Words:
 
     def wrong_first_long(self, root, name, rest):
         """A long option before the subcommand may be one of a subcommand that follows."""
-        if root.by_long(name) or root.similar_option(name):
+        if root.by_long(name):
             return Unsure()
         said = f"unexpected argument '--{name}' found"
+        similar = root.similar_option(name)
+        if similar:
+            return root.fault(f"{said}\n\n  tip: a similar argument exists: '--{similar}'", f"colljob --{similar} <COMMAND>")
         for word in rest:
             if word in root.subcommands and word != "help":
                 similar = self.command(word).similar_option(name)
