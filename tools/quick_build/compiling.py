@@ -3,7 +3,6 @@
 import os
 import subprocess
 
-import modules
 from kit import OtherKit
 
 TARGET = "x86_64-unknown-linux-gnu"
