@@ -1,16 +1,16 @@
 /* A post or a test does its own part and a fixed number of steps, also while other ranks' long rows are combined: linked with
    -Wl,--wrap=wz_run_work -Wl,--wrap=wz_step -Wl,--wrap=wz_settle, it counts what each call makes.
-   bounded RANKS [times]: prints the longest microseconds of a post and of a test too. */
+   bounded RANKS [ROUNDS [times]]: with `times` it prints the longest microseconds of a post and of a test too. */
 #include <stdio.h>
 #include <stdlib.h>
 #include <time.h>
 
 #include "worzsunab_threads.h"
 
-enum { LONG = 65536, OVERLAPPING = 4, ROUNDS = 6, MOST = 8 };
+enum { LONG = 65536, OVERLAPPING = 4, MOST = 8 };
 
 static wz_shared shared;
-static int ranks = 8;
+static int ranks = 8, rounds = 6;
 
 /* What this thread's call has made. */
 static __thread uint32_t combinations, steps;
@@ -72,7 +72,7 @@ static void ends(double *longest) {
 
 /* Rank 0 posts and tests short sums of its own while the others combine long rows, of which the last to post would have made all. */
 static void short_sums(void) {
-    for (int turn = 0; turn < 200; turn++) {
+    for (int turn = 0; turn < 30 * rounds; turn++) {
         wz_request request;
         int32_t one = 1, sum = 0;
         begins();
@@ -122,7 +122,7 @@ static void polled(uint8_t me) {
 
 static void *rank(void *number) {
     uint8_t me = (uint8_t)(size_t)number;
-    for (int round = 0; round < ROUNDS; round++) {
+    for (int round = 0; round < rounds; round++) {
         if (me == 0) short_sums();
         else long_sums(me);
     }
@@ -135,6 +135,7 @@ int main(int argc, char **argv) {
     pthread_t threads[MOST];
     uint8_t members[2 * MOST], sizes[3];
     if (argc > 1) ranks = atoi(argv[1]);
+    if (argc > 2) rounds = atoi(argv[2]);
     HOLDS(ranks >= 2 && ranks <= MOST);
     /* communicator 0 has all, 1 all but rank 0, 2 rank 0 alone */
     for (int i = 0; i < ranks; i++) members[i] = (uint8_t)i;
@@ -148,7 +149,7 @@ int main(int argc, char **argv) {
     for (size_t i = 0; i < (size_t)ranks; i++) pthread_create(&threads[i], NULL, rank, (void *)i);
     for (int i = 0; i < ranks; i++) pthread_join(threads[i], NULL);
     DONE(wz_shared_close(&shared));
-    if (argc > 2) printf("longest post %.0f us, longest test %.0f us\n", longest_post, longest_test);
+    if (argc > 3) printf("longest post %.0f us, longest test %.0f us\n", longest_post, longest_test);
     puts("bounded: all as it should be");
     return 0;
 }

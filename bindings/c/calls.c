@@ -1,12 +1,12 @@
 /* A call per collective, in MPI's order of arguments, nonblocking and persistent, with its value at each rank.
-   calls RANKS */
+   calls RANKS [ROUNDS] */
 #include <stdio.h>
 #include <stdlib.h>
 
 #include "worzsunab_threads.h"
 
 static wz_shared shared;
-static int ranks = 3;
+static int ranks = 3, rounds = 20;
 
 #define HOLDS(fact)                                                                    \
     do {                                                                               \
@@ -150,7 +150,7 @@ static void refused(uint8_t me) {
 
 static void *rank(void *number) {
     uint8_t me = (uint8_t)(size_t)number;
-    for (int round = 0; round < 20; round++) {
+    for (int round = 0; round < rounds; round++) {
         for (int root = 0; root < ranks; root++) rooted(me, (uint8_t)root);
         of_all(me);
         prefixes(me);
@@ -166,6 +166,7 @@ int main(int argc, char **argv) {
     pthread_t threads[MOST];
     uint8_t members[MOST + 1], sizes[2];
     if (argc > 1) ranks = atoi(argv[1]);
+    if (argc > 2) rounds = atoi(argv[2]);
     HOLDS(ranks >= 2 && ranks <= MOST);
     for (int i = 0; i < ranks; i++) members[i] = (uint8_t)i;
     members[ranks] = 0; /* communicator 1 has rank 0 alone */

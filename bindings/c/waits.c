@@ -1,12 +1,12 @@
 /* Waits for one or some requests of a list: what each completes, that a rank in one counts as blocked, and that a stall is told to it.
-   waits RANKS */
+   waits RANKS [ROUNDS] */
 #include <stdio.h>
 #include <stdlib.h>
 
 #include "worzsunab_threads.h"
 
 static wz_shared shared;
-static int ranks = 2;
+static int ranks = 2, rounds = 50;
 static pthread_barrier_t together;
 
 #define HOLDS(fact)                                                                    \
@@ -141,7 +141,7 @@ static void stall(uint8_t me) {
 
 static void *rank(void *number) {
     uint8_t me = (uint8_t)(size_t)number;
-    for (int round = 0; round < 50; round++) {
+    for (int round = 0; round < rounds; round++) {
         any(me);
         some(me);
         for_any(me);
@@ -156,6 +156,7 @@ int main(int argc, char **argv) {
     pthread_t threads[8];
     uint8_t members[24], sizes[10];
     if (argc > 1) ranks = atoi(argv[1]);
+    if (argc > 2) rounds = atoi(argv[2]);
     HOLDS(ranks >= 2 && ranks <= 8);
     /* two communicators of all, and one of each rank alone */
     for (int i = 0; i < ranks; i++) {

@@ -2,37 +2,34 @@
 
 use std::thread;
 
-use worzsunab::{bytes_of, Call, Engine, Op, Refusal, Type};
+use worzsunab::{bytes_of, Call, Engine, Op, Refusal, Seat, Type};
 
 const RANKS: u8 = 4;
 const STARTS: i32 = 1_000;
 
 /// What one rank does: the sum that it gets, and the last one of the persistent request.
-fn rank(engine: &Engine, me: u8) -> Result<(i32, i32), Refusal> {
-    let mine = i32::from(me);
+fn rank(seat: &Seat) -> Result<(i32, i32), Refusal> {
+    let mine = i32::from(seat.rank());
     let sum_of_all = Call::allreduce(Op::Sum, Type::I32, 1);
-    let mut once = engine.post(me, 0, sum_of_all, &bytes_of(&[mine]))?;
+    let mut once = seat.post(0, sum_of_all, &bytes_of(&[mine]))?;
     // The call is under way: here the rank computes something else.
-    let sums: Vec<i32> = engine.wait_values(&mut once)?;
-    let mut again = engine.init(me, 0, sum_of_all)?;
+    let sums: Vec<i32> = seat.wait_values(&mut once)?;
+    let mut again = seat.init(0, sum_of_all)?;
     let mut last = [0; 4];
     for start in 0..STARTS {
-        engine.start(&again, &(mine + start).to_le_bytes())?;
-        engine.wait(&mut again, &mut last)?;
+        seat.start(&again, &(mine + start).to_le_bytes())?;
+        seat.wait(&mut again, &mut last)?;
     }
-    engine.free(&mut again)?;
+    seat.free(&mut again)?;
     Ok((sums[0], i32::from_le_bytes(last)))
 }
 
 fn main() -> Result<(), Refusal> {
     let engine = Engine::of_ranks(RANKS)?;
-    let by_rank = |me| {
-        let sums = rank(&engine, me);
-        engine.leave(me);
-        sums
-    };
     thread::scope(|threads| {
-        let ranks: Vec<_> = (0..RANKS).map(|me| threads.spawn(move || by_rank(me))).collect();
+        let seats = (0..RANKS).map(|me| engine.seat(me).expect("nobody has it"));
+        // A rank leaves when its seat is dropped, so also where it ends with a refusal.
+        let ranks: Vec<_> = seats.map(|seat| threads.spawn(move || rank(&seat))).collect();
         for (me, ended) in ranks.into_iter().enumerate() {
             match ended.join().expect("no rank panics") {
                 Ok((sum, last)) => println!("rank {me}: {sum}, at last {last}"),

@@ -7,12 +7,15 @@ use crate::lock::{Guard, Lock};
 use crate::raw::{self, RawAbout, RawCall, RawEngine, RawLimits, RawPosted, RawReason, RawRequest};
 use crate::refusal::{Field, Refusal, Rule};
 use crate::request::{About, Limits, Phase, Posted, Request};
+use crate::seat::Seat;
 
 /// The engine's state under the lock.
 pub(crate) struct Held {
     pub(crate) raw: RawEngine,
-    /// By rank, what its thread waits for.
-    awaited: Vec<Option<RawRequest>>,
+    /// By rank, what its thread waits for: until one of these isn't pending. Empty where it doesn't wait.
+    awaited: Vec<Vec<RawRequest>>,
+    /// By rank, whether its seat was given out.
+    seated: Vec<bool>,
     left: Vec<bool>,
     pub(crate) stalled: bool,
 }
@@ -20,7 +23,7 @@ pub(crate) struct Held {
 // The engine behind the pointer is plain data in memory of malloc, and goes to one call at a time, under the lock.
 unsafe impl Send for Held {}
 
-/// An engine that the threads of a process share: each rank is played by one thread at a time.
+/// An engine that the threads of a process share: the thread that plays a rank has its [`Seat`].
 pub struct Engine {
     held: Lock<Held>,
     /// By rank.
@@ -65,7 +68,13 @@ impl Engine {
         answer(code, &raw.reason)?;
         let ranks = usize::from(ranks);
         Ok(Engine {
-            held: Lock::new(Held { raw, awaited: vec![None; ranks], left: vec![false; ranks], stalled: false }),
+            held: Lock::new(Held {
+                raw,
+                awaited: vec![Vec::new(); ranks],
+                seated: vec![false; ranks],
+                left: vec![false; ranks],
+                stalled: false,
+            }),
             woken: (0..ranks).map(|_| Condvar::new()).collect(),
             sizes,
         })
@@ -76,7 +85,7 @@ impl Engine {
     /// # Errors
     ///
     /// BadComm, NotMember, BadSignature, Mismatch, PlacesUsed, BadLength, Full, NoMemory; nothing has changed.
-    pub fn post(&self, rank: u8, comm: u32, call: Call, bytes: &[u8]) -> Result<Request, Refusal> {
+    pub(crate) fn post(&self, rank: u8, comm: u32, call: Call, bytes: &[u8]) -> Result<Request, Refusal> {
         let mut held = self.lock();
         let mut raw = RawRequest::default();
         // SAFETY: the engine is open and this thread has the lock; the bytes are as many as is said.
@@ -92,7 +101,7 @@ impl Engine {
     /// # Errors
     ///
     /// BadComm, NotMember, BadSignature, Mismatch, PlacesUsed, Full, NoMemory; nothing has changed.
-    pub fn init(&self, rank: u8, comm: u32, call: Call) -> Result<Request, Refusal> {
+    pub(crate) fn init(&self, rank: u8, comm: u32, call: Call) -> Result<Request, Refusal> {
         let mut held = self.lock();
         let mut raw = RawRequest::default();
         // SAFETY: the engine is open, and this thread has the lock.
@@ -106,7 +115,7 @@ impl Engine {
     /// # Errors
     ///
     /// As `post`; BadSignature also where there are more than 64 counts.
-    pub fn post_allgatherv(
+    pub(crate) fn post_allgatherv(
         &self,
         rank: u8,
         comm: u32,
@@ -142,7 +151,7 @@ impl Engine {
     /// # Errors
     ///
     /// As `init`; BadSignature also where there are more than 64 counts.
-    pub fn init_allgatherv(&self, rank: u8, comm: u32, ty: Type, counts: &[u32]) -> Result<Request, Refusal> {
+    pub(crate) fn init_allgatherv(&self, rank: u8, comm: u32, ty: Type, counts: &[u32]) -> Result<Request, Refusal> {
         let mut held = self.lock();
         let mut raw = RawRequest::default();
         let many = few(counts)?;
@@ -158,7 +167,7 @@ impl Engine {
     /// # Errors
     ///
     /// Stale, NotPersistent, Active, BadLength, StartsUsed, NoMemory; nothing has changed.
-    pub fn start(&self, request: &Request, bytes: &[u8]) -> Result<(), Refusal> {
+    pub(crate) fn start(&self, request: &Request, bytes: &[u8]) -> Result<(), Refusal> {
         let mut held = self.lock();
         // SAFETY: the engine is open and this thread has the lock; the bytes are as many as is said.
         let code = unsafe { raw::wz_start(&mut held.raw, request.rank, &request.raw, bytes.as_ptr(), bytes.len()) };
@@ -173,7 +182,7 @@ impl Engine {
     /// # Errors
     ///
     /// Stale, NotPersistent, Active; nothing has changed.
-    pub fn free(&self, request: &mut Request) -> Result<(), Refusal> {
+    pub(crate) fn free(&self, request: &mut Request) -> Result<(), Refusal> {
         let mut held = self.lock();
         // SAFETY: the engine is open, and this thread has the lock.
         let code = unsafe { raw::wz_free(&mut held.raw, request.rank, &mut request.raw) };
@@ -185,7 +194,7 @@ impl Engine {
     /// # Errors
     ///
     /// Stale.
-    pub fn phase(&self, request: &Request) -> Result<Phase, Refusal> {
+    pub(crate) fn phase(&self, request: &Request) -> Result<Phase, Refusal> {
         phase(&mut self.lock(), request.rank, &request.raw)
     }
 
@@ -195,7 +204,7 @@ impl Engine {
     /// # Errors
     ///
     /// Stale, BadLength where `out` is shorter than the outcome, and NoMemory; the request can still be completed.
-    pub fn test(&self, request: &mut Request, out: &mut [u8]) -> Result<Option<usize>, Refusal> {
+    pub(crate) fn test(&self, request: &mut Request, out: &mut [u8]) -> Result<Option<usize>, Refusal> {
         self.test_held(&mut self.lock(), request, out)
     }
 
@@ -204,13 +213,13 @@ impl Engine {
     /// # Errors
     ///
     /// Those of `test`, and Stalled where each rank waits or has left; the request can still be completed.
-    pub fn wait(&self, request: &mut Request, out: &mut [u8]) -> Result<usize, Refusal> {
+    pub(crate) fn wait(&self, request: &mut Request, out: &mut [u8]) -> Result<usize, Refusal> {
         let mut held = self.lock();
         loop {
             if let Some(count) = self.test_held(&mut held, request, out)? {
                 return Ok(count);
             }
-            held = self.sleep(held, request.rank, request.raw)?;
+            held = self.sleep(held, request.rank, vec![request.raw])?;
         }
     }
 
@@ -219,7 +228,7 @@ impl Engine {
     /// # Errors
     ///
     /// Stale, NoMemory, and Stalled where each rank waits or has left; the request can still be completed.
-    pub fn wait_bytes(&self, request: &mut Request) -> Result<Vec<u8>, Refusal> {
+    pub(crate) fn wait_bytes(&self, request: &mut Request) -> Result<Vec<u8>, Refusal> {
         let mut out = vec![0; self.room(request)?];
         let count = self.wait(request, &mut out)?;
         out.truncate(count);
@@ -231,7 +240,7 @@ impl Engine {
     /// # Errors
     ///
     /// Those of `wait_bytes`, and BadLength where the outcome isn't made of such elements.
-    pub fn wait_values<T: Element>(&self, request: &mut Request) -> Result<Vec<T>, Refusal> {
+    pub(crate) fn wait_values<T: Element>(&self, request: &mut Request) -> Result<Vec<T>, Refusal> {
         let room = self.room(request)?;
         if room % T::BYTES != 0 {
             return Err(Refusal::BadLength { want: T::BYTES as u32, got: room % T::BYTES });
@@ -259,7 +268,7 @@ impl Engine {
     /// # Errors
     ///
     /// Stale.
-    pub fn outcome_length(&self, request: &Request) -> Result<usize, Refusal> {
+    pub(crate) fn outcome_length(&self, request: &Request) -> Result<usize, Refusal> {
         let mut held = self.lock();
         let mut bytes = 0;
         // SAFETY: the engine is open, and this thread has the lock.
@@ -287,8 +296,18 @@ impl Engine {
         Some(Posted { call, persistent: raw.persistent, counts })
     }
 
+    /// The seat of a rank, for the thread that plays it. None where there is no such rank, or its seat was taken before.
+    pub fn seat(&self, rank: u8) -> Option<Seat<'_>> {
+        let mut held = self.lock();
+        let seated = held.seated.get_mut(usize::from(rank))?;
+        if std::mem::replace(seated, true) {
+            return None;
+        }
+        Some(Seat::new(self, rank))
+    }
+
     /// Says that a rank makes no further call, so that a wait which nobody can end is told.
-    pub fn leave(&self, rank: u8) {
+    pub(crate) fn leave(&self, rank: u8) {
         let mut held = self.lock();
         if let Some(left) = held.left.get_mut(usize::from(rank)) {
             *left = true;
@@ -306,7 +325,7 @@ impl Engine {
         bytes
     }
 
-    /// Sleeps until a request of a rank isn't pending any longer, or progress was refused memory.
+    /// Sleeps until one of these requests of a rank, of which there is one at least, isn't pending any longer, or progress was refused memory.
     ///
     /// # Errors
     ///
@@ -315,15 +334,15 @@ impl Engine {
         &'a self,
         mut held: Guard<'a, Held>,
         rank: u8,
-        request: RawRequest,
+        requests: Vec<RawRequest>,
     ) -> Result<Guard<'a, Held>, Refusal> {
         if held.stalled {
             return Err(Refusal::Stalled);
         }
         let rank = usize::from(rank);
-        held.awaited[rank] = Some(request);
+        held.awaited[rank] = requests;
         self.judge(&mut held);
-        while held.awaited[rank].is_some() {
+        while !held.awaited[rank].is_empty() {
             held = held.wait(&self.woken[rank]);
         }
         Ok(held)
@@ -355,11 +374,14 @@ impl Engine {
         let code = unsafe { raw::wz_settle(&mut held.raw) };
         let settled = answer(code, &held.raw.reason);
         for rank in 0..self.woken.len() {
-            let Some(awaited) = held.awaited[rank] else {
+            let awaited = std::mem::take(&mut held.awaited[rank]);
+            if awaited.is_empty() {
                 continue;
-            };
-            if settled.is_err() || phase(held, rank as u8, &awaited) != Ok(Phase::Pending) {
-                held.awaited[rank] = None;
+            }
+            let waits = |request| phase(held, rank as u8, request) == Ok(Phase::Pending);
+            if settled.is_ok() && awaited.iter().all(waits) {
+                held.awaited[rank] = awaited;
+            } else {
                 self.woken[rank].notify_one();
             }
         }
@@ -368,12 +390,12 @@ impl Engine {
 
     /// Where each rank waits or has left, wakes all.
     fn judge(&self, held: &mut Held) {
-        if !(0..self.woken.len()).all(|rank| held.left[rank] || held.awaited[rank].is_some()) {
+        if !(0..self.woken.len()).all(|rank| held.left[rank] || !held.awaited[rank].is_empty()) {
             return;
         }
         held.stalled = true;
         for rank in 0..self.woken.len() {
-            held.awaited[rank] = None;
+            held.awaited[rank].clear();
             self.woken[rank].notify_one();
         }
     }

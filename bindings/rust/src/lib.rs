@@ -8,12 +8,12 @@
 //! let engine = Engine::of_ranks(4)?;
 //! std::thread::scope(|threads| {
 //!     for rank in 0..4u8 {
-//!         let engine = &engine;
+//!         let seat = engine.seat(rank).unwrap();
 //!         threads.spawn(move || {
 //!             let sum_of_all = Call::allreduce(Op::Sum, Type::I32, 1);
-//!             let mut request = engine.post(rank, 0, sum_of_all, &bytes_of(&[i32::from(rank)])).unwrap();
+//!             let mut request = seat.post(0, sum_of_all, &bytes_of(&[i32::from(rank)])).unwrap();
 //!             // The call is under way: here the rank computes something else.
-//!             assert_eq!(engine.wait_values(&mut request), Ok(vec![6_i32]));
+//!             assert_eq!(seat.wait_values(&mut request), Ok(vec![6_i32]));
 //!         });
 //!     }
 //! });
@@ -22,7 +22,8 @@
 //!
 //! | | |
 //! |---|---|
-//! | [`Engine`] | posts, starts, completes and tells of requests |
+//! | [`Engine`] | what the threads share |
+//! | [`Seat`] | a rank's calls: it posts, starts and completes requests; dropped, the rank has left |
 //! | [`Call`] | a collective: one function for each of MPI's |
 //! | [`Request`], [`List`] | one request, and several that are tested or started together |
 //! | [`bytes_of`], [`values_of`] | numbers as bytes, and back |
@@ -38,6 +39,7 @@ mod lock;
 mod raw;
 mod refusal;
 mod request;
+mod seat;
 
 pub use call::{Call, Kind, Op, Type};
 pub use element::{bytes_of, values_of, Element};
@@ -46,3 +48,4 @@ pub use list::List;
 pub use listing::{ListRefusal, Stopped};
 pub use refusal::{Field, Mismatch, Refusal, Rule};
 pub use request::{About, Limits, Phase, Posted, Request};
+pub use seat::Seat;

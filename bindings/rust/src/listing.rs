@@ -5,7 +5,7 @@ use std::fmt;
 
 use crate::engine::{answer, phase, Engine, Held, PENDING};
 use crate::list::List;
-use crate::raw::{self, RawReason};
+use crate::raw::{self, RawReason, RawRequest};
 use crate::refusal::Refusal;
 use crate::request::Phase;
 
@@ -17,9 +17,12 @@ impl Engine {
     ///
     /// Pending where some are active and none is done. Stale, BadLength where the outcome has more bytes than its span, and
     /// NoMemory; the requests can still be completed.
-    pub fn test_any(&self, list: &mut List, out: &mut [u8]) -> Result<Option<usize>, ListRefusal> {
-        let mut held = self.lock();
-        self.progress(&mut held)?;
+    pub(crate) fn test_any(&self, list: &mut List, out: &mut [u8]) -> Result<Option<usize>, ListRefusal> {
+        self.test_any_held(&mut self.lock(), list, out)
+    }
+
+    fn test_any_held(&self, held: &mut Held, list: &mut List, out: &mut [u8]) -> Result<Option<usize>, ListRefusal> {
+        self.progress(held)?;
         let mut index = 0;
         let (rank, parts) = (list.rank(), list.parts());
         // SAFETY: the engine is open and this thread has the lock; list and memory are as long as is said.
@@ -37,9 +40,12 @@ impl Engine {
     /// # Errors
     ///
     /// Stale, BadLength where an outcome has more bytes than its span, and NoMemory; the requests can still be completed.
-    pub fn test_some(&self, list: &mut List, out: &mut [u8]) -> Result<Option<usize>, ListRefusal> {
-        let mut held = self.lock();
-        self.progress(&mut held)?;
+    pub(crate) fn test_some(&self, list: &mut List, out: &mut [u8]) -> Result<Option<usize>, ListRefusal> {
+        self.test_some_held(&mut self.lock(), list, out)
+    }
+
+    fn test_some_held(&self, held: &mut Held, list: &mut List, out: &mut [u8]) -> Result<Option<usize>, ListRefusal> {
+        self.progress(held)?;
         let mut completed = 0;
         let (rank, parts) = (list.rank(), list.parts());
         // SAFETY: the engine is open and this thread has the lock; list and memory are as long as is said.
@@ -56,7 +62,7 @@ impl Engine {
     /// # Errors
     ///
     /// Pending where one is. Those of `test_some`.
-    pub fn test_all(&self, list: &mut List, out: &mut [u8]) -> Result<(), ListRefusal> {
+    pub(crate) fn test_all(&self, list: &mut List, out: &mut [u8]) -> Result<(), ListRefusal> {
         self.test_all_held(&mut self.lock(), list, out)
     }
 
@@ -65,7 +71,7 @@ impl Engine {
     /// # Errors
     ///
     /// Those of `test_some`, and Stalled where each rank waits or has left; the requests can still be completed.
-    pub fn wait_all(&self, list: &mut List, out: &mut [u8]) -> Result<(), Refusal> {
+    pub(crate) fn wait_all(&self, list: &mut List, out: &mut [u8]) -> Result<(), Refusal> {
         let mut held = self.lock();
         loop {
             match self.test_all_held(&mut held, list, out) {
@@ -73,11 +79,39 @@ impl Engine {
                 Err(ListRefusal::Refused(why)) => return Err(why),
                 Err(ListRefusal::Pending) => {}
             }
-            let rank = list.rank();
-            let mut requests = list.parts().iter().map(|part| part.request);
-            if let Some(pending) = requests.find(|request| phase(&mut held, rank, request) == Ok(Phase::Pending)) {
-                held = self.sleep(held, rank, pending)?;
+            let pending = pending_of(&mut held, list);
+            if let Some(first) = pending.into_iter().next() {
+                held = self.sleep(held, list.rank(), vec![first])?;
             }
+        }
+    }
+
+    /// Completes the lowest request of a list that is done as `test_any` does, and waits for it (`MPI_Waitany`).
+    pub(crate) fn wait_any(&self, list: &mut List, out: &mut [u8]) -> Result<Option<usize>, Refusal> {
+        let mut held = self.lock();
+        loop {
+            match self.test_any_held(&mut held, list, out) {
+                Ok(found) => return Ok(found),
+                Err(ListRefusal::Refused(why)) => return Err(why),
+                Err(ListRefusal::Pending) => {}
+            }
+            let pending = pending_of(&mut held, list);
+            held = self.sleep(held, list.rank(), pending)?;
+        }
+    }
+
+    /// Completes all requests of a list that are done as `test_some` does, and waits until there is one (`MPI_Waitsome`).
+    pub(crate) fn wait_some(&self, list: &mut List, out: &mut [u8]) -> Result<Option<usize>, Refusal> {
+        let mut held = self.lock();
+        loop {
+            match self.test_some_held(&mut held, list, out) {
+                Ok(Some(0)) => {}
+                Ok(found) => return Ok(found),
+                Err(ListRefusal::Refused(why)) => return Err(why),
+                Err(ListRefusal::Pending) => unreachable!("as many as are done were completed"),
+            }
+            let pending = pending_of(&mut held, list);
+            held = self.sleep(held, list.rank(), pending)?;
         }
     }
 
@@ -97,7 +131,7 @@ impl Engine {
     /// # Errors
     ///
     /// The first request whose start is refused, with that refusal; those before it are started.
-    pub fn start_all(&self, list: &mut List, given: &[u8]) -> Result<(), Stopped> {
+    pub(crate) fn start_all(&self, list: &mut List, given: &[u8]) -> Result<(), Stopped> {
         let mut held = self.lock();
         let mut started = 0;
         let (rank, parts) = (list.rank(), list.parts());
@@ -111,6 +145,13 @@ impl Engine {
         self.progress(&mut held).ok();
         answer.map_err(|why| Stopped { at: started, why })
     }
+}
+
+/// The requests of a list that are pending.
+fn pending_of(held: &mut Held, list: &mut List) -> Vec<RawRequest> {
+    let rank = list.rank();
+    let requests = list.parts().iter().map(|part| part.request);
+    requests.filter(|request| phase(held, rank, request) == Ok(Phase::Pending)).collect()
 }
 
 /// Why the test of a list completed nothing.
