@@ -8,6 +8,10 @@ theirs are processes.
 With `samples` behind RUNS each thread of the shim has a processor of its own, for 2 and 4 ranks, and of 400 samples of 40 operations the
 lowest tenth counts: that can be compared on a machine that does other work too. WZ_HEADERS names a folder with other headers.
 
+With `waits` behind RUNS it compares how ranks wait, on the machine as it is and beside as many busy processes as it has processors: medians of small
+operations by 2, 4 and 8 ranks, with the time that nine of ten stay below in brackets, ours and each MPI library's by turns. WZ_BEFORE=HEADERS:LIBRARY adds
+another state of ours, WZ_TRIED="50 200" the shim with other numbers of looks before a thread sleeps.
+
 With `rows` behind RUNS it compares sums of rows of 1 to 256 KiB under the shim instead, where combinations are computed with the lock
 free and where they aren't, by 2 and 4 ranks. With `instructions` it counts those of one thread that plays all ranks, by valgrind.
 
@@ -96,6 +100,73 @@ def instructions(library):
             print(f"{ranks} ranks: {(counts[1] - counts[0]) / 1000:.0f} instructions for an allreduce, a persistent one and a barrier")
 
 
+def busy():
+    """As many processes that do nothing but compute as there are processors."""
+    return [subprocess.Popen([sys.executable, "-c", "while True: pass"]) for _ in range(os.cpu_count() or 1)]
+
+
+def waiters(folder, library):
+    """name -> the command of one run for a number of ranks, each a list of words."""
+    made = {"ours": compiled(folder, library, "ours")}
+    for looks in os.environ.get("WZ_TRIED", "").split():
+        made[f"ours, {looks} looks"] = compiled(folder, library, f"looks{looks}", f"-DWZ_LOOKS={looks}")
+    if "WZ_BEFORE" in os.environ:
+        headers, before = os.environ["WZ_BEFORE"].split(":")
+        os.environ["WZ_HEADERS"] = headers
+        made["before"] = compiled(folder, before, "before")
+        del os.environ["WZ_HEADERS"]
+    commands = {name: lambda ranks, program=program: [program, str(ranks), "0", "waits"] for name, program in made.items()}
+    for name, options in mpi.LIBRARIES.items():
+        if shutil.which(f"mpicc.{name}"):
+            program = os.path.join(folder, name)
+            source = os.path.join(mpi.HERE, "c_interface_mpi.c")
+            subprocess.run([f"mpicc.{name}", "-O2", source, "-o", program], check=True)
+            commands[name] = lambda ranks, name=name, options=options, program=program: [
+                f"mpirun.{name}", *options, "-n", str(ranks), program]
+    return commands
+
+
+def waits(library, runs):
+    """Medians of both, by turns."""
+    environment = dict(os.environ, OMPI_ALLOW_RUN_AS_ROOT="1", OMPI_ALLOW_RUN_AS_ROOT_CONFIRM="1")
+    with tempfile.TemporaryDirectory() as folder:
+        commands = waiters(folder, library)
+        for state in ("as it is", "beside busy processes"):
+            for ranks in (2, 4, 8):
+                processes = busy() if state != "as it is" else []
+                times = {}
+                try:
+                    for _ in range(runs):
+                        for name, command in commands.items():
+                            for measure, half, most in waited(command(ranks), environment):
+                                times.setdefault((measure, name), []).append((half, most))
+                finally:
+                    for process in processes:
+                        process.kill()
+                        process.wait()
+                for measure in dict.fromkeys(key[0] for key in times):
+                    row = (f"{name} {told(column)}" for (other, name), column in times.items() if other == measure)
+                    print(f"{state}, {ranks} ranks, {measure}:", *row, sep="  ", flush=True)
+
+
+def waited(command, environment):
+    """What one run tells; nothing where it isn't through in time."""
+    try:
+        run = subprocess.run(command, check=True, capture_output=True, text=True, timeout=SECONDS, env=environment)
+    except subprocess.TimeoutExpired:
+        return
+    for line in run.stdout.splitlines():
+        measure, numbers = line.split(": ")
+        half, most = numbers.split()
+        yield measure, int(half), int(most)
+
+
+def told(column):
+    """The medians of what runs told, in microseconds."""
+    half, most = (statistics.median(run[i] for run in column) / 1000 for i in (0, 1))
+    return f"{half:.1f} ({most:.1f})"
+
+
 def main():
     library = os.environ.get("WORZSUNAB_LIB", LIBRARY)
     if not os.path.exists(library):
@@ -105,6 +176,8 @@ def main():
         return samples(library, runs)
     if sys.argv[2:] == ["rows"]:
         return rows(library, runs)
+    if sys.argv[2:] == ["waits"]:
+        return waits(library, runs)
     if sys.argv[2:] == ["instructions"]:
         return instructions(library)
     mpi.RANKS = RANKS
