@@ -1,42 +1,51 @@
-/* What one call of a collective says: its signature, and what the rank gives. */
+/* What one call of a collective says, and its line in the record. */
 #ifndef CALLS_H
 #define CALLS_H
 
+#include "known.h"
+
 #include <mpi.h>
 #include <stdbool.h>
+#include <stddef.h>
 
 enum { NO_ROOT = -1, MOST_VALUES = 4096 };
 
-struct call {
-    const char *kind;
-    MPI_Comm comm;
-    int root; /* NO_ROOT for a kind without one */
-    MPI_Op op;
+/* Counts for each member, of int or of MPI_Count. Null for none. */
+struct counts {
+    const void *first;
+    size_t width;
+};
+
+/* One side of a call, what it sends or what it receives. */
+struct side {
+    bool stands; /* whether the call says it */
     MPI_Datatype type;
     long count;
-    const void *given; /* where what the rank gives lies */
-    long blocks;       /* how many times COUNT elements it gives */
-    /* The other side of a call that sends and receives: an element type and a count, or MPI_DATATYPE_NULL. */
-    MPI_Datatype other_type;
-    long other_count;
-    /* Of an allgatherv the counts of all members, in elements of the type received, and how many there are; else null. */
-    const int *counts;
-    MPI_Datatype counted_type;
-    int members, member;
-    const char *remark; /* what the signature can't say, or null */
+    struct counts counts;      /* in place of COUNT */
+    const MPI_Datatype *types; /* in place of TYPE, of MPI_Alltoallw */
 };
 
-/* What a rank gives by a call, now or at each start. */
-struct gift {
-    const char *word; /* the type, or null where zeros stand for the values */
-    const void *given;
+struct call {
+    const char *name; /* behind MPI_, of the blocking form */
+    char form;        /* 'b' blocking, 'n' nonblocking, 'p' persistent */
+    struct context *context;
+    int root; /* NO_ROOT for a call without one */
+    MPI_Op op;
+    struct side sent, got;
+    /* What the rank gives: BLOCKS times COUNT elements. */
+    MPI_Datatype type;
     long count, blocks;
+    const void *given; /* null where zeros are to stand for the values */
 };
 
-/* Writes the comments that a signature needs, then `WORD COMMUNICATOR SIGNATURE` without a line's end. */
-struct gift write_call(const char *word, const char *communicator, const struct call *call);
+long count_at(struct counts counts, int member);
 
-/* Writes what the rank gives behind the words of a `post` or `start`, and ends the line. `~ B` stands for zeros, B times the count. */
+/* Writes `call CONTEXT FORM NAME` and what follows of the arguments, without a line's end: `rROOT`, `oOPERATION`, `sTYPE*COUNT` for what is
+   sent and `gTYPE*COUNT` for what is received, with `,` after the count of each
+   member, or `;` after its type and count. */
+struct gift write_call(const struct call *call);
+
+/* Writes what the rank gives, and ends the line: ` : VALUES`, or ` ~ B` for zeros, B times the count. */
 void write_gift(const struct gift *gift);
 
 #endif

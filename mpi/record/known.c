@@ -3,30 +3,14 @@
 
 #include "log.h"
 
-#include <stdint.h>
 #include <stdio.h>
 #include <stdlib.h>
 #include <string.h>
 
 enum { BUCKETS = 4096, KEY = 64 };
 
-struct communicator {
-    MPI_Comm comm;
-    char *key;
-    int rank, size;
-    long made; /* how many calls have made something of it */
-    struct communicator *next;
-};
-
-/* What groups have made by MPI_Comm_create_group, each by itself: the calls of one group are counted, whoever else makes some. */
-struct group_count {
-    char *key;
-    long made;
-    struct group_count *next;
-};
-
-static struct communicator *communicators;
-static struct group_count *groups;
+static struct context *contexts;
+static int numbers; /* how many contexts this rank has met */
 static struct request *requests[BUCKETS];
 
 static void *must(void *memory) {
@@ -37,49 +21,33 @@ static void *must(void *memory) {
     return memory;
 }
 
-static struct communicator *find(MPI_Comm comm) {
-    for (struct communicator *it = communicators; it; it = it->next)
-        if (it->comm == comm)
+static uint64_t bits_of(const void *handle, size_t bytes) {
+    uint64_t bits = 0;
+    memcpy(&bits, handle, bytes);
+    return bits;
+}
+
+/* The context last asked for comes to the front: most calls ask for the same again. */
+static struct context *find(char kind, uint64_t handle) {
+    for (struct context **it = &contexts; *it; it = &(*it)->next)
+        if ((*it)->handle == handle && (*it)->kind == kind) {
+            struct context *found = *it;
+            *it = found->next;
+            found->next = contexts;
+            contexts = found;
+            return found;
+        }
+    return NULL;
+}
+
+static struct context *find_group(const char *key) {
+    for (struct context *it = contexts; it; it = it->next)
+        if (it->kind == 'g' && !strcmp(it->key, key))
             return it;
     return NULL;
 }
 
-static void take_up(MPI_Comm comm, const char *key) {
-    struct communicator *fresh = must(malloc(sizeof *fresh));
-    *fresh = (struct communicator){.comm = comm, .key = must(strdup(key)), .next = communicators};
-    PMPI_Comm_rank(comm, &fresh->rank);
-    PMPI_Comm_size(comm, &fresh->size);
-    communicators = fresh;
-}
-
-void communicators_begin(int rank) {
-    char self[KEY];
-    snprintf(self, sizeof self, "self.%d", rank);
-    communicator_made(MPI_COMM_SELF, self, "MPI_COMM_SELF");
-    take_up(MPI_COMM_WORLD, "world");
-}
-
-const char *communicator_key(MPI_Comm comm) {
-    struct communicator *known = find(comm);
-    return known ? known->key : NULL;
-}
-
-void communicator_place(MPI_Comm comm, int *rank, int *size) {
-    struct communicator *known = find(comm);
-    *rank = known ? known->rank : 0;
-    *size = known ? known->size : 0;
-}
-
-char *key_of_next(MPI_Comm parent) {
-    struct communicator *known = find(parent);
-    if (!known)
-        return NULL;
-    char *key = must(malloc(strlen(known->key) + KEY));
-    sprintf(key, "%s/%ld", known->key, known->made++);
-    return key;
-}
-
-/* The members' ranks in MPI_COMM_WORLD, or null. Freed by the caller. */
+/* The members' ranks in MPI_COMM_WORLD. Freed by the caller. */
 static int *members_of(MPI_Group group, int size) {
     MPI_Group world;
     int *mine = must(malloc((size_t)(size + 1) * sizeof *mine)), *theirs = must(malloc((size_t)(size + 1) * sizeof *theirs));
@@ -92,84 +60,148 @@ static int *members_of(MPI_Group group, int size) {
     return theirs;
 }
 
-/* How many communicators the bearers of a key have made, before this one. */
-static long count_of(const char *key) {
-    for (struct group_count *it = groups; it; it = it->next)
-        if (!strcmp(it->key, key))
-            return it->made++;
-    struct group_count *fresh = must(malloc(sizeof *fresh));
-    *fresh = (struct group_count){must(strdup(key)), 1, groups};
-    groups = fresh;
-    return 0;
+/* `context NUMBER KIND KEY MAKER MEMBERS`. */
+static void tell_context(const struct context *context, const char *maker) {
+    const char kind[] = {' ', context->kind, ' ', 0};
+    log_text("context ");
+    log_signed(context->number);
+    log_text(kind);
+    log_text(context->key);
+    log_text(" ");
+    log_text(maker);
+    for (int member = 0; member < context->size; member++) {
+        log_text(" ");
+        log_signed(context->members[member]);
+    }
+    log_text("\n");
 }
 
-char *key_of_group(MPI_Comm parent, MPI_Group group, int tag) {
-    struct communicator *known = find(parent);
+static struct context *take_up(char kind, uint64_t handle, MPI_Group group, char *key, const char *maker) {
+    struct context *fresh = must(malloc(sizeof *fresh));
+    *fresh = (struct context){.handle = handle, .kind = kind, .number = numbers++, .key = key, .next = contexts};
+    PMPI_Group_size(group, &fresh->size);
+    PMPI_Group_rank(group, &fresh->rank);
+    fresh->members = members_of(group, fresh->size);
+    contexts = fresh;
+    tell_context(fresh, maker);
+    return fresh;
+}
+
+/* A key with the first member, so that parts that are made at once have different ones. */
+static char *whole_key(const char *key, MPI_Group group) {
+    int first = 0, there;
+    MPI_Group world;
+    PMPI_Comm_group(MPI_COMM_WORLD, &world);
+    PMPI_Group_translate_ranks(group, 1, &first, world, &there);
+    PMPI_Group_free(&world);
+    char *whole = must(malloc(strlen(key) + KEY));
+    sprintf(whole, "%s.%d", key, there);
+    return whole;
+}
+
+static void take_up_group(char kind, uint64_t handle, MPI_Group group, const char *key, const char *maker) {
+    take_up(kind, handle, group, whole_key(key, group), maker);
+    PMPI_Group_free(&group);
+}
+
+void communicator_made(MPI_Comm comm, const char *key, const char *maker) {
+    MPI_Group group;
+    int inter;
+    PMPI_Comm_test_inter(comm, &inter);
+    if (inter)
+        return;
+    PMPI_Comm_group(comm, &group);
+    take_up_group('c', bits_of(&comm, sizeof comm), group, key, maker);
+}
+
+void window_made(MPI_Win window, const char *key, const char *maker) {
+    MPI_Group group;
+    PMPI_Win_get_group(window, &group);
+    take_up_group('w', bits_of(&window, sizeof window), group, key, maker);
+}
+
+void file_made(MPI_File file, const char *key, const char *maker) {
+    MPI_Group group;
+    PMPI_File_get_group(file, &group);
+    take_up_group('f', bits_of(&file, sizeof file), group, key, maker);
+}
+
+void contexts_begin(int rank) {
+    char self[KEY];
+    MPI_Comm world = MPI_COMM_WORLD;
+    MPI_Group group;
+    PMPI_Comm_group(world, &group);
+    take_up('c', bits_of(&world, sizeof world), group, must(strdup("world")), "MPI_COMM_WORLD");
+    PMPI_Group_free(&group);
+    snprintf(self, sizeof self, "self.%d", rank);
+    communicator_made(MPI_COMM_SELF, self, "MPI_COMM_SELF");
+}
+
+struct context *context_of_comm(MPI_Comm comm) { return find('c', bits_of(&comm, sizeof comm)); }
+struct context *context_of_window(MPI_Win window) { return find('w', bits_of(&window, sizeof window)); }
+struct context *context_of_file(MPI_File file) { return find('f', bits_of(&file, sizeof file)); }
+
+char *key_of_next(struct context *parent) {
+    if (!parent)
+        return NULL;
+    char *key = must(malloc(strlen(parent->key) + KEY));
+    sprintf(key, "%s/%ld", parent->key, parent->made++);
+    return key;
+}
+
+struct context *context_of_group(struct context *parent, MPI_Group group, int tag) {
     int size;
-    if (!known || group == MPI_GROUP_NULL)
+    if (!parent || group == MPI_GROUP_NULL)
         return NULL;
     PMPI_Group_size(group, &size);
+    if (!size)
+        return NULL;
     int *members = members_of(group, size);
     /* A hash stands for the members: the same ones in the same order have the same. */
     uint64_t hash = 14695981039346656037u;
     for (int member = 0; member < size; member++)
         hash = (hash ^ (uint64_t)members[member]) * 1099511628211u;
     free(members);
-    char *key = must(malloc(strlen(known->key) + 2 * KEY));
-    int length = sprintf(key, "%s/t%d.%llx", known->key, tag, (unsigned long long)hash);
-    sprintf(key + length, ".%ld", count_of(key));
-    return key;
+    char *key = must(malloc(strlen(parent->key) + 2 * KEY));
+    sprintf(key, "%s/t%d.%llx", parent->key, tag, (unsigned long long)hash);
+    struct context *known = find_group(key);
+    if (!known)
+        return take_up('g', 0, group, key, "MPI_Comm_create_group");
+    free(key);
+    return known;
 }
 
-void communicator_made(MPI_Comm comm, const char *key, const char *maker) {
-    MPI_Group group;
-    int size, inter;
-    if (comm == MPI_COMM_NULL || !key)
-        return;
-    PMPI_Comm_test_inter(comm, &inter);
-    if (inter)
-        return;
-    PMPI_Comm_group(comm, &group);
-    PMPI_Group_size(group, &size);
-    int *members = members_of(group, size);
-    PMPI_Group_free(&group);
-    char *whole = must(malloc(strlen(key) + KEY));
-    sprintf(whole, "%s.%d", key, members[0]);
-    take_up(comm, whole);
-    log_text("comm ");
-    log_text(whole);
-    log_text(" ");
-    log_text(maker);
-    for (int member = 0; member < size; member++) {
-        log_text(" ");
-        log_signed(members[member]);
-    }
-    log_text("\n");
-    free(whole);
-    free(members);
-}
-
-void communicator_freed(MPI_Comm comm) {
-    for (struct communicator **it = &communicators; *it; it = &(*it)->next)
-        if ((*it)->comm == comm) {
-            struct communicator *freed = *it;
-            *it = freed->next;
-            free(freed->key);
-            free(freed);
+void context_gone(struct context *context) {
+    for (struct context **it = &contexts; *it; it = &(*it)->next)
+        if (*it == context) {
+            *it = context->next;
+            free(context->key);
+            free(context->members);
+            free(context);
             return;
         }
 }
 
-static unsigned bucket_of(MPI_Request handle) {
-    uint64_t bits = 0;
-    memcpy(&bits, &handle, sizeof handle);
-    return (unsigned)(bits * UINT64_C(0x9e3779b97f4a7c15) >> 32) % BUCKETS;
+int world_rank(const struct context *context, int peer) {
+    if (peer == MPI_ANY_SOURCE)
+        return ANY_RANK;
+    if (peer == MPI_PROC_NULL)
+        return NO_RANK;
+    bool known = context && peer >= 0 && peer < context->size && context->members[peer] != MPI_UNDEFINED;
+    return known ? context->members[peer] : RANK_UNKNOWN;
 }
 
-struct request *request_made(MPI_Request handle, long number, bool persistent) {
+/* Requests */
+
+static unsigned bucket_of(MPI_Request handle) {
+    return (unsigned)(bits_of(&handle, sizeof handle) * UINT64_C(0x9e3779b97f4a7c15) >> 32) % BUCKETS;
+}
+
+struct request *request_made(MPI_Request handle, long number, bool persistent, struct awaited awaited) {
     struct request *fresh = must(malloc(sizeof *fresh));
     unsigned bucket = bucket_of(handle);
-    *fresh = (struct request){.handle = handle, .number = number, .persistent = persistent, .next = requests[bucket]};
+    awaited.form = 1;
+    *fresh = (struct request){.handle = handle, .number = number, .persistent = persistent, .active = !persistent, .awaited = awaited, .next = requests[bucket]};
     requests[bucket] = fresh;
     return fresh;
 }

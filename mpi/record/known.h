@@ -1,45 +1,74 @@
-/* The communicators and the requests of the program that the recorder follows. */
+/* The contexts and the requests of the program that the recorder follows. A context is what has an order of collective calls of its own: a
+   communicator, a window or a file. */
 #ifndef KNOWN_H
 #define KNOWN_H
 
-#include "calls.h"
+#include "now.h"
 
 #include <mpi.h>
 #include <stdbool.h>
+#include <stdint.h>
+
+enum { NO_REQUEST = -1 };
+
+struct context {
+    uint64_t handle;
+    char kind;       /* 'c' for a communicator, 'w' for a window, 'f' for a file, 'g' for a group that makes a communicator */
+    int number;      /* of this rank */
+    char *key;       /* the same at all members, and no other's in the run */
+    int rank, size;  /* this rank's number among the members */
+    int *members;    /* their ranks in MPI_COMM_WORLD */
+    long made;       /* how many calls have made a context of it */
+    long calls;      /* how many calls have a place in its order */
+    struct context *next;
+};
 
 /* Takes up MPI_COMM_WORLD and MPI_COMM_SELF. */
-void communicators_begin(int rank);
+void contexts_begin(int rank);
 
-/* The key of a communicator: the same at all of its members, and no other's in the run. Null where the maker wasn't recorded. */
-const char *communicator_key(MPI_Comm comm);
+/* The context of a handle, or null where its maker wasn't recorded, and for an intercommunicator. */
+struct context *context_of_comm(MPI_Comm comm);
+struct context *context_of_window(MPI_Win window);
+struct context *context_of_file(MPI_File file);
 
-/* This rank's number among the members, and how many there are; 0 and 0 where the maker wasn't recorded. */
-void communicator_place(MPI_Comm comm, int *rank, int *size);
+/* The context of a group whose members alone make a communicator of PARENT with TAG, or null. */
+struct context *context_of_group(struct context *parent, MPI_Group group, int tag);
 
-/* The key of what all of a parent's members make together by their next such call, still without the first member. Freed by the caller. */
-char *key_of_next(MPI_Comm parent);
+/* The key of what all members of a context make together by their next such call, still without the first member. Freed by the caller. */
+char *key_of_next(struct context *parent);
 
-/* The key of what a group alone makes. Freed by the caller. */
-char *key_of_group(MPI_Comm parent, MPI_Group group, int tag);
-
-/* Takes up a communicator and tells the file its members. MAKER is the name of the call that made it. */
+/* Takes up what was made, and tells the file its members. MAKER is the name of the call that made it. */
 void communicator_made(MPI_Comm comm, const char *key, const char *maker);
-void communicator_freed(MPI_Comm comm);
+void window_made(MPI_Win window, const char *key, const char *maker);
+void file_made(MPI_File file, const char *key, const char *maker);
+void context_gone(struct context *context);
+
+/* The rank in MPI_COMM_WORLD of a message's peer. */
+int world_rank(const struct context *context, int peer);
+
+/* The values that each start of a persistent collective gives. */
+struct gift {
+    const char *word; /* the type, or null where zeros stand for the values */
+    const void *given;
+    long count, blocks;
+};
 
 struct request {
     MPI_Request handle;
-    long number; /* among the posts and initialisations of this rank; -1 for a communicator under way */
+    long number; /* among the collective requests of this rank; NO_REQUEST for a message */
     bool persistent;
-    struct gift gift;    /* what each start of a persistent one gives */
-    MPI_Comm *made;      /* of a communicator under way */
-    char *key;           /* likewise */
+    bool active; /* false of a persistent one between its completion and its start */
+    struct gift gift;
+    MPI_Comm *made; /* of a communicator under way */
+    char *key;      /* likewise */
+    struct awaited awaited;
     unsigned long named; /* the last completion call that named it */
     unsigned long told;  /* the last row of tests in which a test of it was written */
     long untold;         /* the tests of it since then that weren't */
     struct request *next;
 };
 
-struct request *request_made(MPI_Request handle, long number, bool persistent);
+struct request *request_made(MPI_Request handle, long number, bool persistent, struct awaited awaited);
 
 /* The request of a handle that the completion call of number NAMING hasn't named yet, or null. Some libraries have one handle for
    several requests that are complete from the start. */

@@ -2,11 +2,9 @@
 #define _GNU_SOURCE
 #include "log.h"
 
-#include <dlfcn.h>
 #include <errno.h>
-#include <execinfo.h>
 #include <fcntl.h>
-#include <stdint.h>
+#include <pthread.h>
 #include <stdio.h>
 #include <stdlib.h>
 #include <string.h>
@@ -14,7 +12,9 @@
 #include <sys/stat.h>
 #include <unistd.h>
 
-enum { WINDOW = 1 << 20, PLACES = 4096, FRAMES = 24 };
+enum { WINDOW = 1 << 20 };
+
+static pthread_mutex_t mutex = PTHREAD_MUTEX_INITIALIZER;
 
 /* The part of the file that is mapped. */
 static struct {
@@ -24,13 +24,8 @@ static struct {
     off_t begin;
 } window = {.file = -1};
 
-/* The return addresses that were met, by hash. A number of 0 is an empty slot. */
-static struct {
-    void *address;
-    int number;
-    bool fortran;
-} places[PLACES];
-static int known_places;
+void log_lock(void) { pthread_mutex_lock(&mutex); }
+void log_unlock(void) { pthread_mutex_unlock(&mutex); }
 
 static void give_up(const char *what) {
     fprintf(stderr, "record: %s: %s; nothing further is recorded\n", what, strerror(errno));
@@ -70,7 +65,7 @@ static void put(const char *bytes, size_t length) {
     window.used += length;
 }
 
-bool log_open(const char *folder, int rank, int size, long run) {
+bool log_open(const char *folder, int rank, int size, long run, const char *library) {
     char path[4096];
     if (mkdir(folder, 0777) && errno != EEXIST) {
         fprintf(stderr, "record: the folder %s can't be made: %s; rank %d isn't recorded\n", folder, strerror(errno), rank);
@@ -83,7 +78,7 @@ bool log_open(const char *folder, int rank, int size, long run) {
         return false;
     }
     move_window();
-    snprintf(path, sizeof path, "record 1 rank %d of %d run %ld\n", rank, size, run);
+    snprintf(path, sizeof path, "record 2 rank %d of %d run %ld library %s\n", rank, size, run, library);
     log_text(path);
     return log_stands();
 }
@@ -119,69 +114,4 @@ void log_signed(long long number) {
     if (number < 0)
         put("-", 1);
     log_unsigned(number < 0 ? 0 - (unsigned long long)number : (unsigned long long)number);
-}
-
-static bool lies_in_fortran(const Dl_info *module) {
-    const char *name = strrchr(module->dli_fname, '/');
-    name = name ? name + 1 : module->dli_fname;
-    return strstr(name, "libmpi_mpifh") || strstr(name, "libmpi_usempi") || strstr(name, "libmpichfort");
-}
-
-/* The slot of an address. A new one is numbered, and the file is told where it lies. */
-static int slot_of(void *address) {
-    unsigned slot = (unsigned)((uintptr_t)address * UINT64_C(0x9e3779b97f4a7c15) >> 32) % PLACES;
-    while (places[slot].number && places[slot].address != address)
-        slot = (slot + 1) % PLACES;
-    if (places[slot].number)
-        return (int)slot;
-    Dl_info module;
-    bool found = dladdr(address, &module) && module.dli_fname;
-    /* The last free slot ends every search, so it is written anew for each address. */
-    if (known_places < PLACES - 1)
-        places[slot].number = ++known_places;
-    places[slot].address = address;
-    places[slot].fortran = found && lies_in_fortran(&module);
-    return (int)slot;
-}
-
-bool log_is_fortran(void *caller) { return places[slot_of(caller)].fortran; }
-
-/* The first frame above the caller that doesn't lie between the program and the C interface. */
-static void *frame_above(void *caller) {
-    void *frames[FRAMES];
-    int count = backtrace(frames, FRAMES), frame = 0;
-    while (frame < count && frames[frame] != caller)
-        frame++;
-    while (frame < count && log_is_fortran(frames[frame]))
-        frame++;
-    return frame < count ? frames[frame] : caller;
-}
-
-/* Module and offset of an address, for join.py: both as it stands in memory, and behind the module's begin. */
-static void tell_place(void *address, int number) {
-    char line[4600], program[4096] = "";
-    Dl_info module;
-    uintptr_t before = (uintptr_t)address - 1;
-    if (!dladdr(address, &module) || !module.dli_fname)
-        return;
-    /* The program itself has the name by which it was called, which says nothing in another folder. */
-    bool named = module.dli_fname[0] == '/' || readlink("/proc/self/exe", program, sizeof program - 1) < 0;
-    snprintf(line, sizeof line, "place %d %#lx %#lx %s\n", number, (unsigned long)before,
-             (unsigned long)(before - (uintptr_t)module.dli_fbase), named ? module.dli_fname : program);
-    log_text(line);
-}
-
-void log_place(void *caller) {
-    static bool told[PLACES + 1];
-    if (!log_stands())
-        return;
-    void *address = log_is_fortran(caller) ? frame_above(caller) : caller;
-    int number = places[slot_of(address)].number;
-    if (!told[number]) {
-        tell_place(address, number);
-        told[number] = number != 0;
-    }
-    log_text("@");
-    log_unsigned((unsigned)number);
-    log_text("\n");
 }

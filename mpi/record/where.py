@@ -1,156 +1,182 @@
 #!/usr/bin/env python3
-"""Judges a recorded job text, and tells where in the program its fault stands:
+"""Tells what is wrong with a recorded program, and where:
 
-    mpi/record/where.py TEXT
+    mpi/record/where.py FOLDER    of the records in a folder
+    mpi/record/where.py TEXT      of a text that join.py made of them, alone
 
-First comes the line of `colljob plain`; behind it the place of that call, and for calls that don't agree that of the other one. Where the
-text has no fault, `colljob explain --strict` says whether its ranks can wait for one another, also where only another library lets them:
-MPI lets a program rely on nothing better. The oracle is ./colljob at the top of the repository, or the program that --colljob or the
-variable COLLJOB names. The status is 1 where the text has a fault or may stall.
+Of a folder it tells first what isn't there: which ranks didn't come to MPI_Finalize, and where each of them stands. Then come the first
+place of each communicator, window and file at which the ranks' calls differ, over all calls, and ranks that wait for one another. Where
+nothing of that is found, `colljob explain --strict` says of a text of the calls whether the ranks can wait for one another, also where only
+another library lets them: MPI lets a program rely on nothing better.
+
+The oracle is ./colljob at the top of the repository, or the program that --colljob or the variable COLLJOB names. The status is 0 where
+all is there and no fault, 1 where there is a fault or a wait without end, 2 where nothing could be read, and 3 where nothing was found in
+what is there, and something isn't.
 """
 
 import argparse
-import collections
 import os
-import re
-import subprocess
 import sys
 
+import text_places
+from differences import Contexts, Judge, difference_lines
+from job_text import Job
+from records import Places, Unreadable, rank_words, read_records
+from standing import Standings
+
 HERE = os.path.dirname(os.path.abspath(__file__))
-
-# The comment that tells where a call stands.
-PLACE = re.compile(r"# (\S+:\d+|\S+ 0x[0-9a-f]+(, in .*)?|place unknown)")
-
-Call = collections.namedtuple("Call", "line rank words where communicator place request")
+MOST_TOLD, MOST_WINDOWS = 3, 8
 
 
-class Text:
-    """The lines of a text, and the place in the program that the comment above each tells."""
+class Report:
+    """What is told of a folder of records."""
 
-    def __init__(self, path):
-        self.path, self.calls, self.ranks = path, [], 0
-        self.members = []
-        with open(path) as file:
-            self.read(file)
+    def __init__(self, folder, program):
+        self.folder, self.program = folder, program
+        self.records = read_records(folder)
+        self.places = Places(self.records)
+        self.contexts = Contexts(self.records, self.places)
+        self.judge = Judge(self.records, self.contexts)
+        self.standings = Standings(folder, self.records, self.contexts, self.places)
+        self.size = next(iter(self.records.values())).size
+        self.missing = False
 
-    def read(self, file):
-        rank, where, next_request, next_place = None, None, collections.Counter(), collections.Counter()
-        for number, line in enumerate(file, 1):
-            words = line.split()
-            if line.startswith("# "):
-                # Other comments explain. The wait of a blocking call has no place of its own.
-                where = line[2:].strip() if PLACE.fullmatch(line.strip()) else where
-            elif words[:1] == ["ranks"]:
-                self.ranks = int(words[1])
-                self.members.append(list(range(self.ranks)))
-            elif words[:1] == ["comm"]:
-                self.members.append([int(word) for word in words[1:]])
-            elif words[:1] == ["rank"]:
-                rank, where = int(words[1]), None
-            elif words:
-                communicator = place = request = None
-                if words[0] in ("post", "init") and len(words) > 1 and words[1].isdigit():
-                    communicator, request = int(words[1]), next_request[rank]
-                    place = next_place[rank, communicator]
-                    next_request[rank] += 1
-                    next_place[rank, communicator] += 1
-                self.calls.append(Call(number, rank, words, where, communicator, place, request))
+    def tell(self):
+        self.tell_what_is_there()
+        faults = self.tell_differences()
+        circle = self.tell_circle()
+        if faults or circle:
+            return 1
+        if self.several_threads():
+            print("stalls aren't judged: several threads of a rank call on one communicator, and what was recorded is one order of many")
+            return 3
+        return self.tell_stalls()
 
-    def at(self, number):
-        return next((call for call in self.calls if call.line == number), None)
+    # What is there
 
-    def posts(self):
-        return [call for call in self.calls if call.request is not None]
+    def lack(self, words):
+        self.missing = True
+        print(words)
 
+    def tell_what_is_there(self):
+        calls = sum(len(it) for record in self.records.values() for it in record.calls.values())
+        print(f"{self.folder}: {self.size} rank{'s' if self.size > 1 else ''}, {calls} collective calls")
+        absent = [rank for rank in range(self.size) if rank not in self.records]
+        if absent:
+            self.lack(f"no record of {rank_words(absent)}: what these called isn't known")
+        if self.standings.open:
+            self.lack(f"{rank_words(self.standings.open)} didn't come to MPI_Finalize, so what follows is judged by what is there:")
+            for line in self.standings.lines():
+                print(f"  {line}")
+        unknown = sum(sum(record.unknown.values()) for record in self.records.values())
+        if unknown:
+            self.lack(f"not judged: {unknown} calls on communicators whose makers aren't recorded, or between two groups")
 
-def tell(call, head):
-    words = call.words[: call.words.index(":")] if ":" in call.words else call.words
-    print(f"  {head}rank {call.rank}, {call.where or 'place unknown'}: {' '.join(words)}")
+    # Differences
 
+    def tell_differences(self):
+        faults = self.judge.faults()
+        for fault in faults[:MOST_TOLD]:
+            sure = self.judge.has_order(fault.key)
+            print("fault: " + "\n".join(difference_lines(fault, self.contexts, self.records, self.places)) if sure else self.unsure(fault))
+        if len(faults) > MOST_TOLD:
+            print(f"{len(faults) - MOST_TOLD} further communicators, windows or files have faults")
+        for warning in self.judge.warnings()[:MOST_TOLD]:
+            print("warning: " + "\n".join(difference_lines(warning, self.contexts, self.records, self.places)) + self.letter(warning))
+        return [fault for fault in faults if self.judge.has_order(fault.key)]
 
-def tell_mismatch(text, line):
-    call = text.at(line)
-    first = next(it for it in text.posts() if (it.communicator, it.place) == (call.communicator, call.place))
-    tell(call, "")
-    tell(first, "doesn't agree with ")
-    differing = [it for it in text.posts() if (it.communicator, it.place) == (call.communicator, call.place) and signature(it) == signature(call)]
-    if len(differing) > 1:
-        print(f"  {len(differing)} ranks call the former, so the latter may be the wrong one")
+    @staticmethod
+    def letter(warning):
+        if warning.lacking:
+            return "\n  = MPI wants it of all members, though no library waits for it"
+        return "\n  = these are alike here, though MPI lets only the same types meet (MPI 4.1, 3.3.1)"
 
+    def unsure(self, fault):
+        self.missing = True
+        lines = difference_lines(fault, self.contexts, self.records, self.places)
+        return "not sure: several threads of a rank call on it, and the order that was recorded is one of many: " + "\n".join(lines)
 
-def signature(call):
-    return call.words[: call.words.index(":")] if ":" in call.words else call.words
+    def several_threads(self):
+        return any(not self.judge.has_order(key) for key in self.contexts.known)
 
+    def tell_circle(self):
+        blocked = self.standings.blocked()
+        if blocked:
+            lines, _ = self.standings.circle_lines(blocked)
+            print("\n".join(lines))
+            return True
+        waited = self.standings.waited_for()
+        if waited:
+            print(f"others wait for {rank_words(waited)}, which {'waits' if len(waited) == 1 else 'wait'} for none as far as is known")
+        return False
 
-def tell_missing(text):
-    """The places of each communicator that some members lack, from the first one on."""
-    made = collections.defaultdict(dict)
-    for call in text.posts():
-        made[call.communicator, call.place][call.rank] = call
-    for (communicator, place), calls in sorted(made.items()):
-        lacking = [rank for rank in text.members[communicator] if rank not in calls]
-        if lacking:
-            print(f"  communicator {communicator}: rank {', '.join(map(str, lacking))} made {place} calls, and others made more; the next is")
-            tell(next(iter(calls.values())), "")
-            return
+    # Stalls
 
+    def tell_stalls(self):
+        """What colljob says of the calls, window by window."""
+        job = Job(self.records, self.contexts, self.places, self.judge)
+        if not os.path.exists(self.program):
+            print(f"no fault found in the calls; whether ranks can wait for one another wasn't asked: there is no {self.program}")
+            return 3
+        first, windows = 0, 0
+        while first is not None and windows < MOST_WINDOWS:
+            job.notes = [note for note in job.notes if "place" not in note]
+            lines = job.fitting_text(first)
+            if lines is None:
+                self.lack("stalls aren't judged: " + "; ".join(job.notes))
+                return 3
+            status = self.tell_window(job, lines)
+            if status:
+                return status
+            first, windows = job.next, windows + 1
+        return self.tell_no_fault(job, first, windows)
 
-def tell_starts(text):
-    """The first place where members have started different numbers of times."""
-    starts = collections.Counter((call.rank, int(call.words[1])) for call in text.calls if call.words[0] == "start")
-    for call in text.posts():
-        numbers = {it.rank: starts[it.rank, it.request] for it in text.posts() if (it.communicator, it.place) == (call.communicator, call.place)}
-        if call.words[0] == "init" and len(set(numbers.values())) > 1:
-            tell(call, "")
-            print("  its starts: " + ", ".join(f"rank {rank} {count}" for rank, count in sorted(numbers.items())))
-            return
+    def tell_window(self, job, lines):
+        path = os.path.join(self.folder, "job.text")
+        with open(path, "w") as file:
+            file.write("\n".join([f"# {note}" for note in job.incomplete() + job.notes] + lines) + "\n")
+        verdict = text_places.judge(path, self.program)
+        if verdict.fault:
+            print(f"fault: {verdict.fault}")
+        elif verdict.stalls:
+            head = "with what these ranks never reached added as it must be if all agree, " if self.standings.open else ""
+            print(f"{head}colljob explain says of {path}:")
+        if verdict.fault or verdict.stalls:
+            print("\n".join(verdict.lines))
+            return 1
+        if verdict.unknown:
+            self.lack(f"whether ranks can wait for one another isn't known: see colljob explain {path}")
+        return 0
 
-
-# A line of `colljob explain` that shows a line of the text.
-SHOWN = re.compile(r" *(\d+) \| \S.*")
-
-
-def tell_stall(text, program):
-    """What `colljob explain` says of a text without a fault, with the places in the program; whether it may stall."""
-    run = subprocess.run([program, "explain", "--strict", text.path], capture_output=True, text=True)
-    if run.returncode not in (0, 3, 6):
-        sys.exit(run.stderr.strip() or f"{program} ended with status {run.returncode}")
-    for line in run.stdout.splitlines():
-        shown = SHOWN.fullmatch(line)
-        call = text.at(int(shown[1])) if shown else None
-        print(f"{line}    # {call.where}" if call and call.where else line)
-    return run.returncode != 0
+    def tell_no_fault(self, job, first, windows):
+        left = [note for note in job.notes if not note.startswith("left out: what stands")]
+        for note in left:
+            self.lack(f"not judged for stalls: {note}")
+        if first is not None:
+            self.lack(f"not judged for stalls: what stands at place {first} or after it on its communicator")
+        if windows > 1:
+            print(f"judged for stalls in {windows} texts, each by itself")
+        if self.missing:
+            print("no fault found in what is there")
+            return 3
+        print("no fault, and no run stalls")
+        return 0
 
 
 def main():
-    parser = argparse.ArgumentParser(description="Tells where in the program the fault of a recorded text stands.")
-    parser.add_argument("text")
-    parser.add_argument("--colljob", default=os.environ.get("COLLJOB", os.path.join(HERE, "..", "..", "colljob")), metavar="PROGRAM")
+    parser = argparse.ArgumentParser(description="Tells what is wrong with a recorded program, and where.", epilog="status 0: no fault; 1: a fault or a wait without end; 2: nothing to read; 3: nothing found, and something isn't there")
+    parser.add_argument("folder", metavar="FOLDER-OR-TEXT")
+    parser.add_argument("--colljob", default=os.environ.get("COLLJOB", os.path.normpath(os.path.join(HERE, "..", "..", "colljob"))), metavar="PROGRAM")
     words = parser.parse_args()
-    if not os.path.isfile(words.text):
-        sys.exit(f"{words.text}: no such file")
-    run = subprocess.run([words.colljob, "plain", words.text], capture_output=True, text=True)
-    fault = re.search(r"line (\d+): (.*)", run.stderr)
-    text = Text(words.text)
-    if run.returncode and not fault:
-        sys.exit(run.stderr.strip() or f"{words.colljob} ended with status {run.returncode}")
-    if fault:
-        print(run.stderr.strip())
-        tell_fault(text, int(fault[1]), fault[2])
-        sys.exit(1)
-    print(f"{words.text}: no fault")
-    sys.exit(1 if tell_stall(text, words.colljob) else 0)
-
-
-def tell_fault(text, line, cause):
-    if cause == "place mismatch":
-        tell_mismatch(text, line)
-    elif cause == "place missing":
-        tell_missing(text)
-    elif cause == "start missing":
-        tell_starts(text)
-    elif text.at(line):
-        tell(text.at(line), "")
+    try:
+        if os.path.isdir(words.folder):
+            status = Report(words.folder, words.colljob).tell()
+        else:
+            status = text_places.tell(words.folder, words.colljob)
+    except Unreadable as why:
+        print(why, file=sys.stderr)
+        status = 2
+    sys.exit(status)
 
 
 if __name__ == "__main__":

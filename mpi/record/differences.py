@@ -1,0 +1,138 @@
+"""Finds, straight from the records and over all calls, where the ranks' calls of a context differ."""
+
+import collections
+
+from agreement import BY_LETTER, Disagreement, compare, call_words
+from records import rank_words
+
+# What a rank that came to its end may have left out without harm.
+FREES = {"Comm_free", "Comm_disconnect", "Win_free", "File_close"}
+
+
+class Difference:
+    """A place of a context at which the calls differ, or one lacks."""
+
+    def __init__(self, key, index, what, calls, how, lacking=(), of=0):
+        self.key, self.index, self.what, self.calls, self.how, self.lacking, self.of = key, index, what, calls, how, list(lacking), of
+
+    def is_fault(self):
+        return self.how > BY_LETTER
+
+
+class Contexts:
+    """The contexts of all ranks, by their keys."""
+
+    def __init__(self, records, places):
+        self.records, self.places, self.known = records, places, {}
+        for rank, record in records.items():
+            for context in record.contexts.values():
+                if context.key not in self.known or not self.known[context.key][1].place:
+                    self.known[context.key] = (rank, context)
+
+    def members(self, key):
+        return self.known[key][1].members
+
+    def name(self, key):
+        """How a context is told."""
+        rank, context = self.known[key]
+        if context.maker in ("MPI_COMM_WORLD", "MPI_COMM_SELF"):
+            return context.maker
+        where = self.places.name(self.records[rank], context.place)
+        kind = {"c": "communicator", "w": "window", "f": "file", "g": "group"}[context.kind]
+        members = rank_words(context.members) if len(context.members) < len(self.known["world"][1].members) else "all ranks"
+        return f"the {kind} of {context.maker}{', ' + where if where else ''} ({members})"
+
+    def in_order(self):
+        """Parents before what was made of them, and in the order of their making."""
+        return sorted(self.known, key=lambda key: [[int(it) if it.isdigit() else 0 for it in part.split(".")] for part in key.split("/")])
+
+    def operation_words(self, record, operation):
+        return "an operation of the program" if operation.name in ("user", "?") else operation.name
+
+
+class Judge:
+    """Compares all calls of all contexts."""
+
+    def __init__(self, records, contexts):
+        self.records, self.contexts, self.compared = records, contexts, {}
+        self.made = collections.Counter()
+        self.found = [difference for key in contexts.in_order() for difference in self.judge(key)]
+
+    def faults(self):
+        return [it for it in self.found if it.is_fault()]
+
+    def warnings(self):
+        return [it for it in self.found if not it.is_fault()]
+
+    def has_order(self, key):
+        """False where several threads of a rank call on a context: what was recorded is one order of several."""
+        return all(len(record.threads.get(key, ())) < 2 for record in self.records.values())
+
+    def judge(self, key):
+        """The first fault of a context, and before it a warning."""
+        members = self.contexts.members(key)
+        calls = {rank: self.records[rank].calls.get(key, []) for rank in members if rank in self.records}
+        most = max((len(it) for it in calls.values()), default=0)
+        self.made[key] = most
+        found = []
+        if len(members) < 2:
+            members = members[:1]
+        for index in range(most):
+            here = {rank: it[index] for rank, it in calls.items() if index < len(it)}
+            difference = self.compare(key, members, index, here, most) or self.lack(key, index, here, calls, most)
+            if difference and (difference.is_fault() or not found):
+                found.append(difference)
+            if difference and (difference.is_fault() or difference.lacking):
+                return found
+        return found + self.judge_starts(key, calls, most)
+
+    def compare(self, key, members, index, here, most):
+        alike = tuple(here[rank].call if rank in here else None for rank in members)
+        known = tuple(map(id, alike))
+        if known not in self.compared:
+            self.compared[known] = compare({member: call for member, call in enumerate(alike) if call})
+        found = self.compared[known]
+        if not found:
+            return None
+        what, told = found.what, found.members
+        for member in told or ():
+            what = what.replace(f"%{member} ", f"rank {members[member]} ").replace(f"%{member},", f"rank {members[member]},")
+        calls = {rank: command for rank, command in here.items() if told is None or members.index(rank) in told}
+        return Difference(key, index, what, calls, found.how, of=most)
+
+    def lack(self, key, index, here, calls, most):
+        """That a rank which came to its end has no call there."""
+        lacking = [rank for rank in calls if rank not in here and self.records[rank].ended]
+        if not lacking:
+            return None
+        harmless = all(command.call.name in FREES for command in here.values())
+        what = f"{rank_words(lacking)} {'comes' if len(lacking) == 1 else 'come'} to MPI_Finalize without it"
+        return Difference(key, index, what, here, BY_LETTER if harmless else 2, lacking, most)
+
+    def judge_starts(self, key, calls, most):
+        """The first persistent call that a rank which came to its end has started fewer times than another."""
+        starts = {rank: collections.Counter(number for command in self.records[rank].commands if command.word == "start" for number in command.numbers) for rank in calls}
+        for index in range(most):
+            here = {rank: it[index] for rank, it in calls.items() if index < len(it) and it[index].call.form == "p"}
+            numbers = {rank: starts[rank][command.request] for rank, command in here.items()}
+            if any(self.records[rank].ended and count < max(numbers.values()) for rank, count in numbers.items()):
+                shown = ", ".join(f"rank {rank} {count}" for rank, count in numbers.items())
+                return [Difference(key, index, f"the numbers of starts differ: {shown}", here, 2, of=most)]
+        return []
+
+
+def difference_lines(difference, contexts, records, places):
+    """A difference as it is told: what differs, and the calls of the ranks, those alike together."""
+    lines = [f"call {difference.index + 1} on {contexts.name(difference.key)}: {difference.what}"]
+    alike = collections.defaultdict(list)
+    for rank, command in difference.calls.items():
+        record = records[rank]
+        words = call_words(command.call, lambda op: contexts.operation_words(record, op))
+        refused = "; the library refused it" if command.refused else ""
+        alike[f"{words}, {places.name(record, command.place) or 'place unknown'}{refused}"].append(rank)
+    lines += [f"  {rank_words(ranks)}: {words}" for words, ranks in alike.items()]
+    for rank in difference.lacking:
+        made = records[rank].calls.get(difference.key, [])
+        last = f", the last at {places.name(records[rank], made[-1].place) or 'place unknown'}" if made else ""
+        lines.append(f"  rank {rank}: made {len(made)} calls on it{last}")
+    return lines

@@ -1,0 +1,360 @@
+"""The job text of a record: what colljob judges. What the profile doesn't have is said by what it has, with zeros for values."""
+
+import collections
+
+from agreement import SAME, call_name, compare_data, part
+from records import NO_TYPE, rank_words
+
+MOST_RANKS, MOST_COMMUNICATORS, MOST_REQUESTS, MOST_TEXT = 64, 16, 4096, 1048576
+MOST_COUNT, MOST_BYTES = 65536, 16777216
+# Values of longer rows aren't in a record. Where a text becomes too long, shorter rows lose theirs too.
+LONGEST = [4096, 1024, 256, 64, 16, 4]
+WIDTHS = {"i8": 1, "u8": 1, "byte": 1, "i16": 2, "u16": 2, "i32": 4, "u32": 4, "i64": 8, "u64": 8, "2int": 8}
+ENDLESS = 1 << 60
+
+KINDS = {"Barrier": "barrier", "Bcast": "bcast", "Gather": "gather", "Scatter": "scatter", "Allgather": "allgather", "Allgatherv": "allgatherv", "Alltoall": "alltoall",
+         "Reduce": "reduce", "Allreduce": "allreduce", "Reduce_scatter_block": "rsblock", "Scan": "scan", "Exscan": "exscan"}
+# Those with a count for each member stand with no bytes, so only root and kind are there.
+UNEVEN = {"Gatherv": "gather", "Scatterv": "scatter", "Alltoallv": "alltoall", "Alltoallw": "alltoall"}
+# Calls that make something of all members wait for all of them; what other calls do, MPI leaves open, so no wait stands for it.
+WAITED = {"Comm_dup", "Comm_dup_with_info", "Comm_split", "Comm_split_type", "Comm_create", "Comm_create_group", "Cart_create", "Cart_sub", "Graph_create", "Dist_graph_create",
+          "Dist_graph_create_adjacent", "Intercomm_create", "Win_create", "Win_allocate", "Win_allocate_shared", "Win_create_dynamic", "Win_free", "File_open"}
+OPERATIONS = {"MPI_" + word.upper(): word for word in "max min sum prod land lor lxor band bor bxor maxloc minloc".split()}
+
+# A call in the words of the profile: COUNTS has one for each member of an allgatherv, none of a barrier; EXACT says whether values may
+# stand; WAITS whether a blocking call waits there.
+Signature = collections.namedtuple("Signature", "kind root operation word counts exact waits why")
+
+
+def signature_of(call, member, size):
+    """How a call of a member stands in a text."""
+    waits = call.form == "b"
+    if call.name not in KINDS and call.name not in UNEVEN and call.name != "Reduce_scatter":
+        return Signature("barrier", None, None, None, [], False, waits and call.name in WAITED, f"{call_name(call.form, call.name)} stands as a barrier" + ("" if call.name in WAITED else " without a wait"))
+    if call.name == "Barrier":
+        return Signature("barrier", None, None, None, [], True, waits, None)
+    if call.name in UNEVEN:
+        return Signature(UNEVEN[call.name], call.root, None, "byte", [0], False, waits, f"{call_name(call.form, call.name)} stands without its counts")
+    if call.name == "Reduce_scatter":
+        return combined(call, "rsblock", call.sent.types[0], sum(call.sent.counts), waits, "the counts of MPI_Reduce_scatter stand as their sum, with zeros")
+    kind, count = own_data(call, member)
+    if wrong_by_itself(call, member):
+        amount = sum(side_bytes(side, member) for side in (call.sent, call.got) if side)
+        why = "WRONG: what this call sends and what it receives differ; both together stand as bytes"
+        counts = [amount if it == member else side_bytes(call.got, it) for it in range(size)] if call.name == "Allgatherv" else [amount]
+        return Signature(KINDS[call.name], call.root, None, "byte", counts, False, waits, why)
+    if call.op:
+        return combined(call, KINDS[call.name], kind, count, waits, None)
+    counts = [part(call.got, it)[1] * kind_of(call.got, it).each for it in range(size)] if call.name == "Allgatherv" else [count * kind.each]
+    return Signature(KINDS[call.name], call.root, None, kind.word, counts, kind.exact, waits, None if kind.exact else "a type that isn't in the profile stands as integers of its size, with zeros")
+
+
+def kind_of(side, member):
+    return part(side, member)[0]
+
+
+def side_bytes(side, member):
+    kind, count = part(side, member)
+    return kind.bytes * count
+
+
+def own_data(call, member):
+    """The type and count by which a member gives or takes its part."""
+    return part(call.sent or call.got, 0 if call.sent else member)
+
+
+def wrong_by_itself(call, member):
+    if not call.sent or not call.got or call.name in ("Reduce_scatter",):
+        return False
+    return compare_data(*part(call.sent, 0), *part(call.got, member)) != SAME
+
+
+def combined(call, kind, element, count, waits, why):
+    """An operation that the stand-in of a type can have: one of a place is one of a number there, and a user's is `lastnz`."""
+    word = OPERATIONS.get(call.op.name)
+    pairs, places = element.word == "2int", word in ("maxloc", "minloc")
+    exact = element.exact
+    if not word:
+        why, word = "an operation that isn't in the profile stands as lastnz, with zeros", "lastnz"
+        exact = False
+    elif places and not pairs:
+        why, word = "MPI_MAXLOC or MPI_MINLOC over another type than MPI_2INT stands as max or min, with zeros", word[:3]
+        exact = False
+    elif not pairs or places:
+        exact = exact and not why and not (element.word == "byte" and word not in ("band", "bor", "bxor"))
+        if element.word != "byte" or word in ("band", "bor", "bxor"):
+            return Signature(kind, call.root, word, element.word, [count * element.each], exact, waits, why or (None if exact else "a type that isn't in the profile stands as integers of its size, with zeros"))
+    if pairs:
+        return Signature(kind, call.root, word, "u64", [count * element.each], False, waits, why or "pairs under this operation stand as u64, with zeros")
+    if element.word == "byte":
+        return Signature(kind, call.root, word, "u8", [count * element.each], False, waits, why or "bytes under this operation stand as u8, with zeros")
+    return Signature(kind, call.root, word, element.word, [count * element.each], exact, waits, why)
+
+
+def blocks_given(signature, member, size):
+    """How many times its count a member gives."""
+    if signature.kind == "barrier":
+        return 0
+    if signature.kind in ("bcast", "scatter"):
+        return 0 if member != signature.root else 1 if signature.kind == "bcast" else size
+    return size if signature.kind in ("alltoall", "rsblock") else 1
+
+
+class Job:
+    """The text of all records. LACKING adds to each rank what it never reached, as it must be if the ranks agree."""
+
+    def __init__(self, records, contexts, places, judge):
+        self.records, self.contexts, self.places, self.judge = records, contexts, places, judge
+        self.size = next(iter(records.values())).size
+        self.notes, self.signatures, self.starts = [], {}, None
+        self.choose_communicators()
+        self.added = self.never_reached()
+        self.used = {count for rank, command in self.calls() for count in self.signature(rank, command).counts}
+        self.used |= {count for rank, added in self.added.items() for _, command in added for count in self.signature(rank, command).counts}
+
+    def calls(self):
+        for rank, record in self.records.items():
+            for command in record.commands:
+                if command.call and command.key in self.number:
+                    yield rank, command
+
+    def choose_communicators(self):
+        """The contexts that are used have numbers, in the order of their first use; those past the sixteenth have none."""
+        self.number, unnumbered = {"world": 0}, collections.Counter()
+        for record in self.records.values():
+            for command in record.commands:
+                if not command.call or command.key in self.number:
+                    continue
+                if command.key not in unnumbered and len(self.number) < MOST_COMMUNICATORS:
+                    self.number[command.key] = len(self.number)
+                else:
+                    unnumbered[command.key] += 1
+        if unnumbered:
+            self.notes.append(f"left out: all {sum(unnumbered.values())} calls on {len(unnumbered)} of the communicators, windows and files: a text has {MOST_COMMUNICATORS}")
+        left = sum(sum(record.unknown.values()) for record in self.records.values())
+        if left:
+            self.notes.append(f"left out: {left} calls on communicators whose makers aren't recorded, or between two groups")
+
+    def never_reached(self):
+        """Of each rank without an end, the calls that others have made and it hasn't: the place and another's command."""
+        added = collections.defaultdict(list)
+        for key in self.number:
+            members = [rank for rank in self.contexts.members(key) if rank in self.records]
+            longest = max((self.records[rank].calls.get(key, []) for rank in members), key=len, default=[])
+            for rank in members:
+                if not self.records[rank].ended:
+                    made = len(self.records[rank].calls.get(key, []))
+                    added[rank] += [(index, longest[index]) for index in range(made, len(longest))]
+        return added
+
+    def signature(self, rank, command):
+        members = self.contexts.members(command.key)
+        known = command.call, members.index(rank), len(members)
+        if known not in self.signatures:
+            self.signatures[known] = signature_of(*known)
+        return self.signatures[known]
+
+    def own_count(self, rank, command):
+        signature = self.signature(rank, command)
+        if not signature.counts:
+            return 0
+        member = self.contexts.members(command.key).index(rank)
+        return signature.counts[member if len(signature.counts) > 1 else 0]
+
+    def long_counts(self, rank, command, longest):
+        """Those of the counts that are too long, or too long together."""
+        signature = self.signature(rank, command)
+        blocks = 1 if signature.kind == "allgatherv" else len(self.contexts.members(command.key))
+        too_much = sum(signature.counts) * blocks * WIDTHS.get(signature.word, 1) > MOST_BYTES
+        return [count for count in signature.counts if count > min(longest, MOST_COUNT) or (too_much and count > 0)]
+
+    def choose_counts(self, longest):
+        """Each count that is too long stands for itself by a small one that the program doesn't have."""
+        long = {count for rank, command in self.calls() for count in self.long_counts(rank, command, longest)}
+        long |= {count for rank, added in self.added.items() for _, command in added for count in self.long_counts(rank, command, longest)}
+        self.stand_ins, free = {}, 1
+        for count in sorted(long):
+            while free in self.used:
+                free += 1
+            self.stand_ins[count] = free
+            free += 1
+
+    def values(self, rank, command, gift):
+        """What stands after the signature or the request's number, with zeros for what isn't known."""
+        signature, count = self.signature(rank, command), self.own_count(rank, command)
+        members = self.contexts.members(command.key)
+        blocks = blocks_given(signature, members.index(rank), len(members))
+        count_there = self.stand_ins.get(count, count)
+        if gift[:1] == [":"] and signature.exact and count not in self.stand_ins:
+            return gift
+        zero = "0,0" if signature.word == "2int" else "0"
+        return [":"] + [zero] * (blocks * count_there) if blocks * count_there else []
+
+    def head(self, word, rank, command):
+        """`post C SIGNATURE`."""
+        signature = self.signature(rank, command)
+        words = [word, str(self.number[command.key]), signature.kind]
+        words += [str(signature.root)] if signature.root is not None else []
+        words += [signature.operation] if signature.operation else []
+        words += [signature.word] if signature.word else []
+        return words + [str(self.stand_ins.get(count, count)) for count in signature.counts]
+
+    def remarks(self, rank, command):
+        signature = self.signature(rank, command)
+        lines = [f"# {signature.why}"] if signature.why else []
+        return lines + [f"# the count {count} stands as {self.stand_ins[count]}, with zeros" for count in sorted(set(signature.counts)) if count in self.stand_ins]
+
+    # The lines of a rank
+
+    def lines(self, rank, command, window, starts):
+        """The lines of a command, without its place, or none where it is left out."""
+        if command.call:
+            return self.call_lines(rank, command, window)
+        if command.word == "start":
+            request = command.numbers[0]
+            self.started[request] += 1
+            if request not in self.renumbered or self.started[request] > starts:
+                return []
+            return [" ".join(["start", str(self.renumbered[request]), *self.values(rank, self.records[rank].requests[request], command.gift)])]
+        kept = [str(self.renumbered[it]) for it in command.numbers if it in self.renumbered]
+        return [" ".join([command.word, *kept])] if kept else []
+
+    def call_lines(self, rank, command, window):
+        if not self.is_kept(command, window):
+            return []
+        number = self.written
+        self.written += 1
+        if command.request is not None:
+            self.renumbered[command.request] = number
+        if command.call.form == "p":
+            return self.remarks(rank, command) + [" ".join(self.head("init", rank, command))]
+        post = " ".join(self.head("post", rank, command) + self.values(rank, command, command.gift))
+        return self.remarks(rank, command) + [post] + ([f"wait {number}"] if self.signature(rank, command).waits else [])
+
+    def is_kept(self, command, window):
+        return command.key in self.number and window[0] <= command.index < window[1]
+
+    def section(self, rank, window, starts):
+        record = self.records[rank]
+        self.renumbered, self.started, self.written, self.most_kept = {}, collections.Counter(), 0, starts
+        lines = [f"rank {rank}"]
+        for command in record.commands:
+            own = self.lines(rank, command, window, starts)
+            if not own and not command.remarks:
+                continue
+            lines.append(f"# {self.places.name(record, command.place) or 'place unknown'}")
+            lines += command.remarks + own
+        if not record.ended:
+            lines.append(f"# the record of rank {rank} ends here, without MPI_Finalize")
+            lines += self.added_lines(rank, window)
+        return lines
+
+    def added_lines(self, rank, window):
+        """What a rank never reached: starts of its persistent requests, and calls."""
+        lines = []
+        for request, command in enumerate(self.records[rank].requests):
+            if request in self.renumbered and command.call.form == "p":
+                lines += self.added_starts(rank, request, command)
+        for index, command in self.added[rank]:
+            if window[0] <= index < window[1]:
+                lines += ["# place unknown", f"# never reached by rank {rank}: added as it must be if the ranks agree"] + self.remarks(rank, command)
+                persistent = command.call.form == "p"
+                lines.append(" ".join(self.head("init" if persistent else "post", rank, command) + ([] if persistent else self.values(rank, command, []))))
+                if persistent:
+                    self.renumbered[None] = self.written
+                    lines += [it for _ in range(self.most_started(command.key, index)) for it in self.start_lines(rank, None, command)]
+                self.written += 1
+        return lines
+
+    def added_starts(self, rank, request, command):
+        """The starts that others have made of a persistent request and this rank hasn't. A start wants a wait for the one before."""
+        lacking = self.most_started(command.key, command.index) - self.started[request]
+        lines = ["# place unknown", f"# starts never reached by rank {rank}: added as they must be if the ranks agree"] if lacking > 0 else []
+        return lines + [it for _ in range(lacking) for it in self.start_lines(rank, request, command)]
+
+    def start_lines(self, rank, request, command):
+        number = str(self.renumbered[request])
+        return [f"wait {number}", " ".join(["start", number, *self.values(rank, command, [])])]
+
+    def most_started(self, key, index):
+        """How often a persistent call was started at the rank that has started it most."""
+        if not self.starts:
+            self.starts = collections.Counter((rank, number) for rank, record in self.records.items() for command in record.commands if command.word == "start" for number in command.numbers)
+        made = {rank: record.calls[key][index] for rank, record in self.records.items() if index < len(record.calls.get(key, ()))}
+        return min(self.most_kept, max((self.starts[rank, command.request] for rank, command in made.items()), default=0))
+
+    def text(self, window, starts, longest):
+        self.choose_counts(longest)
+        lines = [f"ranks {self.size}"]
+        for key in list(self.number)[1:]:
+            rank, context = self.contexts.known[key]
+            where = self.places.name(self.records[rank], context.place)
+            lines.append(f"# communicator {self.number[key]}: {context.maker}" + (f", {where}" if where else ""))
+            lines.append(" ".join(["comm", *map(str, context.members)]))
+        for rank in range(self.size):
+            lines += self.section(rank, window, starts) if rank in self.records else [f"rank {rank}", "# there is no record of this rank"]
+        return lines
+
+    # What fits
+
+    def requests(self, window):
+        kept = sum(self.is_kept(command, window) for _, command in self.calls())
+        return kept + sum(window[0] <= index < window[1] for added in self.added.values() for index, _ in added)
+
+    def fits(self, window, starts, longest):
+        return self.requests(window) <= MOST_REQUESTS and size_of(self.text(window, starts, longest)) <= MOST_TEXT - 4096
+
+    def most_places(self):
+        return max((command.index + 1 for _, command in self.calls()), default=1)
+
+    def most_starts(self):
+        return max(collections.Counter((rank, number) for rank, record in self.records.items() for command in record.commands if command.word == "start" for number in command.numbers).values(), default=0)
+
+    def fitting_text(self, first, before=ENDLESS):
+        """The text from place FIRST on, with as little left out as its limits ask for, in this order: values, starts after some number,
+        places."""
+        if self.size > MOST_RANKS:
+            self.notes.append(f"left out: all: a program of {self.size} ranks, and a text has at most {MOST_RANKS}")
+            return None
+        last = min(self.most_places(), before)
+        longest = next((it for it in LONGEST if self.requests((first, last)) <= MOST_REQUESTS and self.fits((first, last), ENDLESS, it)), LONGEST[-1])
+        starts = ENDLESS
+        if not self.fits((first, last), starts, longest):
+            last = greatest(first + 1, last, lambda most: self.fits((first, most), 1, longest))
+            starts = greatest(1, self.most_starts(), lambda most: self.fits((first, last), most, longest))
+            if starts < self.most_starts():
+                self.notes.append(f"left out: of each persistent request, the starts after its first {starts}")
+        if last < self.most_places():
+            self.notes.append(f"left out: what stands at place {last} or after it on its communicator: see --from {last}")
+        if first:
+            self.notes.append(f"left out: what stands before place {first} on its communicator")
+        self.next = last if last < self.most_places() else None
+        lines = self.text((first, last), starts, longest)
+        if size_of(lines) > MOST_TEXT:
+            self.notes.append(f"left out: all: a text of {size_of(lines)} bytes would be too long, even with one place of each communicator")
+            return None
+        return lines
+
+    def incomplete(self):
+        """What isn't there of the ranks, in words."""
+        notes = [f"rank {rank} has no record" for rank in range(self.size) if rank not in self.records]
+        open_ends = [rank for rank, record in self.records.items() if not record.ended]
+        return notes + ([f"incomplete: no MPI_Finalize at {rank_words(open_ends)}"] if open_ends else [])
+
+
+def size_of(lines):
+    return sum(len(line.encode()) + 1 for line in lines)
+
+
+def greatest(least, most, fits):
+    """The greatest number up to MOST that fits, or LEAST."""
+    while least < most:
+        middle = (least + most + 1) // 2
+        if fits(middle):
+            least = middle
+        else:
+            most = middle - 1
+    return least
+
+
+__all__ = ["Job", "NO_TYPE"]

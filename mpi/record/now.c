@@ -1,0 +1,172 @@
+#define _GNU_SOURCE
+#include "now.h"
+
+#include <errno.h>
+#include <fcntl.h>
+#include <pthread.h>
+#include <signal.h>
+#include <stdatomic.h>
+#include <stdbool.h>
+#include <stdio.h>
+#include <string.h>
+#include <sys/mman.h>
+#include <time.h>
+#include <unistd.h>
+
+enum { THREADS = 64, SHOWN = 24, NAME = 40, MESSAGES = 4096, TRIES = 64, VERSION = 1 };
+
+/* The beat is a lower bound of the time up to which the process lived. A tenth of a second is short beside a hang that a person notices. */
+static const struct timespec BEAT = {.tv_nsec = 100000000};
+
+/* One thread's call, or its last one. */
+struct standing {
+    uint64_t since; /* nanoseconds of the clock at which it was entered or left */
+    uint64_t calls; /* how many it has entered */
+    _Atomic int32_t inside;
+    int32_t place;
+    int32_t awaited; /* how many things it waits for */
+    int32_t any;
+    char name[NAME];
+    struct awaited shown[SHOWN]; /* the first of them */
+};
+
+/* Messages alike that this rank has called. A kind of 0 is an empty slot. */
+struct message_count {
+    int32_t kind, context, rank, tag;
+    int64_t calls;
+};
+
+struct now {
+    uint32_t version, rank, size;
+    _Atomic uint32_t finalized;
+    uint64_t run;
+    _Atomic uint64_t beat;
+    uint32_t uncounted; /* whether a message wasn't counted, or one was cancelled */
+    uint32_t unused;
+    struct standing threads[THREADS];
+    struct message_count messages[MESSAGES];
+};
+
+static struct now *now;
+static atomic_int threads;
+static _Thread_local int thread = -1;
+
+static uint64_t clock_now(void) {
+    struct timespec time;
+    clock_gettime(CLOCK_REALTIME, &time);
+    return (uint64_t)time.tv_sec * 1000000000u + (uint64_t)time.tv_nsec;
+}
+
+static void *beat(void *unused) {
+    (void)unused;
+    while (!now->finalized) {
+        atomic_store(&now->beat, clock_now());
+        nanosleep(&BEAT, NULL);
+    }
+    return NULL;
+}
+
+/* The thread takes no signal of the program's. Where it can't be made, the reader knows no time up to which the process lived. */
+static void begin_beat(void) {
+    sigset_t all, before;
+    pthread_t thread;
+    pthread_attr_t attributes;
+    sigfillset(&all);
+    pthread_sigmask(SIG_SETMASK, &all, &before);
+    pthread_attr_init(&attributes);
+    pthread_attr_setdetachstate(&attributes, PTHREAD_CREATE_DETACHED);
+    if (pthread_create(&thread, &attributes, beat, NULL))
+        fprintf(stderr, "record: no thread for the beat: how long calls last isn't recorded\n");
+    pthread_attr_destroy(&attributes);
+    pthread_sigmask(SIG_SETMASK, &before, NULL);
+}
+
+void now_open(const char *folder, int rank, int size, long run) {
+    char path[4096];
+    snprintf(path, sizeof path, "%s/now.%d", folder, rank);
+    int file = open(path, O_RDWR | O_CREAT | O_TRUNC | O_CLOEXEC, 0666);
+    void *bytes = MAP_FAILED;
+    if (file >= 0 && !(errno = posix_fallocate(file, 0, sizeof(struct now))))
+        bytes = mmap(NULL, sizeof(struct now), PROT_READ | PROT_WRITE, MAP_SHARED, file, 0);
+    if (bytes == MAP_FAILED)
+        fprintf(stderr, "record: %s: %s; where rank %d stands isn't recorded\n", path, strerror(errno), rank);
+    if (file >= 0)
+        close(file);
+    if (bytes == MAP_FAILED)
+        return;
+    now = bytes;
+    now->version = VERSION;
+    now->rank = (uint32_t)rank;
+    now->size = (uint32_t)size;
+    now->run = (uint64_t)run;
+    begin_beat();
+}
+
+void now_finalized(void) {
+    if (now)
+        now->finalized = 1;
+}
+
+int now_thread(void) {
+    if (thread < 0)
+        thread = atomic_fetch_add(&threads, 1);
+    return thread;
+}
+
+static struct standing *mine(void) { return now && now_thread() < THREADS ? &now->threads[thread] : NULL; }
+
+void now_enter(const char *name, int place) {
+    struct standing *standing = mine();
+    if (!standing)
+        return;
+    atomic_store_explicit(&standing->inside, 0, memory_order_release);
+    standing->since = clock_now();
+    standing->calls++;
+    standing->place = place;
+    standing->awaited = standing->any = 0;
+    strncpy(standing->name, name, NAME - 1);
+    atomic_store_explicit(&standing->inside, 1, memory_order_release);
+}
+
+void now_awaits(struct awaited awaited) {
+    struct standing *standing = mine();
+    if (!standing)
+        return;
+    if (standing->awaited < SHOWN)
+        standing->shown[standing->awaited] = awaited;
+    standing->awaited++;
+}
+
+void now_any(void) {
+    struct standing *standing = mine();
+    if (standing)
+        standing->any = 1;
+}
+
+void now_leave(void) {
+    struct standing *standing = mine();
+    if (!standing)
+        return;
+    standing->since = clock_now();
+    atomic_store_explicit(&standing->inside, 0, memory_order_release);
+}
+
+void now_cancelled(void) {
+    if (now)
+        now->uncounted = 1;
+}
+
+/* A message for which no slot is found in some tries isn't counted, and the reader then trusts no count. */
+long now_count(struct awaited message) {
+    uint64_t hash = (uint64_t)(uint32_t)message.kind << 62 ^ (uint64_t)(uint32_t)message.context << 44 ^ (uint64_t)(uint32_t)message.rank << 24 ^ (uint32_t)message.tag;
+    uint64_t first = hash * UINT64_C(0x9e3779b97f4a7c15) >> 32;
+    for (unsigned step = 0; now && step < TRIES; step++) {
+        struct message_count *count = &now->messages[(first + step) % MESSAGES];
+        if (!count->kind)
+            *count = (struct message_count){message.kind, message.context, message.rank, message.tag, 0};
+        if (count->kind == message.kind && count->context == message.context && count->rank == message.rank && count->tag == message.tag)
+            return count->calls++;
+    }
+    now_cancelled();
+    return 0;
+}

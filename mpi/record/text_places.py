@@ -1,0 +1,157 @@
+"""What colljob says of a job text, with the places in the program that the text's comments tell."""
+
+import collections
+import re
+import subprocess
+
+from records import Unreadable
+
+# The comment that tells where a call stands.
+PLACE = re.compile(r"# (\S+:\d+|\S+ 0x[0-9a-f]+(, in .*)?|place unknown)")
+
+# The notes of join.py at the head of a text.
+NOTE = re.compile(r"# (incomplete: .*|left out: .*|rank \d+ has no record)")
+
+# A line of `colljob explain` that shows a line of the text.
+SHOWN = re.compile(r" *(\d+) \| \S.*")
+
+Call = collections.namedtuple("Call", "line rank words where communicator place request")
+Verdict = collections.namedtuple("Verdict", "fault stalls unknown lines")
+
+
+class Text:
+    """The lines of a text, and the place in the program that the comment above each tells."""
+
+    def __init__(self, path):
+        self.path, self.calls, self.ranks, self.members, self.notes, self.none = path, [], 0, [], [], None
+        try:
+            with open(path) as file:
+                self.read(file)
+        except (OSError, UnicodeDecodeError) as why:
+            raise Unreadable(f"{path}: {why.strerror if isinstance(why, OSError) else 'not a text'}") from why
+
+    def read(self, file):
+        rank, where, next_request, next_place = None, None, collections.Counter(), collections.Counter()
+        for number, line in enumerate(file, 1):
+            words = line.split()
+            if line.startswith("# no text: "):
+                self.none = line[11:].strip()
+            elif line.startswith("# "):
+                self.notes += [line[2:].strip()] if NOTE.fullmatch(line.strip()) else []
+                # Other comments explain. The wait of a blocking call has no place of its own.
+                where = line[2:].strip() if PLACE.fullmatch(line.strip()) else where
+            elif words[:1] == ["ranks"]:
+                self.ranks = int(words[1])
+                self.members.append(list(range(self.ranks)))
+            elif words[:1] == ["comm"]:
+                self.members.append([int(word) for word in words[1:]])
+            elif words[:1] == ["rank"]:
+                rank, where = int(words[1]), None
+            elif words:
+                communicator = place = request = None
+                if words[0] in ("post", "init") and len(words) > 1 and words[1].isdigit():
+                    communicator, request = int(words[1]), next_request[rank]
+                    place = next_place[rank, communicator]
+                    next_request[rank] += 1
+                    next_place[rank, communicator] += 1
+                self.calls.append(Call(number, rank, words, where, communicator, place, request))
+
+    def at(self, number):
+        return next((call for call in self.calls if call.line == number), None)
+
+    def posts(self):
+        return [call for call in self.calls if call.request is not None]
+
+
+def shown(call, head=""):
+    return f"  {head}rank {call.rank}, {call.where or 'place unknown'}: {' '.join(signature(call))}"
+
+
+def signature(call):
+    return call.words[: call.words.index(":")] if ":" in call.words else call.words
+
+
+def mismatch_lines(text, call):
+    there = [it for it in text.posts() if (it.communicator, it.place) == (call.communicator, call.place)]
+    differing = [it for it in there if signature(it) == signature(call)]
+    return [shown(call), shown(there[0], "doesn't agree with ")] + ([f"  {len(differing)} ranks call the former, so the latter may be the wrong one"] if len(differing) > 1 else [])
+
+
+def missing_lines(text):
+    """The first place of a communicator that some members lack."""
+    made = collections.defaultdict(dict)
+    for call in text.posts():
+        made[call.communicator, call.place][call.rank] = call
+    for (communicator, place), calls in sorted(made.items()):
+        lacking = [rank for rank in text.members[communicator] if rank not in calls]
+        if lacking:
+            return [f"  communicator {communicator}: rank {', '.join(map(str, lacking))} made {place} calls, and others made more; the next is", shown(next(iter(calls.values())))]
+    return []
+
+
+def start_lines(text):
+    """The first place where members have started different numbers of times."""
+    starts = collections.Counter((call.rank, int(call.words[1])) for call in text.calls if call.words[0] == "start")
+    for call in text.posts():
+        numbers = {it.rank: starts[it.rank, it.request] for it in text.posts() if (it.communicator, it.place) == (call.communicator, call.place)}
+        if call.words[0] == "init" and len(set(numbers.values())) > 1:
+            return [shown(call), "  its starts: " + ", ".join(f"rank {rank} {count}" for rank, count in sorted(numbers.items()))]
+    return []
+
+
+def fault_lines(text, line, cause):
+    call = text.at(line)
+    if cause == "place mismatch" and call:
+        return mismatch_lines(text, call)
+    if cause == "place missing":
+        return missing_lines(text)
+    if cause == "start missing":
+        return start_lines(text)
+    return [shown(call)] if call else []
+
+
+def ask(program, *words):
+    try:
+        return subprocess.run([program, *words], capture_output=True, text=True)
+    except OSError as why:
+        raise Unreadable(f"{program}: {why.strerror}: name colljob by --colljob or the variable COLLJOB") from why
+
+
+def judge(path, program, text=None):
+    """The fault of a text, or whether its ranks may wait for one another, with the places in the program."""
+    text = text or Text(path)
+    run = ask(program, "plain", path)
+    fault = re.search(r"line (\d+): (.*)", run.stderr)
+    if run.returncode and not fault:
+        raise Unreadable(run.stderr.strip() or f"{program} ended with status {run.returncode}")
+    if fault:
+        return Verdict(run.stderr.strip(), False, False, fault_lines(text, int(fault[1]), fault[2]))
+    run = ask(program, "explain", "--strict", path)
+    if run.returncode not in (0, 3, 6):
+        raise Unreadable(run.stderr.strip() or f"{program} ended with status {run.returncode}")
+    lines = []
+    for line in run.stdout.splitlines():
+        number = SHOWN.fullmatch(line)
+        call = text.at(int(number[1])) if number else None
+        lines.append(f"{line}    # {call.where}" if call and call.where else line)
+    unknown = run.stdout.startswith("may stall")
+    return Verdict(None, run.returncode != 0 and not unknown, unknown, lines)
+
+
+def tell(path, program):
+    """Tells of a text alone, and returns the status of where.py."""
+    text = Text(path)
+    if text.none or not text.ranks:
+        raise Unreadable(f"{path}: no text to judge: {text.none or 'it is empty, or was cut: did join.py fail?'}")
+    for note in text.notes:
+        print(f"{path}: {note}")
+    verdict = judge(path, program, text)
+    if verdict.fault or verdict.stalls:
+        print(verdict.fault or f"{path}: no fault in what is there")
+        print("\n".join(verdict.lines))
+        return 1
+    whole = not text.notes and not verdict.unknown
+    print(f"{path}: no fault" + ("" if whole else " in what is there"))
+    if verdict.unknown or whole:
+        print("\n".join(verdict.lines))
+    return 0 if whole else 3
