@@ -12,7 +12,8 @@
 /* Whether this thread is in a call: what a library calls on the way isn't the program's. */
 extern _Thread_local bool inside;
 
-/* Where the call under way stands in the program. */
+/* Where the call under way returns to, and the number of that place. */
+extern _Thread_local void *caller;
 extern _Thread_local int here;
 
 /* Finds the library's own function; false where it has none. */
@@ -28,7 +29,8 @@ bool find_next(void *function, const char *name);
         if (inside || !(is_program))                                                                                                        \
             return next_##NAME arguments;                                                                                                   \
         inside = true;                                                                                                                      \
-        here = place_of(__builtin_return_address(0));                                                                                       \
+        caller = __builtin_return_address(0);                                                                                               \
+        here = place_of(caller);                                                                                                            \
         now_enter(#NAME, here);                                                                                                             \
         result_type result = recorded_##NAME arguments;                                                                                     \
         now_leave();                                                                                                                        \

@@ -94,7 +94,7 @@ INTERPOSED(MPI_Sendrecv_replace,
 INTERPOSED(MPI_Probe, (int peer, int tag, MPI_Comm comm, MPI_Status *status), (peer, tag, comm, status)) {
     log_lock();
     struct awaited awaited = message(AWAITED_RECEIVE, comm, peer, tag);
-    awaited.index = -1;
+    awaited.index = now_counted(awaited);
     log_unlock();
     now_awaits(awaited);
     return next_MPI_Probe(peer, tag, comm, status);

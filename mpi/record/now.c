@@ -156,8 +156,8 @@ void now_cancelled(void) {
         now->uncounted = 1;
 }
 
-/* A message for which no slot is found in some tries isn't counted, and the reader then trusts no count. */
-long now_count(struct awaited message) {
+/* The slot of messages alike. A message for which none is found in some tries isn't counted, and the reader then trusts no count. */
+static struct message_count *slot_of(struct awaited message) {
     uint64_t hash = (uint64_t)(uint32_t)message.kind << 62 ^ (uint64_t)(uint32_t)message.context << 44 ^ (uint64_t)(uint32_t)message.rank << 24 ^ (uint32_t)message.tag;
     uint64_t first = hash * UINT64_C(0x9e3779b97f4a7c15) >> 32;
     for (unsigned step = 0; now && step < TRIES; step++) {
@@ -165,8 +165,18 @@ long now_count(struct awaited message) {
         if (!count->kind)
             *count = (struct message_count){message.kind, message.context, message.rank, message.tag, 0};
         if (count->kind == message.kind && count->context == message.context && count->rank == message.rank && count->tag == message.tag)
-            return count->calls++;
+            return count;
     }
     now_cancelled();
-    return 0;
+    return NULL;
+}
+
+long now_count(struct awaited message) {
+    struct message_count *slot = slot_of(message);
+    return slot ? slot->calls++ : 0;
+}
+
+long now_counted(struct awaited message) {
+    struct message_count *slot = slot_of(message);
+    return slot ? slot->calls : 0;
 }

@@ -32,6 +32,7 @@ void now_leave(void);
 
 /* Counts a message, and returns how many alike were counted before: of this kind, context, rank and tag. The lock is held. */
 long now_count(struct awaited message);
+long now_counted(struct awaited message); /* the same without counting it */
 
 /* Says that a message was cancelled, so the counts don't tell what was received. */
 void now_cancelled(void);

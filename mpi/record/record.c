@@ -15,6 +15,7 @@
 
 _Thread_local bool inside;
 _Thread_local int here;
+_Thread_local void *caller;
 long untold;
 unsigned long row;
 
@@ -95,7 +96,8 @@ static const char *check_library(void) {
     exit(1);
 }
 
-static void begin_record(int thread_level) {
+/* Where a call stands that came before the file is told anew. */
+static void begin_record(const char *name, void *caller, int thread_level) {
     const char *folder = getenv("RECORD_DIR");
     int rank, size;
     long run = (long)time(NULL) * 100000 + getpid() % 100000;
@@ -111,19 +113,21 @@ static void begin_record(int thread_level) {
         now_open(folder, rank, size, run);
     }
     log_unlock();
+    here = place_of(caller);
+    now_enter(name, here);
 }
 
 INTERPOSED(MPI_Init, (int *words, char ***word), (words, word)) {
     check_library();
     int result = next_MPI_Init(words, word);
-    begin_record(MPI_THREAD_SINGLE);
+    begin_record("MPI_Init", caller, MPI_THREAD_SINGLE);
     return result;
 }
 
 INTERPOSED(MPI_Init_thread, (int *words, char ***word, int required, int *provided), (words, word, required, provided)) {
     check_library();
     int result = next_MPI_Init_thread(words, word, required, provided);
-    begin_record(*provided);
+    begin_record("MPI_Init_thread", caller, *provided);
     return result;
 }
 

@@ -289,10 +289,11 @@ class Standings:
         return [f"a wait without end: {', '.join(words)}, which has called MPI_Finalize"] + [f"  rank {it}: {line}" for it in seen for line in self.rank_lines(it)], seen
 
     def waited_for(self):
-        """The ranks that others wait for and that wait for none themselves, as far as that is sure."""
+        """The ranks that others have waited for some time, and that wait for none themselves, as far as that is sure."""
         waits = {rank: self.waits(rank) for rank in self.open}
-        wanted = set().union(*(option[1] for it in waits.values() if it for option in it[1] if option))
-        return sorted(rank for rank in wanted if rank in self.records and not waits.get(rank))
+        waits = {rank: it for rank, it in waits.items() if it and self.now[rank].beat >= it[0].since + STANDS * SECOND}
+        wanted = set().union(*(option[1] for it in waits.values() for option in it[1] if option))
+        return sorted(rank for rank in wanted if rank in self.records and rank not in waits)
 
 
 def without_seconds(words):

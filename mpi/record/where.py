@@ -159,7 +159,7 @@ class Report:
         if self.missing:
             print("no fault found in what is there")
             return 3
-        print("no fault, and no run stalls")
+        print("no fault: the collective calls agree, and let no run stall")
         return 0
 
 
