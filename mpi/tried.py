@@ -7,8 +7,8 @@
     mpi/tried.py --table       also what is told first, as the rows of a table
     mpi/tried.py --library L   with this library alone, openmpi or mpich
 
-The programs stand in tried/. One that hangs is ended as soon as no rank has begun or ended a call for a second, and any after half a
-minute. A sentence is false where a right program is told to have a fault or to stall, and where a wrong one is told to have none; a line
+The programs stand in tried/. One that hangs is ended as soon as no rank has begun or ended a call for a second, and any after two
+minutes. A sentence is false where a right program is told to have a fault or to stall, and where a wrong one is told to have none; a line
 that should have been told and wasn't counts as failed too. The status is 1 where one failed. The oracle is the program that the variable
 COLLJOB names, or ./colljob at the top of the repository.
 """
@@ -27,11 +27,11 @@ import time
 HERE = os.path.dirname(os.path.abspath(__file__))
 sys.path.insert(0, os.path.join(HERE, "record"))
 
-from standing import HEAD, SHOWN, THREAD, AWAITED  # noqa: E402
+from standing import Now, had_turn  # noqa: E402
 
-LIBRARIES = {"mpich": [], "openmpi": ["--oversubscribe"]}
+LIBRARIES = {"mpich": [], "openmpi": ["--oversubscribe"], "default": []}
 SETTINGS = {"OMPI_ALLOW_RUN_AS_ROOT": "1", "OMPI_ALLOW_RUN_AS_ROOT_CONFIRM": "1", "OMPI_MCA_mpi_yield_when_idle": "1", "OMPI_MCA_rmaps_base_oversubscribe": "1"}
-SECONDS, STILL, WORKS = 60, 1.2, 2.0
+SECONDS, STILL, WORKS = 120, 1.2, 2.0
 
 # RANKS; what must be told, with {A} and {B} for the marked lines; the status of where.py; whether it belongs to the short part.
 Program = collections.namedtuple("Program", "ranks wants status short")
@@ -113,7 +113,7 @@ PROGRAMS = {
     "right_messages": right(4),
     "right_communicators": right(4, short=True),
     "right_tests": right(4, status=None),
-    "right_threads": right(2),
+    "right_threads": right(2, "no fault found in what is there; stalls aren't judged", status=3),
     "right_long": right(2, status=None),
     "right_large": right(4),
     "right_sixty_four": right(64),
@@ -141,15 +141,30 @@ def call(*words):
     subprocess.run(words, check=True)
 
 
+def compiler(name, language="cc"):
+    """How the compiler of a library is called: Debian has one of each, others just one."""
+    return f"mpi{language}" if name == "default" else f"mpi{language}.{name}"
+
+
+def starter(name):
+    return "mpirun" if name == "default" else f"mpirun.{name}"
+
+
+def there(only):
+    """The libraries that are there."""
+    found = [name for name in LIBRARIES if shutil.which(compiler(name)) and shutil.which(starter(name)) and only in (None, name)]
+    return [name for name in found if name != "default"] or found
+
+
 class Library:
     """The programs built for one MPI library."""
 
     def __init__(self, name, folder):
         self.name, self.folder = name, folder
         self.out = f"{HERE}/out/{name}"
-        call("make", "-s", "-C", HERE, f"MPICC=mpicc.{name}", f"OUT=out/{name}", f"out/{name}/librecord.so")
+        call("make", "-s", "-C", HERE, f"MPICC={compiler(name)}", f"OUT=out/{name}", f"out/{name}/librecord.so")
         self.binary = f"{folder}/programs.{name}"
-        call(f"mpicc.{name}", "-std=c11", "-Wall", "-Wextra", "-Werror", "-Wno-stringop-overflow", "-g", f"{HERE}/tried/programs.c", "-o", self.binary, "-lpthread")
+        call(compiler(name), "-std=c11", "-Wall", "-Wextra", "-Werror", "-Wno-stringop-overflow", "-g", f"{HERE}/tried/programs.c", "-o", self.binary, "-lpthread")
 
     def command(self, name):
         """How a program is called, or None where it can't be here."""
@@ -161,15 +176,15 @@ class Library:
         if file.endswith(".py"):
             there = subprocess.run(["/usr/bin/python3", "-c", "import mpi4py"], capture_output=True)
             return None if there.returncode else ["/usr/bin/python3", f"{HERE}/tried/{file}"]
-        if not shutil.which(f"mpif90.{self.name}"):
+        if not shutil.which(compiler(self.name, "f90")):
             return None
-        call(f"mpif90.{self.name}", "-g", f"{HERE}/tried/{file}", f"-J{self.folder}", "-o", f"{self.folder}/{name}.{self.name}")
+        call(compiler(self.name, "f90"), "-g", f"{HERE}/tried/{file}", f"-J{self.folder}", "-o", f"{self.folder}/{name}.{self.name}")
         return [f"{self.folder}/{name}.{self.name}"]
 
     def record(self, name, command, ranks, records):
         """How the run ended."""
         environment = dict(os.environ, **SETTINGS, TRIED_FILE=f"{self.folder}/{name}.data")
-        command = [f"mpirun.{self.name}", *LIBRARIES[self.name], "-n", str(ranks), "env", f"LD_PRELOAD={self.out}/librecord.so", f"RECORD_DIR={records}", *command]
+        command = [starter(self.name), *LIBRARIES[self.name], "-n", str(ranks), "env", f"LD_PRELOAD={self.out}/librecord.so", f"RECORD_DIR={records}", *command]
         run = subprocess.Popen(command, stdin=subprocess.DEVNULL, stdout=subprocess.DEVNULL, stderr=subprocess.DEVNULL, env=environment, start_new_session=True)
         try:
             return watch(run, records, ranks, WORKS if name.startswith("ended") or name == "endless_tests" else None)
@@ -193,37 +208,23 @@ def end(run):
 
 
 def watch(run, records, ranks, works):
-    """Waits for the end of a run, or until nothing has changed for a while."""
+    """Waits for the end of a run, or until no rank has begun or ended a call for a while, though all had their turns."""
     begin, changed, before = time.monotonic(), time.monotonic(), None
     while time.monotonic() - begin < SECONDS:
         try:
             return f"ended with status {run.wait(0.1)}"
         except subprocess.TimeoutExpired:
             pass
-        now = standings(records, ranks)
-        if now != before or None in now:
+        standings = [Now(f"{records}/now.{rank}", None).threads for rank in range(ranks)]
+        now = [[thread.since for thread in threads] for threads in standings]
+        if now != before or [] in now:
             changed, before = time.monotonic(), now
-        if time.monotonic() - changed > STILL:
+        if time.monotonic() - changed > STILL and all(had_turn(thread) or thread.name == "MPI_Finalize" for threads in standings for thread in threads):
             return "hung"
-        if works and None not in now and now.count(()) == 0:
+        if works and [] not in now:
             time.sleep(works)
             return "was ended"
     return f"not through in {SECONDS} seconds"
-
-
-def standings(records, ranks):
-    """For each rank the times of its threads' last changes, or None where it has no file yet."""
-    return [times(f"{records}/now.{rank}") for rank in range(ranks)]
-
-
-def times(path):
-    try:
-        with open(path, "rb") as file:
-            data = file.read(HEAD.size + 8 * (THREAD.size + SHOWN * AWAITED.size))
-    except OSError:
-        return None
-    step = THREAD.size + SHOWN * AWAITED.size
-    return tuple(THREAD.unpack_from(data, at)[:2] for at in range(HEAD.size, len(data) - step + 1, step) if any(THREAD.unpack_from(data, at)[:2]))
 
 
 def marks(name):
@@ -293,9 +294,9 @@ def main():
     if unknown:
         sys.exit(f"no program has the name {', '.join(sorted(unknown))}: they are {', '.join(PROGRAMS)}")
     names = [name for name, program in PROGRAMS.items() if (name in words.names if words.names else program.short or not words.short)]
-    libraries = [name for name in LIBRARIES if shutil.which(f"mpicc.{name}") and shutil.which(f"mpirun.{name}") and words.library in (None, name)]
+    libraries = there(words.library)
     if not libraries:
-        print("skipped: no MPI compiler is there (mpicc.openmpi or mpicc.mpich)")
+        print("skipped: no MPI compiler is there (mpicc.openmpi, mpicc.mpich or mpicc, and mpirun)")
         return 0
     failed = collections.Counter()
     with tempfile.TemporaryDirectory() as folder:

@@ -162,28 +162,21 @@ def record(program, library, folder, seconds):
 
 
 def judge(folder):
-    """What is told of a record, piece by piece where it is too long for one text, and how many collectives it has."""
-    first, posts = 0, 0
-    while True:
-        with open(f"{folder}.job", "w") as text:
-            joined = subprocess.run([sys.executable, f"{MPI}/record/join.py", "--from", str(first), folder], stdout=text, stderr=subprocess.PIPE, text=True)
-        if joined.returncode not in (0, 3):
-            sys.exit(joined.stderr)
-        posts += len(re.findall(r"^(?:post|init) ", read(f"{folder}.job"), re.M))
-        told = subprocess.run([sys.executable, f"{MPI}/record/where.py", f"{folder}.job"], capture_output=True, text=True)
-        more = re.search(r"see --from (\d+)", joined.stderr)
-        if told.returncode or not more:
-            return told.stdout.replace(f"{folder}.job", "text").strip(), posts
-        first = int(more[1])
+    """What is told of a record, and how many collective calls it has."""
+    told = subprocess.run([sys.executable, f"{MPI}/record/where.py", folder], capture_output=True, text=True)
+    if told.returncode == 2:
+        sys.exit(told.stderr)
+    calls = re.search(r"(\d+) collective calls", told.stdout)
+    return told.stdout.replace(folder, "record").strip(), int(calls[1]) if calls else 0
 
 
 def report(folder, name, library, fault, seconds):
     program, line = build_hpcc(folder, library, fault) if name == "hpcc" else build_test(folder, name, library, fault)
     records = f"{folder}/record"
     end = record(program, library, records, seconds)
-    told, posts = judge(records)
-    right = line in told if fault else "no fault" in told
-    print(f"{'right' if right else 'WRONG'}: {name}, {library}, {fault.what + ' (' + line + ')' if fault else 'as it is'}: {end}; {posts} posts")
+    told, calls = judge(records)
+    right = line in told and "fault: " in told if fault else "no fault" in told and "fault: " not in told.replace("no fault: ", "")
+    print(f"{'right' if right else 'WRONG'}: {name}, {library}, {fault.what + ' (' + line + ')' if fault else 'as it is'}: {end}; {calls} calls")
     print("    " + told.replace("\n", "\n    "), flush=True)
     return right
 

@@ -36,7 +36,7 @@ def expand(runs, count):
     return tuple(found)
 
 
-@functools.lru_cache(maxsize=None)
+@functools.lru_cache(maxsize=1 << 17)
 def compare_data(type_a, count_a, type_b, count_b):
     """How well COUNT elements of one type agree with those of another: by their signatures (MPI 4.1, 3.3.1)."""
     if (type_a is type_b or type_a == type_b) and count_a == count_b:

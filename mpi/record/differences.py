@@ -8,6 +8,9 @@ from records import rank_words
 # What a rank that came to its end may have left out without harm.
 FREES = {"Comm_free", "Comm_disconnect", "Win_free", "File_close"}
 
+# Comparisons are remembered, since a program repeats itself; that of a program that doesn't isn't to fill the memory.
+MOST_REMEMBERED = 1 << 16
+
 
 class Difference:
     """A place of a context at which the calls differ, or one lacks."""
@@ -90,6 +93,8 @@ class Judge:
         alike = tuple(here[rank].call if rank in here else None for rank in members)
         known = tuple(map(id, alike))
         if known not in self.compared:
+            if len(self.compared) > MOST_REMEMBERED:
+                self.compared.clear()
             self.compared[known] = compare({member: call for member, call in enumerate(alike) if call})
         found = self.compared[known]
         if not found:

@@ -1,9 +1,10 @@
 """The job text of a record: what colljob judges. What the profile doesn't have is said by what it has, with zeros for values."""
 
+import bisect
 import collections
 
 from agreement import SAME, call_name, compare_data, part
-from records import NO_TYPE, rank_words
+from records import rank_words
 
 MOST_RANKS, MOST_COMMUNICATORS, MOST_REQUESTS, MOST_TEXT = 64, 16, 4096, 1048576
 MOST_COUNT, MOST_BYTES = 65536, 16777216
@@ -107,10 +108,12 @@ class Job:
         self.records, self.contexts, self.places, self.judge = records, contexts, places, judge
         self.size = next(iter(records.values())).size
         self.notes, self.signatures, self.starts = [], {}, None
+        self.differ = {fault.key: fault.index for fault in judge.faults()}
         self.choose_communicators()
         self.added = self.never_reached()
-        self.used = {count for rank, command in self.calls() for count in self.signature(rank, command).counts}
-        self.used |= {count for rank, added in self.added.items() for _, command in added for count in self.signature(rank, command).counts}
+        self.known_kinds = None
+        self.used = {count for signature, _ in self.kinds() for count in signature.counts}
+        self.posts = self.count_posts()
 
     def calls(self):
         for rank, record in self.records.items():
@@ -147,12 +150,23 @@ class Job:
                     added[rank] += [(index, longest[index]) for index in range(made, len(longest))]
         return added
 
-    def signature(self, rank, command):
+    def own_signature(self, rank, command):
         members = self.contexts.members(command.key)
         known = command.call, members.index(rank), len(members)
         if known not in self.signatures:
             self.signatures[known] = signature_of(*known)
         return self.signatures[known]
+
+    def signature(self, rank, command):
+        """Calls that agree stand alike, as that of the first member: MPI lets them agree by other types too."""
+        own = self.own_signature(rank, command)
+        first = next((it for it in self.contexts.members(command.key) if it in self.records and command.index < len(self.records[it].calls.get(command.key, ()))), rank)
+        if first == rank or command.index >= self.differ.get(command.key, ENDLESS):
+            return own
+        theirs = self.own_signature(first, self.records[first].calls[command.key][command.index])
+        if own[:5] == theirs[:5]:
+            return own
+        return theirs._replace(exact=False, waits=own.waits, why=f"stands as rank {first} calls it, with zeros: MPI lets both agree")
 
     def own_count(self, rank, command):
         signature = self.signature(rank, command)
@@ -161,23 +175,23 @@ class Job:
         member = self.contexts.members(command.key).index(rank)
         return signature.counts[member if len(signature.counts) > 1 else 0]
 
-    def long_counts(self, rank, command, longest):
-        """Those of the counts that are too long, or too long together."""
-        signature = self.signature(rank, command)
-        blocks = 1 if signature.kind == "allgatherv" else len(self.contexts.members(command.key))
-        too_much = sum(signature.counts) * blocks * WIDTHS.get(signature.word, 1) > MOST_BYTES
-        return [count for count in signature.counts if count > min(longest, MOST_COUNT) or (too_much and count > 0)]
-
     def choose_counts(self, longest):
         """Each count that is too long stands for itself by a small one that the program doesn't have."""
-        long = {count for rank, command in self.calls() for count in self.long_counts(rank, command, longest)}
-        long |= {count for rank, added in self.added.items() for _, command in added for count in self.long_counts(rank, command, longest)}
+        long = {count for kind in self.kinds() for count in long_counts(*kind, longest)}
         self.stand_ins, free = {}, 1
         for count in sorted(long):
             while free in self.used:
                 free += 1
             self.stand_ins[count] = free
             free += 1
+
+    def kinds(self):
+        """The signatures that there are, with their numbers of members: few beside the calls."""
+        if self.known_kinds is None:
+            calls = [(rank, command) for rank, command in self.calls()] + [(rank, command) for rank, added in self.added.items() for _, command in added]
+            kinds = {id(self.signature(rank, command)): (self.signature(rank, command), len(self.contexts.members(command.key))) for rank, command in calls}
+            self.known_kinds = list(kinds.values())
+        return self.known_kinds
 
     def values(self, rank, command, gift):
         """What stands after the signature or the request's number, with zeros for what isn't known."""
@@ -297,18 +311,24 @@ class Job:
 
     # What fits
 
-    def requests(self, window):
-        kept = sum(self.is_kept(command, window) for _, command in self.calls())
-        return kept + sum(window[0] <= index < window[1] for added in self.added.values() for index, _ in added)
-
-    def fits(self, window, starts, longest):
-        return self.requests(window) <= MOST_REQUESTS and size_of(self.text(window, starts, longest)) <= MOST_TEXT - 4096
+    def count_posts(self):
+        """How many posts stand before each place, over all communicators and ranks."""
+        at = collections.Counter(command.index for _, command in self.calls())
+        at.update(index for added in self.added.values() for index, _ in added)
+        before = [0]
+        for index in range(max(at, default=0) + 1):
+            before.append(before[-1] + at[index])
+        return before
 
     def most_places(self):
-        return max((command.index + 1 for _, command in self.calls()), default=1)
+        return len(self.posts) - 1
 
     def most_starts(self):
         return max(collections.Counter((rank, number) for rank, record in self.records.items() for command in record.commands if command.word == "start" for number in command.numbers).values(), default=0)
+
+    def last_place(self, first, last):
+        """The greatest end of a window whose posts a text can have."""
+        return max(first + 1, bisect.bisect_right(self.posts, self.posts[min(first, last)] + MOST_REQUESTS, first, last + 1) - 1)
 
     def fitting_text(self, first, before=ENDLESS):
         """The text from place FIRST on, with as little left out as its limits ask for, in this order: values, starts after some number,
@@ -316,23 +336,29 @@ class Job:
         if self.size > MOST_RANKS:
             self.notes.append(f"left out: all: a program of {self.size} ranks, and a text has at most {MOST_RANKS}")
             return None
-        last = min(self.most_places(), before)
-        longest = next((it for it in LONGEST if self.requests((first, last)) <= MOST_REQUESTS and self.fits((first, last), ENDLESS, it)), LONGEST[-1])
-        starts = ENDLESS
-        if not self.fits((first, last), starts, longest):
-            last = greatest(first + 1, last, lambda most: self.fits((first, most), 1, longest))
-            starts = greatest(1, self.most_starts(), lambda most: self.fits((first, last), most, longest))
-            if starts < self.most_starts():
-                self.notes.append(f"left out: of each persistent request, the starts after its first {starts}")
+        last, starts = self.last_place(first, min(self.most_places(), before)), ENDLESS
+        lines = self.shorter_text(first, last, starts)
+        while size_of(lines) > MOST_TEXT - 4096 and (starts > 1 or last > first + 1):
+            starts, last = (max(1, min(starts, self.most_starts()) // 4), last) if starts > 1 and self.most_starts() > 1 else (1, first + (last - first + 1) // 2)
+            lines = self.shorter_text(first, last, starts)
+        if starts < self.most_starts():
+            self.notes.append(f"left out: of each persistent request, the starts after its first {starts}")
         if last < self.most_places():
             self.notes.append(f"left out: what stands at place {last} or after it on its communicator: see --from {last}")
         if first:
             self.notes.append(f"left out: what stands before place {first} on its communicator")
         self.next = last if last < self.most_places() else None
-        lines = self.text((first, last), starts, longest)
         if size_of(lines) > MOST_TEXT:
             self.notes.append(f"left out: all: a text of {size_of(lines)} bytes would be too long, even with one place of each communicator")
             return None
+        return lines
+
+    def shorter_text(self, first, last, starts):
+        """The text with as many of its values as fit."""
+        for longest in LONGEST:
+            lines = self.text((first, last), starts, longest)
+            if size_of(lines) <= MOST_TEXT - 4096:
+                break
         return lines
 
     def incomplete(self):
@@ -346,15 +372,8 @@ def size_of(lines):
     return sum(len(line.encode()) + 1 for line in lines)
 
 
-def greatest(least, most, fits):
-    """The greatest number up to MOST that fits, or LEAST."""
-    while least < most:
-        middle = (least + most + 1) // 2
-        if fits(middle):
-            least = middle
-        else:
-            most = middle - 1
-    return least
-
-
-__all__ = ["Job", "NO_TYPE"]
+def long_counts(signature, members, longest):
+    """Those of the counts that are too long, or too long together."""
+    blocks = 1 if signature.kind == "allgatherv" else members
+    too_much = sum(signature.counts) * blocks * WIDTHS.get(signature.word, 1) > MOST_BYTES
+    return [count for count in signature.counts if count > min(longest, MOST_COUNT) or (too_much and count > 0)]

@@ -10,6 +10,7 @@
 #include <stdio.h>
 #include <string.h>
 #include <sys/mman.h>
+#include <sys/syscall.h>
 #include <time.h>
 #include <unistd.h>
 
@@ -26,6 +27,8 @@ struct standing {
     int32_t place;
     int32_t awaited; /* how many things it waits for */
     int32_t any;
+    uint64_t ran;    /* nanoseconds of the processor that the thread was seen to use since then */
+    uint64_t asleep; /* how many beats in a row it was seen asleep since then */
     char name[NAME];
     struct awaited shown[SHOWN]; /* the first of them */
 };
@@ -49,6 +52,13 @@ struct now {
 
 static struct now *now;
 static atomic_int threads;
+
+/* What the beat knows of each thread. */
+static struct watched {
+    _Atomic int task; /* the system's number, or 0 */
+    clockid_t clock;
+    uint64_t since, used;
+} watched[THREADS];
 static _Thread_local int thread = -1;
 
 static uint64_t clock_now(void) {
@@ -57,9 +67,42 @@ static uint64_t clock_now(void) {
     return (uint64_t)time.tv_sec * 1000000000u + (uint64_t)time.tv_nsec;
 }
 
+static uint64_t processor_time(clockid_t clock) {
+    struct timespec time;
+    return clock_gettime(clock, &time) ? 0 : (uint64_t)time.tv_sec * 1000000000u + (uint64_t)time.tv_nsec;
+}
+
+/* Whether the system says that a thread sleeps or has ended, and doesn't just lack a processor. */
+static bool sleeps(int task) {
+    char path[64], line[512] = "";
+    snprintf(path, sizeof path, "/proc/self/task/%d/stat", task);
+    int file = open(path, O_RDONLY | O_CLOEXEC);
+    if (file < 0)
+        return true;
+    ssize_t length = read(file, line, sizeof line - 1);
+    close(file);
+    const char *state = length > 0 ? strrchr(line, ')') : NULL;
+    return state && strlen(state) > 2 && (state[2] == 'S' || state[2] == 'D');
+}
+
+/* A thread that neither ran nor slept since it entered its call has had no turn, so it doesn't wait for anybody. */
+static void look_at(struct watched *thread, struct standing *standing) {
+    uint64_t used = processor_time(thread->clock), since = standing->since;
+    if (thread->since != since) {
+        thread->since = since;
+        thread->used = used;
+        standing->asleep = 0;
+    }
+    standing->ran = used > thread->used ? used - thread->used : 0;
+    standing->asleep = sleeps(thread->task) ? standing->asleep + 1 : 0;
+}
+
 static void *beat(void *unused) {
     (void)unused;
     while (!now->finalized) {
+        for (int number = 0; number < THREADS; number++)
+            if (watched[number].task)
+                look_at(&watched[number], &now->threads[number]);
         atomic_store(&now->beat, clock_now());
         nanosleep(&BEAT, NULL);
     }
@@ -108,8 +151,11 @@ void now_finalized(void) {
 }
 
 int now_thread(void) {
-    if (thread < 0)
-        thread = atomic_fetch_add(&threads, 1);
+    if (thread >= 0)
+        return thread;
+    thread = atomic_fetch_add(&threads, 1);
+    if (thread < THREADS && !pthread_getcpuclockid(pthread_self(), &watched[thread].clock))
+        watched[thread].task = (int)syscall(SYS_gettid);
     return thread;
 }
 
@@ -121,6 +167,7 @@ void now_enter(const char *name, int place) {
         return;
     atomic_store_explicit(&standing->inside, 0, memory_order_release);
     standing->since = clock_now();
+    standing->ran = standing->asleep = 0;
     standing->calls++;
     standing->place = place;
     standing->awaited = standing->any = 0;

@@ -2,30 +2,32 @@
 
 import collections
 import os
+import re
 import struct
 
 from agreement import call_name
-from records import listed, rank_words
+from records import rank_words
 
 THREADS, SHOWN, MESSAGES, VERSION = 64, 24, 4096, 1
-HEAD, THREAD, AWAITED, MESSAGE = struct.Struct("=4I2Q2I"), struct.Struct("=2Q4i40s"), struct.Struct("=4iq2i"), struct.Struct("=4iq")
+HEAD, THREAD, AWAITED, MESSAGE = struct.Struct("=4I2Q2I"), struct.Struct("=2Q4i2Q40s"), struct.Struct("=4iq2i"), struct.Struct("=4iq")
 COLLECTIVE, RECEIVE, SEND, OTHER, RANK = 1, 2, 3, 4, 5
 ANY = -1
 SECOND = 1e9
 
 # Ranks are told to wait for one another where all of them have stood in their calls for so many seconds at once: a message under way
-# takes less.
-STANDS = 0.5
+# takes less. On a machine with more to do than processors a thread that has had no turn doesn't stand: it must have used some of a
+# processor's time in its call, or have slept there.
+STANDS, RAN, ASLEEP = 0.5, 1e7, 3
 
 Awaited = collections.namedtuple("Awaited", "kind context rank tag index place form")
-Thread = collections.namedtuple("Thread", "number since calls inside place count any name awaited")
+Thread = collections.namedtuple("Thread", "number since calls inside place count any ran asleep name awaited")
 
 # The members whose calls a collective needs to be complete at a rank, whatever the library: of these kinds all, of the others see `needed`.
 ALL_NEEDED = {"Barrier", "Allgather", "Allgatherv", "Alltoall", "Alltoallv", "Alltoallw", "Allreduce", "Reduce_scatter", "Reduce_scatter_block", "Comm_split", "Comm_dup"}
 
 
 class Now:
-    """The file of one rank."""
+    """The file of one rank: of the run RUN, or of any for None."""
 
     def __init__(self, path, run):
         self.threads, self.messages, self.beat, self.counted, self.finalized = [], {}, 0, False, False
@@ -37,16 +39,16 @@ class Now:
         if len(data) < HEAD.size + THREADS * (THREAD.size + SHOWN * AWAITED.size) + MESSAGES * MESSAGE.size:
             return
         version, _, _, finalized, its_run, beat, uncounted, _ = HEAD.unpack_from(data)
-        if version != VERSION or its_run != run:
+        if version != VERSION or run not in (None, its_run):
             return
         self.beat, self.counted, self.finalized = beat, not uncounted, bool(finalized)
         at = HEAD.size
         for number in range(THREADS):
-            since, calls, inside, place, count, any_, name = THREAD.unpack_from(data, at)
+            since, calls, inside, place, count, any_, ran, asleep, name = THREAD.unpack_from(data, at)
             at += THREAD.size
             if calls:
                 awaited = [Awaited(*AWAITED.unpack_from(data, at + place_ * AWAITED.size)) for place_ in range(min(count, SHOWN))]
-                self.threads.append(Thread(number, since, calls, bool(inside), place, count, bool(any_), name.split(b"\0")[0].decode(), awaited))
+                self.threads.append(Thread(number, since, calls, bool(inside), place, count, bool(any_), ran, asleep, name.split(b"\0")[0].decode(), awaited))
             at += SHOWN * AWAITED.size
         for _ in range(MESSAGES):
             kind, context, rank, tag, calls = MESSAGE.unpack_from(data, at)
@@ -177,7 +179,7 @@ class Standings:
 
     def at_once(self, stuck):
         since = max(thread.since for thread, _ in stuck.values())
-        return all(self.now[rank].beat >= since + STANDS * SECOND for rank in stuck)
+        return all(self.now[rank].beat >= since + STANDS * SECOND and had_turn(thread) for rank, (thread, _) in stuck.items())
 
     # What is told
 
@@ -261,17 +263,12 @@ class Standings:
         return [f"thread {thread.number}: {words}" for thread, words in zip(now.threads, lines)] if len(lines) > 1 else lines
 
     def lines(self):
-        """Where each rank stands that didn't come to its end, those alike together."""
+        """Where each rank stands that didn't come to its end, those alike together, with the shortest of their times."""
         alike = collections.defaultdict(list)
         for rank in self.open:
             for words in self.rank_lines(rank):
-                alike[words].append(rank)
-        told, joined = [], collections.defaultdict(list)
-        for words, ranks in alike.items():
-            # Many ranks stand alike but for how long they do.
-            joined[words if len(self.open) <= 8 else without_seconds(words)] += ranks
-        told += [f"{rank_words(ranks)}: {words}" for words, ranks in joined.items()]
-        return told
+                alike[without_seconds(words)].append((seconds_of(words), rank, words))
+        return [f"{rank_words([rank for _, rank, _ in those])}: {min(those)[2]}" for those in alike.values()]
 
     def circle_lines(self, blocked):
         """The ranks of a circle, or what ends at ranks that came to MPI_Finalize."""
@@ -291,16 +288,23 @@ class Standings:
     def waited_for(self):
         """The ranks that others have waited for some time, and that wait for none themselves, as far as that is sure."""
         waits = {rank: self.waits(rank) for rank in self.open}
-        waits = {rank: it for rank, it in waits.items() if it and self.now[rank].beat >= it[0].since + STANDS * SECOND}
+        waits = {rank: it for rank, it in waits.items() if it and self.now[rank].beat >= it[0].since + STANDS * SECOND and had_turn(it[0])}
         wanted = set().union(*(option[1] for it in waits.values() for option in it[1] if option))
         return sorted(rank for rank in wanted if rank in self.records and rank not in waits)
 
 
+def had_turn(thread):
+    return thread.ran >= RAN or thread.asleep >= ASLEEP
+
+
+SECONDS = re.compile(r", for (\d+\.\d) s(?=[:;]|$)")
+
+
 def without_seconds(words):
     """The words of a call without the time that it has lasted."""
-    before, found, after = words.partition(", for ")
-    rest = after.partition(" s")[2]
-    return before + rest if found and after[:1].isdigit() else words
+    return SECONDS.sub("", words, count=1)
 
 
-__all__ = ["Standings", "listed"]
+def seconds_of(words):
+    found = SECONDS.search(words)
+    return float(found[1]) if found else 0.0

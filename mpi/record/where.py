@@ -48,7 +48,7 @@ class Report:
         if faults or circle:
             return 1
         if self.several_threads():
-            print("stalls aren't judged: several threads of a rank call on one communicator, and what was recorded is one order of many")
+            print("no fault found in what is there; stalls aren't judged: several threads of a rank make collective calls, and the order that was recorded is one of many")
             return 3
         return self.tell_stalls()
 
@@ -97,7 +97,7 @@ class Report:
         return "not sure: several threads of a rank call on it, and the order that was recorded is one of many: " + "\n".join(lines)
 
     def several_threads(self):
-        return any(not self.judge.has_order(key) for key in self.contexts.known)
+        return any(len(set().union(*record.threads.values())) > 1 for record in self.records.values() if record.threads)
 
     def tell_circle(self):
         blocked = self.standings.blocked()

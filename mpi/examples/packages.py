@@ -1,0 +1,147 @@
+#!/usr/bin/env python3
+"""Records programs of Debian's packages whole, as they are installed, and judges them:
+
+    mpi/examples/packages.py FOLDER [NAME ...]    inputs and records go to FOLDER
+
+The packages are lammps, hpcc, mrbayes-mpi and phyml (apt-get install --no-install-recommends lammps hpcc mrbayes-mpi phyml); all of them are
+built for Debian's Open MPI. Each runs with four ranks, without the recorder and with it in turn, ROUNDS times. A row has the collective
+calls of all ranks, the seconds by the clock without and with the recorder (medians), the size of the records, the seconds that where.py
+takes, and what it tells last. The oracle is the program that the variable COLLJOB names, or ./colljob at the top of the repository.
+"""
+
+import os
+import re
+import shutil
+import signal
+import statistics
+import subprocess
+import sys
+import time
+
+HERE = os.path.dirname(os.path.abspath(__file__))
+MPI = os.path.dirname(HERE)
+SETTINGS = {"OMPI_ALLOW_RUN_AS_ROOT": "1", "OMPI_ALLOW_RUN_AS_ROOT_CONFIRM": "1", "OMPI_MCA_mpi_yield_when_idle": "1", "OMP_NUM_THREADS": "1"}
+RANKS, ROUNDS, SECONDS = 4, 3, 600
+
+MELT = """units lj
+atom_style atomic
+lattice fcc 0.8442
+region box block 0 12 0 12 0 12
+create_box 1 box
+create_atoms 1 box
+mass 1 1.0
+velocity all create 1.44 87287 loop geom
+pair_style lj/cut 2.5
+pair_coeff 1 1 1.0 1.0 2.5
+neighbor 0.3 bin
+neigh_modify every 20 delay 0 check no
+fix 1 all nve
+thermo 10
+run 1000
+"""
+
+TREE = """#NEXUS
+begin data;
+dimensions ntax=5 nchar=40;
+format datatype=dna;
+matrix
+one   ACGTTGCATGCATGACGTACCAGTATGCATGACCATGACA
+two   ACGTTGCATGCTTGACGTACCAGTATGCATGACCATGTCA
+three ACGATGCATGCATGACGAACCAGTTTGCATGACGATGACA
+four  ACGATGCTTGCATGACGAACCTGTTTGCATGTCGATGACA
+five  TCGATGCTTGCATGTCGAACCTGTTTGCATGTCGATGACT
+;
+end;
+begin mrbayes;
+set autoclose=yes nowarn=yes;
+mcmc ngen=20000 samplefreq=100 printfreq=1000 nruns=2 nchains=4;
+end;
+"""
+
+
+def write(path, text):
+    with open(path, "w") as file:
+        file.write(text)
+
+
+def prepare_lammps(folder):
+    write(f"{folder}/in.melt", MELT)
+    return ["lmp", "-in", "in.melt"]
+
+
+def prepare_hpcc(folder):
+    with open("/usr/share/doc/hpcc/examples/_hpccinf.txt") as file:
+        text = file.read()
+    write(f"{folder}/hpccinf.txt", re.sub(r"(?m)^1000( +Ns)", r"400 \1", text))
+    return ["hpcc"]
+
+
+def prepare_mrbayes(folder):
+    write(f"{folder}/tree.nex", TREE)
+    return ["/usr/lib/mrbayes-mpi/mb-mpi", "tree.nex"]
+
+
+def prepare_phyml(folder):
+    shutil.copy("/usr/share/doc/phyml/examples/nucleic", f"{folder}/nucleic")
+    return ["phyml-mpi", "-i", "nucleic", "-b", "8", "--r_seed", "1", "--no_memory_check"]
+
+
+PROGRAMS = {"lammps": prepare_lammps, "hpcc": prepare_hpcc, "mrbayes": prepare_mrbayes, "phyml": prepare_phyml}
+
+
+def run(words, folder, settings):
+    """The seconds of a run by the clock. Its processes are ended with it."""
+    command = ["mpirun.openmpi", "--oversubscribe", "-n", str(RANKS), "env", *settings, *words]
+    begin = time.monotonic()
+    with open(f"{folder}/output", "w") as output:
+        process = subprocess.Popen(command, cwd=folder, stdin=subprocess.DEVNULL, stdout=output, stderr=subprocess.STDOUT, env=dict(os.environ, **SETTINGS), start_new_session=True)
+        try:
+            status = process.wait(SECONDS)
+        except subprocess.TimeoutExpired:
+            status = None
+        finally:
+            try:
+                os.killpg(process.pid, signal.SIGKILL)
+            except ProcessLookupError:
+                pass
+            process.wait()
+    if status:
+        sys.exit(f"{words[0]} ended with status {status}: see {folder}/output")
+    return time.monotonic() - begin if status == 0 else float("inf")
+
+
+def measure(name, folder):
+    shutil.rmtree(folder, ignore_errors=True)
+    os.makedirs(folder)
+    words = PROGRAMS[name](folder)
+    if not shutil.which(words[0]):
+        sys.exit(f"{words[0]} isn't installed")
+    records = f"{folder}/record"
+    recorded = [f"LD_PRELOAD={MPI}/out/openmpi/librecord.so", f"RECORD_DIR={records}"]
+    without, with_it = [], []
+    for _ in range(ROUNDS):
+        without.append(run(words, folder, []))
+        shutil.rmtree(records, ignore_errors=True)
+        with_it.append(run(words, folder, recorded))
+    size = sum(os.path.getsize(f"{records}/{it}") for it in os.listdir(records) if it.startswith("rank."))
+    begin = time.monotonic()
+    told = subprocess.run([sys.executable, f"{MPI}/record/where.py", records], capture_output=True, text=True)
+    seconds = time.monotonic() - begin
+    calls = re.search(r"(\d+) collective calls", told.stdout)
+    last = (told.stdout + told.stderr).strip().splitlines()
+    print(f"| {name} | {calls[1] if calls else '?'} | {statistics.median(without):.1f}, {statistics.median(with_it):.1f} | {size} | {seconds:.1f} | {'; '.join(last[1:])} |", flush=True)
+    return told.returncode in (0, 3) and "fault:" not in told.stdout
+
+
+def main():
+    names = sys.argv[2:] or list(PROGRAMS)
+    if len(sys.argv) < 2 or not set(names) <= set(PROGRAMS):
+        sys.exit(__doc__)
+    subprocess.run(["make", "-s", "-C", MPI, "MPICC=mpicc.openmpi", "OUT=out/openmpi", "out/openmpi/librecord.so"], check=True)
+    print("| Program | Calls | Seconds without, with | Bytes | where.py, seconds | Told |\n|---|---|---|---|---|---|")
+    right = [measure(name, os.path.abspath(f"{sys.argv[1]}/{name}")) for name in names]
+    sys.exit(0 if all(right) else 1)
+
+
+if __name__ == "__main__":
+    main()
