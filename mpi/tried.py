@@ -6,6 +6,8 @@
     mpi/tried.py NAME ..       those of these names
     mpi/tried.py --table       also what is told first, as the rows of a table
     mpi/tried.py --library L   with this library alone, openmpi or mpich
+    mpi/tried.py --records F   the records stay in the folder F
+    mpi/tried.py --again F     the records in the folder F are judged again, and nothing runs
 
 The programs stand in tried/. One that hangs is ended as soon as no rank has begun or ended a call for a second, and any after two
 minutes. A sentence is false where a right program is told to have a fault or to stall, and where a wrong one is told to have none; a line
@@ -66,6 +68,7 @@ PROGRAMS = {
     "reduce_scatter_counts": wrong(4, "the counts differ", "rank 1: MPI_Reduce_scatter(2, 0, 1, 1 MPI_INT, MPI_SUM), {A}"),
     "neighbours_meet_barrier": wrong(2, "the calls differ", "rank 0: MPI_Barrier, {A}", "rank 1: MPI_Neighbor_allgather, {B}"),
     "starts_differ": wrong(3, "the numbers of starts differ: rank 0 3, rank 1 2, rank 2 2", "{A}"),
+    "shifted_dup": wrong(2, "the calls differ", "rank 0: MPI_Ibarrier, {B}", "rank 1: MPI_Comm_dup, {A}"),
     "skipped_barrier": wrong(3, "call 2 on MPI_COMM_WORLD: rank 1 comes to MPI_Finalize without it", "ranks 0, 2: MPI_Barrier, {A}"),
     "skipped_split": wrong(3, "the calls differ", "rank 0: MPI_Barrier, {B}", "ranks 1, 2: MPI_Comm_split, {A}", short=True),
     "skipped_dup": wrong(2, CIRCLE, "rank 0: in MPI_Recv, {A}", "rank 1: in MPI_Comm_dup, {B}", short=True),
@@ -157,10 +160,12 @@ def there(only):
 
 
 class Library:
-    """The programs built for one MPI library."""
+    """The programs built for one MPI library, unless records are judged again."""
 
-    def __init__(self, name, folder):
+    def __init__(self, name, folder, again):
         self.name, self.folder = name, folder
+        if again:
+            return
         self.out = f"{HERE}/out/{name}"
         call("make", "-s", "-C", HERE, f"MPICC={compiler(name)}", f"OUT=out/{name}", f"out/{name}/librecord.so")
         self.binary = f"{folder}/programs.{name}"
@@ -268,12 +273,17 @@ def first_words(told):
     return lines[0] if lines else told.splitlines()[-1] if told else "nothing"
 
 
-def try_one(library, name, program, folder, table):
+def try_one(library, name, program, folder, table, again):
     records = f"{folder}/record.{library.name}.{name}"
-    command = library.command(name)
-    if not command:
+    ended = "judged again"
+    if not again:
+        command = library.command(name)
+        if not command:
+            return None
+        shutil.rmtree(records, ignore_errors=True)
+        ended = library.record(name, command, program.ranks, records)
+    elif not os.path.isdir(records):
         return None
-    ended = library.record(name, command, program.ranks, records)
     told, status = judge(records)
     found = failings(name, program, told, status)
     if table:
@@ -289,6 +299,8 @@ def main():
     parser.add_argument("--short", action="store_true", help="a part of them, with one library")
     parser.add_argument("--table", action="store_true", help="also what is told first")
     parser.add_argument("--library", choices=LIBRARIES)
+    parser.add_argument("--records", metavar="FOLDER", help="where the records stay")
+    parser.add_argument("--again", metavar="FOLDER", help="judges the records there again, and runs nothing")
     words = parser.parse_args()
     unknown = set(words.names) - set(PROGRAMS)
     if unknown:
@@ -299,10 +311,12 @@ def main():
         print("skipped: no MPI compiler is there (mpicc.openmpi, mpicc.mpich or mpicc, and mpirun)")
         return 0
     failed = collections.Counter()
-    with tempfile.TemporaryDirectory() as folder:
-        for library in [Library(name, folder) for name in (libraries[:1] if words.short else libraries)]:
+    with tempfile.TemporaryDirectory() as temporary:
+        folder = os.path.abspath(words.again or words.records or temporary)
+        os.makedirs(folder, exist_ok=True)
+        for library in [Library(name, temporary if words.again else folder, words.again) for name in (libraries[:1] if words.short else libraries)]:
             for name in names:
-                found = try_one(library, name, PROGRAMS[name], folder, words.table)
+                found = try_one(library, name, PROGRAMS[name], folder, words.table, words.again)
                 if found is None:
                     continue
                 failed[bool(found)] += 1

@@ -5,6 +5,10 @@ import collections
 from agreement import BY_LETTER, Disagreement, compare, call_words
 from records import rank_words
 
+# What makes contexts, each numbered among those of its parent.
+MAKERS = {"Comm_dup", "Comm_dup_with_info", "Comm_split", "Comm_split_type", "Comm_create", "Comm_create_group", "Cart_create", "Cart_sub", "Graph_create", "Dist_graph_create",
+          "Dist_graph_create_adjacent", "Win_create", "Win_allocate", "Win_allocate_shared", "Win_create_dynamic", "File_open"}
+
 # What a rank that came to its end may have left out without harm.
 FREES = {"Comm_free", "Comm_disconnect", "Win_free", "File_close"}
 
@@ -58,8 +62,11 @@ class Judge:
 
     def __init__(self, records, contexts):
         self.records, self.contexts, self.compared = records, contexts, {}
-        self.made = collections.Counter()
-        self.found = [difference for key in contexts.in_order() for difference in self.judge(key)]
+        self.differ = {}  # of each context the first place at which calls differ
+        self.unsure = set()  # what was made after its parent's calls differ: it may be another one at each rank
+        self.skipped, self.found = 0, []
+        for key in contexts.in_order():
+            self.judge_context(key)
 
     def faults(self):
         return [it for it in self.found if it.is_fault()]
@@ -71,12 +78,39 @@ class Judge:
         """False where several threads of a rank call on a context: what was recorded is one order of several."""
         return all(len(record.threads.get(key, ())) < 2 for record in self.records.values())
 
+    def judge_context(self, key):
+        if self.made_after_difference(key) or not self.has_order(key):
+            self.unsure.add(key)
+        if self.made_after_difference(key):
+            self.skipped += 1
+            return
+        for difference in self.judge(key):
+            self.found.append(difference)
+            if difference.is_fault() and not difference.lacking:
+                self.differ[key] = difference.index
+
+    def made_after_difference(self, key):
+        """Whether a context was made when the calls of what it was made of, or of what that was made of, had begun to differ."""
+        parent, _, last = key.rpartition("/")
+        if not parent:
+            return False
+        number = last.split(".")[0]
+        if parent in self.unsure or not number.isdigit():
+            return parent in self.unsure
+        if parent not in self.differ:
+            return False
+        calls = [record.calls[parent][: self.differ[parent]] for record in self.records.values() if parent in record.calls]
+        return min(sum(command.call.name in MAKERS for command in it) for it in calls) <= int(number)
+
+    def is_sure(self, key, index):
+        """Whether the calls at a place of a context are known to be meant for one another."""
+        return key not in self.unsure and index < self.differ.get(key, index + 1)
+
     def judge(self, key):
         """The first fault of a context, and before it a warning."""
         members = self.contexts.members(key)
         calls = {rank: self.records[rank].calls.get(key, []) for rank in members if rank in self.records}
         most = max((len(it) for it in calls.values()), default=0)
-        self.made[key] = most
         found = []
         if len(members) < 2:
             members = members[:1]

@@ -59,12 +59,16 @@ class Record:
             raise Unreadable(f"{path}: " + ("written by an older recorder: record anew" if old else "not a record, or one that was cut in its first line"))
         self.rank, self.size, self.run = map(int, head.groups()[:3])
         self.library = head[4]
-        self.parsed = {}
-        self.read(lines[1:-1])
+        self.parsed, self.line = {}, 1
+        try:
+            self.read(lines[1:-1])
+        except (ValueError, KeyError, IndexError) as why:
+            raise Unreadable(f"{path}: line {self.line}: not a line of a record") from why
 
     def read(self, lines):
         place, thread, remarks = None, 0, []
         for line in lines:
+            self.line += 1
             first = line[:1]
             if first == "@":
                 place = int(line[1:])

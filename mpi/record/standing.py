@@ -60,8 +60,8 @@ class Now:
 class Standings:
     """Where the ranks stand that didn't come to their ends."""
 
-    def __init__(self, folder, records, contexts, places):
-        self.records, self.contexts, self.places = records, contexts, places
+    def __init__(self, folder, records, contexts, places, judge):
+        self.records, self.contexts, self.places, self.judge = records, contexts, places, judge
         self.now = {rank: Now(os.path.join(folder, f"now.{rank}"), record.run) for rank, record in records.items()}
         self.open = [rank for rank, record in records.items() if not record.ended]
 
@@ -70,6 +70,11 @@ class Standings:
     def key(self, rank, number):
         context = self.records[rank].contexts.get(number)
         return context.key if context else None
+
+    def is_sure(self, rank, awaited):
+        """Whether what is awaited is in a context, and at a place of it, that means the same at all ranks."""
+        key = self.key(rank, awaited.context)
+        return bool(key) and self.judge.is_sure(key, awaited.index if awaited.kind == COLLECTIVE else -1)
 
     def lacking(self, rank, awaited):
         """The members that haven't made a collective call, and of whom a record is there."""
@@ -122,6 +127,8 @@ class Standings:
     def options(self, rank, awaited, alone):
         """Whom a rank surely waits for by one thing: ("all", ranks) where it wants each of them, ("any", ranks) where one is enough, or
         None where it isn't sure that it waits. ALONE says that its call names nothing else."""
+        if not self.is_sure(rank, awaited):
+            return None
         if awaited.kind == COLLECTIVE:
             lacking = set(self.lacking(rank, awaited))
             needed = lacking & self.needed(rank, awaited)
@@ -200,6 +207,8 @@ class Standings:
 
     def message_note(self, rank, awaited):
         """What the counts of messages say of one that is waited for."""
+        if not self.is_sure(rank, awaited):
+            return ""
         if awaited.kind == RECEIVE and awaited.index >= 0:
             sent = self.sent(rank, awaited)
             if sent is not None and sent <= awaited.index:
@@ -215,6 +224,8 @@ class Standings:
         if not key or not command:
             return "a call on a communicator that isn't known"
         words = "" if itself else f"{call_name(command.call.form, command.call.name)}, {self.place(rank, command.place)}, "
+        if not self.is_sure(rank, awaited):
+            return f"{words}call {awaited.index + 1} on {self.contexts.name(key)}" + (", where the calls differ" if self.judge.differ.get(key) == awaited.index else "")
         lacking = self.lacking(rank, awaited)
         absent = [it for it in self.contexts.members(key) if it not in self.records]
         there = f": {rank_words(lacking)} {'has' if len(lacking) == 1 else 'have'} not called it" if lacking else "" if absent else ", which all its members have called"

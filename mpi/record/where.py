@@ -37,7 +37,7 @@ class Report:
         self.places = Places(self.records)
         self.contexts = Contexts(self.records, self.places)
         self.judge = Judge(self.records, self.contexts)
-        self.standings = Standings(folder, self.records, self.contexts, self.places)
+        self.standings = Standings(folder, self.records, self.contexts, self.places, self.judge)
         self.size = next(iter(self.records.values())).size
         self.missing = False
 
@@ -81,6 +81,8 @@ class Report:
             print("fault: " + "\n".join(difference_lines(fault, self.contexts, self.records, self.places)) if sure else self.unsure(fault))
         if len(faults) > MOST_TOLD:
             print(f"{len(faults) - MOST_TOLD} further communicators, windows or files have faults")
+        if self.judge.skipped:
+            print(f"not judged: {self.judge.skipped} communicators, windows or files that were made after their parent's calls began to differ")
         for warning in self.judge.warnings()[:MOST_TOLD]:
             print("warning: " + "\n".join(difference_lines(warning, self.contexts, self.records, self.places)) + self.letter(warning))
         return [fault for fault in faults if self.judge.has_order(fault.key)]

@@ -156,6 +156,17 @@ static void starts_differ(void) {
 
 /* Calls that a rank leaves out */
 
+/* The first rank makes a communicator less, so its second one is the others' third. */
+static void shifted_dup(void) {
+    MPI_Comm later;
+    if (rank)
+        MPI_Comm_dup(world, &twin); /* A */
+    else
+        MPI_Ibarrier(world, &request); /* B */
+    MPI_Comm_dup(world, &later);
+    MPI_Reduce(&one, &sum, 1, MPI_INT, rank ? MPI_MAX : MPI_SUM, 0, later);
+}
+
 static void skipped_barrier(void) {
     MPI_Allreduce(&one, &sum, 1, MPI_INT, MPI_SUM, world);
     if (rank != 1)
@@ -680,7 +691,7 @@ static const struct {
     PROGRAM(other_root), PROGRAM(other_count), PROGRAM(other_type), PROGRAM(other_operation), PROGRAM(other_user_operation), PROGRAM(other_structure),
     PROGRAM(other_call), PROGRAM(blocking_meets_nonblocking), PROGRAM(nonblocking_meets_persistent), PROGRAM(gather_count), PROGRAM(scatter_type),
     PROGRAM(gatherv_count), PROGRAM(scatterv_count), PROGRAM(allgatherv_count), PROGRAM(alltoallv_count), PROGRAM(alltoallw_type),
-    PROGRAM(reduce_scatter_counts), PROGRAM(neighbours_meet_barrier), PROGRAM(starts_differ), PROGRAM(skipped_barrier), PROGRAM(skipped_split),
+    PROGRAM(reduce_scatter_counts), PROGRAM(neighbours_meet_barrier), PROGRAM(starts_differ), PROGRAM(shifted_dup), PROGRAM(skipped_barrier), PROGRAM(skipped_split),
     PROGRAM(skipped_dup), PROGRAM(skipped_idup), PROGRAM(skipped_cart), PROGRAM(free_meets_barrier), PROGRAM(group_lacks_one),
     PROGRAM(crossed_communicators), PROGRAM(crossed_waits), PROGRAM(skipped_write), PROGRAM(other_write), PROGRAM(skipped_open), PROGRAM(skipped_fence),
     PROGRAM(fence_meets_receive), PROGRAM(skipped_window), PROGRAM(receive_circle), PROGRAM(receive_ring), PROGRAM(other_tag),
