@@ -1,0 +1,193 @@
+/* MPI for programs whose ranks are threads of one process: the collectives of MPI 4.1 over Worzsunab's engine, and what programs use beside them.
+   docs/MPI_PROGRAMS.md says which calls are there. Compile and link with wzcc, run with wzrun. C11 and C++11.
+
+   Each call notes its line in the program by a macro of its own name. A source that defines such calls itself, as profilers do, is compiled with
+   -DWORZSUNAB_NO_LINES. */
+#ifndef WORZSUNAB_MPI_H
+#define WORZSUNAB_MPI_H
+
+#include <stddef.h>
+#include <stdint.h>
+
+#ifdef __cplusplus
+extern "C" {
+#endif
+
+#define MPI_VERSION 4
+#define MPI_SUBVERSION 1
+#define WORZSUNAB_MPI 1
+
+/* Handles: a kind, a generation and a number in one word. A rank's handles mean nothing to another. */
+typedef struct wz_comm_handle_ *MPI_Comm;
+typedef struct wz_group_handle_ *MPI_Group;
+typedef struct wz_type_handle_ *MPI_Datatype;
+typedef struct wz_op_handle_ *MPI_Op;
+typedef struct wz_request_handle_ *MPI_Request;
+typedef struct wz_info_handle_ *MPI_Info;
+typedef struct wz_errhandler_handle_ *MPI_Errhandler;
+typedef struct wz_win_handle_ *MPI_Win;
+typedef struct wz_file_handle_ *MPI_File;
+typedef struct wz_message_handle_ *MPI_Message;
+#define WZ_HANDLE_(type, kind, number) ((type)(((uintptr_t)(kind) << 56) | (uintptr_t)(number)))
+
+typedef ptrdiff_t MPI_Aint;
+typedef long long MPI_Offset;
+typedef long long MPI_Count;
+typedef int MPI_Fint;
+
+typedef struct MPI_Status {
+    int MPI_SOURCE;
+    int MPI_TAG;
+    int MPI_ERROR;
+    int cancelled_;
+    MPI_Count bytes_;
+} MPI_Status;
+#define MPI_STATUS_IGNORE ((MPI_Status *)0)
+#define MPI_STATUSES_IGNORE ((MPI_Status *)0)
+#define MPI_ERRCODES_IGNORE ((int *)0)
+
+#define MPI_IN_PLACE ((void *)-1)
+#define MPI_BOTTOM ((void *)0)
+#define MPI_UNWEIGHTED ((int *)-2)
+#define MPI_WEIGHTS_EMPTY ((int *)-3)
+
+#define MPI_COMM_NULL WZ_HANDLE_(MPI_Comm, 1, 0)
+#define MPI_COMM_WORLD WZ_HANDLE_(MPI_Comm, 1, 1)
+#define MPI_COMM_SELF WZ_HANDLE_(MPI_Comm, 1, 2)
+#define MPI_GROUP_NULL WZ_HANDLE_(MPI_Group, 2, 0)
+#define MPI_GROUP_EMPTY WZ_HANDLE_(MPI_Group, 2, 1)
+#define MPI_DATATYPE_NULL WZ_HANDLE_(MPI_Datatype, 3, 0)
+#define MPI_OP_NULL WZ_HANDLE_(MPI_Op, 4, 0)
+#define MPI_REQUEST_NULL WZ_HANDLE_(MPI_Request, 5, 0)
+#define MPI_INFO_NULL WZ_HANDLE_(MPI_Info, 6, 0)
+#define MPI_INFO_ENV WZ_HANDLE_(MPI_Info, 6, 1)
+#define MPI_ERRHANDLER_NULL WZ_HANDLE_(MPI_Errhandler, 7, 0)
+#define MPI_ERRORS_ARE_FATAL WZ_HANDLE_(MPI_Errhandler, 7, 1)
+#define MPI_ERRORS_RETURN WZ_HANDLE_(MPI_Errhandler, 7, 2)
+#define MPI_ERRORS_ABORT WZ_HANDLE_(MPI_Errhandler, 7, 3)
+#define MPI_MESSAGE_NULL WZ_HANDLE_(MPI_Message, 8, 0)
+#define MPI_WIN_NULL WZ_HANDLE_(MPI_Win, 9, 0)
+#define MPI_FILE_NULL WZ_HANDLE_(MPI_File, 10, 0)
+
+/* Types, in the order of types.c. */
+#define MPI_CHAR WZ_HANDLE_(MPI_Datatype, 3, 1)
+#define MPI_SIGNED_CHAR WZ_HANDLE_(MPI_Datatype, 3, 2)
+#define MPI_UNSIGNED_CHAR WZ_HANDLE_(MPI_Datatype, 3, 3)
+#define MPI_SHORT WZ_HANDLE_(MPI_Datatype, 3, 4)
+#define MPI_UNSIGNED_SHORT WZ_HANDLE_(MPI_Datatype, 3, 5)
+#define MPI_INT WZ_HANDLE_(MPI_Datatype, 3, 6)
+#define MPI_UNSIGNED WZ_HANDLE_(MPI_Datatype, 3, 7)
+#define MPI_LONG WZ_HANDLE_(MPI_Datatype, 3, 8)
+#define MPI_UNSIGNED_LONG WZ_HANDLE_(MPI_Datatype, 3, 9)
+#define MPI_LONG_LONG_INT WZ_HANDLE_(MPI_Datatype, 3, 10)
+#define MPI_LONG_LONG MPI_LONG_LONG_INT
+#define MPI_UNSIGNED_LONG_LONG WZ_HANDLE_(MPI_Datatype, 3, 11)
+#define MPI_INT8_T WZ_HANDLE_(MPI_Datatype, 3, 12)
+#define MPI_INT16_T WZ_HANDLE_(MPI_Datatype, 3, 13)
+#define MPI_INT32_T WZ_HANDLE_(MPI_Datatype, 3, 14)
+#define MPI_INT64_T WZ_HANDLE_(MPI_Datatype, 3, 15)
+#define MPI_UINT8_T WZ_HANDLE_(MPI_Datatype, 3, 16)
+#define MPI_UINT16_T WZ_HANDLE_(MPI_Datatype, 3, 17)
+#define MPI_UINT32_T WZ_HANDLE_(MPI_Datatype, 3, 18)
+#define MPI_UINT64_T WZ_HANDLE_(MPI_Datatype, 3, 19)
+#define MPI_AINT WZ_HANDLE_(MPI_Datatype, 3, 20)
+#define MPI_OFFSET WZ_HANDLE_(MPI_Datatype, 3, 21)
+#define MPI_COUNT WZ_HANDLE_(MPI_Datatype, 3, 22)
+#define MPI_BYTE WZ_HANDLE_(MPI_Datatype, 3, 23)
+#define MPI_PACKED WZ_HANDLE_(MPI_Datatype, 3, 24)
+#define MPI_WCHAR WZ_HANDLE_(MPI_Datatype, 3, 25)
+#define MPI_C_BOOL WZ_HANDLE_(MPI_Datatype, 3, 26)
+#define MPI_FLOAT WZ_HANDLE_(MPI_Datatype, 3, 27)
+#define MPI_DOUBLE WZ_HANDLE_(MPI_Datatype, 3, 28)
+#define MPI_LONG_DOUBLE WZ_HANDLE_(MPI_Datatype, 3, 29)
+#define MPI_C_FLOAT_COMPLEX WZ_HANDLE_(MPI_Datatype, 3, 30)
+#define MPI_C_COMPLEX MPI_C_FLOAT_COMPLEX
+#define MPI_C_DOUBLE_COMPLEX WZ_HANDLE_(MPI_Datatype, 3, 31)
+#define MPI_C_LONG_DOUBLE_COMPLEX WZ_HANDLE_(MPI_Datatype, 3, 32)
+#define MPI_2INT WZ_HANDLE_(MPI_Datatype, 3, 33)
+#define MPI_FLOAT_INT WZ_HANDLE_(MPI_Datatype, 3, 34)
+#define MPI_DOUBLE_INT WZ_HANDLE_(MPI_Datatype, 3, 35)
+#define MPI_LONG_INT WZ_HANDLE_(MPI_Datatype, 3, 36)
+#define MPI_SHORT_INT WZ_HANDLE_(MPI_Datatype, 3, 37)
+#define MPI_LONG_DOUBLE_INT WZ_HANDLE_(MPI_Datatype, 3, 38)
+/* C++ and Fortran names of types that are the same. */
+#define MPI_CXX_BOOL MPI_C_BOOL
+#define MPI_CXX_FLOAT_COMPLEX MPI_C_FLOAT_COMPLEX
+#define MPI_CXX_DOUBLE_COMPLEX MPI_C_DOUBLE_COMPLEX
+#define MPI_CXX_LONG_DOUBLE_COMPLEX MPI_C_LONG_DOUBLE_COMPLEX
+#define MPI_COMPLEX MPI_C_FLOAT_COMPLEX
+#define MPI_DOUBLE_COMPLEX MPI_C_DOUBLE_COMPLEX
+#define MPI_CHARACTER MPI_CHAR
+#define MPI_INTEGER MPI_INT
+#define MPI_REAL MPI_FLOAT
+#define MPI_DOUBLE_PRECISION MPI_DOUBLE
+
+#define MPI_MAX WZ_HANDLE_(MPI_Op, 4, 1)
+#define MPI_MIN WZ_HANDLE_(MPI_Op, 4, 2)
+#define MPI_SUM WZ_HANDLE_(MPI_Op, 4, 3)
+#define MPI_PROD WZ_HANDLE_(MPI_Op, 4, 4)
+#define MPI_LAND WZ_HANDLE_(MPI_Op, 4, 5)
+#define MPI_BAND WZ_HANDLE_(MPI_Op, 4, 6)
+#define MPI_LOR WZ_HANDLE_(MPI_Op, 4, 7)
+#define MPI_BOR WZ_HANDLE_(MPI_Op, 4, 8)
+#define MPI_LXOR WZ_HANDLE_(MPI_Op, 4, 9)
+#define MPI_BXOR WZ_HANDLE_(MPI_Op, 4, 10)
+#define MPI_MINLOC WZ_HANDLE_(MPI_Op, 4, 11)
+#define MPI_MAXLOC WZ_HANDLE_(MPI_Op, 4, 12)
+#define MPI_REPLACE WZ_HANDLE_(MPI_Op, 4, 13)
+#define MPI_NO_OP WZ_HANDLE_(MPI_Op, 4, 14)
+
+#define MPI_UNDEFINED (-32766)
+#define MPI_PROC_NULL (-1)
+#define MPI_ANY_SOURCE (-2)
+#define MPI_ROOT (-3)
+#define MPI_ANY_TAG (-1)
+#define MPI_KEYVAL_INVALID (-1)
+#define MPI_BSEND_OVERHEAD 64
+
+#define MPI_MAX_PROCESSOR_NAME 128
+#define MPI_MAX_ERROR_STRING 1024
+#define MPI_MAX_OBJECT_NAME 128
+#define MPI_MAX_LIBRARY_VERSION_STRING 256
+#define MPI_MAX_INFO_KEY 255
+#define MPI_MAX_INFO_VAL 1024
+#define MPI_MAX_PORT_NAME 256
+
+enum { MPI_THREAD_SINGLE, MPI_THREAD_FUNNELED, MPI_THREAD_SERIALIZED, MPI_THREAD_MULTIPLE };
+enum { MPI_IDENT, MPI_CONGRUENT, MPI_SIMILAR, MPI_UNEQUAL };
+enum { MPI_COMM_TYPE_SHARED = 1, MPI_COMM_TYPE_HW_UNGUIDED, MPI_COMM_TYPE_HW_GUIDED };
+enum { MPI_GRAPH = 1, MPI_CART, MPI_DIST_GRAPH };
+enum { MPI_ORDER_C = 56, MPI_ORDER_FORTRAN };
+enum { MPI_TAG_UB = 1, MPI_HOST, MPI_IO, MPI_WTIME_IS_GLOBAL, MPI_UNIVERSE_SIZE, MPI_LASTUSEDCODE, MPI_APPNUM };
+
+enum {
+    MPI_SUCCESS, MPI_ERR_BUFFER, MPI_ERR_COUNT, MPI_ERR_TYPE, MPI_ERR_TAG, MPI_ERR_COMM, MPI_ERR_RANK, MPI_ERR_ROOT,
+    MPI_ERR_GROUP, MPI_ERR_OP, MPI_ERR_TOPOLOGY, MPI_ERR_DIMS, MPI_ERR_ARG, MPI_ERR_UNKNOWN, MPI_ERR_TRUNCATE, MPI_ERR_OTHER,
+    MPI_ERR_INTERN, MPI_ERR_IN_STATUS, MPI_ERR_PENDING, MPI_ERR_REQUEST, MPI_ERR_NO_MEM, MPI_ERR_KEYVAL, MPI_ERR_INFO,
+    MPI_ERR_INFO_KEY, MPI_ERR_INFO_VALUE, MPI_ERR_INFO_NOKEY, MPI_ERR_UNSUPPORTED_OPERATION, MPI_ERR_LASTCODE = 1023
+};
+
+typedef void MPI_User_function(void *invec, void *inoutvec, int *len, MPI_Datatype *datatype);
+typedef void MPI_User_function_c(void *invec, void *inoutvec, MPI_Count *len, MPI_Datatype *datatype);
+typedef void MPI_Comm_errhandler_function(MPI_Comm *comm, int *code, ...);
+typedef int MPI_Comm_copy_attr_function(MPI_Comm comm, int keyval, void *extra, void *value, void *copied, int *flag);
+typedef int MPI_Comm_delete_attr_function(MPI_Comm comm, int keyval, void *value, void *extra);
+#define MPI_COMM_NULL_COPY_FN ((MPI_Comm_copy_attr_function *)0)
+#define MPI_COMM_NULL_DELETE_FN ((MPI_Comm_delete_attr_function *)0)
+int wz_comm_dup_fn_(MPI_Comm comm, int keyval, void *extra, void *value, void *copied, int *flag);
+#define MPI_COMM_DUP_FN wz_comm_dup_fn_
+
+/* Where the next call of this thread stands in the program. */
+void wz_at_(const char *site);
+
+#include "mpi_calls.h"
+
+#ifdef __cplusplus
+}
+#endif
+
+#ifndef WORZSUNAB_NO_LINES
+#include "mpi_lines.h"
+#endif
+
+#endif

@@ -1,0 +1,95 @@
+/* Ranks, their handles, and the run that they belong to. */
+#ifndef WZ_BASE_H
+#define WZ_BASE_H
+
+#include <mpi.h>
+#include <pthread.h>
+#include <stdatomic.h>
+#include <stdbool.h>
+#include <stdio.h>
+#include <stdlib.h>
+#include <string.h>
+
+#include <worzsunab_threads.h>
+
+enum { MOST_RANKS = 64 };
+
+/* ---- handles */
+
+enum kind { COMM = 1, GROUP, TYPE, OP, REQUEST, INFO, ERRHANDLER, KINDS };
+
+/* A rank's objects of one kind, by their numbers. A handle has the generation of its number too, so that one which was freed is known as such. */
+struct table {
+    void **objects;
+    uint32_t *generations;
+    uint32_t many, room, lowest_free;
+};
+
+/* ---- ranks */
+
+struct request;
+struct engine;
+
+/* What a rank waits for while it waits. */
+struct wait {
+    const char *call, *site;
+    struct request **list;
+    int many;
+    bool any; /* one of the list is enough */
+};
+
+struct rank {
+    int number, status;
+    bool begun;
+    atomic_bool finalized;
+    atomic_bool ended;
+    const char *_Atomic site; /* of its last call */
+    struct table tables[KINDS];
+    struct request *free_requests;
+    int level; /* of MPI_Init_thread */
+    uint64_t random;
+    uint64_t calls[64][2]; /* of each collective: those that were carried, and those that were direct */
+    char last_refusal[800];
+    int last_class;
+    int error_classes[64], many_codes; /* of MPI_Add_error_class and its like */
+    char *error_strings[64];
+    struct keyval *keyvals;
+    int many_keyvals;
+    struct recording *recording; /* its part of the job text */
+    /* while it waits */
+    atomic_bool waits;
+    struct wait wait;
+    atomic_uint wake; /* counts what may have let it go on; it sleeps until it changes */
+    atomic_bool sleeps;
+};
+
+struct run {
+    int size;
+    struct rank ranks[MOST_RANKS];
+    atomic_int blocked; /* ranks that wait or have ended */
+    bool strict, checks, explains, statistics;
+    uint64_t seed;           /* 0: nothing is drawn */
+    const char *text, *values; /* the files for the job text and for what requests got; NULL: none */
+    const char *program;
+};
+
+extern struct run mpi_run;
+extern __thread struct rank *mpi_me __attribute__((tls_model("initial-exec")));
+
+/* The rank of this thread. Where it has none, that is told, and the run ends. */
+struct rank *mpi_self(const char *call);
+
+void *mpi_must(void *memory); /* ends the run where there is no memory */
+
+/* ---- handles (handles.c) */
+uintptr_t mpi_add(enum kind kind, void *object);                 /* of this thread's rank */
+void *mpi_find(enum kind kind, const void *handle);              /* NULL: there is no such object */
+uintptr_t mpi_handle_of(enum kind kind, const void *object);      /* the null handle where it has none */
+bool mpi_was_freed(enum kind kind, const void *handle);
+void mpi_remove(enum kind kind, const void *handle);
+
+/* ---- draws, under --seed (random.c) */
+uint32_t mpi_draw(uint32_t below); /* 0 where nothing is drawn */
+void mpi_pause(void);              /* now and then a rank is held up */
+
+#endif

@@ -1,0 +1,157 @@
+/* Collectives and requests. */
+#ifndef WZ_COLLECTIVES_H
+#define WZ_COLLECTIVES_H
+
+#include "comms.h"
+#include "types.h"
+
+enum function {
+    BARRIER, BCAST, GATHER, GATHERV, SCATTER, SCATTERV, ALLGATHER, ALLGATHERV, ALLTOALL, ALLTOALLV, ALLTOALLW, REDUCE, ALLREDUCE, REDUCE_SCATTER,
+    REDUCE_SCATTER_BLOCK, SCAN, EXSCAN, NEIGHBOR_ALLGATHER, NEIGHBOR_ALLGATHERV, NEIGHBOR_ALLTOALL, NEIGHBOR_ALLTOALLV, NEIGHBOR_ALLTOALLW,
+    COMM_DUP, COMM_SPLIT, COMM_CREATE, EXCHANGE, COLLECTIVES
+};
+enum form { BLOCKING, NONBLOCKING, PERSISTENT, FORMS };
+extern const char *const mpi_collective_names[COLLECTIVES][FORMS];
+
+/* The engine's limits (worzsunab.h): what is longer is carried. */
+enum { MOST_COUNT = 65536, MOST_BYTES = 16777216 };
+
+/* Counts or displacements of a call: int, or 64 bits wide. */
+struct numbers {
+    const void *at;
+    bool wide;
+};
+static inline long long mpi_number(struct numbers numbers, int i) {
+    return numbers.wide ? ((const long long *)numbers.at)[i] : ((const int *)numbers.at)[i];
+}
+
+/* A collective's arguments. A call with one buffer, count and type has them as what it gives. */
+struct arguments {
+    enum function function;
+    enum form form;
+    const void *give;
+    void *get;
+    long long give_count, get_count;
+    struct numbers give_counts, give_places, get_counts, get_places;
+    MPI_Datatype give_type, get_type;
+    const MPI_Datatype *give_types, *get_types;
+    MPI_Op operation;
+    int root;
+    const char *name; /* NULL: as the function and form say */
+};
+
+enum sort { COLLECTIVE, SENDING, RECEIVING, PROBING };
+
+struct message;
+
+struct request {
+    enum sort sort;
+    bool persistent, active, direct, alltoall, freed;
+    bool kept;        /* it outlives its completion */
+    bool listed;      /* while a list of requests is read */
+    bool has_parcels; /* an exchange that was completed, until it is dropped */
+    int recorded; /* its number in the job text; -1: it has none */
+    MPI_Request handle;
+    struct comm *comm;
+    int member;
+    const char *name, *site, *started_at;
+    struct request *next;
+
+    /* ---- of a collective */
+    struct arguments arguments;
+    void *own_numbers; /* the counts, places and types of the arguments, copied */
+    uint64_t place;
+    uint32_t times; /* how often it was started */
+    struct engine *engine;
+    struct starts *starts;
+    wz_call call;
+    uint32_t *counts; /* of a direct allgatherv */
+    uint8_t text_type; /* the type as job texts have it */
+    const struct type *give_type, *get_type, **types; /* types: of an alltoallw, those that it gives and then those that it gets */
+    struct op *op;
+    wz_request held;
+    void *out; /* where the engine writes the outcome */
+    size_t room;
+    void *scratch;
+    size_t scratch_room;
+    void *lent; /* under --check: what was given, its length, and where it lies in the program */
+    size_t lent_length;
+    const void *lent_at;
+
+    /* ---- of a message */
+    int other, tag; /* whom it goes to or comes from, as the program said */
+    bool synchronous;
+    const void *from;
+    void *to;
+    MPI_Count many;
+    const struct type *type;
+    struct message *message; /* what came, or what a synchronous send waits for */
+    _Atomic bool arrived;
+};
+
+/* ---- requests.c */
+struct request *mpi_new_request(enum sort sort, struct comm *comm, const char *name);
+void mpi_drop_request(struct request *request);
+MPI_Request mpi_publish(struct request *request); /* gives it a handle */
+/* The request of a handle, NULL where it is null. A code where it names none. */
+int mpi_request(MPI_Request handle, const char *call, struct request **request);
+void *mpi_scratch(struct request *request, size_t bytes);
+
+/* ---- pieces.c: what a member gives and gets, as pieces of the program's memory */
+struct piece {
+    char *at;
+    long long many;
+    const struct type *type; /* NULL: nothing has to be done there */
+};
+int mpi_given_many(const struct request *request);
+struct piece mpi_given_piece(const struct request *request, int i);
+int mpi_given_to(const struct request *request, int i); /* of a call that is carried as an alltoall: whom it goes to */
+int mpi_got_many(const struct request *request);
+struct piece mpi_got_piece(const struct request *request, int i);
+int mpi_got_from(const struct request *request, int i);
+bool mpi_is_rooted(enum function function);
+bool mpi_reduces(enum function function);
+bool mpi_is_neighbor(enum function function);
+bool mpi_is_root(const struct request *request);
+long long mpi_total_count(const struct request *request); /* elements that a member of a reduction gives */
+
+/* ---- collectives.c, judge.c */
+int mpi_collective(MPI_Comm comm, const struct arguments *arguments, MPI_Request *request);
+int mpi_post(struct comm *comm, const struct arguments *arguments, struct request **made);
+int mpi_begin(struct request *request, const char *call); /* posts or starts it */
+int mpi_judge(struct request *request, struct called *called);
+int mpi_engine_refused(struct request *request, int32_t code, const char *call);
+
+/* ---- carried.c */
+struct parcel;
+int mpi_parcels(struct request *request, uint64_t parcels[MOST_RANKS]); /* what is given as parcels' addresses; how many */
+void mpi_take_parcels(struct request *request);
+int mpi_open_parcels(struct request *request, const char *call);
+/* The parcels of a finished exchange, of each member, with their bytes. */
+const void *mpi_parcel_bytes(struct request *request, int member, size_t *length);
+
+/* ---- direct.c */
+size_t mpi_outcome_bytes(const struct request *request);
+const void *mpi_given_bytes(struct request *request, void **packed, size_t *length);
+void *mpi_outcome_place(struct request *request); /* NULL: scratch memory */
+void mpi_put_outcome(struct request *request);
+
+/* ---- completion.c, waiting.c, messages.c */
+int mpi_complete(struct request *request, MPI_Status *status, const char *call);
+enum progress { GOES_ON, IS_DONE, COMPUTES }; /* COMPUTES: something of it is computed just now */
+enum progress mpi_progress(struct request *request);
+bool mpi_is_done(struct request *request);
+/* The members whose calls a collective lacks, as ranks; whom a message waits for. */
+uint64_t mpi_lacking(const struct request *request);
+void mpi_begin_wait(const char *call, struct request **list, int many, bool any);
+void mpi_end_wait(void);
+void mpi_wait_for(const char *call, struct request **list, int many, bool any); /* until all, or any, are done */
+void mpi_wake(struct comm *comm, int but);
+void mpi_wake_rank(struct rank *rank);
+void mpi_empty_status(MPI_Status *status);
+int mpi_finish_message(struct request *request, MPI_Status *status, const char *call);
+bool mpi_message_waits(const struct request *probe);
+int mpi_start_message(struct request *request);
+int mpi_post_and_wait(struct comm *comm, const struct arguments *arguments, struct request **kept);
+
+#endif

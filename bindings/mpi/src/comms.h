@@ -1,0 +1,143 @@
+/* Communicators, and what their members have called. */
+#ifndef WZ_COMMS_H
+#define WZ_COMMS_H
+
+#include "base.h"
+
+enum {
+    KEPT_PLACES = 256,       /* the last calls of a member that are kept, so that others' are compared with them */
+    PLACES_OF_ENGINE = 65536 /* then the next engine serves the communicator */
+};
+
+/* A call at a place of a communicator, as its program has it. */
+struct called {
+    uint8_t function, form;
+    int16_t basic;      /* the basic type that it moves; 0: several, -1: it moves nothing that is known to all */
+    int32_t root;       /* -1: it has none */
+    uint64_t elements, signature;
+    uint64_t counts;    /* of a call whose members all say all counts: these, as one number */
+    uint64_t operation; /* its identity; 0: it has none */
+    const char *operation_name, *name, *site;
+};
+
+/* A called that others may read while its member writes the next one: it is valid where its place is what is looked for, before and after. */
+enum { CALLED_WORDS = sizeof(struct called) / sizeof(uint64_t) };
+struct slot {
+    _Atomic uint64_t place; /* from 1 on; 0: not written */
+    _Atomic uint64_t words[CALLED_WORDS];
+};
+
+struct errhandler {
+    MPI_Comm_errhandler_function *function; /* NULL: a predefined one */
+    MPI_Errhandler handle;                  /* of a predefined one */
+    bool returns;
+    int uses;
+};
+
+struct attribute {
+    int keyval;
+    void *value;
+    struct attribute *next;
+};
+
+struct member {
+    _Alignas(64) _Atomic uint64_t posted; /* its posts and initialisations */
+    int rank;                             /* in MPI_COMM_WORLD */
+    struct errhandler *handler;
+    struct attribute *attributes;
+    struct slot *board; /* KEPT_PLACES of them */
+};
+
+struct engine {
+    wz_shared shared;
+    atomic_int requests; /* that it has: it is closed only without any */
+    uint64_t number;     /* among the communicator's engines */
+    struct engine *older;
+};
+
+/* How often each member has started the persistent collective of a place. */
+struct starts {
+    uint64_t place;
+    int requests;
+    struct starts *next;
+    _Atomic uint32_t of[];
+};
+
+struct topology {
+    int kind; /* MPI_CART and so on */
+    int dimensions;
+    int *sizes, *periods;          /* MPI_CART */
+    int nodes, *index, *edges;     /* MPI_GRAPH */
+    int in, out;                   /* MPI_DIST_GRAPH: this member's own, below */
+    int *sources, *destinations, *source_weights, *destination_weights;
+    bool weighted;
+};
+
+struct comm {
+    long serial; /* no other communicator of the run has it */
+    int size;    /* all members */
+    int first;   /* of an intercommunicator: the members of its first group, which come first; else 0 */
+    char name[MPI_MAX_OBJECT_NAME];
+    const char *maker, *site; /* the call that made it; NULL: it was there from the beginning */
+    int8_t member_of[MOST_RANKS]; /* of each rank; -1 */
+    struct engine *_Atomic newest;
+    struct starts *starts;
+    pthread_mutex_t guard; /* for its engines, starts and name */
+    atomic_int users;      /* members that haven't freed it, and requests */
+    struct topology **topologies; /* each member's own; NULL: none has one */
+    /* while its members come to it (mpi_join) */
+    long parent;
+    uint64_t key, joined;
+    struct comm *next_coming;
+    struct member members[];
+};
+
+/* ---- comms.c */
+struct comm *mpi_comm(MPI_Comm comm); /* of this rank; NULL: there is none */
+int mpi_comm_error(MPI_Comm comm, const char *call);
+MPI_Comm mpi_comm_handle(const struct comm *comm); /* this rank's handle of it */
+struct comm *mpi_world(void);
+struct member *mpi_member(struct comm *comm); /* this rank's */
+int mpi_my_member(const struct comm *comm);
+void mpi_use(struct comm *comm);
+void mpi_unuse(struct comm *comm);
+void mpi_open_world(int size);
+
+/* The communicator that some ranks make by one call, which KEY names among those on PARENT. Whoever comes first makes it. The first FIRST of the ranks are an
+   intercommunicator's first group; 0: it is none. */
+MPI_Comm mpi_join(struct comm *parent, uint64_t key, const char *maker, const int *ranks, int size, int first);
+
+/* An intercommunicator's two groups, seen by this rank: its own begins at member *own, the other at *other. */
+int mpi_near(const struct comm *comm, int *own);
+int mpi_far(const struct comm *comm, int *other);
+
+/* ---- engines.c */
+struct engine *mpi_engine_at(struct comm *comm, uint64_t place); /* with one request more */
+void mpi_leave_engine(struct comm *comm, struct engine *engine);
+struct starts *mpi_starts_at(struct comm *comm, uint64_t place);
+void mpi_leave_starts(struct comm *comm, struct starts *starts);
+void mpi_close_engines(struct comm *comm);
+
+/* ---- board.c */
+void mpi_write_called(struct comm *comm, int member, uint64_t place, const struct called *called);
+bool mpi_read_called(const struct comm *comm, int member, uint64_t place, struct called *called);
+bool mpi_agree(const struct called *one, const struct called *other);
+const char *mpi_difference(const struct called *one, const struct called *other);
+/* A member whose call at that place doesn't agree; -1: all that are known do. */
+int mpi_disagreeing(struct comm *comm, int member, uint64_t place, const struct called *called);
+
+/* ---- attributes.c */
+int mpi_copy_attributes(struct comm *from, MPI_Comm from_handle, struct comm *to);
+int mpi_delete_attributes(struct comm *comm, MPI_Comm handle);
+void mpi_use_handler(struct comm *comm, struct errhandler *handler);
+extern struct errhandler mpi_fatal;
+
+/* ---- groups.c */
+struct group {
+    int size;
+    int ranks[MOST_RANKS];
+};
+struct group *mpi_group(MPI_Group group);
+MPI_Group mpi_new_group(const int *ranks, int size);
+
+#endif

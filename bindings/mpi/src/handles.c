@@ -1,0 +1,94 @@
+/* A rank's objects and their handles; draws under --seed; memory that has to be there. */
+#include "base.h"
+
+#include <sched.h>
+#include <time.h>
+#include <unistd.h>
+
+enum { NUMBER_BITS = 24, GENERATION_BITS = 32, FIRST_MADE = 64 };
+
+/* The numbers below FIRST_MADE are those of mpi.h's own objects, which no table has. */
+static uint32_t number_in(const void *handle) { return (uint32_t)((uintptr_t)handle & ((1u << NUMBER_BITS) - 1)); }
+
+static uint32_t generation_in(const void *handle) { return (uint32_t)((uintptr_t)handle >> NUMBER_BITS); }
+
+void *mpi_must(void *memory) {
+    if (memory != NULL) return memory;
+    fprintf(stderr, "wzrun: there is no memory left\n");
+    _exit(1);
+}
+
+static uint32_t free_number(struct table *table) {
+    uint32_t at = table->lowest_free;
+    while (at < table->many && table->objects[at] != NULL) at++;
+    if (at == table->room) {
+        table->room = 2 * table->room + 16;
+        table->objects = mpi_must(realloc(table->objects, sizeof *table->objects * table->room));
+        table->generations = mpi_must(realloc(table->generations, sizeof *table->generations * table->room));
+    }
+    if (at == table->many) table->generations[table->many++] = 0;
+    return at;
+}
+
+uintptr_t mpi_add(enum kind kind, void *object) {
+    struct table *table = &mpi_me->tables[kind];
+    uint32_t at = free_number(table);
+    if (at >= (1u << NUMBER_BITS) - FIRST_MADE) {
+        fprintf(stderr, "wzrun: rank %d has 16 million objects of one kind\n", mpi_me->number);
+        _exit(1);
+    }
+    table->objects[at] = object;
+    table->lowest_free = at + 1;
+    return (uintptr_t)kind << 56 | (uintptr_t)table->generations[at] << NUMBER_BITS | (at + FIRST_MADE);
+}
+
+/* Whether a handle is of this kind and names something that a table has or had. */
+static bool names(enum kind kind, const void *handle) {
+    uint32_t number = number_in(handle);
+    return (uintptr_t)handle >> 56 == (uintptr_t)kind && number >= FIRST_MADE && number - FIRST_MADE < mpi_me->tables[kind].many;
+}
+
+void *mpi_find(enum kind kind, const void *handle) {
+    if (!names(kind, handle)) return NULL;
+    struct table *table = &mpi_me->tables[kind];
+    uint32_t at = number_in(handle) - FIRST_MADE;
+    return table->generations[at] == generation_in(handle) ? table->objects[at] : NULL;
+}
+
+uintptr_t mpi_handle_of(enum kind kind, const void *object) {
+    struct table *table = &mpi_me->tables[kind];
+    for (uint32_t i = 0; i < table->many; i++)
+        if (table->objects[i] == object) return (uintptr_t)kind << 56 | (uintptr_t)table->generations[i] << NUMBER_BITS | (i + FIRST_MADE);
+    return (uintptr_t)kind << 56;
+}
+
+bool mpi_was_freed(enum kind kind, const void *handle) { return names(kind, handle) && mpi_find(kind, handle) == NULL; }
+
+void mpi_remove(enum kind kind, const void *handle) {
+    struct table *table = &mpi_me->tables[kind];
+    uint32_t at = number_in(handle) - FIRST_MADE;
+    table->objects[at] = NULL;
+    table->generations[at]++;
+    if (at < table->lowest_free) table->lowest_free = at;
+}
+
+/* ---- draws */
+
+static uint64_t next_random(uint64_t *state) { /* splitmix64 */
+    uint64_t z = *state += 0x9e3779b97f4a7c15u;
+    z = (z ^ (z >> 30)) * 0xbf58476d1ce4e5b9u;
+    z = (z ^ (z >> 27)) * 0x94d049bb133111ebu;
+    return z ^ (z >> 31);
+}
+
+uint32_t mpi_draw(uint32_t below) {
+    if (mpi_run.seed == 0 || below < 2) return 0;
+    return (uint32_t)(next_random(&mpi_me->random) % below);
+}
+
+void mpi_pause(void) {
+    if (mpi_run.seed == 0) return;
+    uint32_t drawn = mpi_draw(64);
+    if (drawn < 8) sched_yield();
+    else if (drawn == 8) nanosleep(&(struct timespec){ 0, (long)mpi_draw(2000000) }, NULL);
+}

@@ -1,0 +1,115 @@
+/* Calls that don't agree: who has which, and who is the odd one. */
+#include "collectives.h"
+#include "tell.h"
+
+#include <time.h>
+
+enum { LONGEST_TURNS = 1000 }; /* of a millisecond: so long the others are given to come to the place */
+
+/* Whether a rank won't come to the place any more, as far as can be seen. */
+static bool stays_away(const struct rank *rank) { return atomic_load(&rank->ended) || rank == mpi_me; }
+
+static uint64_t members_at(struct comm *comm, uint64_t place) {
+    struct called called;
+    uint64_t members = 0;
+    for (int i = 0; i < comm->size; i++)
+        if (mpi_read_called(comm, i, place, &called)) members |= 1ull << i;
+    return members;
+}
+
+/* Gives the others time to come, so that it is seen which of the calls is the odd one. A rank that has waited in one call for a while is given up. */
+static void wait_for_others(struct comm *comm, uint64_t place) {
+    const char *sites[MOST_RANKS] = { NULL };
+    int still[MOST_RANKS] = { 0 };
+    for (int turn = 0; turn < LONGEST_TURNS; turn++) {
+        uint64_t there = members_at(comm, place);
+        bool all = true;
+        for (int i = 0; i < comm->size; i++) {
+            struct rank *rank = &mpi_run.ranks[comm->members[i].rank];
+            const char *site = atomic_load(&rank->site);
+            bool same = atomic_load(&rank->waits) && sites[i] == site;
+            still[i] = same ? still[i] + 1 : 0;
+            sites[i] = site;
+            all = all && ((there >> i & 1) || stays_away(rank) || still[i] > 50);
+        }
+        if (all) return;
+        nanosleep(&(struct timespec){ 0, 1000000 }, NULL);
+    }
+}
+
+static bool all_alike(const struct called *one, const struct called *other) { return mpi_agree(one, other) && strcmp(one->site, other->site) == 0; }
+
+/* What a place of a communicator has, once it is looked at. */
+struct place {
+    struct comm *comm;
+    struct called called[MOST_RANKS];
+    uint64_t there; /* members */
+};
+
+static uint64_t rank_bit(const struct place *place, int member) { return 1ull << place->comm->members[member].rank; }
+
+/* The ranks whose calls agree with member I's; where EXACTLY, those that stand in the same line too. */
+static uint64_t alike(const struct place *place, int i, bool exactly) {
+    uint64_t ranks = 0;
+    for (int j = 0; j < place->comm->size; j++) {
+        if (!(place->there >> j & 1)) continue;
+        bool same = exactly ? all_alike(&place->called[i], &place->called[j]) : mpi_agree(&place->called[i], &place->called[j]);
+        if (same) ranks |= rank_bit(place, j);
+    }
+    return ranks;
+}
+
+static void tell_calls(const struct place *place) {
+    char ranks[RANKS_TEXT], call[NAME_TEXT];
+    uint64_t told = 0;
+    for (int i = 0; i < place->comm->size; i++) {
+        if (!(place->there >> i & 1) || (told & rank_bit(place, i))) continue;
+        uint64_t same = alike(place, i, true);
+        told |= same;
+        fprintf(stderr, "  %s: %s: %s\n", mpi_ranks_text(same, ranks), place->called[i].site, mpi_called_text(&place->called[i], call));
+    }
+}
+
+static void tell_absent(const struct place *place) {
+    for (int i = 0; i < place->comm->size; i++) {
+        const struct rank *rank = &mpi_run.ranks[place->comm->members[i].rank];
+        if (place->there >> i & 1) continue;
+        const char *what = atomic_load(&rank->ended) ? "has ended; its last call stands at" : atomic_load(&rank->waits) ? "waits at" : "goes on after its call at";
+        fprintf(stderr, "  rank %d hasn't come there: it %s %s\n", rank->number, what, atomic_load(&rank->site));
+    }
+}
+
+/* What differs, and who may be wrong where more than half of those that are there agree. */
+static void tell_difference(const struct place *place) {
+    char text[RANKS_TEXT];
+    uint64_t most = 0, all = 0;
+    int common = -1, odd = -1;
+    for (int i = 0; i < place->comm->size; i++) {
+        if (!(place->there >> i & 1)) continue;
+        uint64_t same = alike(place, i, false);
+        all |= rank_bit(place, i);
+        if (mpi_count_ranks(same) > mpi_count_ranks(most)) most = same, common = i;
+    }
+    for (int i = place->comm->size - 1; i >= 0; i--)
+        if ((place->there >> i & 1) && !(most & rank_bit(place, i))) odd = i;
+    if (odd < 0) return;
+    const char *difference = mpi_difference(&place->called[odd], &place->called[common]);
+    if (2 * mpi_count_ranks(most) > mpi_count_ranks(all))
+        fprintf(stderr, "  %d ranks agree, so %s may be wrong: %s\n", mpi_count_ranks(most), mpi_ranks_text(all & ~most, text), difference);
+    else fprintf(stderr, "  %s\n", difference);
+}
+
+void mpi_tell_mismatch(struct comm *comm, uint64_t number) {
+    char name[NAME_TEXT];
+    struct place place = { .comm = comm };
+    mpi_tell_alone();
+    wait_for_others(comm, number);
+    for (int i = 0; i < comm->size; i++)
+        if (mpi_read_called(comm, i, number, &place.called[i])) place.there |= 1ull << i;
+    fflush(stdout);
+    fprintf(stderr, "wzrun: collectives don't agree: place %llu of %s (MPI_ERR_ARG)\n", (unsigned long long)number, mpi_comm_name(comm, name));
+    tell_calls(&place);
+    tell_absent(&place);
+    tell_difference(&place);
+    mpi_end_run(STATUS_WRONG, "place mismatch");
+}

@@ -1,0 +1,19 @@
+/* The words of wzrun. */
+#ifndef WZ_OPTIONS_H
+#define WZ_OPTIONS_H
+
+#include "base.h"
+
+struct options {
+    int ranks;
+    uint64_t first_seed, last_seed; /* of --seeds; 0: none */
+    int program;                    /* where in argv the program stands */
+};
+
+/* Reads them into *options and mpi_run. Ends with status 1, or 0 after --help. */
+void mpi_read_options(int argc, char **argv, struct options *options);
+
+/* Runs the program once for each seed, as a process of its own, until one ends badly. The status of that, or 0. */
+int mpi_run_seeds(int argc, char **argv, const struct options *options);
+
+#endif

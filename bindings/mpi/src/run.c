@@ -1,0 +1,183 @@
+/* wzrun: each rank has a copy of the program in memory, so that it has its static variables for itself, and a thread that calls its main. */
+#include "run.h"
+
+#include "options.h"
+#include "record.h"
+#include "tell.h"
+
+#include <dlfcn.h>
+#include <errno.h>
+#include <fcntl.h>
+#include <semaphore.h>
+#include <signal.h>
+#include <sys/mman.h>
+#include <sys/resource.h>
+#include <sys/sendfile.h>
+#include <sys/stat.h>
+#include <time.h>
+#include <unistd.h>
+
+enum { LOOK_NANOSECONDS = 25000000, LEAST_STACK = 64 << 20, SIGNAL_STACK = 1 << 16 };
+
+struct start {
+    struct rank *rank;
+    int argc;
+    char **argv;
+    int (*run)(int, char **);
+};
+
+static sem_t ended;
+
+static void give_up(const char *what, const char *why) __attribute__((noreturn));
+static void give_up(const char *what, const char *why) {
+    fprintf(stderr, "wzrun: %s: %s\n", what, why);
+    exit(1);
+}
+
+/* ---- the program's copies */
+
+static int copy_of(const char *program) {
+    struct stat about;
+    off_t at = 0;
+    int from = open(program, O_RDONLY | O_CLOEXEC);
+    if (from < 0 || fstat(from, &about) != 0) give_up(program, strerror(errno));
+    const char *name = strrchr(program, '/');
+    int to = memfd_create(name != NULL ? name + 1 : program, MFD_CLOEXEC);
+    if (to < 0) give_up(program, strerror(errno));
+    while (at < about.st_size)
+        if (sendfile(to, from, &at, (size_t)(about.st_size - at)) <= 0) give_up(program, "it can't be read");
+    close(from);
+    return to;
+}
+
+static void load(struct start *start, const char *program) {
+    char path[64];
+    Dl_info about;
+    snprintf(path, sizeof path, "/proc/%ld/fd/%d", (long)getpid(), copy_of(program));
+    void *copy = dlopen(path, RTLD_NOW | RTLD_LOCAL);
+    if (copy == NULL) {
+        fprintf(stderr, "wzrun: %s: %s\n", program, dlerror());
+        give_up(program, "it was not linked by wzcc, or a library that it needs isn't found");
+    }
+    void *run = dlsym(copy, "wz_run_rank_");
+    if (run == NULL || dladdr(run, &about) == 0) give_up(program, "it was not linked by wzcc");
+    memcpy(&start->run, &run, sizeof run);
+    mpi_note_copy(start->rank->number, about.dli_fbase);
+}
+
+/* A name without a slash is looked for as it is, and then in PATH, as mpirun does. */
+static const char *find_program(const char *name) {
+    static char path[4096];
+    if (strchr(name, '/') != NULL || access(name, R_OK) == 0 || getenv("PATH") == NULL) return name;
+    char *folders = strdup(getenv("PATH")), *rest = folders;
+    for (char *folder = strsep(&rest, ":"); folder != NULL; folder = strsep(&rest, ":")) {
+        snprintf(path, sizeof path, "%s/%s", folder, name);
+        if (access(path, X_OK) == 0) break;
+        path[0] = '\0';
+    }
+    free(folders);
+    return path[0] != '\0' ? path : name;
+}
+
+/* ---- crashes */
+
+static const int crashes[] = { SIGSEGV, SIGBUS, SIGFPE, SIGILL, SIGABRT };
+static const char *const crash_names[] = { "segmentation fault", "bus error", "arithmetic error", "illegal instruction", "abort" };
+
+/* A crash of one rank ends all. */
+static void tell_crash(int number) {
+    char text[500];
+    const char *name = "a signal";
+    for (int i = 0; i < 5; i++)
+        if (crashes[i] == number) name = crash_names[i];
+    int length = mpi_me == NULL ? 0 : snprintf(text, sizeof text, "wzrun: rank %d crashes: %s, after its call at %s\n", mpi_me->number, name, atomic_load(&mpi_me->site));
+    if (length > 0 && write(2, text, (size_t)length) < 0) _exit(128 + number);
+    signal(number, SIG_DFL);
+    raise(number);
+}
+
+/* A sanitizer that is there already keeps its handlers. */
+static void tell_crashes(void) {
+    struct sigaction before, action = { .sa_handler = tell_crash, .sa_flags = SA_ONSTACK | SA_NODEFER };
+    sigemptyset(&action.sa_mask);
+    for (int i = 0; i < 5; i++)
+        if (sigaction(crashes[i], NULL, &before) == 0 && before.sa_handler == SIG_DFL) sigaction(crashes[i], &action, NULL);
+}
+
+/* ---- ranks */
+
+static void *play(void *given) {
+    struct start *start = given;
+    struct rank *me = mpi_me = start->rank;
+    stack_t stack = { .ss_sp = mpi_must(malloc(SIGNAL_STACK)), .ss_size = SIGNAL_STACK }, none = { .ss_flags = SS_DISABLE };
+    sigaltstack(&stack, NULL); /* for the crash that runs out of stack */
+    mpi_be_main();
+    me->status = start->run(start->argc, start->argv);
+    if (me->begun && !atomic_load(&me->finalized) && me->status == 0) mpi_warn("rank %d ended without MPI_Finalize", me->number);
+    sigaltstack(&none, NULL);
+    free(stack.ss_sp);
+    atomic_store(&me->ended, true);
+    sem_post(&ended);
+    return NULL;
+}
+
+static size_t stack_bytes(void) {
+    struct rlimit limit;
+    if (getrlimit(RLIMIT_STACK, &limit) != 0 || limit.rlim_cur == RLIM_INFINITY || limit.rlim_cur < LEAST_STACK) return LEAST_STACK;
+    return limit.rlim_cur;
+}
+
+static char **copied_words(int argc, char **argv) {
+    char **words = mpi_must(calloc((size_t)argc + 1, sizeof *words));
+    for (int i = 0; i < argc; i++) words[i] = mpi_must(strdup(argv[i]));
+    return words;
+}
+
+/* Waits until all ranks have ended, and looks now and then whether they still can. */
+static void watch_ranks(int size) {
+    for (int left = size; left > 0;) {
+        struct timespec until;
+        clock_gettime(CLOCK_REALTIME, &until);
+        until.tv_nsec += LOOK_NANOSECONDS;
+        until.tv_sec += until.tv_nsec / 1000000000;
+        until.tv_nsec %= 1000000000;
+        if (sem_timedwait(&ended, &until) == 0) left--;
+        else if (errno == ETIMEDOUT) mpi_watch();
+    }
+}
+
+static int run_ranks(int argc, char **argv, const struct options *options) {
+    int size = options->ranks, status = 0;
+    const char *program = find_program(argv[options->program]);
+    pthread_t threads[MOST_RANKS];
+    struct start starts[MOST_RANKS];
+    pthread_attr_t attributes;
+    pthread_attr_init(&attributes);
+    pthread_attr_setstacksize(&attributes, stack_bytes());
+    mpi_begin_run(size);
+    sem_init(&ended, 0, 0);
+    tell_crashes();
+    for (int i = 0; i < size; i++) {
+        starts[i] = (struct start){ .rank = &mpi_run.ranks[i], .argc = argc - options->program };
+        starts[i].argv = copied_words(starts[i].argc, argv + options->program);
+        load(&starts[i], program);
+    }
+    for (int i = 0; i < size; i++)
+        if (pthread_create(&threads[i], &attributes, play, &starts[i]) != 0) give_up("a thread for each rank", strerror(errno));
+    watch_ranks(size);
+    for (int i = 0; i < size; i++) {
+        pthread_join(threads[i], NULL);
+        if (status == 0) status = mpi_run.ranks[i].status;
+    }
+    return status;
+}
+
+int wz_main_(int argc, char **argv) {
+    struct options options;
+    mpi_read_options(argc, argv, &options);
+    if (options.first_seed > 0) return mpi_run_seeds(argc, argv, &options);
+    int status = run_ranks(argc, argv, &options);
+    if (mpi_run.statistics) mpi_tell_statistics();
+    if (!mpi_record_write()) give_up(mpi_run.text != NULL ? mpi_run.text : mpi_run.values, "it can't be written");
+    return status;
+}

@@ -1,0 +1,130 @@
+/* Refusals, warnings and what sentences are made of. */
+#include "tell.h"
+
+#include "collectives.h"
+#include "explain.h"
+#include "record.h"
+
+#include <stdarg.h>
+#include <unistd.h>
+
+/* ---- error classes */
+
+static const char *const classes[] = {
+    "MPI_SUCCESS", "MPI_ERR_BUFFER", "MPI_ERR_COUNT", "MPI_ERR_TYPE", "MPI_ERR_TAG", "MPI_ERR_COMM", "MPI_ERR_RANK", "MPI_ERR_ROOT", "MPI_ERR_GROUP",
+    "MPI_ERR_OP", "MPI_ERR_TOPOLOGY", "MPI_ERR_DIMS", "MPI_ERR_ARG", "MPI_ERR_UNKNOWN", "MPI_ERR_TRUNCATE", "MPI_ERR_OTHER", "MPI_ERR_INTERN",
+    "MPI_ERR_IN_STATUS", "MPI_ERR_PENDING", "MPI_ERR_REQUEST", "MPI_ERR_NO_MEM", "MPI_ERR_KEYVAL", "MPI_ERR_INFO", "MPI_ERR_INFO_KEY",
+    "MPI_ERR_INFO_VALUE", "MPI_ERR_INFO_NOKEY", "MPI_ERR_UNSUPPORTED_OPERATION",
+};
+enum { CLASSES = sizeof classes / sizeof classes[0], OWN_CODES = 64 };
+
+const char *mpi_class_name(int class) { return class >= 0 && class < CLASSES ? classes[class] : "an error of the program's own"; }
+
+int MPI_Error_class(int code, int *class) {
+    bool own = mpi_me != NULL && code > MPI_ERR_LASTCODE && code <= MPI_ERR_LASTCODE + mpi_me->many_codes;
+    *class = own ? mpi_me->error_classes[code - MPI_ERR_LASTCODE - 1] : code;
+    return MPI_SUCCESS;
+}
+
+int MPI_Error_string(int code, char *text, int *length) {
+    bool own = mpi_me != NULL && code > MPI_ERR_LASTCODE && code <= MPI_ERR_LASTCODE + mpi_me->many_codes;
+    const char *last = mpi_me != NULL && code == mpi_me->last_class ? mpi_me->last_refusal : "";
+    if (own) *length = snprintf(text, MPI_MAX_ERROR_STRING, "%s", mpi_me->error_strings[code - MPI_ERR_LASTCODE - 1]);
+    else *length = snprintf(text, MPI_MAX_ERROR_STRING, "%s%s%s", mpi_class_name(code), last[0] != '\0' ? ": " : "", last);
+    return MPI_SUCCESS;
+}
+
+/* A class or code of the program's own. */
+static int add_code(int class, int *code, const char *call) {
+    struct rank *me = mpi_self(call);
+    if (me->many_codes == OWN_CODES) return mpi_refuse(NULL, MPI_ERR_OTHER, call, "there are %d codes already", OWN_CODES);
+    *code = MPI_ERR_LASTCODE + 1 + me->many_codes;
+    me->error_classes[me->many_codes] = class > 0 ? class : *code;
+    me->error_strings[me->many_codes++] = mpi_must(strdup(""));
+    return MPI_SUCCESS;
+}
+
+int MPI_Add_error_class(int *class) { return add_code(0, class, "MPI_Add_error_class"); }
+
+int MPI_Add_error_code(int class, int *code) { return add_code(class, code, "MPI_Add_error_code"); }
+
+int MPI_Add_error_string(int code, const char *text) {
+    struct rank *me = mpi_self("MPI_Add_error_string");
+    int at = code - MPI_ERR_LASTCODE - 1;
+    if (at < 0 || at >= me->many_codes) return mpi_refuse(NULL, MPI_ERR_ARG, "MPI_Add_error_string", "%d is no code of the program's own", code);
+    free(me->error_strings[at]);
+    me->error_strings[at] = mpi_must(strdup(text));
+    return MPI_SUCCESS;
+}
+
+/* ---- the end of a run */
+
+static pthread_mutex_t telling = PTHREAD_MUTEX_INITIALIZER;
+
+void mpi_tell_alone(void) { pthread_mutex_lock(&telling); }
+
+void mpi_end_run(int status, const char *kind) {
+    fflush(stdout);
+    if (!mpi_record_write()) fprintf(stderr, "wzrun: %s can't be written\n", mpi_run.text != NULL ? mpi_run.text : mpi_run.values);
+    if (kind != NULL) mpi_explain_end(kind);
+    fflush(stderr);
+    _exit(status);
+}
+
+void mpi_warn(const char *format, ...) {
+    char text[1000];
+    va_list rest;
+    va_start(rest, format);
+    vsnprintf(text, sizeof text, format, rest);
+    va_end(rest);
+    fprintf(stderr, "wzrun: warning: %s\n", text);
+}
+
+int mpi_refuse(struct comm *comm, int class, const char *call, const char *format, ...) {
+    struct rank *me = mpi_self(call);
+    struct comm *judge = comm != NULL && mpi_my_member(comm) >= 0 ? comm : mpi_world();
+    struct errhandler *handler = mpi_member(judge)->handler;
+    va_list rest;
+    va_start(rest, format);
+    vsnprintf(me->last_refusal, sizeof me->last_refusal, format, rest);
+    va_end(rest);
+    me->last_class = class;
+    if (handler != NULL && handler->function != NULL) {
+        MPI_Comm handle = mpi_comm_handle(judge);
+        handler->function(&handle, &class);
+        return class;
+    }
+    if (handler != NULL && handler->returns) return class;
+    mpi_tell_alone();
+    fflush(stdout);
+    fprintf(stderr, "wzrun: rank %d: %s at %s: %s (%s)\n", me->number, call, me->site, me->last_refusal, mpi_class_name(class));
+    mpi_end_run(STATUS_WRONG, NULL);
+}
+
+/* ---- words */
+
+int mpi_count_ranks(uint64_t ranks) { return __builtin_popcountll(ranks); }
+
+const char *mpi_ranks_text(uint64_t ranks, char text[RANKS_TEXT]) {
+    int many = mpi_count_ranks(ranks), said = 0;
+    size_t at = (size_t)snprintf(text, RANKS_TEXT, many == 1 ? "rank" : "ranks");
+    for (int i = 0; i < MOST_RANKS; i++) {
+        if (!(ranks >> i & 1)) continue;
+        at += (size_t)snprintf(text + at, RANKS_TEXT - at, "%s%d", said == 0 ? " " : said == many - 1 ? " and " : ", ", i);
+        said++;
+    }
+    return text;
+}
+
+const char *mpi_called_text(const struct called *called, char text[NAME_TEXT]) {
+    size_t at = (size_t)snprintf(text, NAME_TEXT, "%s", called->name);
+    if (called->root >= 0) at += (size_t)snprintf(text + at, NAME_TEXT - at, ", root %d", called->root);
+    if (called->operation != 0) at += (size_t)snprintf(text + at, NAME_TEXT - at, ", %s", called->operation_name);
+    if (called->function == BARRIER || called->function >= COMM_DUP || called->function == ALLGATHERV) return text;
+    bool moves = called->elements > 0 || called->basic >= 0;
+    if (called->basic > 0) snprintf(text + at, NAME_TEXT - at, ", %llu %s", (unsigned long long)called->elements, mpi_basic(called->basic)->name);
+    else if (moves) snprintf(text + at, NAME_TEXT - at, ", %llu elements of several types", (unsigned long long)called->elements);
+    else if (called->function != ALLTOALLV && called->function != ALLTOALLW && called->function != GATHERV && called->function != SCATTERV &&
+             !mpi_is_neighbor(called->function)) snprintf(text + at, NAME_TEXT - at, ", no elements");
+    return text;
+}

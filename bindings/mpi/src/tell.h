@@ -1,0 +1,34 @@
+/* What is told to the user: refused calls, calls that don't agree, who waits for whom. */
+#ifndef WZ_TELL_H
+#define WZ_TELL_H
+
+#include "comms.h"
+
+enum { STATUS_WRONG = 2, STATUS_STALLED = 3 };
+
+/* A call that MPI doesn't allow. Under MPI_ERRORS_RETURN of the communicator (NULL: of MPI_COMM_WORLD) gives the class back; else it is told and the run
+   ends. */
+int mpi_refuse(struct comm *comm, int class, const char *call, const char *format, ...) __attribute__((format(printf, 4, 5)));
+void mpi_warn(const char *format, ...) __attribute__((format(printf, 1, 2)));
+const char *mpi_class_name(int class);
+
+/* Ends the run. Whoever tells something has taken the right to it first, so that one thing is told. */
+void mpi_tell_alone(void);
+void mpi_end_run(int status, const char *kind) __attribute__((noreturn));
+
+/* Lists of ranks: "rank 2", "ranks 0, 1 and 3". */
+enum { RANKS_TEXT = 320 };
+const char *mpi_ranks_text(uint64_t ranks, char text[RANKS_TEXT]);
+int mpi_count_ranks(uint64_t ranks);
+
+enum { NAME_TEXT = 400 };
+const char *mpi_comm_name(struct comm *comm, char text[NAME_TEXT]);
+const char *mpi_called_text(const struct called *called, char text[NAME_TEXT]);
+
+/* The calls at a place don't agree. */
+void mpi_tell_mismatch(struct comm *comm, uint64_t place) __attribute__((noreturn));
+
+/* Tells a stall where ranks can't go on any more; else returns. For the thread that watches. */
+void mpi_watch(void);
+
+#endif

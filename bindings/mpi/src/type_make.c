@@ -1,0 +1,314 @@
+/* The calls that make types and ask about them. */
+#include "counted.h"
+#include "tell.h"
+#include "types.h"
+
+/* ---- runs are added one after the other */
+
+static void add_run(struct building *b, MPI_Aint at, int basic, size_t many) {
+    if (many == 0) return;
+    if (b->many > 0) {
+        struct run_of *last = &b->runs[b->many - 1];
+        if (last->basic == basic && last->at + (MPI_Aint)(mpi_basic(basic)->size * last->many) == at) {
+            last->many += many;
+            return;
+        }
+    }
+    if (b->many == b->room) {
+        b->room = 2 * b->room + 4;
+        b->runs = mpi_must(realloc(b->runs, sizeof *b->runs * b->room));
+    }
+    b->runs[b->many++] = (struct run_of){ at, basic, many };
+}
+
+static void widen(struct building *b, MPI_Aint low, MPI_Aint high) {
+    if (!b->any || low < b->low) b->low = low;
+    if (!b->any || high > b->high) b->high = high;
+    b->any = true;
+}
+
+void mpi_build(struct building *b, const struct type *type, MPI_Aint at, MPI_Count many) {
+    if (type->alignment > b->alignment) b->alignment = type->alignment;
+    for (MPI_Count i = 0; i < many; i++) {
+        MPI_Aint from = at + (MPI_Aint)i * type->extent;
+        for (size_t j = 0; j < type->many; j++) add_run(b, from + type->runs[j].at, type->runs[j].basic, type->runs[j].many);
+        widen(b, from + type->low, from + type->low + type->extent);
+    }
+}
+
+MPI_Datatype mpi_built(struct building *b) { return mpi_new_type(b->runs, b->many, b->low, b->high - b->low, b->alignment > 0 ? b->alignment : 1); }
+
+/* ---- what is judged before */
+
+static struct type *known(MPI_Datatype handle, const char *call, int *code) {
+    struct type *type = mpi_type(handle);
+    *code = type != NULL ? MPI_SUCCESS : mpi_type_error(handle, call);
+    return type;
+}
+
+static int count_error(long long count, const char *call) { return mpi_refuse(NULL, MPI_ERR_COUNT, call, "the count %lld is negative", count); }
+
+/* ---- the calls */
+
+int mpi_Type_contiguous(MPI_Count many, MPI_Datatype of, MPI_Datatype *made) {
+    int code;
+    struct type *type = known(of, "MPI_Type_contiguous", &code);
+    if (type == NULL) return code;
+    if (many < 0) return count_error(many, "MPI_Type_contiguous");
+    struct building b = { 0 };
+    mpi_build(&b, type, 0, many);
+    *made = mpi_built(&b);
+    return MPI_SUCCESS;
+}
+
+static int vector(MPI_Count many, MPI_Count length, MPI_Aint stride, bool in_bytes, MPI_Datatype of, MPI_Datatype *made, const char *call) {
+    int code;
+    struct type *type = known(of, call, &code);
+    if (type == NULL) return code;
+    if (many < 0) return count_error(many, call);
+    if (length < 0) return mpi_refuse(NULL, MPI_ERR_ARG, call, "the block length %lld is negative", (long long)length);
+    struct building b = { 0 };
+    MPI_Aint step = in_bytes ? stride : stride * type->extent;
+    for (MPI_Count i = 0; i < many; i++) mpi_build(&b, type, (MPI_Aint)i * step, length);
+    *made = mpi_built(&b);
+    return MPI_SUCCESS;
+}
+
+int mpi_Type_vector(MPI_Count many, MPI_Count length, MPI_Count stride, MPI_Datatype of, MPI_Datatype *made) {
+    return vector(many, length, stride, false, of, made, "MPI_Type_vector");
+}
+
+int MPI_Type_create_hvector(int many, int length, MPI_Aint stride, MPI_Datatype of, MPI_Datatype *made) {
+    return vector(many, length, stride, true, of, made, "MPI_Type_create_hvector");
+}
+
+/* Blocks with places of their own: LENGTHS and PLACES for each, or one length for all; places in bytes or in extents. */
+struct blocks {
+    int many, length;
+    const int *lengths, *places;
+    const MPI_Aint *bytes;
+};
+
+static int indexed(const struct blocks *blocks, MPI_Datatype of, MPI_Datatype *made, const char *call) {
+    int code;
+    struct type *type = known(of, call, &code);
+    if (type == NULL) return code;
+    if (blocks->many < 0) return count_error(blocks->many, call);
+    for (int i = 0; i < blocks->many; i++) {
+        int length = blocks->lengths != NULL ? blocks->lengths[i] : blocks->length;
+        if (length < 0) return mpi_refuse(NULL, MPI_ERR_ARG, call, "the block length %d is negative", length);
+    }
+    struct building b = { 0 };
+    for (int i = 0; i < blocks->many; i++) {
+        MPI_Aint at = blocks->bytes != NULL ? blocks->bytes[i] : blocks->places[i] * type->extent;
+        mpi_build(&b, type, at, blocks->lengths != NULL ? blocks->lengths[i] : blocks->length);
+    }
+    *made = mpi_built(&b);
+    return MPI_SUCCESS;
+}
+
+int MPI_Type_indexed(int many, const int lengths[], const int places[], MPI_Datatype of, MPI_Datatype *made) {
+    return indexed(&(struct blocks){ many, 0, lengths, places, NULL }, of, made, "MPI_Type_indexed");
+}
+
+int MPI_Type_create_hindexed(int many, const int lengths[], const MPI_Aint places[], MPI_Datatype of, MPI_Datatype *made) {
+    return indexed(&(struct blocks){ many, 0, lengths, NULL, places }, of, made, "MPI_Type_create_hindexed");
+}
+
+int MPI_Type_create_indexed_block(int many, int length, const int places[], MPI_Datatype of, MPI_Datatype *made) {
+    return indexed(&(struct blocks){ many, length, NULL, places, NULL }, of, made, "MPI_Type_create_indexed_block");
+}
+
+int MPI_Type_create_hindexed_block(int many, int length, const MPI_Aint places[], MPI_Datatype of, MPI_Datatype *made) {
+    return indexed(&(struct blocks){ many, length, NULL, NULL, places }, of, made, "MPI_Type_create_hindexed_block");
+}
+
+int MPI_Type_create_struct(int many, const int lengths[], const MPI_Aint places[], const MPI_Datatype of[], MPI_Datatype *made) {
+    int code;
+    if (many < 0) return count_error(many, "MPI_Type_create_struct");
+    for (int i = 0; i < many; i++) {
+        if (known(of[i], "MPI_Type_create_struct", &code) == NULL) return code;
+        if (lengths[i] < 0) return mpi_refuse(NULL, MPI_ERR_ARG, "MPI_Type_create_struct", "the block length %d is negative", lengths[i]);
+    }
+    struct building b = { 0 };
+    for (int i = 0; i < many; i++) mpi_build(&b, mpi_type(of[i]), places[i], lengths[i]);
+    if (b.alignment > 1) { /* as the C compiler ends a struct (MPI 4.1, 5.1.6) */
+        MPI_Aint over = (b.high - b.low) % (MPI_Aint)b.alignment;
+        if (over > 0) b.high += (MPI_Aint)b.alignment - over;
+    }
+    *made = mpi_built(&b);
+    return MPI_SUCCESS;
+}
+
+/* A dimension of a subarray: so many of the type that the inner dimensions make, of so many in all. */
+static void narrow(struct building *b, const struct type *inner, int size, int part, int start) {
+    mpi_build(b, inner, start * inner->extent, part);
+    b->low = 0;
+    b->high = size * inner->extent;
+}
+
+int MPI_Type_create_subarray(int dimensions, const int sizes[], const int parts[], const int starts[], int order, MPI_Datatype of, MPI_Datatype *made) {
+    const char *call = "MPI_Type_create_subarray";
+    int code;
+    if (known(of, call, &code) == NULL) return code;
+    if (order != MPI_ORDER_C && order != MPI_ORDER_FORTRAN) return mpi_refuse(NULL, MPI_ERR_ARG, call, "the order is neither MPI_ORDER_C nor MPI_ORDER_FORTRAN");
+    for (int i = 0; i < dimensions; i++)
+        if (sizes[i] < 1 || parts[i] < 1 || starts[i] < 0 || starts[i] > sizes[i] - parts[i])
+            return mpi_refuse(NULL, MPI_ERR_ARG, call, "dimension %d: %d elements from %d on don't lie within %d", i, parts[i], starts[i], sizes[i]);
+    MPI_Datatype inner = of;
+    for (int i = 0; i < dimensions; i++) {
+        int at = order == MPI_ORDER_C ? dimensions - 1 - i : i;
+        struct building b = { 0 };
+        narrow(&b, mpi_type(inner), sizes[at], parts[at], starts[at]);
+        MPI_Datatype outer = mpi_built(&b);
+        if (inner != of) MPI_Type_free(&inner);
+        inner = outer;
+    }
+    if (inner == of) return MPI_Type_dup(of, made);
+    *made = inner;
+    return MPI_SUCCESS;
+}
+
+static MPI_Datatype copied(const struct type *type, MPI_Aint low, MPI_Aint extent) {
+    struct run_of *runs = mpi_must(malloc(sizeof *runs * (type->many + 1)));
+    memcpy(runs, type->runs, sizeof *runs * type->many);
+    return mpi_new_type(runs, type->many, low, extent, type->alignment);
+}
+
+int MPI_Type_create_resized(MPI_Datatype of, MPI_Aint low, MPI_Aint extent, MPI_Datatype *made) {
+    int code;
+    struct type *type = known(of, "MPI_Type_create_resized", &code);
+    if (type != NULL) *made = copied(type, low, extent);
+    return code;
+}
+
+int MPI_Type_dup(MPI_Datatype of, MPI_Datatype *made) {
+    int code;
+    struct type *type = known(of, "MPI_Type_dup", &code);
+    if (type == NULL) return code;
+    *made = copied(type, type->low, type->extent);
+    struct type *copy = mpi_type(*made);
+    copy->committed = type->committed;
+    if (type->name != NULL) copy->name = mpi_must(strdup(type->name));
+    return code;
+}
+
+int MPI_Type_commit(MPI_Datatype *of) {
+    int code;
+    struct type *type = known(*of, "MPI_Type_commit", &code);
+    if (type != NULL && !type->predefined) type->committed = true;
+    return code;
+}
+
+int MPI_Type_free(MPI_Datatype *of) {
+    int code;
+    struct type *type = known(*of, "MPI_Type_free", &code);
+    if (type == NULL) return code;
+    if (type->predefined) return mpi_refuse(NULL, MPI_ERR_TYPE, "MPI_Type_free", "%s can't be freed", type->name);
+    mpi_remove(TYPE, *of);
+    mpi_type_unuse(type);
+    *of = MPI_DATATYPE_NULL;
+    return code;
+}
+
+/* ---- questions */
+
+/* The bytes of a type's elements: the gap within a MPI_SHORT_INT is none of them. */
+static size_t bytes_of(const struct type *type) {
+    size_t gaps = 0;
+    for (size_t i = 0; i < type->many; i++)
+        if (type->runs[i].basic == (int)((uintptr_t)MPI_SHORT_INT & 0xff)) gaps += 2 * type->runs[i].many;
+    return type->size - gaps;
+}
+
+int MPI_Type_size_x(MPI_Datatype of, MPI_Count *size) {
+    int code;
+    struct type *type = known(of, "MPI_Type_size", &code);
+    if (type != NULL) *size = (MPI_Count)bytes_of(type);
+    return code;
+}
+
+int MPI_Type_size(MPI_Datatype of, int *size) {
+    MPI_Count wide = 0;
+    int code = MPI_Type_size_x(of, &wide);
+    if (code == MPI_SUCCESS) *size = wide > INT32_MAX ? MPI_UNDEFINED : (int)wide;
+    return code;
+}
+
+int MPI_Type_get_extent(MPI_Datatype of, MPI_Aint *low, MPI_Aint *extent) {
+    int code;
+    struct type *type = known(of, "MPI_Type_get_extent", &code);
+    if (type == NULL) return code;
+    *low = type->low;
+    *extent = type->extent;
+    return code;
+}
+
+int MPI_Type_get_true_extent(MPI_Datatype of, MPI_Aint *low, MPI_Aint *extent) {
+    int code;
+    struct type *type = known(of, "MPI_Type_get_true_extent", &code);
+    if (type == NULL) return code;
+    *low = type->true_low;
+    *extent = type->true_extent;
+    return code;
+}
+
+int MPI_Type_set_name(MPI_Datatype of, const char *name) {
+    int code;
+    struct type *type = known(of, "MPI_Type_set_name", &code);
+    if (type == NULL || type->predefined) return code;
+    free((char *)(uintptr_t)type->name);
+    type->name = mpi_must(strndup(name, MPI_MAX_OBJECT_NAME - 1));
+    return code;
+}
+
+int MPI_Type_get_name(MPI_Datatype of, char *name, int *length) {
+    int code;
+    struct type *type = known(of, "MPI_Type_get_name", &code);
+    if (type != NULL) *length = snprintf(name, MPI_MAX_OBJECT_NAME, "%s", type->name != NULL ? type->name : "");
+    return code;
+}
+
+/* ---- what a status says */
+
+int MPI_Get_count_c(const MPI_Status *status, MPI_Datatype of, MPI_Count *count) {
+    int code;
+    struct type *type = known(of, "MPI_Get_count", &code);
+    if (type == NULL) return code;
+    MPI_Count size = (MPI_Count)type->size;
+    *count = size == 0 ? 0 : status->bytes_ % size != 0 ? MPI_UNDEFINED : status->bytes_ / size;
+    return code;
+}
+
+int MPI_Get_count(const MPI_Status *status, MPI_Datatype of, int *count) {
+    MPI_Count wide = 0;
+    int code = MPI_Get_count_c(status, of, &wide);
+    if (code == MPI_SUCCESS) *count = wide > INT32_MAX ? MPI_UNDEFINED : (int)wide;
+    return code;
+}
+
+int MPI_Get_elements_x(const MPI_Status *status, MPI_Datatype of, MPI_Count *count) {
+    int code;
+    struct type *type = known(of, "MPI_Get_elements", &code);
+    if (type == NULL) return code;
+    size_t left = (size_t)status->bytes_;
+    *count = 0;
+    if (type->size == 0) return code;
+    *count = (MPI_Count)(left / type->size * type->signature.elements);
+    left %= type->size;
+    for (size_t i = 0; i < type->many && left > 0; i++) {
+        size_t size = mpi_basic(type->runs[i].basic)->size, here = left / size < type->runs[i].many ? left / size : type->runs[i].many;
+        *count += (MPI_Count)here;
+        left -= here * size;
+        if (here < type->runs[i].many) break;
+    }
+    if (left > 0) *count = MPI_UNDEFINED;
+    return code;
+}
+
+int MPI_Get_elements(const MPI_Status *status, MPI_Datatype of, int *count) {
+    MPI_Count wide = 0;
+    int code = MPI_Get_elements_x(status, of, &wide);
+    if (code == MPI_SUCCESS) *count = wide > INT32_MAX ? MPI_UNDEFINED : (int)wide;
+    return code;
+}

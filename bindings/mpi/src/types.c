@@ -1,0 +1,187 @@
+/* Basic types, what a type is, and bytes with and without gaps. */
+#include "types.h"
+
+#include "tell.h"
+
+#include <complex.h>
+#include <wchar.h>
+
+/* In the order of mpi.h. */
+static const struct basic basics[] = {
+    { NULL, 0, 1, 0, -1, 0 },
+    { "MPI_CHAR", 1, 1, CHARACTER, WZ_INT8, 1 },
+    { "MPI_SIGNED_CHAR", 1, 1, SIGNED, WZ_INT8, 2 },
+    { "MPI_UNSIGNED_CHAR", 1, 1, UNSIGNED, WZ_UINT8, 3 },
+    { "MPI_SHORT", 2, 2, SIGNED, WZ_INT16, 4 },
+    { "MPI_UNSIGNED_SHORT", 2, 2, UNSIGNED, WZ_UINT16, 5 },
+    { "MPI_INT", 4, 4, SIGNED, WZ_INT32, 6 },
+    { "MPI_UNSIGNED", 4, 4, UNSIGNED, WZ_UINT32, 7 },
+    { "MPI_LONG", 8, 8, SIGNED, WZ_INT64, 8 },
+    { "MPI_UNSIGNED_LONG", 8, 8, UNSIGNED, WZ_UINT64, 9 },
+    { "MPI_LONG_LONG", 8, 8, SIGNED, WZ_INT64, 8 },
+    { "MPI_UNSIGNED_LONG_LONG", 8, 8, UNSIGNED, WZ_UINT64, 9 },
+    { "MPI_INT8_T", 1, 1, SIGNED, WZ_INT8, 2 },
+    { "MPI_INT16_T", 2, 2, SIGNED, WZ_INT16, 4 },
+    { "MPI_INT32_T", 4, 4, SIGNED, WZ_INT32, 6 },
+    { "MPI_INT64_T", 8, 8, SIGNED, WZ_INT64, 8 },
+    { "MPI_UINT8_T", 1, 1, UNSIGNED, WZ_UINT8, 3 },
+    { "MPI_UINT16_T", 2, 2, UNSIGNED, WZ_UINT16, 5 },
+    { "MPI_UINT32_T", 4, 4, UNSIGNED, WZ_UINT32, 7 },
+    { "MPI_UINT64_T", 8, 8, UNSIGNED, WZ_UINT64, 9 },
+    { "MPI_AINT", 8, 8, SIGNED, WZ_INT64, 8 },
+    { "MPI_OFFSET", 8, 8, SIGNED, WZ_INT64, 8 },
+    { "MPI_COUNT", 8, 8, SIGNED, WZ_INT64, 8 },
+    { "MPI_BYTE", 1, 1, BITS, WZ_BYTE, 10 },
+    { "MPI_PACKED", 1, 1, BITS, WZ_BYTE, 11 },
+    { "MPI_WCHAR", sizeof(wchar_t), sizeof(wchar_t), CHARACTER, WZ_INT32, 12 },
+    { "MPI_C_BOOL", 1, 1, TRUTH, WZ_UINT8, 13 },
+    { "MPI_FLOAT", 4, 4, REAL, WZ_UINT32, 14 },
+    { "MPI_DOUBLE", 8, 8, REAL, WZ_UINT64, 15 },
+    { "MPI_LONG_DOUBLE", sizeof(long double), _Alignof(long double), REAL, -1, 16 },
+    { "MPI_C_FLOAT_COMPLEX", 8, 4, COMPLEX, WZ_UINT64, 17 },
+    { "MPI_C_DOUBLE_COMPLEX", 16, 8, COMPLEX, -1, 18 },
+    { "MPI_C_LONG_DOUBLE_COMPLEX", sizeof(long double complex), _Alignof(long double), COMPLEX, -1, 19 },
+    { "MPI_2INT", 8, 4, PAIR, WZ_2INT, 20 },
+    { "MPI_FLOAT_INT", 8, 4, PAIR, WZ_UINT64, 21 },
+    { "MPI_DOUBLE_INT", 12, 8, PAIR, -1, 22 },
+    { "MPI_LONG_INT", 12, 8, PAIR, -1, 23 },
+    { "MPI_SHORT_INT", 8, 4, PAIR, WZ_UINT64, 24 }, /* with the gap between its value and its index */
+    { "MPI_LONG_DOUBLE_INT", sizeof(long double) + 4, _Alignof(long double), PAIR, -1, 25 },
+};
+enum { BASICS = sizeof basics / sizeof basics[0] };
+static struct type basic_types[BASICS];
+static struct run_of basic_runs[BASICS];
+
+const struct basic *mpi_basic(int basic) { return &basics[basic]; }
+
+size_t mpi_engine_width(int type) {
+    static const uint8_t widths[ENGINE_TYPES] = { 1, 2, 4, 8, 1, 2, 4, 8, 1, 8 };
+    return widths[type];
+}
+
+/* ---- signatures: a polynomial over the codes, so that what follows can be added, and what is repeated is as well */
+
+static const uint64_t POINT = 0x9e3779b97f4a7c15u;
+
+static struct signature followed(struct signature one, struct signature next) {
+    return (struct signature){ one.elements + next.elements, one.hash * next.power + next.hash, one.power * next.power };
+}
+
+static struct signature repeated(struct signature one, uint64_t times) {
+    struct signature all = { 0, 0, 1 };
+    for (; times > 0; times /= 2) {
+        if (times % 2 == 1) all = followed(all, one);
+        one = followed(one, one);
+    }
+    return all;
+}
+
+struct signature mpi_signature_of(const struct type *type, uint64_t many) { return repeated(type->signature, many); }
+
+/* ---- predefined types */
+
+/* A pair whose index is followed by a gap takes more memory than it has bytes. */
+static size_t extent_of(int basic) {
+    size_t alignment = basics[basic].alignment;
+    return (basics[basic].size + alignment - 1) / alignment * alignment;
+}
+
+__attribute__((constructor)) static void fill_basic_types(void) {
+    for (int i = 1; i < BASICS; i++) {
+        struct signature signature = { 1, basics[i].code, POINT };
+        size_t extent = extent_of(i);
+        basic_runs[i] = (struct run_of){ 0, i, 1 };
+        basic_types[i] = (struct type){ .name = basics[i].name, .size = basics[i].size, .extent = (MPI_Aint)extent, .true_extent = (MPI_Aint)basics[i].size,
+                                        .alignment = basics[i].alignment, .basic = i, .dense = extent == basics[i].size, .predefined = true,
+                                        .committed = true, .signature = signature, .many = 1, .runs = &basic_runs[i], .uses = 1 };
+    }
+}
+
+static bool is_predefined(MPI_Datatype handle) { return (uintptr_t)handle > (uintptr_t)MPI_DATATYPE_NULL && (uintptr_t)handle < (uintptr_t)MPI_DATATYPE_NULL + BASICS; }
+
+struct type *mpi_type(MPI_Datatype handle) {
+    return is_predefined(handle) ? &basic_types[(uintptr_t)handle & 0xff] : mpi_find(TYPE, handle);
+}
+
+int mpi_type_error(MPI_Datatype handle, const char *call) {
+    if (handle == MPI_DATATYPE_NULL) return mpi_refuse(NULL, MPI_ERR_TYPE, call, "the type is MPI_DATATYPE_NULL");
+    if (mpi_was_freed(TYPE, handle)) return mpi_refuse(NULL, MPI_ERR_TYPE, call, "the type was freed");
+    return mpi_refuse(NULL, MPI_ERR_TYPE, call, "%p is no type", (void *)handle);
+}
+
+void mpi_type_use(const struct type *type) {
+    if (!type->predefined) ((struct type *)(uintptr_t)type)->uses++;
+}
+
+void mpi_type_unuse(const struct type *type) {
+    struct type *it = (struct type *)(uintptr_t)type;
+    if (it->predefined || --it->uses > 0) return;
+    free((char *)(uintptr_t)it->name);
+    free(it->runs);
+    free(it);
+}
+
+/* ---- types that programs make */
+
+static size_t run_bytes(const struct run_of *run) { return basics[run->basic].size * run->many; }
+
+static void measure(struct type *type) {
+    MPI_Aint at = 0;
+    bool dense = true;
+    type->basic = type->many > 0 ? type->runs[0].basic : (int)((uintptr_t)MPI_BYTE & 0xff);
+    type->signature.power = 1;
+    for (size_t i = 0; i < type->many; i++) {
+        const struct run_of *run = &type->runs[i];
+        MPI_Aint end = run->at + (MPI_Aint)run_bytes(run);
+        type->size += run_bytes(run);
+        type->signature = followed(type->signature, repeated(basic_types[run->basic].signature, run->many));
+        if (run->basic != type->basic) type->basic = 0;
+        dense = dense && run->at == at;
+        at = end;
+        if (i == 0 || run->at < type->true_low) type->true_low = run->at;
+        if (i == 0 || end > type->true_low + type->true_extent) type->true_extent = end - type->true_low;
+    }
+    type->dense = dense && type->low == 0 && (size_t)type->extent == type->size;
+}
+
+MPI_Datatype mpi_new_type(struct run_of *runs, size_t many, MPI_Aint low, MPI_Aint extent, size_t alignment) {
+    struct type *type = mpi_must(calloc(1, sizeof *type));
+    type->runs = runs;
+    type->many = many;
+    type->low = low;
+    type->extent = extent;
+    type->alignment = alignment;
+    type->uses = 1;
+    measure(type);
+    return (MPI_Datatype)mpi_add(TYPE, type);
+}
+
+/* ---- bytes */
+
+void mpi_pack(const struct type *type, size_t many, const void *from, void *bytes) {
+    char *to = bytes;
+    if (type->dense) {
+        if (many * type->size > 0) memcpy(to, from, many * type->size);
+        return;
+    }
+    for (size_t i = 0; i < many; i++)
+        for (size_t j = 0; j < type->many; j++) {
+            const struct run_of *run = &type->runs[j];
+            memcpy(to, (const char *)from + (MPI_Aint)i * type->extent + run->at, run_bytes(run));
+            to += run_bytes(run);
+        }
+}
+
+void mpi_unpack(const struct type *type, size_t many, void *to, const void *bytes) {
+    const char *from = bytes;
+    if (type->dense) {
+        if (many * type->size > 0) memcpy(to, from, many * type->size);
+        return;
+    }
+    for (size_t i = 0; i < many; i++)
+        for (size_t j = 0; j < type->many; j++) {
+            const struct run_of *run = &type->runs[j];
+            memcpy((char *)to + (MPI_Aint)i * type->extent + run->at, from, run_bytes(run));
+            from += run_bytes(run);
+        }
+}

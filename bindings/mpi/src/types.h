@@ -1,0 +1,90 @@
+/* Types and operations. */
+#ifndef WZ_TYPES_H
+#define WZ_TYPES_H
+
+#include "base.h"
+
+enum class { SIGNED = 1, UNSIGNED, CHARACTER, BITS, TRUTH, REAL, COMPLEX, PAIR };
+
+/* A basic type. CODE is the same for types that match one another, as MPI_INT and MPI_INT32_T do; ENGINE is the type of the engine that has its
+   width, or -1. */
+struct basic {
+    const char *name;
+    size_t size, alignment;
+    enum class class;
+    int engine;
+    uint32_t code;
+};
+
+/* Elements of one basic type that lie one after the other. */
+struct run_of {
+    MPI_Aint at;
+    int basic;
+    size_t many;
+};
+
+/* What basic types follow one another: equal sequences have equal signatures. */
+struct signature {
+    uint64_t elements, hash, power;
+};
+
+struct type {
+    const char *name;
+    size_t size;            /* bytes of the elements, without gaps */
+    MPI_Aint low, extent;
+    MPI_Aint true_low, true_extent;
+    size_t alignment;
+    int basic;              /* the number of the basic type of all elements; 0 where there are several */
+    bool dense;             /* the elements lie without gaps, from 0 on, and the extent is the size */
+    bool predefined, committed;
+    struct signature signature;
+    size_t many;
+    struct run_of *runs;
+    int uses;
+};
+
+struct op {
+    const char *name;
+    int number;             /* of a predefined one, as in mpi.h; else 0 */
+    MPI_User_function *user;
+    MPI_User_function_c *user_wide;
+    uintptr_t identity;     /* the same for all ranks */
+    bool commutes;
+    int uses;
+};
+
+const struct basic *mpi_basic(int basic);
+enum { ENGINE_TYPES = 10 };
+size_t mpi_engine_width(int type);
+
+struct type *mpi_type(MPI_Datatype type); /* NULL: there is none */
+void mpi_type_use(const struct type *type);
+void mpi_type_unuse(const struct type *type);
+struct signature mpi_signature_of(const struct type *type, uint64_t many);
+int mpi_type_error(MPI_Datatype type, const char *call); /* tells what is wrong with it */
+
+/* Copies MANY elements of a type from or to bytes without gaps. */
+void mpi_pack(const struct type *type, size_t many, const void *from, void *bytes);
+void mpi_unpack(const struct type *type, size_t many, void *to, const void *bytes);
+
+/* ---- making types (type_make.c) */
+struct building {
+    struct run_of *runs;
+    size_t many, room;
+    MPI_Aint low, high;
+    size_t alignment;
+    bool any;
+};
+void mpi_build(struct building *building, const struct type *type, MPI_Aint at, MPI_Count many);
+MPI_Datatype mpi_built(struct building *building);
+MPI_Datatype mpi_new_type(struct run_of *runs, size_t many, MPI_Aint low, MPI_Aint extent, size_t alignment); /* it is given the runs */
+
+/* ---- operations (operations.c, compute.c) */
+struct op *mpi_op(MPI_Op op);
+void mpi_op_unuse(struct op *op);
+int mpi_engine_op(const struct op *op); /* -1: the engine has no such operation */
+bool mpi_op_takes(const struct op *op, const struct type *type);
+/* more[i] = row[i] op more[i] */
+void mpi_compute(const struct op *op, MPI_Datatype handle, const struct type *type, MPI_Count many, void *row, void *more);
+
+#endif

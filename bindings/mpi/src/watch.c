@@ -1,0 +1,169 @@
+/* Stalls: ranks that wait for what can't come any more. A thread looks at all ranks now and then.
+
+   A rank is lost if it waits, nothing of what it waits for is done, and what it waits for lacks calls of ranks that are lost, have ended or have called
+   MPI_Finalize. A collective may be done before all members have called it, so it is given up only where all of those that it lacks are lost; under --strict
+   where one is. Of the requests of MPI_Waitany and MPI_Waitsome all have to be given up. The lost ranks are the greatest set that is so. */
+#include "watch.h"
+
+#include "tell.h"
+
+#include <time.h>
+
+enum { PATIENCE = 20 }; /* looks that give one answer, before a stall of some of the ranks is told while others go on */
+
+/* What a look has seen. */
+struct sight {
+    uint64_t waiting; /* ranks that wait, with nothing done */
+    uint64_t gone;    /* ranks that call nothing any more */
+};
+
+static bool is_open(struct request *it) { return it != NULL && it->active; }
+
+/* Whether nothing of what a rank waits for is done or computed just now. */
+static bool is_stuck(const struct rank *rank) {
+    const struct wait *wait = &rank->wait;
+    bool open = false;
+    for (int i = 0; i < wait->many; i++) {
+        if (!is_open(wait->list[i])) continue;
+        if (mpi_progress(wait->list[i]) != GOES_ON) return false;
+        open = true;
+    }
+    return open;
+}
+
+static struct sight look(void) {
+    struct sight sight = { 0, 0 };
+    for (int i = 0; i < mpi_run.size; i++) {
+        struct rank *rank = &mpi_run.ranks[i];
+        if (atomic_load(&rank->ended) || atomic_load(&rank->finalized)) sight.gone |= 1ull << i;
+        else if (atomic_load(&rank->waits) && is_stuck(rank)) sight.waiting |= 1ull << i;
+    }
+    return sight;
+}
+
+static bool is_hopeless(const struct request *it, uint64_t lost) {
+    uint64_t lacks = mpi_lacking(it);
+    if (lacks == 0) return false;
+    bool one = it->sort == COLLECTIVE && mpi_run.strict;
+    return one ? (lacks & lost) != 0 : (lacks & ~lost) == 0;
+}
+
+static bool is_lost(const struct rank *rank, uint64_t lost) {
+    const struct wait *wait = &rank->wait;
+    for (int i = 0; i < wait->many; i++) {
+        if (!is_open(wait->list[i])) continue;
+        bool hopeless = is_hopeless(wait->list[i], lost);
+        if (wait->any && !hopeless) return false;
+        if (!wait->any && hopeless) return true;
+    }
+    return wait->any;
+}
+
+static uint64_t find_lost(const struct sight *sight) {
+    uint64_t lost = sight->waiting, before;
+    do {
+        before = lost;
+        for (int i = 0; i < mpi_run.size; i++)
+            if ((lost >> i & 1) && !is_lost(&mpi_run.ranks[i], lost | sight->gone)) lost &= ~(1ull << i);
+    } while (lost != before);
+    return lost;
+}
+
+/* ---- telling */
+
+static void tell_message(const struct request *it) {
+    char ranks[RANKS_TEXT];
+    const char *what = it->sort == SENDING ? "that its message is received by" : "for a message from";
+    const char *whom = it->other == MPI_ANY_SOURCE ? "any rank" : mpi_ranks_text(mpi_lacking(it), ranks);
+    fprintf(stderr, "    %s %s", what, whom);
+    if (it->tag >= 0) fprintf(stderr, ", tag %d", it->tag);
+    fprintf(stderr, ": %s at %s\n", it->name, it->started_at);
+}
+
+static void tell_request(struct request *it, const char *call) {
+    char ranks[RANKS_TEXT], name[NAME_TEXT], root[40] = "", start[300] = "";
+    uint64_t lacks = mpi_lacking(it);
+    if (it->sort != COLLECTIVE) {
+        tell_message(it);
+        return;
+    }
+    if (mpi_is_rooted(it->arguments.function) && it->comm->first == 0) snprintf(root, sizeof root, ", root %d", it->arguments.root);
+    if (it->starts != NULL) snprintf(start, sizeof start, ", start %u at %s", it->times, it->started_at);
+    const char *where = it->name == call ? "" : " at ";
+    fprintf(stderr, "    for %s%s%s%s, place %llu of %s%s, which %s %s not %s\n", it->name, root, where, it->name == call ? "" : it->site, (unsigned long long)it->place,
+            mpi_comm_name(it->comm, name), start, mpi_ranks_text(lacks, ranks), mpi_count_ranks(lacks) == 1 ? "has" : "have", it->starts != NULL ? "started so often" : "called");
+}
+
+/* Whom a rank waits for. */
+static uint64_t awaited(const struct rank *rank, uint64_t lost) {
+    uint64_t ranks = 0;
+    for (int i = 0; i < rank->wait.many; i++)
+        if (is_open(rank->wait.list[i]) && (rank->wait.any || is_hopeless(rank->wait.list[i], lost))) ranks |= mpi_lacking(rank->wait.list[i]);
+    return ranks;
+}
+
+static void tell_rank(const struct rank *rank, uint64_t lost) {
+    fprintf(stderr, "  rank %d waits in %s at %s\n", rank->number, rank->wait.call, rank->wait.site);
+    for (int i = 0; i < rank->wait.many; i++) {
+        struct request *it = rank->wait.list[i];
+        if (is_open(it) && (rank->wait.any || is_hopeless(it, lost))) tell_request(it, rank->wait.call);
+    }
+}
+
+/* A way from a rank over those that each waits for, back to it. */
+static bool tell_circle(int from, uint64_t lost, uint64_t gone) {
+    int path[MOST_RANKS + 1], many = 0, at = from;
+    uint64_t seen = 0;
+    while (!(seen >> at & 1)) {
+        seen |= 1ull << at;
+        path[many++] = at;
+        uint64_t next = awaited(&mpi_run.ranks[at], lost | gone) & lost;
+        if (next == 0) return false;
+        at = __builtin_ctzll(next);
+    }
+    if (at != from) return false;
+    fprintf(stderr, "  so they wait for one another:");
+    for (int i = 0; i < many; i++) fprintf(stderr, " %d ->", path[i]);
+    fprintf(stderr, " %d\n", from);
+    return true;
+}
+
+static void tell_others(const struct sight *sight, uint64_t lost) {
+    for (int i = 0; i < mpi_run.size; i++) {
+        const struct rank *rank = &mpi_run.ranks[i];
+        if (lost >> i & 1) continue;
+        const char *site = atomic_load(&rank->site);
+        if (atomic_load(&rank->ended)) fprintf(stderr, "  rank %d has ended with status %d; its last call stands at %s\n", i, rank->status, site);
+        else if (sight->gone >> i & 1) fprintf(stderr, "  rank %d has called MPI_Finalize at %s\n", i, site);
+        else fprintf(stderr, "  rank %d goes on; its last call stands at %s\n", i, site);
+    }
+}
+
+static void tell_stall(const struct sight *sight, uint64_t lost) {
+    char ranks[RANKS_TEXT];
+    bool all = (lost | sight->gone) == (mpi_run.size == 64 ? UINT64_MAX : (1ull << mpi_run.size) - 1);
+    mpi_tell_alone();
+    fflush(stdout);
+    if (all) fprintf(stderr, "wzrun: stalled: no rank can go on\n");
+    else fprintf(stderr, "wzrun: stalled: %s can't go on\n", mpi_ranks_text(lost, ranks));
+    for (int i = 0; i < mpi_run.size; i++)
+        if (lost >> i & 1) tell_rank(&mpi_run.ranks[i], lost | sight->gone);
+    tell_others(sight, lost);
+    for (int i = 0; i < mpi_run.size; i++)
+        if ((lost >> i & 1) && tell_circle(i, lost, sight->gone)) break;
+    if (mpi_run.strict) fprintf(stderr, "  (--strict: each collective is taken to wait for all its members, each send for its receive)\n");
+    mpi_end_run(STATUS_STALLED, "stalled");
+}
+
+void mpi_watch(void) {
+    static uint64_t before;
+    static int looks;
+    mpi_look(true);
+    struct sight sight = look();
+    uint64_t lost = sight.waiting != 0 ? find_lost(&sight) : 0;
+    uint64_t all = mpi_run.size == 64 ? UINT64_MAX : (1ull << mpi_run.size) - 1;
+    looks = lost != 0 && lost == before ? looks + 1 : 0;
+    before = lost;
+    if (lost != 0 && ((lost | sight.gone) == all || looks >= PATIENCE)) tell_stall(&sight, lost);
+    mpi_look(false);
+}

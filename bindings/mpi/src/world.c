@@ -1,0 +1,169 @@
+/* The beginning and the end of a run, and the calls that need no communicator. */
+#include "collectives.h"
+#include "record.h"
+#include "tell.h"
+
+#include <dlfcn.h>
+#include <time.h>
+#include <unistd.h>
+
+struct run mpi_run;
+__thread struct rank *mpi_me;
+
+/* Where each rank's copy of the program lies, so that a thread that the program makes has the rank of the copy whose code it runs. */
+static const void *copies[MOST_RANKS];
+
+void mpi_note_copy(int rank, const void *base) { copies[rank] = base; }
+
+static struct rank *rank_of_address(const void *address) {
+    Dl_info about;
+    if (dladdr(address, &about) == 0) return NULL;
+    for (int i = 0; i < mpi_run.size; i++)
+        if (copies[i] == about.dli_fbase) return &mpi_run.ranks[i];
+    return NULL;
+}
+
+void wz_at_(const char *site) {
+    if (mpi_me == NULL) mpi_me = rank_of_address(site);
+    if (mpi_me != NULL) atomic_store_explicit(&mpi_me->site, site, memory_order_relaxed);
+}
+
+struct rank *mpi_self(const char *call) {
+    if (mpi_me == NULL) mpi_me = rank_of_address(__builtin_return_address(0));
+    if (mpi_me != NULL) return mpi_me;
+    fprintf(stderr, "wzrun: %s: the thread that calls it isn't one of a rank\n", call);
+    _exit(STATUS_WRONG);
+}
+
+void mpi_begin_run(int size) {
+    mpi_run.size = size;
+    for (int i = 0; i < size; i++) {
+        mpi_run.ranks[i].number = i;
+        mpi_run.ranks[i].site = "its beginning";
+        mpi_run.ranks[i].random = mpi_run.seed * 64 + (uint64_t)i;
+    }
+    mpi_open_world(size);
+}
+
+/* ---- MPI_Init and MPI_Finalize */
+
+static int initialise(int level, const char *call) {
+    struct rank *me = mpi_self(call);
+    if (me->begun) return mpi_refuse(NULL, MPI_ERR_OTHER, call, "MPI_Init was called before");
+    me->begun = true;
+    me->level = level;
+    return MPI_SUCCESS;
+}
+
+int MPI_Init(int *argc, char ***argv) {
+    (void)argc, (void)argv;
+    return initialise(MPI_THREAD_SINGLE, "MPI_Init");
+}
+
+int MPI_Init_thread(int *argc, char ***argv, int wanted, int *given) {
+    (void)argc, (void)argv;
+    *given = wanted < MPI_THREAD_SERIALIZED ? wanted : MPI_THREAD_SERIALIZED;
+    return initialise(*given, "MPI_Init_thread");
+}
+
+int MPI_Query_thread(int *given) {
+    *given = mpi_self("MPI_Query_thread")->level;
+    return MPI_SUCCESS;
+}
+
+static __thread bool is_main;
+
+void mpi_be_main(void) { is_main = true; }
+
+int MPI_Is_thread_main(int *flag) {
+    *flag = is_main;
+    return MPI_SUCCESS;
+}
+
+int MPI_Initialized(int *flag) {
+    *flag = mpi_me != NULL && mpi_me->begun;
+    return MPI_SUCCESS;
+}
+
+int MPI_Finalized(int *flag) {
+    *flag = mpi_me != NULL && mpi_me->finalized;
+    return MPI_SUCCESS;
+}
+
+int MPI_Finalize(void) {
+    struct rank *me = mpi_self("MPI_Finalize");
+    if (!me->begun || me->finalized) return mpi_refuse(NULL, MPI_ERR_OTHER, "MPI_Finalize", me->begun ? "MPI_Finalize was called before" : "MPI_Init wasn't called before");
+    mpi_delete_attributes(mpi_comm(MPI_COMM_SELF), MPI_COMM_SELF);
+    mpi_delete_attributes(mpi_world(), MPI_COMM_WORLD);
+    for (uint32_t i = 0; i < me->tables[REQUEST].many; i++) {
+        struct request *it = me->tables[REQUEST].objects[i];
+        char text[NAME_TEXT];
+        if (it == NULL || !it->active) continue;
+        mpi_warn("rank %d calls MPI_Finalize at %s, and its request of %s at %s on %s was never completed", me->number, me->site, it->name, it->started_at,
+                mpi_comm_name(it->comm, text));
+    }
+    me->finalized = true;
+    return MPI_SUCCESS;
+}
+
+int MPI_Abort(MPI_Comm comm, int status) {
+    struct rank *me = mpi_self("MPI_Abort");
+    (void)comm;
+    mpi_tell_alone();
+    fflush(stdout);
+    fprintf(stderr, "wzrun: rank %d ends all by MPI_Abort(%d) at %s\n", me->number, status, me->site);
+    mpi_end_run((status & 255) != 0 ? status & 255 : 1, NULL);
+}
+
+/* ---- calls that need nothing */
+
+double MPI_Wtime(void) {
+    struct timespec t;
+    clock_gettime(CLOCK_MONOTONIC, &t);
+    return (double)t.tv_sec + 1e-9 * (double)t.tv_nsec;
+}
+
+double MPI_Wtick(void) { return 1e-9; }
+
+int MPI_Get_version(int *version, int *subversion) {
+    *version = MPI_VERSION;
+    *subversion = MPI_SUBVERSION;
+    return MPI_SUCCESS;
+}
+
+int MPI_Get_library_version(char *text, int *length) {
+    *length = snprintf(text, MPI_MAX_LIBRARY_VERSION_STRING, "Worzsunab 0.1.0, ranks as threads of one process");
+    return MPI_SUCCESS;
+}
+
+int MPI_Get_processor_name(char *name, int *length) {
+    gethostname(name, MPI_MAX_PROCESSOR_NAME - 1);
+    name[MPI_MAX_PROCESSOR_NAME - 1] = '\0';
+    *length = (int)strlen(name);
+    return MPI_SUCCESS;
+}
+
+int MPI_Alloc_mem(MPI_Aint size, MPI_Info info, void *base) {
+    (void)info;
+    *(void **)base = malloc(size > 0 ? (size_t)size : 1);
+    return *(void **)base != NULL ? MPI_SUCCESS : mpi_refuse(NULL, MPI_ERR_NO_MEM, "MPI_Alloc_mem", "there is no memory left");
+}
+
+int MPI_Free_mem(void *base) {
+    free(base);
+    return MPI_SUCCESS;
+}
+
+int MPI_Get_address(const void *location, MPI_Aint *address) {
+    *address = (MPI_Aint)location;
+    return MPI_SUCCESS;
+}
+
+MPI_Aint MPI_Aint_add(MPI_Aint base, MPI_Aint distance) { return base + distance; }
+
+MPI_Aint MPI_Aint_diff(MPI_Aint one, MPI_Aint two) { return one - two; }
+
+int MPI_Pcontrol(const int level, ...) {
+    (void)level;
+    return MPI_SUCCESS;
+}
