@@ -58,6 +58,7 @@ struct rank {
     struct recording *recording; /* its part of the job text */
     /* while it waits */
     atomic_bool waits;
+    atomic_uint waits_begun;
     struct wait wait;
     atomic_uint wake; /* counts what may have let it go on; it sleeps until it changes */
     atomic_bool sleeps;

@@ -41,11 +41,10 @@ static bool make_room(struct request *it) {
     bool any = false;
     for (uint32_t i = 0; i < table->many; i++) {
         struct request *old = table->objects[i];
-        uint8_t phase = WZ_IDLE;
-        if (old == NULL || old->sort != COLLECTIVE || !old->active || old->engine != it->engine || old->persistent || old->held.generation == 0) continue;
-        if (wz_shared_phase(&old->engine->shared, (uint8_t)old->member, &old->held, &phase) != WZ_DONE || phase != WZ_IS_DONE) continue;
+        if (old == NULL || old->sort != COLLECTIVE || !old->active || old->engine != it->engine || old->persistent || old->collected) continue;
         size_t count;
-        any = wz_shared_test(&old->engine->shared, (uint8_t)old->member, &old->held, old->out, old->room, &count) == WZ_DONE || any;
+        old->collected = wz_shared_test(&old->engine->shared, (uint8_t)old->member, &old->held, old->out, old->room, &count) == WZ_DONE;
+        any = any || old->collected;
     }
     return any;
 }

@@ -48,6 +48,7 @@ struct request {
     enum sort sort;
     bool persistent, active, direct, alltoall, freed;
     bool kept;        /* it outlives its completion */
+    _Atomic bool collected; /* the engine's outcome was taken over, and lies in `out` */
     bool listed;      /* while a list of requests is read */
     bool has_parcels; /* an exchange that was completed, until it is dropped */
     int recorded; /* its number in the job text; -1: it has none */

@@ -22,13 +22,10 @@ static int finish(struct request *it, const char *call) {
     if (changed) code = mpi_refuse(it->comm, MPI_ERR_BUFFER, call, "what %s at %s sends was changed before it was completed here", it->name, it->started_at);
     if (!it->direct) code = mpi_open_parcels(it, call);
     else if (it->out == it->scratch) mpi_put_outcome(it);
-    it->active = false;
+    it->active = it->collected = false;
     if (!it->persistent && !it->kept) mpi_drop_request(it);
     return code;
 }
-
-/* Whether the engine's outcome was taken over before, to make room in it (collectives.c). */
-static bool was_collected(const struct request *it) { return !it->persistent && it->held.generation == 0; }
 
 static int32_t wait_in_engine(struct request *it, const char *call) {
     wz_shared *shared = &it->engine->shared;
@@ -54,7 +51,7 @@ int mpi_complete(struct request *it, MPI_Status *status, const char *call) {
         return mpi_finish_message(it, status, call);
     }
     if (mpi_run.strict && mpi_lacking(it) != 0) mpi_wait_for(call, only, 1, false);
-    int32_t code = was_collected(it) ? WZ_DONE : wait_in_engine(it, call);
+    int32_t code = it->collected ? WZ_DONE : wait_in_engine(it, call);
     return code == WZ_DONE ? finish(it, call) : mpi_engine_refused(it, code, call);
 }
 

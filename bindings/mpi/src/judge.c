@@ -153,7 +153,7 @@ static const char *type_text(const struct type *type) { return type->name != NUL
 
 static int judge_buffer(struct judging *it, const void *buffer, long long many, const struct type *type, const char *what) {
     if (many < 0) REFUSE(MPI_ERR_COUNT, "the count %lld is negative", many);
-    if (buffer == NULL && many > 0 && type->predefined) REFUSE(MPI_ERR_BUFFER, "the %s buffer is null", what);
+    if (buffer == NULL && many > 0 && type->predefined) REFUSE(MPI_ERR_BUFFER, "the %s%sbuffer is null", what, what[0] != '\0' ? " " : "");
     return MPI_SUCCESS;
 }
 
@@ -187,7 +187,7 @@ static int judge_moved(struct judging *it) {
     bool counts = has_count_for_each(it->function), gives_counts = counts && call->give_counts.at != NULL, gets_counts = counts && call->get_counts.at != NULL;
     int code = MPI_SUCCESS;
     if (has_many_types(it->function)) return code;
-    if (it->gives && !gives_counts) code = judge_buffer(it, call->give, call->give_count, request->give_type, "send");
+    if (it->gives && !gives_counts) code = judge_buffer(it, call->give, call->give_count, request->give_type, it->function == BCAST ? "" : "send");
     if (code == MPI_SUCCESS && it->gets && !gets_counts) code = judge_buffer(it, call->get, call->get_count, request->get_type, "receive");
     if (code != MPI_SUCCESS || !it->gives || !it->gets || it->inter || mpi_is_neighbor(it->function)) return code;
     if (it->function == GATHERV || it->function == ALLGATHERV)
@@ -331,7 +331,7 @@ static void write_called(struct judging *it, struct called *called) {
     if (mpi_is_rooted(it->function)) called->root = call->root;
     if (request->op != NULL) {
         called->operation = request->op->identity;
-        called->operation_name = request->op->number > 0 ? request->op->name : "an operation of the program";
+        called->operation_name = request->op->name;
     }
     switch (it->function) {
     case BCAST: write_block(called, request->give_type, call->give_count); break;

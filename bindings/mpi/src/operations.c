@@ -29,9 +29,7 @@ struct op *mpi_op(MPI_Op handle) {
 }
 
 void mpi_op_unuse(struct op *op) {
-    if (op->number > 0 || --op->uses > 0) return;
-    free((char *)(uintptr_t)op->name);
-    free(op);
+    if (op->number == 0 && --op->uses == 0) free(op);
 }
 
 int mpi_engine_op(const struct op *op) {
@@ -83,7 +81,7 @@ static int create(MPI_User_function *user, MPI_User_function_c *wide, int commut
     struct op *op = mpi_must(calloc(1, sizeof *op));
     *op = (struct op){ .user = user, .user_wide = wide, .commutes = commutes != 0, .uses = 1 };
     op->identity = identity_of(user != NULL ? (void *)(uintptr_t)user : (void *)(uintptr_t)wide, &name);
-    op->name = mpi_must(strdup(name != NULL ? name : "an operation of the program"));
+    op->name = name != NULL ? name : "an operation of the program"; /* both stay as long as the run */
     *made = (MPI_Op)mpi_add(OP, op);
     return MPI_SUCCESS;
 }

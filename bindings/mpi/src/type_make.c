@@ -48,6 +48,17 @@ static struct type *known(MPI_Datatype handle, const char *call, int *code) {
 
 static int count_error(long long count, const char *call) { return mpi_refuse(NULL, MPI_ERR_COUNT, call, "the count %lld is negative", count); }
 
+/* Gives the program a type, which says by what call it was made. */
+static int give(MPI_Datatype *made, MPI_Datatype handle, int combiner, int integers, int addresses, int parts) {
+    struct type *type = mpi_type(handle);
+    type->combiner = combiner;
+    type->integers = integers;
+    type->addresses = addresses;
+    type->parts = parts;
+    *made = handle;
+    return MPI_SUCCESS;
+}
+
 /* ---- the calls */
 
 int mpi_Type_contiguous(MPI_Count many, MPI_Datatype of, MPI_Datatype *made) {
@@ -57,8 +68,7 @@ int mpi_Type_contiguous(MPI_Count many, MPI_Datatype of, MPI_Datatype *made) {
     if (many < 0) return count_error(many, "MPI_Type_contiguous");
     struct building b = { 0 };
     mpi_build(&b, type, 0, many);
-    *made = mpi_built(&b);
-    return MPI_SUCCESS;
+    return give(made, mpi_built(&b), MPI_COMBINER_CONTIGUOUS, 1, 0, 1);
 }
 
 static int vector(MPI_Count many, MPI_Count length, MPI_Aint stride, bool in_bytes, MPI_Datatype of, MPI_Datatype *made, const char *call) {
@@ -70,8 +80,7 @@ static int vector(MPI_Count many, MPI_Count length, MPI_Aint stride, bool in_byt
     struct building b = { 0 };
     MPI_Aint step = in_bytes ? stride : stride * type->extent;
     for (MPI_Count i = 0; i < many; i++) mpi_build(&b, type, (MPI_Aint)i * step, length);
-    *made = mpi_built(&b);
-    return MPI_SUCCESS;
+    return in_bytes ? give(made, mpi_built(&b), MPI_COMBINER_HVECTOR, 2, 1, 1) : give(made, mpi_built(&b), MPI_COMBINER_VECTOR, 3, 0, 1);
 }
 
 int mpi_Type_vector(MPI_Count many, MPI_Count length, MPI_Count stride, MPI_Datatype of, MPI_Datatype *made) {
@@ -84,7 +93,7 @@ int MPI_Type_create_hvector(int many, int length, MPI_Aint stride, MPI_Datatype 
 
 /* Blocks with places of their own: LENGTHS and PLACES for each, or one length for all; places in bytes or in extents. */
 struct blocks {
-    int many, length;
+    int combiner, many, length;
     const int *lengths, *places;
     const MPI_Aint *bytes;
 };
@@ -103,24 +112,24 @@ static int indexed(const struct blocks *blocks, MPI_Datatype of, MPI_Datatype *m
         MPI_Aint at = blocks->bytes != NULL ? blocks->bytes[i] : blocks->places[i] * type->extent;
         mpi_build(&b, type, at, blocks->lengths != NULL ? blocks->lengths[i] : blocks->length);
     }
-    *made = mpi_built(&b);
-    return MPI_SUCCESS;
+    int addresses = blocks->bytes != NULL ? blocks->many : 0, integers = 1 + (blocks->lengths != NULL ? blocks->many : 1) + (blocks->bytes != NULL ? 0 : blocks->many);
+    return give(made, mpi_built(&b), blocks->combiner, integers, addresses, 1);
 }
 
 int MPI_Type_indexed(int many, const int lengths[], const int places[], MPI_Datatype of, MPI_Datatype *made) {
-    return indexed(&(struct blocks){ many, 0, lengths, places, NULL }, of, made, "MPI_Type_indexed");
+    return indexed(&(struct blocks){ MPI_COMBINER_INDEXED, many, 0, lengths, places, NULL }, of, made, "MPI_Type_indexed");
 }
 
 int MPI_Type_create_hindexed(int many, const int lengths[], const MPI_Aint places[], MPI_Datatype of, MPI_Datatype *made) {
-    return indexed(&(struct blocks){ many, 0, lengths, NULL, places }, of, made, "MPI_Type_create_hindexed");
+    return indexed(&(struct blocks){ MPI_COMBINER_HINDEXED, many, 0, lengths, NULL, places }, of, made, "MPI_Type_create_hindexed");
 }
 
 int MPI_Type_create_indexed_block(int many, int length, const int places[], MPI_Datatype of, MPI_Datatype *made) {
-    return indexed(&(struct blocks){ many, length, NULL, places, NULL }, of, made, "MPI_Type_create_indexed_block");
+    return indexed(&(struct blocks){ MPI_COMBINER_INDEXED_BLOCK, many, length, NULL, places, NULL }, of, made, "MPI_Type_create_indexed_block");
 }
 
 int MPI_Type_create_hindexed_block(int many, int length, const MPI_Aint places[], MPI_Datatype of, MPI_Datatype *made) {
-    return indexed(&(struct blocks){ many, length, NULL, NULL, places }, of, made, "MPI_Type_create_hindexed_block");
+    return indexed(&(struct blocks){ MPI_COMBINER_HINDEXED_BLOCK, many, length, NULL, NULL, places }, of, made, "MPI_Type_create_hindexed_block");
 }
 
 int MPI_Type_create_struct(int many, const int lengths[], const MPI_Aint places[], const MPI_Datatype of[], MPI_Datatype *made) {
@@ -136,8 +145,7 @@ int MPI_Type_create_struct(int many, const int lengths[], const MPI_Aint places[
         MPI_Aint over = (b.high - b.low) % (MPI_Aint)b.alignment;
         if (over > 0) b.high += (MPI_Aint)b.alignment - over;
     }
-    *made = mpi_built(&b);
-    return MPI_SUCCESS;
+    return give(made, mpi_built(&b), MPI_COMBINER_STRUCT, many + 1, many, many);
 }
 
 /* A dimension of a subarray: so many of the type that the inner dimensions make, of so many in all. */
@@ -165,8 +173,7 @@ int MPI_Type_create_subarray(int dimensions, const int sizes[], const int parts[
         inner = outer;
     }
     if (inner == of) return MPI_Type_dup(of, made);
-    *made = inner;
-    return MPI_SUCCESS;
+    return give(made, inner, MPI_COMBINER_SUBARRAY, 3 * dimensions + 2, 0, 1);
 }
 
 static MPI_Datatype copied(const struct type *type, MPI_Aint low, MPI_Aint extent) {
@@ -178,15 +185,14 @@ static MPI_Datatype copied(const struct type *type, MPI_Aint low, MPI_Aint exten
 int MPI_Type_create_resized(MPI_Datatype of, MPI_Aint low, MPI_Aint extent, MPI_Datatype *made) {
     int code;
     struct type *type = known(of, "MPI_Type_create_resized", &code);
-    if (type != NULL) *made = copied(type, low, extent);
-    return code;
+    return type != NULL ? give(made, copied(type, low, extent), MPI_COMBINER_RESIZED, 0, 2, 1) : code;
 }
 
 int MPI_Type_dup(MPI_Datatype of, MPI_Datatype *made) {
     int code;
     struct type *type = known(of, "MPI_Type_dup", &code);
     if (type == NULL) return code;
-    *made = copied(type, type->low, type->extent);
+    give(made, copied(type, type->low, type->extent), MPI_COMBINER_DUP, 0, 0, 1);
     struct type *copy = mpi_type(*made);
     copy->committed = type->committed;
     if (type->name != NULL) copy->name = mpi_must(strdup(type->name));
@@ -266,6 +272,17 @@ int MPI_Type_get_name(MPI_Datatype of, char *name, int *length) {
     int code;
     struct type *type = known(of, "MPI_Type_get_name", &code);
     if (type != NULL) *length = snprintf(name, MPI_MAX_OBJECT_NAME, "%s", type->name != NULL ? type->name : "");
+    return code;
+}
+
+int MPI_Type_get_envelope(MPI_Datatype of, int *integers, int *addresses, int *parts, int *combiner) {
+    int code;
+    struct type *type = known(of, "MPI_Type_get_envelope", &code);
+    if (type == NULL) return code;
+    *integers = type->integers;
+    *addresses = type->addresses;
+    *parts = type->parts;
+    *combiner = type->combiner;
     return code;
 }
 

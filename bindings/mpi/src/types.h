@@ -40,6 +40,7 @@ struct type {
     struct signature signature;
     size_t many;
     struct run_of *runs;
+    int combiner, integers, addresses, parts; /* how it was made (MPI 4.1, 5.1.13): the call, and how many arguments it had */
     int uses;
 };
 

@@ -20,6 +20,7 @@ static atomic_bool looked_at;
 void mpi_begin_wait(const char *call, struct request **list, int many, bool any) {
     struct rank *me = mpi_me;
     me->wait = (struct wait){ call, me->site, list, many, any };
+    atomic_fetch_add_explicit(&me->waits_begun, 1, memory_order_relaxed);
     atomic_store(&me->waits, true);
 }
 
@@ -61,16 +62,30 @@ uint64_t mpi_lacking(const struct request *it) {
     return ranks;
 }
 
-static enum progress progress_of_collective(struct request *it) {
+/* What a thread that watches sees of a request, under the engine's lock. */
+struct sight_of_request {
+    const struct request *request;
+    enum progress progress;
+};
+
+static int32_t see(wz_shared *shared, wz_ask *ask) {
+    struct sight_of_request *sight = ask->out;
+    const struct request *it = sight->request;
     uint8_t phase = WZ_IS_DONE;
-    if (mpi_run.strict && mpi_lacking(it) != 0) return GOES_ON;
-    wz_shared *shared = &it->engine->shared;
-    wz_lock_(shared);
-    bool computes = shared->outside > 0;
-    int32_t code = it->held.generation == 0 ? WZ_STALE : wz_phase(&shared->engine, (uint8_t)it->member, &it->held, &phase);
-    wz_unlock_(shared);
-    if (code != WZ_DONE || phase != WZ_IS_PENDING) return IS_DONE; /* what isn't there any longer was completed */
-    return computes ? COMPUTES : GOES_ON;
+    if (it->held.generation != 0) wz_phase(&shared->engine, (uint8_t)it->member, &it->held, &phase);
+    sight->progress = phase != WZ_IS_PENDING ? IS_DONE : shared->outside > 0 || shared->unsettled ? COMPUTES : GOES_ON;
+    return WZ_DONE;
+}
+
+/* The watching thread plays no rank, so it is a guest of the engine. */
+static enum progress progress_of_collective(struct request *it) {
+    struct sight_of_request sight = { it, GOES_ON };
+    if (it->collected) return IS_DONE;
+    wz_ask ask = wz_ask_(WZ_ONCE, (uint8_t)it->engine->shared.ranks, see);
+    ask.out = &sight;
+    wz_asked_(&it->engine->shared, &ask);
+    if (sight.progress == IS_DONE && mpi_run.strict && mpi_lacking(it) != 0) return GOES_ON;
+    return sight.progress;
 }
 
 enum progress mpi_progress(struct request *it) {
@@ -80,7 +95,18 @@ enum progress mpi_progress(struct request *it) {
     return atomic_load(&it->arrived) ? IS_DONE : GOES_ON;
 }
 
-bool mpi_is_done(struct request *it) { return mpi_progress(it) == IS_DONE; }
+/* Takes over the outcome of a collective that is done in the engine: it lies in it->out then. */
+static bool collect(struct request *it) {
+    size_t count;
+    if (!it->collected) it->collected = wz_shared_test(&it->engine->shared, (uint8_t)it->member, &it->held, it->out, it->room, &count) == WZ_DONE;
+    return it->collected;
+}
+
+bool mpi_is_done(struct request *it) {
+    if (!it->active || it->sort != COLLECTIVE) return mpi_progress(it) == IS_DONE;
+    if (mpi_run.strict && mpi_lacking(it) != 0) return false;
+    return collect(it);
+}
 
 /* ---- sleeping */
 

@@ -91,7 +91,7 @@ static void tell_request(struct request *it, const char *call) {
     if (it->starts != NULL) snprintf(start, sizeof start, ", start %u at %s", it->times, it->started_at);
     const char *where = it->name == call ? "" : " at ";
     fprintf(stderr, "    for %s%s%s%s, place %llu of %s%s, which %s %s not %s\n", it->name, root, where, it->name == call ? "" : it->site, (unsigned long long)it->place,
-            mpi_comm_name(it->comm, name), start, mpi_ranks_text(lacks, ranks), mpi_count_ranks(lacks) == 1 ? "has" : "have", it->starts != NULL ? "started so often" : "called");
+            mpi_comm_name(it->comm, name), start, mpi_ranks_text(lacks, ranks), mpi_count_ranks(lacks) == 1 ? "has" : "have", it->starts != NULL ? "made" : "called");
 }
 
 /* Whom a rank waits for. */
@@ -155,15 +155,26 @@ static void tell_stall(const struct sight *sight, uint64_t lost) {
     mpi_end_run(STATUS_STALLED, "stalled");
 }
 
+/* The waits that lost ranks are in, as one number: it changes where one of them has gone on in between. */
+static uint64_t waits_of(uint64_t lost) {
+    uint64_t number = 0;
+    for (int i = 0; i < mpi_run.size; i++)
+        if (lost >> i & 1) number = number * 1000003 + atomic_load(&mpi_run.ranks[i].waits_begun);
+    return number;
+}
+
+/* One look sees the ranks one after the other, so one that it sees last may just have let go on one that it saw first. Where a second look sees the same ranks
+   lost in the same waits, nothing that any of them did before the first look's end has let another go on. */
 void mpi_watch(void) {
-    static uint64_t before;
+    static uint64_t lost_before, waits_before;
     static int looks;
     mpi_look(true);
     struct sight sight = look();
-    uint64_t lost = sight.waiting != 0 ? find_lost(&sight) : 0;
+    uint64_t lost = sight.waiting != 0 ? find_lost(&sight) : 0, waits = waits_of(lost);
     uint64_t all = mpi_run.size == 64 ? UINT64_MAX : (1ull << mpi_run.size) - 1;
-    looks = lost != 0 && lost == before ? looks + 1 : 0;
-    before = lost;
-    if (lost != 0 && ((lost | sight.gone) == all || looks >= PATIENCE)) tell_stall(&sight, lost);
+    looks = lost != 0 && lost == lost_before && waits == waits_before ? looks + 1 : 0;
+    lost_before = lost;
+    waits_before = waits;
+    if (looks > ((lost | sight.gone) == all ? 0 : PATIENCE)) tell_stall(&sight, lost);
     mpi_look(false);
 }

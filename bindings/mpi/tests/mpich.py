@@ -1,0 +1,149 @@
+#!/usr/bin/env python3
+"""Runs MPICH's own tests of the collectives over this library, unmodified, and prints a table:
+
+    tests/mpich.py FOLDER [--bin BIN] [--only NAME ..] [--strict] [--jobs N] [--keep FOLDER] [--text] [--under WORDS]
+
+FOLDER is test/mpi of MPICH's sources (Debian has them: apt-get source mpich). The tests and their numbers of ranks are those of its
+coll/testlist.in; a test passes if it ends with status 0 and says "No Errors". BIN has wzcc and wzrun. --text compares what the requests got
+with what `colljob plain`, which COLLJOB or PATH names, says of the calls. --under runs wzrun under these words, as "valgrind -q".
+Ends with 0 where all pass.
+"""
+
+import argparse
+import concurrent.futures
+import os
+import pathlib
+import shlex
+import subprocess
+import sys
+import tempfile
+import time
+
+HERE = pathlib.Path(__file__).resolve().parent
+# What MPICH's configure finds on such a machine.
+FOUND = ["STDARG_H", "STRING_H", "STDLIB_H", "UNISTD_H", "SYS_TIME_H", "SYS_RESOURCE_H", "GETRUSAGE", "LONG_DOUBLE", "LONG_LONG", "STDINT_H", "INTTYPES_H", "STDBOOL_H",
+         "COMPLEX_H", "FLOAT__COMPLEX", "DOUBLE__COMPLEX", "LONG_DOUBLE__COMPLEX", "INT8_T", "INT16_T", "INT32_T", "INT64_T", "UINT8_T", "UINT16_T", "UINT32_T", "UINT64_T", "_BOOL"]
+LONGEST = 180
+
+
+def rows(folder):
+    """Name, ranks and arguments of each test of the list that has a source."""
+    for line in (folder / "coll/testlist.in").read_text().splitlines():
+        words = line.split()
+        if not words or words[0].startswith("#"):
+            continue
+        name = words[0].split("@")[-1]
+        arguments = [it.split("=", 1)[1] for it in words[2:] if it.startswith("arg=")]
+        yield name, int(words[1]), arguments
+
+
+def source_of(folder, name):
+    """A test's source, and whether it is compiled for the nonblocking calls."""
+    plain = folder / f"coll/{name}.c"
+    other = folder / f"coll/{name[2:]}.c"
+    if plain.exists():
+        return plain, False
+    return (other, True) if name.startswith("nb") and other.exists() else (None, False)
+
+
+class Programs:
+    """The compiled tests."""
+
+    def __init__(self, folder, wzcc, out):
+        self.folder, self.wzcc, self.out, self.made = folder, wzcc, out, {}
+        threads = "#define THREAD_PACKAGE_NAME THREAD_PACKAGE_POSIX\n"
+        (out / "mpitestconf.h").write_text(threads + "".join(f"#define HAVE_{it} 1\n" for it in FOUND))
+        self.util = []
+
+    def words(self, source, nonblocking):
+        include = [self.out, self.folder / "include", self.folder / "util", self.folder / "dtpools/include", self.folder / "coll"]
+        return [self.wzcc, "-O1", "-w", *(["-DUSE_MTEST_NBC"] if nonblocking else []), *(f"-I{it}" for it in include), source, *self.util]
+
+    def compile_util(self):
+        """What all tests share, once. Only mtest_thread.c asks for more than this library has."""
+        for name in ("mtest", "mtest_common"):
+            made = self.out / f"{name}.o"
+            subprocess.run([*map(str, [it for it in self.words(self.folder / f"util/{name}.c", False) if it not in self.util]), "-c", "-o", str(made)], check=True)
+            self.util.append(made)
+
+    def program(self, name):
+        """The program, or what the compiler says."""
+        if name not in self.made:
+            source, nonblocking = source_of(self.folder, name)
+            made = subprocess.run([*map(str, self.words(source, nonblocking)), "-o", str(self.out / name)], capture_output=True, text=True)
+            lacks = sorted({it.split("`")[1].split("'")[0] for it in made.stderr.splitlines() if "undefined reference to" in it})
+            said = "lacks " + ", ".join(lacks) if lacks else made.stderr.strip().splitlines()[:1]
+            self.made[name] = (self.out / name, None) if made.returncode == 0 else (None, str(said))
+        return self.made[name]
+
+
+def same_values(text, values):
+    """Whether what requests got is what colljob says of the calls; None where it can't say."""
+    colljob = os.environ.get("COLLJOB", "colljob")
+    plain = subprocess.run([colljob, "plain", str(text)], capture_output=True)
+    if plain.returncode != 0:
+        return None
+    return plain.stdout == values.read_bytes()
+
+
+def run(program, ranks, arguments, options, folder):
+    """What came of a test: a word, and the last line that it said where it didn't pass."""
+    words = [*shlex.split(options.under), str(options.bin / "wzrun"), "-n", str(ranks), *(["--strict"] if options.strict else [])]
+    text, values = folder / f"{program.name}.{ranks}.job", folder / f"{program.name}.{ranks}.values"
+    if options.text:
+        words += ["--text", str(text), "--values", str(values)]
+    try:
+        done = subprocess.run([*words, str(program), *arguments], capture_output=True, text=True, timeout=options.longest, errors="replace")
+    except subprocess.TimeoutExpired:
+        return "hangs", ""
+    said = (done.stderr + done.stdout).strip().splitlines()
+    if done.returncode != 0 or "No Errors" not in done.stdout:
+        return f"status {done.returncode}", " | ".join(said[:3])
+    if options.text:
+        same = same_values(text, values)
+        return "passes", {None: "no text", True: "values equal", False: "VALUES DIFFER"}[same]
+    return "passes", ""
+
+
+def main():
+    parser = argparse.ArgumentParser(description=__doc__, formatter_class=argparse.RawDescriptionHelpFormatter)
+    parser.add_argument("folder", type=pathlib.Path)
+    parser.add_argument("--bin", type=pathlib.Path, default=HERE.parent / "out/bin")
+    parser.add_argument("--only", nargs="*")
+    parser.add_argument("--strict", action="store_true")
+    parser.add_argument("--text", action="store_true")
+    parser.add_argument("--jobs", type=int, default=1)
+    parser.add_argument("--longest", type=int, default=LONGEST)
+    parser.add_argument("--under", default="")
+    parser.add_argument("--keep", type=pathlib.Path)
+    options = parser.parse_args()
+    with tempfile.TemporaryDirectory() as made:
+        out = options.keep or pathlib.Path(made)
+        out.mkdir(parents=True, exist_ok=True)
+        programs = Programs(options.folder, str(options.bin / "wzcc"), out)
+        wanted = [it for it in rows(options.folder) if not options.only or it[0] in options.only]
+        lacks = [it for it in wanted if source_of(options.folder, it[0])[0] is None]
+        wanted = [it for it in wanted if it not in lacks]
+        programs.compile_util()
+        with concurrent.futures.ThreadPoolExecutor(options.jobs) as pool:
+            list(pool.map(programs.program, dict.fromkeys(it[0] for it in wanted)))
+
+        def judged(row):
+            name, ranks, arguments = row
+            program, said = programs.program(name)
+            begun = time.monotonic()
+            word, why = ("isn't built", said) if program is None else run(program, ranks, arguments, options, out)
+            return name, ranks, arguments, word, why, time.monotonic() - begun
+
+        passed, all_rows = 0, 0
+        with concurrent.futures.ThreadPoolExecutor(options.jobs) as pool:
+            for name, ranks, arguments, word, why, seconds in pool.map(judged, wanted):
+                all_rows += 1
+                passed += word == "passes"
+                print(f"| {' '.join([name, *arguments])} | {ranks} | {word} | {why.replace('|', '/')} | {seconds:.1f} s |", flush=True)
+        print(f"{passed} of {all_rows} rows with a source pass; {len(lacks)} have none: {' '.join(sorted({it[0] for it in lacks}))}")
+    return 0 if passed == all_rows else 1
+
+
+if __name__ == "__main__":
+    sys.exit(main())
