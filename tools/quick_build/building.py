@@ -16,11 +16,11 @@ TICK = 0.25
 class Progress:
     """Tells how far a build is: on a terminal in one line that shows the seconds, elsewhere by one line at the beginning."""
 
-    def __init__(self, name, what, stream=sys.stderr):
+    def __init__(self, name, what, more="", stream=sys.stderr):
         self.name, self.what, self.stream, self.begun = name, what, stream, time.monotonic()
         self.step, self.is_watched, self.shown = "", stream.isatty(), 0
         if not self.is_watched:
-            self.write(f"{name}: {what}\n")
+            self.write(f"{name}: {what}{more}\n")
 
     def write(self, text):
         with contextlib.suppress(OSError, ValueError):
@@ -34,7 +34,7 @@ class Progress:
 
     def show(self):
         if self.is_watched:
-            line = f"{self.name}: {int(time.monotonic() - self.begun)} s: {self.step} ({self.what})"
+            line = f"{self.name}: {self.what}: {int(time.monotonic() - self.begun)} s, {self.step}"
             width = shutil.get_terminal_size().columns - 1
             self.write("\r" + line[:width].ljust(self.shown))
             self.shown = min(len(line), width)

@@ -62,17 +62,17 @@ def make_root(scratch):
 def make(kit, scratch, uses, crates, made, progress):
     """Makes an archive of one object."""
     names = make_root(scratch)
-    progress.enter("the kit's front end reads the sources")
+    progress.enter("reading the sources")
     libraries = front_end.libraries(kit, uses, [name for name in crates if name != CRATE], uses[CRATE])
     caught = front_end.lower(kit, scratch, CRATE, f"crates/{CRATE}/src/main.rt", libraries, progress.wait)
-    progress.enter("its clang compiles")
+    progress.enter("compiling")
     module = modules.Module(OF_CRATE.sub(r"\1", compiling.text_of(kit, scratch, caught, progress)))
     missing = [name for name in names if name not in module.functions]
     if missing:
         raise OtherKit(f"its front end lowered no function {missing[0]}")
     module.export(names)
     objects = compiling.objects_of(kit, scratch, module, "-fPIC", progress)
-    progress.enter("its linker links")
+    progress.enter("linking")
     join(kit, scratch, objects, made, progress)
 
 

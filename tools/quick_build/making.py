@@ -16,7 +16,7 @@ from kept import MOST, TOOLS, Kept
 def build(wanted, kit, progress):
     """Builds what is wanted where nobody else does, and gives its path."""
     lock = os.path.join(wanted.folder, f"{wanted.kind}.lock")
-    with building.locked(lock, lambda: progress.enter("another call builds it")):
+    with building.locked(lock, lambda: progress.enter("waiting for another call that builds it")):
         found = wanted.ready(kit)
         if found:
             return found
@@ -52,12 +52,12 @@ def make(wanted, kit, scratch, made, progress):
 
 def make_program(kit, scratch, name, uses, made, progress):
     """Makes a program of the sources in a scratch folder. `uses` has what it and the crates below it stand on."""
-    progress.enter("the kit's front end reads the sources")
+    progress.enter("reading the sources")
     libraries = front_end.libraries(kit, uses, [it for it in uses if it != name], uses[name])
     caught = front_end.lower(kit, scratch, name, f"crates/{name}/src/main.rt", libraries, progress.wait)
-    progress.enter("its clang compiles")
+    progress.enter("compiling")
     module = modules.Module(compiling.text_of(kit, scratch, caught, progress))
     objects = compiling.objects_of(kit, scratch, module, "-fPIE", progress)
-    progress.enter("its linker links")
+    progress.enter("linking")
     compiling.link(kit, scratch, objects, made, progress)
     os.chmod(made, 0o755)

@@ -12,8 +12,8 @@ import front_end
 import kit as kits
 import making
 
-# How long the first build of each program takes on four processors, as it is told.
-TAKES = {"first": "under a minute", "whole": "about two minutes"}
+# What is built, and how long that takes on four processors, as it is told.
+BUILT = {"first": "the part for run and plain, in about a minute", "whole": "the whole program, in about two minutes"}
 
 # The options of the tasks that name files which are written where all goes well, in the order in which the program writes them.
 WRITTEN = ["trace", "stats", "timeline", "picture", "out"]
@@ -42,7 +42,8 @@ def built(wanted, kit, missing, words):
     """A program, which is built now. Where this kit can't, `rt try` answers the words."""
     if isinstance(missing, kits.NoKit):
         answering.fail(str(missing))
-    progress = building.Progress("colljob", f"builds this program without proof, once, in {TAKES[wanted.kind]}; './colljob prove' proves it")
+    more = f", {BUILT[wanted.kind]}; './colljob prove' proves the program"
+    progress = building.Progress("colljob", "builds once, without proof", more)
     try:
         if missing:
             raise missing
