@@ -21,6 +21,8 @@ static="$lib/libworzsunab.a -pthread"
 shared="-L$lib -lworzsunab -pthread -Wl,-rpath,$lib"
 # No check takes more than a minute on an idle machine; one that takes a quarter of an hour hangs.
 limit="timeout 900"
+# The library publishes a combination that members share by an atomic of its own, which the sanitizer doesn't see.
+export TSAN_OPTIONS="suppressions=$here/c/tsan.suppressions"
 passed=0
 failed=0
 
@@ -57,7 +59,9 @@ runs_threads_checked() {
 runs_of() {
     case $1 in
         threads) for ranks in 1 2 4 7; do echo "$ranks 200 quiet"; done ;;
-        waits) for ranks in 2 4 8; do echo "$ranks"; done ;;
+        waits | calls) for ranks in 2 4 8; do echo "$ranks"; done ;;
+        bounded) for ranks in 3 8; do echo "$ranks"; done ;;
+        mixed) printf '%s\n' "2 200 1" "4 200 2" "8 100 3" ;;
         *) echo ;;
     esac
 }
@@ -103,9 +107,10 @@ check_tables() {
 
 check_c() {
     has "$cc" || { skip "C" "there is no $cc"; return; }
-    runs_threads_checked "$cc" && checks_threads=yes || checks_threads=
+    checks_threads=
+    ! runs_threads_checked "$cc" || checks_threads=yes
     [ "$checks_threads" ] || skip "C under ThreadSanitizer" "programs of $cc don't run under it here"
-    for client in sum threads refusals cases waits; do
+    for client in sum threads refusals cases waits explained calls mixed; do
         [ -e "$here/c/$client.c" ] || continue
         # shellcheck disable=SC2086
         try_client $client static $c "$here/c/$client.c" $static
@@ -116,9 +121,41 @@ check_c() {
     done
     # shellcheck disable=SC2086
     try_client memory static $c "$here/c/memory.c" $static -Wl,--wrap=malloc -Wl,--wrap=realloc
+    counted="-Wl,--wrap=wz_run_work -Wl,--wrap=wz_step -Wl,--wrap=wz_settle"
+    # shellcheck disable=SC2086
+    try_client bounded static $c "$here/c/bounded.c" $static $counted
+    # shellcheck disable=SC2086
+    [ ! "$checks_threads" ] || try_client bounded tsan $c -fsanitize=thread "$here/c/bounded.c" $static $counted
+    check_one_refusal
+    check_helgrind
     check_headers c c11 "$cc" gcc clang
     check_tables
-    check_leaks refusals cases memory sum "threads 4 20 quiet"
+    check_leaks refusals cases memory sum explained "waits 3 5" "calls 3 2" "threads 4 20 quiet"
+}
+
+# Where one rank's post is refused, the program ends, and the three others are told.
+check_one_refusal() {
+    # shellcheck disable=SC2086
+    check "build sum with one refusal" $c "$here/c/sum.c" "$here/c/one_refusal.c" -Wl,--wrap=wz_post $static -o "$work/one_refusal"
+    [ -x "$work/one_refusal" ] || return
+    check "sum with one refusal ends, and all are told" sh -c \
+        "timeout 600 $work/one_refusal 2>&1 | sort | cut -c1-40 > $work/told; grep -c 'no wait can end' $work/told | grep -qx 3 && grep -q 'rank 2: there is no communicator 9' $work/told"
+}
+
+# Programs of 2 to 8 ranks under Helgrind, which the shim tells of its words.
+check_helgrind() {
+    has valgrind || { skip "C under Helgrind" "there is no valgrind"; return; }
+    echo '#include <valgrind/helgrind.h>' | $cc -x c -fsyntax-only - 2> /dev/null || { skip "C under Helgrind" "there is no valgrind/helgrind.h"; return; }
+    for words in sum explained "waits 2 5" "waits 4 2" "calls 3 2" "calls 8 1" "mixed 2 20 1" "mixed 3 10 2" "threads 2 10 quiet" "threads 4 5 quiet" "bounded 2 1"; do
+        client=${words%% *}
+        arguments=${words#"$client"}
+        wrapped=
+        [ "$client" != bounded ] || wrapped="$counted"
+        # shellcheck disable=SC2086
+        [ -x "$work/$client.helgrind" ] || check "build $client, helgrind" $c -DWZ_HELGRIND "$here/c/$client.c" $static $wrapped -o "$work/$client.helgrind"
+        # shellcheck disable=SC2086
+        check "$words, helgrind" valgrind --tool=helgrind -q --error-exitcode=9 --fair-sched=yes "$work/$client.helgrind" $arguments
+    done
 }
 
 # Clients under valgrind, each with its words.
@@ -187,7 +224,8 @@ check_rust_threads() {
     else
         skip "Rust under ThreadSanitizer" "programs of this rustc don't run under it here"
     fi
-    unset RUSTC_BOOTSTRAP TSAN_OPTIONS RUSTFLAGS
+    unset RUSTC_BOOTSTRAP RUSTFLAGS
+    export TSAN_OPTIONS="suppressions=$here/c/tsan.suppressions"
 }
 
 for part in "${@:-all}"; do
