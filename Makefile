@@ -23,7 +23,7 @@ program:
 	@tools/quick program out/colljob > /dev/null
 
 library:
-	@if command -v $(CC) > /dev/null; then $(MAKE) --no-print-directory -C bindings all; \
+	@if command -v $(firstword $(CC)) > /dev/null; then $(MAKE) --no-print-directory -C bindings all; \
 	else echo "make: there is no $(CC), so the C library isn't built"; fi
 
 prove:
@@ -42,10 +42,10 @@ recorder:
 	@if [ ! -e mpi/out/librecord.so ] && command -v mpicc > /dev/null; then $(MAKE) --no-print-directory -C mpi; fi
 
 install: all recorder install-program
-	@if command -v $(CC) > /dev/null; then $(MAKE) --no-print-directory -C bindings install; fi
+	@if command -v $(firstword $(CC)) > /dev/null; then $(MAKE) --no-print-directory -C bindings install; fi
 	@if [ -e mpi/out/librecord.so ]; then $(MAKE) --no-print-directory install-recorder; \
 	else echo "make: there is no mpicc, so the recorder isn't installed"; fi
-	@if [ "$(MPI_CALLS)" ] && command -v $(CC) > /dev/null; then $(MAKE) --no-print-directory -C bindings/mpi install; fi
+	@if [ "$(MPI_CALLS)" ] && command -v $(firstword $(CC)) > /dev/null; then $(MAKE) --no-print-directory -C bindings/mpi install; fi
 
 install-program: program
 	mkdir -p $(BIN) $(SHARE)/man/man1 $(SHARE)/bash-completion/completions $(SHARE)/zsh/site-functions

@@ -88,7 +88,7 @@ check_headers() {
     for compiler in "$@"; do
         for file in "$here"/../include/*.h; do
             name=$(basename "$file")
-            ! has "$compiler" || check "$name by itself, $standard, $compiler" sh -c \
+            ! has "${compiler%% *}" || check "$name by itself, $standard, $compiler" sh -c \
                 "echo '#include \"$name\"' | $compiler -std=$standard $warnings $header -x $language -fsyntax-only -"
         done
     done
@@ -106,7 +106,7 @@ check_tables() {
 }
 
 check_c() {
-    has "$cc" || { skip "C" "there is no $cc"; return; }
+    has "${cc%% *}" || { skip "C" "there is no $cc"; return; }
     checks_threads=
     ! runs_threads_checked "$cc" || checks_threads=yes
     [ "$checks_threads" ] || skip "C under ThreadSanitizer" "programs of $cc don't run under it here"
@@ -171,7 +171,7 @@ check_leaks() {
 }
 
 check_cpp() {
-    has "$cxx" || { skip "C++" "there is no $cxx"; return; }
+    has "${cxx%% *}" || { skip "C++" "there is no $cxx"; return; }
     # shellcheck disable=SC2086
     try_client cpp static $cplus "$here/cpp/sum.cpp" $static
     if runs_threads_checked "${CC:-cc}"; then
