@@ -143,9 +143,16 @@ static inline void wz_judge_(wz_shared *shared) {
 
 /* ---- under the lock: serving and progress */
 
+/* Before something is begun: once no request has bytes any longer, no row is long. */
+static inline void wz_forget_long_(wz_shared *shared) {
+    uint64_t lent = 0;
+    if (shared->has_long && shared->outside == 0 && wz_lent(&shared->engine, &lent) == WZ_DONE && lent == 0) shared->has_long = false;
+}
+
 /* Carries out what a rank asks for. */
 static inline void wz_carry_out_(wz_shared *shared, wz_record *record) {
     wz_ask *ask = &record->ask;
+    if (ask->kind == WZ_BEGINS) wz_forget_long_(shared);
     int32_t code = ask->does(shared, ask);
     if (code == WZ_PENDING && ask->kind == WZ_TESTS && shared->unsettled) {
         wz_write_(&record->stage, WZ_TESTED);

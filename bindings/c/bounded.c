@@ -11,6 +11,7 @@ enum { LONG = 65536, OVERLAPPING = 4, MOST = 8 };
 
 static wz_shared shared;
 static int ranks = 8, rounds = 6;
+static pthread_barrier_t together;
 
 /* What this thread's call has made. */
 static __thread uint32_t combinations, steps;
@@ -120,6 +121,17 @@ static void polled(uint8_t me) {
     for (int at = 0; at < LONG; at++) HOLDS(rows[me][at] == ranks * at);
 }
 
+/* Once no long row is under way, short ones are combined under the lock again. */
+static void short_again(uint8_t me) {
+    int32_t one = 1, sum = 0;
+    wz_request request;
+    pthread_barrier_wait(&together);
+    combinations = 0;
+    DONE(wz_iallreduce(&shared, me, 0, &one, &sum, 1, WZ_INT32, WZ_SUM, &request));
+    DONE(wz_wait(&shared, me, &request));
+    HOLDS(sum == ranks && combinations == 0);
+}
+
 static void *rank(void *number) {
     uint8_t me = (uint8_t)(size_t)number;
     for (int round = 0; round < rounds; round++) {
@@ -127,6 +139,7 @@ static void *rank(void *number) {
         else long_sums(me);
     }
     polled(me);
+    short_again(me);
     wz_shared_leave(&shared, me);
     return NULL;
 }
@@ -146,8 +159,10 @@ int main(int argc, char **argv) {
     sizes[2] = 1;
     wz_limits limits = wz_greatest_limits((uint32_t)ranks);
     DONE(wz_shared_open(&shared, &limits, sizes, 3, members, 2 * (size_t)ranks));
+    pthread_barrier_init(&together, NULL, (unsigned)ranks);
     for (size_t i = 0; i < (size_t)ranks; i++) pthread_create(&threads[i], NULL, rank, (void *)i);
     for (int i = 0; i < ranks; i++) pthread_join(threads[i], NULL);
+    pthread_barrier_destroy(&together);
     DONE(wz_shared_close(&shared));
     if (argc > 3) printf("longest post %.0f us, longest test %.0f us\n", longest_post, longest_test);
     puts("bounded: all as it should be");
