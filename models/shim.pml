@@ -321,7 +321,11 @@ Next: true;
 Looks:
     if
     :: IS_OVER(me) -> goto Answered
-    :: atomic { !IS_OVER(me) && NEEDS_LOCK(me) && !held -> held = 1 }; goto Leads
+    :: !IS_OVER(me) && NEEDS_LOCK(me) && !held ->      /* by the time it has the lock, it may have been served */
+        if
+        :: atomic { !held -> held = 1 }; goto Leads
+        :: held -> goto Looks
+        fi
     :: !IS_OVER(me) && !(NEEDS_LOCK(me) && !held)      /* it has looked often enough */
     fi;
 

@@ -126,8 +126,10 @@ static void short_again(uint8_t me) {
     int32_t one = 1, sum = 0;
     wz_request request;
     pthread_barrier_wait(&together);
-    combinations = 0;
+    combinations = steps = 0;
+    unbounded = false;
     DONE(wz_iallreduce(&shared, me, 0, &one, &sum, 1, WZ_INT32, WZ_SUM, &request));
+    HOLDS(combinations == 0 && steps <= WZ_STEPS && !unbounded);
     DONE(wz_wait(&shared, me, &request));
     HOLDS(sum == ranks && combinations == 0);
 }
