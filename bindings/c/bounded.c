@@ -121,6 +121,20 @@ static void polled(uint8_t me) {
     for (int at = 0; at < LONG; at++) HOLDS(rows[me][at] == ranks * at);
 }
 
+/* What rank 0's post leaves is made by the others, who wait, also where they sleep: rank 0 makes no call until they have their sums. */
+static void left_to_others(uint8_t me) {
+    static int32_t rows[MOST][LONG];
+    const struct timespec nap = { 0, 20000000 };
+    wz_request request;
+    for (int at = 0; at < LONG; at++) rows[me][at] = at;
+    if (me == 0) nanosleep(&nap, NULL);
+    DONE(wz_iallreduce(&shared, me, 0, rows[me], rows[me], LONG, WZ_INT32, WZ_SUM, &request));
+    if (me != 0) DONE(wz_wait(&shared, me, &request));
+    pthread_barrier_wait(&together);
+    DONE(wz_wait(&shared, me, &request)); /* of the others, a null request */
+    for (int at = 0; at < LONG; at++) HOLDS(rows[me][at] == ranks * at);
+}
+
 /* Once no long row is under way, short ones are combined under the lock again. */
 static void short_again(uint8_t me) {
     int32_t one = 1, sum = 0;
@@ -141,6 +155,7 @@ static void *rank(void *number) {
         else long_sums(me);
     }
     polled(me);
+    left_to_others(me);
     short_again(me);
     wz_shared_leave(&shared, me);
     return NULL;
