@@ -22,8 +22,8 @@ bool find_next(void *function, const char *name);
 #define UNWRAP(...) __VA_ARGS__
 
 /* An entry for the program, which records by `recorded_NAME`, and within another call passes on. */
-#define ENTRY(ENTERED, NAME, result_type, parameters, arguments, is_program)                                                                \
-    result_type ENTERED parameters {                                                                                                        \
+#define ENTRY(ENTERED, NAME, parameters, arguments, is_program)                                                                             \
+    int ENTERED parameters {                                                                                                                \
         if (!next_##NAME)                                                                                                                   \
             find_next(&next_##NAME, "P" #NAME);                                                                                             \
         if (inside || !(is_program))                                                                                                        \
@@ -32,18 +32,20 @@ bool find_next(void *function, const char *name);
         caller = __builtin_return_address(0);                                                                                               \
         here = place_of(caller);                                                                                                            \
         now_enter(#NAME, here);                                                                                                             \
-        result_type result = recorded_##NAME arguments;                                                                                     \
+        int result = recorded_##NAME arguments;                                                                                             \
         now_leave();                                                                                                                        \
         inside = false;                                                                                                                     \
         return result;                                                                                                                      \
     }
 
-/* A Fortran interface calls names that begin with P. Others who call these want no recording. */
+/* A Fortran interface calls names that begin with P, for the program. Others who call these want no recording. */
+bool is_through_fortran(void *address);
+
 #define INTERPOSED(NAME, parameters, arguments)                                                                                             \
     static int(*next_##NAME) parameters;                                                                                                    \
     static int recorded_##NAME parameters;                                                                                                  \
-    ENTRY(NAME, NAME, int, parameters, arguments, true)                                                                                     \
-    ENTRY(P##NAME, NAME, int, parameters, arguments, place_is_fortran(__builtin_return_address(0)))                                         \
+    ENTRY(NAME, NAME, parameters, arguments, true)                                                                                          \
+    ENTRY(P##NAME, NAME, parameters, arguments, is_through_fortran(__builtin_return_address(0)))                                            \
     static int recorded_##NAME parameters
 
 /* A call that is told as the one under way, and not recorded otherwise. */

@@ -102,14 +102,14 @@ def blocks_given(signature, member, size):
 
 
 class Job:
-    """The text of all records. LACKING adds to each rank what it never reached, as it must be if the ranks agree."""
+    """The text of all records, or of one context alone. What a rank without an end never reached is added, as it must be if the ranks agree."""
 
-    def __init__(self, records, contexts, places, judge):
+    def __init__(self, records, contexts, places, judge, only=None):
         self.records, self.contexts, self.places, self.judge = records, contexts, places, judge
         self.size = next(iter(records.values())).size
         self.notes, self.signatures, self.starts = [], {}, None
         self.differ = {fault.key: fault.index for fault in judge.faults()}
-        self.choose_communicators()
+        self.choose_communicators(only)
         self.added = self.never_reached()
         self.known_kinds = None
         self.used = {count for signature, _ in self.kinds() for count in signature.counts}
@@ -121,9 +121,13 @@ class Job:
                 if command.call and command.key in self.number:
                     yield rank, command
 
-    def choose_communicators(self):
+    def choose_communicators(self, only):
         """The contexts that are used have numbers, in the order of their first use; those past the sixteenth have none."""
         self.number, unnumbered = {"world": 0}, collections.Counter()
+        if only:
+            # The first number is that of all ranks, who may make no call of the text.
+            self.number = {only: 0} if only == "world" else {None: 0, only: 1}
+            return
         for record in self.records.values():
             for command in record.commands:
                 if not command.call or command.key in self.number:
@@ -141,7 +145,7 @@ class Job:
     def never_reached(self):
         """Of each rank without an end, the calls that others have made and it hasn't: the place and another's command."""
         added = collections.defaultdict(list)
-        for key in self.number:
+        for key in filter(None, self.number):
             members = [rank for rank in self.contexts.members(key) if rank in self.records]
             longest = max((self.records[rank].calls.get(key, []) for rank in members), key=len, default=[])
             for rank in members:
@@ -254,7 +258,7 @@ class Job:
         lines = [f"rank {rank}"]
         for command in record.commands:
             own = self.lines(rank, command, window, starts)
-            if not own and not command.remarks:
+            if not own and (command.word or not command.remarks):
                 continue
             lines.append(f"# {self.places.name(record, command.place) or 'place unknown'}")
             lines += command.remarks + own

@@ -19,76 +19,117 @@ static void await_message(enum awaited_kind kind, MPI_Comm comm, int peer, int t
 }
 
 /* How many messages alike a persistent request has called is known only at its starts. */
-static void follow_message(MPI_Request handle, struct awaited awaited, bool persistent) {
+static void follow_message(MPI_Request handle, enum awaited_kind kind, MPI_Comm comm, int peer, int tag, bool persistent) {
     log_lock();
+    struct awaited awaited = message(kind, comm, peer, tag);
     if (!persistent)
         awaited.index = now_count(awaited);
     request_made(handle, NO_REQUEST, persistent, awaited);
     log_unlock();
 }
 
-#define SENDING(NAME)                                                                                                                       \
-    INTERPOSED(MPI_##NAME, (const void *buffer, int count, MPI_Datatype type, int peer, int tag, MPI_Comm comm),                            \
+#define SENDING(NAME, count_type)                                                                                                           \
+    INTERPOSED(MPI_##NAME, (const void *buffer, count_type count, MPI_Datatype type, int peer, int tag, MPI_Comm comm),                     \
                (buffer, count, type, peer, tag, comm)) {                                                                                    \
         await_message(AWAITED_SEND, comm, peer, tag);                                                                                       \
         return next_MPI_##NAME(buffer, count, type, peer, tag, comm);                                                                       \
     }
 
-#define SEND_REQUEST(NAME, persistent)                                                                                                      \
-    INTERPOSED(MPI_##NAME, (const void *buffer, int count, MPI_Datatype type, int peer, int tag, MPI_Comm comm, MPI_Request *request),      \
+#define SEND_REQUEST(NAME, count_type, persistent)                                                                                          \
+    INTERPOSED(MPI_##NAME,                                                                                                                  \
+               (const void *buffer, count_type count, MPI_Datatype type, int peer, int tag, MPI_Comm comm, MPI_Request *request),           \
                (buffer, count, type, peer, tag, comm, request)) {                                                                           \
         int result = next_MPI_##NAME(buffer, count, type, peer, tag, comm, request);                                                        \
         if (result == MPI_SUCCESS)                                                                                                          \
-            follow_message(*request, message(AWAITED_SEND, comm, peer, tag), persistent);                                                   \
+            follow_message(*request, AWAITED_SEND, comm, peer, tag, persistent);                                                            \
         return result;                                                                                                                      \
     }
 
-#define RECEIVE_REQUEST(NAME, persistent)                                                                                                   \
-    INTERPOSED(MPI_##NAME, (void *buffer, int count, MPI_Datatype type, int peer, int tag, MPI_Comm comm, MPI_Request *request),            \
+#define RECEIVE_REQUEST(NAME, count_type, persistent)                                                                                       \
+    INTERPOSED(MPI_##NAME, (void *buffer, count_type count, MPI_Datatype type, int peer, int tag, MPI_Comm comm, MPI_Request *request),     \
                (buffer, count, type, peer, tag, comm, request)) {                                                                           \
         int result = next_MPI_##NAME(buffer, count, type, peer, tag, comm, request);                                                        \
         if (result == MPI_SUCCESS)                                                                                                          \
-            follow_message(*request, message(AWAITED_RECEIVE, comm, peer, tag), persistent);                                                \
+            follow_message(*request, AWAITED_RECEIVE, comm, peer, tag, persistent);                                                         \
         return result;                                                                                                                      \
     }
 
-SENDING(Send)
-SENDING(Bsend)
-SENDING(Ssend)
-SENDING(Rsend)
-SEND_REQUEST(Isend, false)
-SEND_REQUEST(Ibsend, false)
-SEND_REQUEST(Issend, false)
-SEND_REQUEST(Irsend, false)
-SEND_REQUEST(Send_init, true)
-SEND_REQUEST(Bsend_init, true)
-SEND_REQUEST(Ssend_init, true)
-SEND_REQUEST(Rsend_init, true)
-RECEIVE_REQUEST(Irecv, false)
-RECEIVE_REQUEST(Recv_init, true)
+#define RECEIVING(NAME, count_type)                                                                                                         \
+    INTERPOSED(MPI_##NAME, (void *buffer, count_type count, MPI_Datatype type, int peer, int tag, MPI_Comm comm, MPI_Status *status),       \
+               (buffer, count, type, peer, tag, comm, status)) {                                                                            \
+        await_message(AWAITED_RECEIVE, comm, peer, tag);                                                                                    \
+        return next_MPI_##NAME(buffer, count, type, peer, tag, comm, status);                                                               \
+    }
 
-INTERPOSED(MPI_Recv, (void *buffer, int count, MPI_Datatype type, int peer, int tag, MPI_Comm comm, MPI_Status *status),
-           (buffer, count, type, peer, tag, comm, status)) {
-    await_message(AWAITED_RECEIVE, comm, peer, tag);
-    return next_MPI_Recv(buffer, count, type, peer, tag, comm, status);
-}
+#define EXCHANGING(NAME, count_type)                                                                                                        \
+    INTERPOSED(MPI_##NAME,                                                                                                                  \
+               (const void *sent, count_type sent_count, MPI_Datatype sent_type, int to, int sent_tag, void *got, count_type got_count,     \
+                MPI_Datatype got_type, int from, int got_tag, MPI_Comm comm, MPI_Status *status),                                           \
+               (sent, sent_count, sent_type, to, sent_tag, got, got_count, got_type, from, got_tag, comm, status)) {                        \
+        await_message(AWAITED_SEND, comm, to, sent_tag);                                                                                    \
+        await_message(AWAITED_RECEIVE, comm, from, got_tag);                                                                                \
+        return next_MPI_##NAME(sent, sent_count, sent_type, to, sent_tag, got, got_count, got_type, from, got_tag, comm, status);           \
+    }
 
-INTERPOSED(MPI_Sendrecv,
-           (const void *sent, int sent_count, MPI_Datatype sent_type, int to, int sent_tag, void *got, int got_count, MPI_Datatype got_type,
-            int from, int got_tag, MPI_Comm comm, MPI_Status *status),
-           (sent, sent_count, sent_type, to, sent_tag, got, got_count, got_type, from, got_tag, comm, status)) {
-    await_message(AWAITED_SEND, comm, to, sent_tag);
-    await_message(AWAITED_RECEIVE, comm, from, got_tag);
-    return next_MPI_Sendrecv(sent, sent_count, sent_type, to, sent_tag, got, got_count, got_type, from, got_tag, comm, status);
-}
+#define REPLACING(NAME, count_type)                                                                                                         \
+    INTERPOSED(MPI_##NAME,                                                                                                                  \
+               (void *buffer, count_type count, MPI_Datatype type, int to, int sent_tag, int from, int got_tag, MPI_Comm comm,              \
+                MPI_Status *status),                                                                                                        \
+               (buffer, count, type, to, sent_tag, from, got_tag, comm, status)) {                                                          \
+        await_message(AWAITED_SEND, comm, to, sent_tag);                                                                                    \
+        await_message(AWAITED_RECEIVE, comm, from, got_tag);                                                                                \
+        return next_MPI_##NAME(buffer, count, type, to, sent_tag, from, got_tag, comm, status);                                             \
+    }
 
-INTERPOSED(MPI_Sendrecv_replace,
-           (void *buffer, int count, MPI_Datatype type, int to, int sent_tag, int from, int got_tag, MPI_Comm comm, MPI_Status *status),
-           (buffer, count, type, to, sent_tag, from, got_tag, comm, status)) {
-    await_message(AWAITED_SEND, comm, to, sent_tag);
-    await_message(AWAITED_RECEIVE, comm, from, got_tag);
-    return next_MPI_Sendrecv_replace(buffer, count, type, to, sent_tag, from, got_tag, comm, status);
-}
+/* MPI 4 has each also with counts of another type, under a name of its own. */
+#define ALL_MESSAGES(suffix, count_type)                                                                                                    \
+    SENDING(Send##suffix, count_type)                                                                                                       \
+    SENDING(Bsend##suffix, count_type)                                                                                                      \
+    SENDING(Ssend##suffix, count_type)                                                                                                      \
+    SENDING(Rsend##suffix, count_type)                                                                                                      \
+    SEND_REQUEST(Isend##suffix, count_type, false)                                                                                          \
+    SEND_REQUEST(Ibsend##suffix, count_type, false)                                                                                         \
+    SEND_REQUEST(Issend##suffix, count_type, false)                                                                                         \
+    SEND_REQUEST(Irsend##suffix, count_type, false)                                                                                         \
+    SEND_REQUEST(Send_init##suffix, count_type, true)                                                                                       \
+    SEND_REQUEST(Bsend_init##suffix, count_type, true)                                                                                      \
+    SEND_REQUEST(Ssend_init##suffix, count_type, true)                                                                                      \
+    SEND_REQUEST(Rsend_init##suffix, count_type, true)                                                                                      \
+    RECEIVE_REQUEST(Irecv##suffix, count_type, false)                                                                                       \
+    RECEIVE_REQUEST(Recv_init##suffix, count_type, true)                                                                                    \
+    RECEIVING(Recv##suffix, count_type)                                                                                                     \
+    EXCHANGING(Sendrecv##suffix, count_type)                                                                                                \
+    REPLACING(Sendrecv_replace##suffix, count_type)
+
+ALL_MESSAGES(, int)
+
+#if MPI_VERSION >= 4
+ALL_MESSAGES(_c, MPI_Count)
+
+/* A request that sends and receives at once isn't followed, so the counts don't tell what was sent. */
+#define EXCHANGE_REQUEST(NAME, count_type)                                                                                                  \
+    INTERPOSED(MPI_##NAME,                                                                                                                  \
+               (const void *sent, count_type sent_count, MPI_Datatype sent_type, int to, int sent_tag, void *got, count_type got_count,     \
+                MPI_Datatype got_type, int from, int got_tag, MPI_Comm comm, MPI_Request *request),                                         \
+               (sent, sent_count, sent_type, to, sent_tag, got, got_count, got_type, from, got_tag, comm, request)) {                       \
+        now_cancelled();                                                                                                                    \
+        return next_MPI_##NAME(sent, sent_count, sent_type, to, sent_tag, got, got_count, got_type, from, got_tag, comm, request);          \
+    }
+
+#define REPLACE_REQUEST(NAME, count_type)                                                                                                   \
+    INTERPOSED(MPI_##NAME,                                                                                                                  \
+               (void *buffer, count_type count, MPI_Datatype type, int to, int sent_tag, int from, int got_tag, MPI_Comm comm,              \
+                MPI_Request *request),                                                                                                      \
+               (buffer, count, type, to, sent_tag, from, got_tag, comm, request)) {                                                         \
+        now_cancelled();                                                                                                                    \
+        return next_MPI_##NAME(buffer, count, type, to, sent_tag, from, got_tag, comm, request);                                            \
+    }
+
+EXCHANGE_REQUEST(Isendrecv, int)
+EXCHANGE_REQUEST(Isendrecv_c, MPI_Count)
+REPLACE_REQUEST(Isendrecv_replace, int)
+REPLACE_REQUEST(Isendrecv_replace_c, MPI_Count)
+#endif
 
 /* A probe receives nothing, so it isn't counted; one that takes its message out is a receive. */
 INTERPOSED(MPI_Probe, (int peer, int tag, MPI_Comm comm, MPI_Status *status), (peer, tag, comm, status)) {

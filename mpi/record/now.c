@@ -45,7 +45,7 @@ struct now {
     uint64_t run;
     _Atomic uint64_t beat;
     uint32_t uncounted; /* whether a message wasn't counted, or one was cancelled */
-    uint32_t unused;
+    uint32_t unseen;    /* whether the program called MPI past the recorder */
     struct standing threads[THREADS];
     struct message_count messages[MESSAGES];
 };
@@ -201,6 +201,11 @@ void now_leave(void) {
 void now_cancelled(void) {
     if (now)
         now->uncounted = 1;
+}
+
+void now_unseen(void) {
+    if (now)
+        now->unseen = 1;
 }
 
 /* The slot of messages alike. A message for which none is found in some tries isn't counted, and the reader then trusts no count. */

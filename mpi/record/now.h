@@ -37,6 +37,9 @@ long now_counted(struct awaited message); /* the same without counting it */
 /* Says that a message was cancelled, so the counts don't tell what was received. */
 void now_cancelled(void);
 
+/* Says that the program called the library past the recorder. */
+void now_unseen(void);
+
 /* The number of this thread among those that have called MPI, from 0 on. */
 int now_thread(void);
 

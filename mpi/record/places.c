@@ -13,7 +13,7 @@
 
 enum { PLACES = 4096, FRAMES = 32, LINE = 4096 };
 
-enum language { PROGRAM, FORTRAN, PYTHON };
+enum language { PROGRAM, FORTRAN, PYTHON, LIBRARY };
 
 /* The return addresses that were met, by hash. A number of 0 is an empty slot. */
 static struct {
@@ -35,6 +35,8 @@ static enum language language_of(const Dl_info *module) {
     name = name ? name + 1 : module->dli_fname;
     if (strstr(name, "libmpi_mpifh") || strstr(name, "libmpi_usempi") || strstr(name, "libmpichfort"))
         return FORTRAN;
+    if (strstr(name, "libmpi") || strstr(name, "mca_") || strstr(name, "libopen-") || strstr(name, "librecord"))
+        return LIBRARY;
     return strstr(module->dli_fname, "mpi4py") ? PYTHON : PROGRAM;
 }
 
@@ -65,6 +67,7 @@ static enum language language_at(void *address) {
 }
 
 bool place_is_fortran(void *caller) { return language_at(caller) == FORTRAN; }
+bool place_is_library(void *caller) { return language_at(caller) == LIBRARY; }
 
 /* The first frame above the caller that doesn't lie between the program and the C interface. */
 static void *frame_above(void *caller) {

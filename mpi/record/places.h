@@ -11,6 +11,9 @@ int place_of(void *caller);
 /* Whether a return address lies in one of the libraries between a Fortran program and the C interface. */
 bool place_is_fortran(void *caller);
 
+/* Whether it lies in the MPI library itself. */
+bool place_is_library(void *caller);
+
 /* The line that says where the lines after it stand. The lock is held. */
 void log_place(int place);
 

@@ -35,6 +35,14 @@ bool find_next(void *function, const char *name) {
 
 /* Shared by all entries */
 
+bool is_through_fortran(void *address) {
+    if (place_is_fortran(address))
+        return true;
+    if (!place_is_library(address))
+        now_unseen();
+    return false;
+}
+
 void begin_command(void) {
     if (untold > 0) {
         log_text("# ");

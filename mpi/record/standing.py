@@ -30,7 +30,7 @@ class Now:
     """The file of one rank: of the run RUN, or of any for None."""
 
     def __init__(self, path, run):
-        self.threads, self.messages, self.beat, self.counted, self.finalized = [], {}, 0, False, False
+        self.threads, self.messages, self.beat, self.counted, self.finalized, self.unseen = [], {}, 0, False, False, False
         try:
             with open(path, "rb") as file:
                 data = file.read()
@@ -38,10 +38,10 @@ class Now:
             return
         if len(data) < HEAD.size + THREADS * (THREAD.size + SHOWN * AWAITED.size) + MESSAGES * MESSAGE.size:
             return
-        version, _, _, finalized, its_run, beat, uncounted, _ = HEAD.unpack_from(data)
+        version, _, _, finalized, its_run, beat, uncounted, unseen = HEAD.unpack_from(data)
         if version != VERSION or run not in (None, its_run):
             return
-        self.beat, self.counted, self.finalized = beat, not uncounted, bool(finalized)
+        self.beat, self.counted, self.finalized, self.unseen = beat, not uncounted and not unseen, bool(finalized), bool(unseen)
         at = HEAD.size
         for number in range(THREADS):
             since, calls, inside, place, count, any_, ran, asleep, name = THREAD.unpack_from(data, at)
@@ -64,6 +64,10 @@ class Standings:
         self.records, self.contexts, self.places, self.judge = records, contexts, places, judge
         self.now = {rank: Now(os.path.join(folder, f"now.{rank}"), record.run) for rank, record in records.items()}
         self.open = [rank for rank, record in records.items() if not record.ended]
+
+    def unseen(self):
+        """The ranks that called MPI past the recorder."""
+        return [rank for rank, now in self.now.items() if now.unseen]
 
     # What a rank waits for
 
@@ -158,6 +162,8 @@ class Standings:
 
     def blocked(self):
         """The ranks that wait for one another or for ranks that came to their ends, so that none of them can go on."""
+        if self.unseen():
+            return {}
         stuck = {rank: self.waits(rank) for rank in self.open}
         stuck = {rank: it for rank, it in stuck.items() if it}
         while True:

@@ -17,15 +17,17 @@ what is there, and something isn't.
 import argparse
 import os
 import sys
+import tempfile
 
 import text_places
 from differences import Contexts, Judge, difference_lines
-from job_text import Job
+from job_text import MOST_RANKS, Job
 from records import Places, Unreadable, rank_words, read_records
 from standing import Standings
 
 HERE = os.path.dirname(os.path.abspath(__file__))
-MOST_TOLD, MOST_WINDOWS = 3, 8
+# How many faults are told whole, how many texts are judged for stalls, and how many calls before a fault its text has.
+MOST_TOLD, MOST_WINDOWS, ROUND = 3, 8, 8
 
 
 class Report:
@@ -68,6 +70,9 @@ class Report:
             self.lack(f"{rank_words(self.standings.open)} didn't come to MPI_Finalize, so what follows is judged by what is there:")
             for line in self.standings.lines():
                 print(f"  {line}")
+        unseen = self.standings.unseen()
+        if unseen:
+            self.lack(f"{rank_words(unseen)} called MPI by names that begin with PMPI, which aren't recorded: waits aren't judged, and what differs may be explained by such calls")
         unknown = sum(sum(record.unknown.values()) for record in self.records.values())
         if unknown:
             self.lack(f"not judged: {unknown} calls on communicators whose makers aren't recorded, or between two groups")
@@ -85,7 +90,32 @@ class Report:
             print(f"not judged: {self.judge.skipped} communicators, windows or files that were made after their parent's calls began to differ")
         for warning in self.judge.warnings()[:MOST_TOLD]:
             print("warning: " + "\n".join(difference_lines(warning, self.contexts, self.records, self.places)) + self.letter(warning))
-        return [fault for fault in faults if self.judge.has_order(fault.key)]
+        sure = [fault for fault in faults if self.judge.has_order(fault.key)]
+        self.write_round(sure)
+        return sure
+
+    def write_round(self, faults):
+        """A text of the calls round the first fault, for colljob."""
+        if not faults or self.size > MOST_RANKS:
+            return
+        fault = faults[0]
+        job = Job(self.records, self.contexts, self.places, self.judge, fault.key)
+        lines = job.fitting_text(max(0, fault.index - ROUND), fault.index + 1)
+        if lines:
+            print(f"a text of the calls round it: {self.write_text(job, lines)}")
+
+    def write_text(self, job, lines):
+        """Writes a text to the folder, or elsewhere where it can't be written, and returns its path."""
+        text = "\n".join([f"# {note}" for note in job.incomplete() + job.notes] + lines) + "\n"
+        for folder in (self.folder, tempfile.gettempdir()):
+            path = os.path.join(folder, "job.text")
+            try:
+                with open(path, "w") as file:
+                    file.write(text)
+                return path
+            except OSError as why:
+                last = why
+        raise Unreadable(f"{path}: {last.strerror}")
 
     @staticmethod
     def letter(warning):
@@ -134,9 +164,7 @@ class Report:
         return self.tell_no_fault(job, first, windows)
 
     def tell_window(self, job, lines):
-        path = os.path.join(self.folder, "job.text")
-        with open(path, "w") as file:
-            file.write("\n".join([f"# {note}" for note in job.incomplete() + job.notes] + lines) + "\n")
+        path = self.write_text(job, lines)
         verdict = text_places.judge(path, self.program)
         if verdict.fault:
             print(f"fault: {verdict.fault}")
