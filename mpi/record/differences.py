@@ -10,7 +10,7 @@ MAKERS = {"Comm_dup", "Comm_dup_with_info", "Comm_split", "Comm_split_type", "Co
           "Dist_graph_create_adjacent", "Win_create", "Win_allocate", "Win_allocate_shared", "Win_create_dynamic", "File_open"}
 
 # What a rank that came to its end may have left out without harm.
-FREES = {"Comm_free", "Comm_disconnect", "Win_free", "File_close"}
+FREES = {"Comm_free"}
 
 # Comparisons are remembered, since a program repeats itself; that of a program that doesn't isn't to fill the memory.
 MOST_REMEMBERED = 1 << 16

@@ -2,6 +2,8 @@
 #define _GNU_SOURCE
 #include "log.h"
 
+#include "now.h"
+
 #include <errno.h>
 #include <fcntl.h>
 #include <pthread.h>
@@ -33,6 +35,7 @@ static void give_up(const char *what) {
         close(window.file);
     window.file = -1;
     window.bytes = NULL;
+    now_lost();
 }
 
 /* Maps the window that begins at the page of the next byte. The room is asked for first: without it a write would end the program. */

@@ -14,7 +14,7 @@
 #include <time.h>
 #include <unistd.h>
 
-enum { THREADS = 64, SHOWN = 24, NAME = 40, MESSAGES = 4096, TRIES = 64, VERSION = 1 };
+enum { THREADS = 64, SHOWN = 24, NAME = 40, MESSAGES = 4096, TRIES = 64, VERSION = 1, UNSEEN = 1, LOST = 2 };
 
 /* The beat is a lower bound of the time up to which the process lived. A tenth of a second is short beside a hang that a person notices. */
 static const struct timespec BEAT = {.tv_nsec = 100000000};
@@ -45,7 +45,7 @@ struct now {
     uint64_t run;
     _Atomic uint64_t beat;
     uint32_t uncounted; /* whether a message wasn't counted, or one was cancelled */
-    uint32_t unseen;    /* whether the program called MPI past the recorder */
+    uint32_t unseen;    /* UNSEEN where the program called MPI past the recorder, LOST where the record couldn't be written further */
     struct standing threads[THREADS];
     struct message_count messages[MESSAGES];
 };
@@ -205,7 +205,12 @@ void now_cancelled(void) {
 
 void now_unseen(void) {
     if (now)
-        now->unseen = 1;
+        now->unseen |= UNSEEN;
+}
+
+void now_lost(void) {
+    if (now)
+        now->unseen |= LOST;
 }
 
 /* The slot of messages alike. A message for which none is found in some tries isn't counted, and the reader then trusts no count. */

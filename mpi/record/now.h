@@ -37,8 +37,9 @@ long now_counted(struct awaited message); /* the same without counting it */
 /* Says that a message was cancelled, so the counts don't tell what was received. */
 void now_cancelled(void);
 
-/* Says that the program called the library past the recorder. */
+/* Says that the program called the library past the recorder, and that the record couldn't be written further. */
 void now_unseen(void);
+void now_lost(void);
 
 /* The number of this thread among those that have called MPI, from 0 on. */
 int now_thread(void);

@@ -30,6 +30,7 @@ class Now:
     """The file of one rank: of the run RUN, or of any for None."""
 
     def __init__(self, path, run):
+        self.lost = False
         self.threads, self.messages, self.beat, self.counted, self.finalized, self.unseen = [], {}, 0, False, False, False
         try:
             with open(path, "rb") as file:
@@ -41,7 +42,8 @@ class Now:
         version, _, _, finalized, its_run, beat, uncounted, unseen = HEAD.unpack_from(data)
         if version != VERSION or run not in (None, its_run):
             return
-        self.beat, self.counted, self.finalized, self.unseen = beat, not uncounted and not unseen, bool(finalized), bool(unseen)
+        self.beat, self.counted, self.finalized, self.unseen = beat, not uncounted and not unseen, bool(finalized), bool(unseen & 1)
+        self.lost = bool(unseen & 2)
         at = HEAD.size
         for number in range(THREADS):
             since, calls, inside, place, count, any_, ran, asleep, name = THREAD.unpack_from(data, at)
@@ -63,7 +65,8 @@ class Standings:
     def __init__(self, folder, records, contexts, places, judge):
         self.records, self.contexts, self.places, self.judge = records, contexts, places, judge
         self.now = {rank: Now(os.path.join(folder, f"now.{rank}"), record.run) for rank, record in records.items()}
-        self.open = [rank for rank, record in records.items() if not record.ended]
+        self.lost = [rank for rank, now in self.now.items() if now.lost]
+        self.open = [rank for rank, record in records.items() if not record.ended and rank not in self.lost]
 
     def unseen(self):
         """The ranks that called MPI past the recorder."""
@@ -85,7 +88,7 @@ class Standings:
         key = self.key(rank, awaited.context)
         if not key:
             return []
-        return [it for it in self.contexts.members(key) if it in self.records and len(self.records[it].calls.get(key, ())) <= awaited.index]
+        return [it for it in self.contexts.members(key) if it in self.records and it not in self.lost and len(self.records[it].calls.get(key, ())) <= awaited.index]
 
     def command(self, rank, awaited):
         calls = self.records[rank].calls.get(self.key(rank, awaited.context), ())
@@ -233,7 +236,7 @@ class Standings:
         if not self.is_sure(rank, awaited):
             return f"{words}call {awaited.index + 1} on {self.contexts.name(key)}" + (", where the calls differ" if self.judge.differ.get(key) == awaited.index else "")
         lacking = self.lacking(rank, awaited)
-        absent = [it for it in self.contexts.members(key) if it not in self.records]
+        absent = [it for it in self.contexts.members(key) if it not in self.records or it in self.lost]
         there = f": {rank_words(lacking)} {'has' if len(lacking) == 1 else 'have'} not called it" if lacking else "" if absent else ", which all its members have called"
         return f"{words}call {awaited.index + 1} on {self.contexts.name(key)}{there}"
 

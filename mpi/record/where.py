@@ -66,6 +66,8 @@ class Report:
         absent = [rank for rank in range(self.size) if rank not in self.records]
         if absent:
             self.lack(f"no record of {rank_words(absent)}: what these called isn't known")
+        if self.standings.lost:
+            self.lack(f"the record of {rank_words(self.standings.lost)} couldn't be written to its end: what was called after that isn't known")
         if self.standings.open:
             self.lack(f"{rank_words(self.standings.open)} didn't come to MPI_Finalize, so what follows is judged by what is there:")
             for line in self.standings.lines():
@@ -120,7 +122,7 @@ class Report:
     @staticmethod
     def letter(warning):
         if warning.lacking:
-            return "\n  = MPI wants it of all members, though no library waits for it"
+            return "\n  = MPI wants it of all members"
         return "\n  = these are alike here, though MPI lets only the same types meet (MPI 4.1, 3.3.1)"
 
     def unsure(self, fault):
