@@ -23,7 +23,7 @@ const AMONG_THREADS: Patience = Patience {
     spins: 20,
     snoozes: 1_980,
     tries: 63,
-    holds: 50,
+    holds: 200,
 };
 
 /// Where turns are long, and each thread has a processor of its own. It gives none: nobody needs its processor.
@@ -31,7 +31,7 @@ const ALONE: Patience = Patience {
     spins: 10_000,
     snoozes: 0,
     tries: 511,
-    holds: 10_000,
+    holds: 1_250,
 };
 
 /// Where turns are long, and threads share processors. It looks about as long as to sleep and to be woken takes.
@@ -49,6 +49,12 @@ const ON_ONE_PROCESSOR: Patience = Patience {
     tries: 0,
     holds: 0,
 };
+
+/// How many looks with the lock come close upon one another.
+const CLOSE: u32 = 20;
+
+/// How many pauses the later ones have between them: about as long as a short turn.
+const PAUSES: u32 = 8;
 
 /// A wait that ends within so many turns is short.
 const FEW: u32 = 3;
@@ -87,6 +93,14 @@ impl Patience {
     /// How many turns were given before a look.
     fn turns(self, look: u32) -> u32 {
         look.saturating_sub(self.spins)
+    }
+}
+
+/// A pause after a look with the lock. Nobody gets a turn, since all others may wait for the lock.
+pub(crate) fn pause_with_the_lock(look: u32) {
+    let pauses = if look < CLOSE { 1 } else { PAUSES };
+    for _ in 0..pauses {
+        spin_loop();
     }
 }
 

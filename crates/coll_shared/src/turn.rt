@@ -6,12 +6,11 @@ ghost use Rattle.coll_traced.specs.Awaiting.{IsHindrance, IsSetback};
 use crate::combiner::{Combiner, Held};
 use crate::gate::Gate;
 use crate::locked::{STEPS, Successor};
-use crate::patience::Patience;
+use crate::patience::{Patience, pause_with_the_lock};
 use crate::record::PublicationRecord;
 use coll_core::{Stepped, Work};
 use coll_kinds::Refusal;
 use coll_traced::Entries;
-use std::hint::spin_loop;
 use std::sync::Wait;
 
 /// How many combinations a waiting port computes in a row.
@@ -279,7 +278,7 @@ impl Effort {
 
     /// Nothing was ready.
     fn look(&mut self) -> Next {
-        spin_loop();
+        pause_with_the_lock(self.looks);
         self.looks = self.looks.saturating_add(1);
         Next::Again
     }
