@@ -160,7 +160,7 @@ static void tell_samples(void) {
 
 /* Samples of TURNS_OF operations until rank 0 says that the time is over, with the threads where the system puts them: what a loaded machine makes
    of the waiting. Beside it, c_interface_mpi.c does the same by MPI. */
-enum { TURNS_OF = 20, MOST_SAMPLES = 20000 };
+enum { TURNS_OF = 20, MOST_SAMPLES = 1500 }; /* the places of a communicator suffice for two measures of so many */
 static double waits[MOST_SAMPLES];
 static double seconds = 0.7;
 
@@ -178,7 +178,7 @@ static void waited(uint8_t me, const char *name, const wz_call *call, size_t len
             must(wz_shared_wait(&shared, me, &request, &sum, sizeof sum, &count));
         }
         if (me == 0) waits[many] = (now() - from) / TURNS_OF;
-        goes_on = ++many < MOST_SAMPLES / 10 && now() < end;
+        goes_on = ++many < MOST_SAMPLES && now() < end;
         must(wz_shared_post(&shared, me, 0, &flag, &goes_on, me == 0 ? sizeof goes_on : 0, &request));
         must(wz_shared_wait(&shared, me, &request, &goes_on, sizeof goes_on, &count));
     }

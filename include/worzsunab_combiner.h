@@ -23,10 +23,15 @@ enum {
     WZ_STEPS = 256 /* the most actions that are made before the records are served again */
 };
 
-/* How often a thread looks at its record before it sleeps. */
+/* How often a thread looks at its record before it sleeps; and how often where so many looks were mostly in vain, but for every WZ_TRIES-th wait,
+   which finds out whether they help again. */
 #ifndef WZ_LOOKS
-#define WZ_LOOKS 600
+#define WZ_LOOKS 2000
 #endif
+#ifndef WZ_FEW_LOOKS
+#define WZ_FEW_LOOKS 50
+#endif
+enum { WZ_TRIES = 16, WZ_IN_VAIN = 3 };
 
 /* Once a rank gives so many bytes, combinations are computed with the lock free. */
 #ifndef WZ_LONG
@@ -294,24 +299,39 @@ static inline wz_ask wz_ask_(int kind, uint8_t rank, int32_t (*does)(wz_shared *
     return ask;
 }
 
+/* How a call was seen through: its thread had nothing to wait for, or was answered while it looked, or slept. */
+enum { WZ_AT_ONCE, WZ_LOOKED, WZ_SLEPT };
+
+/* Until the call is over: leads where it needs the lock and finds it free, looks so often, and then sleeps. */
+static inline int wz_see_through_(wz_shared *shared, wz_record *me, int looks) {
+    int how = WZ_AT_ONCE;
+    for (int look = 0; !wz_is_over_(me); look++) {
+        if (wz_needs_lock_(me) && wz_try_lock_(shared)) {
+            wz_lead_(shared, me);
+            look = 0;
+        } else if (look < looks) {
+            if (how == WZ_AT_ONCE) how = WZ_LOOKED;
+            wz_pause_();
+        } else {
+            wz_sleep_(shared, me);
+            how = WZ_SLEPT;
+            look = 0;
+        }
+    }
+    return how;
+}
+
 /* Asks for a call, and returns its answer. */
 static inline int32_t wz_asked_(wz_shared *shared, const wz_ask *ask) {
     bool guest = ask->rank >= shared->ranks;
     if (guest) pthread_mutex_lock(&shared->guests);
     wz_record *me = &shared->records[guest ? shared->ranks : ask->rank];
+    bool few = me->in_vain >= WZ_IN_VAIN && (ask->kind != WZ_WAITS || ++me->calls % WZ_TRIES != 0);
     me->ask = *ask;
     wz_write_(&me->stage, WZ_ASKED);
-    for (int look = 0; !wz_is_over_(me); look++) {
-        if (wz_needs_lock_(me) && wz_try_lock_(shared)) {
-            wz_lead_(shared, me);
-            look = 0;
-        } else if (look < WZ_LOOKS) {
-            wz_pause_();
-        } else {
-            wz_sleep_(shared, me);
-            look = 0;
-        }
-    }
+    int how = wz_see_through_(shared, me, few ? WZ_FEW_LOOKS : WZ_LOOKS);
+    if (!few && how == WZ_SLEPT && me->in_vain <= WZ_IN_VAIN) me->in_vain++;
+    if (!few && how == WZ_LOOKED && me->in_vain > 0) me->in_vain--;
     int32_t answer = me->answer;
     if (guest) pthread_mutex_unlock(&shared->guests);
     return answer;

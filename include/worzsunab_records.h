@@ -64,6 +64,8 @@ typedef struct wz_record {
     wz_work work;
     int32_t run; /* what wz_run_work answered */
     bool left;
+    uint32_t in_vain; /* how often its thread has looked long and slept all the same, less how often not; the thread's own, as is the next */
+    uint32_t calls;   /* how often it has waited with few looks */
     wz_reason reason; /* of the last refusal to this rank */
     wz_posted mine;   /* what was refused, and what stands in its place */
     wz_posted theirs;
