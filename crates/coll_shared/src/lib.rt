@@ -15,6 +15,7 @@
 //! | `combiner` | `Combiner`, the lock and the records, and what the thread that has the lock does for all |
 //! | `combiner::held` | `Held`, a hold of the lock, which only `Combiner::release` can end |
 //! | `locked` | `Locked`, what the lock guards |
+//! | `looking` | the calls of a port on it, in words that outlast the hold of the lock |
 //! | `publishing` | posts and starts, which the combiner makes where the lock isn't free |
 //! | `waiter` | waits: to look at the record, to take the lock, and to park |
 //! | `patience` | how long a thread looks before it sleeps, and whether it gives turns meanwhile |
@@ -39,6 +40,7 @@ mod engine;
 mod gate;
 mod inspect;
 mod locked;
+mod looking;
 mod patience;
 mod plans;
 mod port;

@@ -110,11 +110,7 @@ impl<L: Entries> Combiner<L> {
                 (self.enter(rt), prepared)
             }
         };
-        held.locked.traced.audit(&mut tally);
-        let posted = held
-            .locked
-            .traced
-            .post(&mut tally, rank, comm, offer, prepared);
+        let posted = held.locked.post(&mut tally, rank, comm, offer, prepared);
         self.release(held);
         self.has_led(rank);
         (tally, posted)
@@ -152,8 +148,7 @@ impl<L: Entries> Combiner<L> {
                 self.enter(rt)
             }
         };
-        held.locked.traced.audit(&mut tally);
-        let started = held.locked.traced.start(&mut tally, rank, ticket, bytes);
+        let started = held.locked.start(&mut tally, rank, ticket, bytes);
         self.release(held);
         self.has_led(rank);
         (tally, started)

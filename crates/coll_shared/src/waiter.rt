@@ -151,8 +151,7 @@ impl<L: Entries> Combiner<L> {
                 }
             }
             let mut held = self.enter(rt);
-            held.locked.traced.audit(&mut tally);
-            let looked = held.locked.traced.tested(&mut tally, rank, request);
+            let looked = held.locked.tested(&mut tally, rank, request);
             self.release(held);
             match looked {
                 Ok((tested, receipts)) if tested.flag => {

@@ -41,8 +41,7 @@ impl<L: Entries> Port<L> {
             unreachable!()
         };
         let mut held = self.combiner.enter_to_test(rt);
-        held.locked.traced.audit(tally);
-        let tested = held.locked.traced.tested(tally, self.rank, request);
+        let tested = held.locked.tested(tally, self.rank, request);
         self.combiner.release(held);
         tested
     }
@@ -71,8 +70,7 @@ impl<L: Entries> Port<L> {
             unreachable!()
         };
         let mut held = self.combiner.enter_to_test(rt);
-        held.locked.traced.audit(tally);
-        let tested = held.locked.traced.tested_any(tally, self.rank, requests);
+        let tested = held.locked.tested_any(tally, self.rank, requests);
         self.combiner.release(held);
         tested
     }
@@ -102,11 +100,7 @@ impl<L: Entries> Port<L> {
             unreachable!()
         };
         let mut held = self.combiner.enter_to_test(rt);
-        held.locked.traced.audit(tally);
-        let tested = held
-            .locked
-            .traced
-            .tested_all(tally, self.rank, requests, out);
+        let tested = held.locked.tested_all(tally, self.rank, requests, out);
         self.combiner.release(held);
         tested
     }
@@ -137,11 +131,7 @@ impl<L: Entries> Port<L> {
             unreachable!()
         };
         let mut held = self.combiner.enter_to_test(rt);
-        held.locked.traced.audit(tally);
-        let tested = held
-            .locked
-            .traced
-            .tested_some(tally, self.rank, requests, out);
+        let tested = held.locked.tested_some(tally, self.rank, requests, out);
         self.combiner.release(held);
         tested
     }
@@ -204,8 +194,7 @@ impl<L: Entries> Port<L> {
         let mut hindrance = None;
         for _ in rt.forever() {
             let mut held = self.combiner.enter(rt);
-            held.locked.traced.audit(tally);
-            let (any, receipts) = match held.locked.traced.tested_any(tally, rank, requests) {
+            let (any, receipts) = match held.locked.tested_any(tally, rank, requests) {
                 Ok(told) => told,
                 Err(why) => {
                     self.combiner.release(held);
@@ -262,8 +251,7 @@ impl<L: Entries> Port<L> {
         let mut hindrance = None;
         for _ in rt.forever() {
             let mut held = self.combiner.enter(rt);
-            held.locked.traced.audit(tally);
-            let told = match held.locked.traced.tested_all(tally, rank, requests, out) {
+            let told = match held.locked.tested_all(tally, rank, requests, out) {
                 Ok((false, _)) => {
                     if let Some(why) = hindrance {
                         self.combiner.release(held);
@@ -316,8 +304,7 @@ impl<L: Entries> Port<L> {
         let mut hindrance = None;
         for _ in rt.forever() {
             let mut held = self.combiner.enter(rt);
-            held.locked.traced.audit(tally);
-            let told = match held.locked.traced.waited_some(tally, rank, requests, out) {
+            let told = match held.locked.waited_some(tally, rank, requests, out) {
                 Ok(None) => {
                     if let Some(why) = hindrance {
                         self.combiner.release(held);

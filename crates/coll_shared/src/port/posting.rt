@@ -107,8 +107,7 @@ impl<L: Entries> Port<L> {
             unreachable!()
         };
         let mut held = self.combiner.enter(rt);
-        held.locked.traced.audit(tally);
-        let made = held.locked.traced.init(tally, self.rank, comm, plan);
+        let made = held.locked.init(tally, self.rank, comm, plan);
         self.combiner.release(held);
         match made {
             Ok((ticket, receipt)) => Ok((Request::of(ticket), receipt)),
@@ -135,8 +134,7 @@ impl<L: Entries> Port<L> {
             unreachable!()
         };
         let mut held = self.combiner.enter(rt);
-        held.locked.traced.audit(tally);
-        let freed = held.locked.traced.freed(tally, self.rank, request);
+        let freed = held.locked.freed(tally, self.rank, request);
         self.combiner.release(held);
         freed
     }

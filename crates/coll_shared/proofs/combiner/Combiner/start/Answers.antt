@@ -12,7 +12,9 @@ returns-clause-refused g c =
       | in-Some w ↦ w.bytes-is
       | in-None+in_default w ↦ w.bytes-is ∙ w.start-operation.ensures
     ] in
-    let Denies : List ℕ → Type 0 = λ xs.
-    IfErr c.start-started.result (λ refused. IsDenied g.L.Entries.setting c.args.tally (Start c.args.rank c.args.ticket xs) refused.why) in
-    let told : Denies c.match-try_lead.bytes = search rules in
-    subst Denies same told
+    let kept : c.match-try_lead.tally ≡ c.args.tally = search rules in
+    let Denies : ℕ → List ℕ → Type 0 = λ made xs.
+    IfErr c.start-started.result (λ refused. IsDenied g.L.Entries.setting made (Start c.args.rank c.args.ticket xs) refused.why) in
+    let told : Denies c.match-try_lead.tally c.match-try_lead.bytes = c.start-started.ensures.refused in
+    let counted : Denies c.args.tally c.match-try_lead.bytes = subst (λ made. Denies made c.match-try_lead.bytes) kept told in
+    subst (λ xs. Denies c.args.tally xs) same counted
