@@ -1,5 +1,6 @@
 /* A call per collective, in MPI's order of arguments, nonblocking and persistent, with its value at each rank.
    calls RANKS [ROUNDS] */
+#include <sched.h>
 #include <stdio.h>
 #include <stdlib.h>
 

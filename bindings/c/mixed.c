@@ -1,6 +1,7 @@
 /* Random programs: all ranks post the same collectives of two communicators in one order, short and long, and each completes its own by random
    waits and tests, in random order, with random pauses. Each outcome is compared.
    mixed RANKS ROUNDS SEED */
+#include <sched.h>
 #include <stdio.h>
 #include <stdlib.h>
 #include <string.h>

@@ -1,6 +1,7 @@
 /* Ranks as threads: many posts, a persistent loop, overlap, communicators of some ranks, allgathervs, long rows that are combined
    with the lock free, lists of requests, refusals with their reasons, and stalls that are told.
    threads RANKS TIMES [quiet]: without `quiet` it prints the microseconds of an allreduce. */
+#include <sched.h>
 #include <stdio.h>
 #include <stdlib.h>
 #include <time.h>
