@@ -20,7 +20,8 @@ extern "C" {
 
 enum {
     WZ_HOLDS = 30, /* how often a wait that has the lock, and nothing to do, looks at the records before it gives the lock up */
-    WZ_STEPS = 256 /* the most actions that are made before the records are served again */
+    /* The most actions that are made before the records are served again: 20 to 60 microseconds. Collectives of eight ranks have 72 to 120. */
+    WZ_STEPS = 256
 };
 
 /* How often a thread looks at its record before it sleeps; and how often where so many looks were mostly in vain, but for every WZ_TRIES-th wait,
