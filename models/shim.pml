@@ -12,7 +12,6 @@
  *          LOOKS_FIRST        who is about to sleep looks at its record before it says so
  *          LOCK_UNSEEN        and doesn't look whether the lock is free
  *          NOT_HANDED_ON      work is left without calling one who waits
- *          ANSWERED_WORKER    one whose wait was answered while it computes counts as one who goes on
  *          UNJUDGED_RETURN    who only returns a piece doesn't look for a stall
  *          EARLY_STALL        a stall is told though work is left
  *          STALL_WHILE_OUT    a stall is told though a combination is out
@@ -209,11 +208,7 @@ inline judge() {
     fi
 }
 
-#ifdef ANSWERED_WORKER
-#define GOES_ON(r) (piece[r] != NONE)
-#else
 #define GOES_ON(r) (stage[r] == WAITING && piece[r] != NONE)
-#endif
 
 inline hand_on() {
 #ifndef NOT_HANDED_ON

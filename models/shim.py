@@ -50,7 +50,6 @@ CONFIGURATIONS = [
     (False, False, "lock unseen", "ONE LOCK_UNSEEN"),
     (False, False, "not handed on", "LEAVER LONG NOT_HANDED_ON"),
     (False, False, "not handed on, short", "LEAVER NOT_HANDED_ON"),
-    (False, False, "an answered worker counts", f"ABSENTEE {THREE} {TWO} LONG PIECES=1 ANSWERED_WORKER"),
     (False, False, "return without a judgement", f"ABSENTEE {THREE} {TWO} LONG PIECES=1 UNJUDGED_RETURN"),
     (False, False, "early stall", "ONE EARLY_STALL"),
     (False, False, "stall while a combination is out", "ONE LONG STALL_WHILE_OUT"),
