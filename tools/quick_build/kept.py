@@ -140,7 +140,14 @@ class Kept:
             found = [it for it in os.listdir(self.folder) if it.startswith(f"{self.kind}-") and not it.endswith(".part")]
         except OSError:
             return []
-        return sorted(found, key=lambda name: -os.stat(os.path.join(self.folder, name)).st_mtime)
+        return sorted(found, key=self.age)
+
+    def age(self, name):
+        """For how long something has been kept."""
+        try:
+            return time.time() - os.stat(os.path.join(self.folder, name)).st_mtime
+        except OSError:
+            return float("inf")
 
 
 def read(path):
