@@ -48,5 +48,14 @@ def find():
     for folder in os.environ.get("PATH", "").split(os.pathsep):
         command = os.path.join(folder or ".", "rt")
         if os.path.isfile(command) and os.access(command, os.X_OK):
-            return Kit(os.path.dirname(os.path.dirname(os.path.realpath(command))))
+            kit = os.path.dirname(os.path.dirname(os.path.realpath(command)))
+            return Kit(kit if os.path.exists(os.path.join(kit, ID)) else told_folder(command))
     raise NoKit("there is no command rt on the path: it stands in the folder bin of the Rattle kit that README.md names")
+
+
+def told_folder(command):
+    """The folder of the kit's first page, which a command tells that lies elsewhere."""
+    import subprocess
+
+    ran = subprocess.run([command, "doc"], stdin=subprocess.DEVNULL, capture_output=True, text=True)
+    return os.path.dirname(ran.stdout.strip())
