@@ -305,6 +305,8 @@ def main():
     unknown = set(words.names) - set(PROGRAMS)
     if unknown:
         sys.exit(f"no program has the name {', '.join(sorted(unknown))}: they are {', '.join(PROGRAMS)}")
+    # Whoever ends this ends the run that is under way too.
+    signal.signal(signal.SIGTERM, lambda *_: sys.exit(1))
     names = [name for name, program in PROGRAMS.items() if (name in words.names if words.names else program.short or not words.short)]
     libraries = there(words.library)
     if not libraries:

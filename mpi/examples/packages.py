@@ -137,6 +137,8 @@ def main():
     names = sys.argv[2:] or list(PROGRAMS)
     if len(sys.argv) < 2 or not set(names) <= set(PROGRAMS):
         sys.exit(__doc__)
+    # Whoever ends this ends the run that is under way too.
+    signal.signal(signal.SIGTERM, lambda *_: sys.exit(1))
     subprocess.run(["make", "-s", "-C", MPI, "MPICC=mpicc.openmpi", "OUT=out/openmpi", "out/openmpi/librecord.so"], check=True)
     print("| Program | Calls | Seconds without, with | Bytes | where.py, seconds | Told |\n|---|---|---|---|---|---|")
     right = [measure(name, os.path.abspath(f"{sys.argv[1]}/{name}")) for name in names]
