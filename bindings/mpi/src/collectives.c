@@ -4,7 +4,9 @@
 #include "record.h"
 #include "tell.h"
 
-#include <sched.h>
+#include <time.h>
+
+enum { LONGEST_FULL = 1000 }; /* turns of a millisecond in which nobody made room, after which a post is refused */
 
 static const char *name_of(const struct arguments *arguments) {
     return arguments->name != NULL ? arguments->name : mpi_collective_names[arguments->function][arguments->form];
@@ -27,6 +29,9 @@ int mpi_engine_refused(struct request *it, int32_t code, const char *call) {
     if (code == WZ_MISMATCH) mpi_tell_mismatch(it->comm, it->place);
     if (code == WZ_ACTIVE)
         return mpi_refuse(it->comm, MPI_ERR_REQUEST, call, "the request of %s is active still: it was started at %s and not completed since", it->site, it->started_at);
+    if (code == WZ_FULL)
+        return mpi_refuse(it->comm, MPI_ERR_OTHER, call, "the communicator has room for %u requests that aren't completed, of all its members together, and all is taken",
+                          mpi_slots_for(it->comm));
     wz_reason reason = wz_shared_reason(&it->engine->shared, (uint8_t)it->member);
     char text[300];
     if (reason.code == code) wz_explain(&reason, text, sizeof text);
@@ -94,8 +99,8 @@ int mpi_begin(struct request *it, const char *call) {
     else mpi_record_post(it, call, bytes, length);
     if (it->persistent) atomic_store(&it->starts->of[it->member], ++it->times);
     int32_t code = post_once(it, bytes, length);
-    for (int turn = 0; code == WZ_FULL && turn < 100000; turn++) {
-        if (!make_room(it)) sched_yield();
+    for (int turn = 0; code == WZ_FULL && turn < LONGEST_FULL; turn++) {
+        if (!make_room(it)) nanosleep(&(struct timespec){ 0, 1000000 }, NULL);
         code = post_once(it, bytes, length);
     }
     if (code == WZ_DONE) lend(it, bytes, length, packed != NULL);

@@ -151,6 +151,7 @@ void mpi_wake(struct comm *comm, int but);
 void mpi_wake_rank(struct rank *rank);
 void mpi_empty_status(MPI_Status *status);
 int mpi_finish_message(struct request *request, MPI_Status *status, const char *call);
+void mpi_open_mailboxes(int many);
 bool mpi_message_waits(const struct request *probe);
 int mpi_start_message(struct request *request);
 int mpi_post_and_wait(struct comm *comm, const struct arguments *arguments, struct request **kept);

@@ -114,6 +114,7 @@ int mpi_far(const struct comm *comm, int *other);
 /* ---- engines.c */
 struct engine *mpi_engine_at(struct comm *comm, uint64_t place); /* with one request more */
 void mpi_leave_engine(struct comm *comm, struct engine *engine);
+uint32_t mpi_slots_for(const struct comm *comm); /* the most requests at one time */
 struct starts *mpi_starts_at(struct comm *comm, uint64_t place);
 void mpi_leave_starts(struct comm *comm, struct starts *starts);
 void mpi_close_engines(struct comm *comm);

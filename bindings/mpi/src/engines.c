@@ -5,7 +5,7 @@
 #include <unistd.h>
 
 /* MPI_COMM_WORLD has the most slots from the beginning; other communicators have 256 for each member, which take less memory and time to open. */
-static uint32_t slots_for(const struct comm *comm) {
+uint32_t mpi_slots_for(const struct comm *comm) {
     uint32_t slots = (uint32_t)comm->size * 256;
     return comm->maker == NULL || slots > 4096 ? 4096 : slots;
 }
@@ -15,7 +15,7 @@ static struct engine *open_engine(const struct comm *comm, uint64_t number) {
     uint8_t members[MOST_RANKS], size = (uint8_t)comm->size;
     for (int i = 0; i < MOST_RANKS; i++) members[i] = (uint8_t)i;
     wz_limits limits = wz_greatest_limits(size);
-    limits.slots = slots_for(comm);
+    limits.slots = mpi_slots_for(comm);
     int32_t code = wz_shared_open(&engine->shared, &limits, &size, 1, members, size);
     if (code != WZ_DONE) {
         fprintf(stderr, "wzrun: no engine can be opened for %d ranks: %s\n", comm->size, wz_message(code));

@@ -5,93 +5,126 @@
 #include "tell.h"
 
 struct message {
-    long comm;     /* its serial number */
-    int from, tag; /* from: its sender's rank in its group */
-    size_t bytes;
-    struct request *sender; /* who waits for it; NULL: nobody */
-    struct rank *sender_rank;
-    struct message *next;
-    char data[];
+    long comm;      /* its serial number */
+    int group_rank; /* the sender's, in its group */
+    int tag;
+    size_t length;
+    struct request *awaited_by; /* the synchronous send that ends once it is received; NULL: none */
+    struct rank *author;
+    struct message *later;
+    char bytes[];
 };
 
-/* What has come to a rank and isn't received, and the receives that wait. */
-struct queue {
-    pthread_mutex_t guard;
-    struct message *come;
-    struct request *wanted;
+/* A rank's mail: what has come and nobody has asked for, and the receives that nothing has come for, each in its order. */
+struct mailbox {
+    pthread_mutex_t lock;
+    struct message *oldest, **end;
+    struct request *first, **last;
 };
-static struct queue queues[MOST_RANKS];
+static struct mailbox mailboxes[MOST_RANKS];
 
-__attribute__((constructor)) static void begin_queues(void) {
-    for (int i = 0; i < MOST_RANKS; i++) pthread_mutex_init(&queues[i].guard, NULL);
+void mpi_open_mailboxes(int many) {
+    for (struct mailbox *it = mailboxes; it < mailboxes + many; it++) {
+        pthread_mutex_init(&it->lock, NULL);
+        it->end = &it->oldest;
+        it->last = &it->first;
+    }
 }
 
-static struct rank *rank_of(const struct comm *comm, int member) { return &mpi_run.ranks[comm->members[member].rank]; }
+static struct mailbox *mailbox_of(const struct comm *comm, int member) { return &mailboxes[comm->members[member].rank]; }
 
-static bool fits(const struct request *receive, const struct message *message) {
-    bool source = receive->other == MPI_ANY_SOURCE || receive->other == message->from;
-    bool tag = receive->tag == message->tag || (receive->tag == MPI_ANY_TAG && message->tag >= 0);
-    return receive->comm->serial == message->comm && source && tag;
+/* Whether a receive, or a probe, asks for such a message. The tags of the library's own messages are negative, and MPI_ANY_TAG doesn't mean them. */
+static bool asks_for(const struct request *it, const struct message *message) {
+    if (message->comm != it->comm->serial) return false;
+    if (it->other != MPI_ANY_SOURCE && it->other != message->group_rank) return false;
+    return it->tag == MPI_ANY_TAG ? message->tag >= 0 : it->tag == message->tag;
 }
 
-/* Under the receiver's guard: the receive has its message. Whoever sent it and waits goes on; its request isn't this thread's any longer then. */
-static void match(struct request *receive, struct message *message) {
-    struct request *sender = message->sender;
-    struct rank *rank = message->sender_rank;
+/* The link to the oldest message that a receive asks for; the last link of all where none has come. */
+static struct message **find_message(struct mailbox *box, const struct request *it) {
+    struct message **link = &box->oldest;
+    for (; *link != NULL; link = &(*link)->later)
+        if (asks_for(it, *link)) break;
+    return link;
+}
+
+static struct message *take_out(struct mailbox *box, const struct request *it) {
+    struct message **link = find_message(box, it), *found = *link;
+    if (found == NULL) return NULL;
+    *link = found->later;
+    if (box->end == &found->later) box->end = link;
+    return found;
+}
+
+/* The receive that was first to ask for a message; NULL: nobody has. */
+static struct request *take_receive(struct mailbox *box, const struct message *message) {
+    for (struct request **link = &box->first; *link != NULL; link = &(*link)->next) {
+        struct request *found = *link;
+        if (!asks_for(found, message)) continue;
+        *link = found->next;
+        if (box->last == &found->next) box->last = link;
+        return found;
+    }
+    return NULL;
+}
+
+/* Under the lock of the receiver's mailbox. Once `arrived` is set a request is its own rank's again. */
+static void hand_over(struct message *message, struct request *receive) {
+    struct request *send = message->awaited_by;
+    struct rank *author = message->author;
     receive->message = message;
     atomic_store(&receive->arrived, true);
-    if (sender == NULL) return;
-    atomic_store(&sender->arrived, true);
-    mpi_wake_rank(rank);
+    if (send != NULL) {
+        atomic_store(&send->arrived, true);
+        mpi_wake_rank(author);
+    }
 }
 
-static void deliver(struct queue *queue, struct message *message, struct rank *receiver) {
-    pthread_mutex_lock(&queue->guard);
-    struct request **at = &queue->wanted;
-    while (*at != NULL && !fits(*at, message)) at = &(*at)->next;
-    if (*at != NULL) {
-        struct request *receive = *at;
-        *at = receive->next;
-        match(receive, message);
-    } else {
-        struct message **end = &queue->come;
-        while (*end != NULL) end = &(*end)->next;
-        *end = message;
-    }
-    pthread_mutex_unlock(&queue->guard);
-    mpi_wake_rank(receiver);
+static struct message *write_message(struct request *it) {
+    size_t length = (size_t)it->many * it->type->size;
+    struct message *message = mpi_must(malloc(sizeof *message + length));
+    int own;
+    mpi_near(it->comm, &own);
+    message->comm = it->comm->serial;
+    message->group_rank = it->member - own;
+    message->tag = it->tag;
+    message->length = length;
+    message->awaited_by = it->synchronous ? it : NULL;
+    message->author = mpi_me;
+    message->later = NULL;
+    mpi_pack(it->type, (size_t)it->many, it->from, message->bytes);
+    return message;
 }
 
 static void start_send(struct request *it) {
-    int own, other;
-    mpi_near(it->comm, &own);
+    int other;
     mpi_far(it->comm, &other);
-    size_t bytes = (size_t)it->many * it->type->size;
-    struct message *message = mpi_must(malloc(sizeof *message + bytes));
-    *message = (struct message){ it->comm->serial, it->member - own, it->tag, bytes, it->synchronous ? it : NULL, mpi_me, NULL };
-    mpi_pack(it->type, (size_t)it->many, it->from, message->data);
-    struct rank *receiver = rank_of(it->comm, other + it->other);
+    struct mailbox *box = mailbox_of(it->comm, other + it->other);
+    struct message *message = write_message(it);
     atomic_store(&it->arrived, !it->synchronous);
-    deliver(&queues[receiver->number], message, receiver);
+    pthread_mutex_lock(&box->lock);
+    struct request *receive = take_receive(box, message);
+    if (receive != NULL) hand_over(message, receive);
+    else {
+        *box->end = message;
+        box->end = &message->later;
+    }
+    pthread_mutex_unlock(&box->lock);
+    mpi_wake_rank(&mpi_run.ranks[box - mailboxes]);
 }
 
 static void start_receive(struct request *it) {
-    struct queue *queue = &queues[mpi_me->number];
+    struct mailbox *box = mailbox_of(it->comm, it->member);
     atomic_store(&it->arrived, false);
-    pthread_mutex_lock(&queue->guard);
-    struct message **at = &queue->come;
-    while (*at != NULL && !fits(it, *at)) at = &(*at)->next;
-    if (*at != NULL) {
-        struct message *message = *at;
-        *at = message->next;
-        match(it, message);
-    } else {
-        struct request **end = &queue->wanted;
-        while (*end != NULL) end = &(*end)->next;
-        it->next = NULL;
-        *end = it;
+    it->next = NULL;
+    pthread_mutex_lock(&box->lock);
+    struct message *message = take_out(box, it);
+    if (message != NULL) hand_over(message, it);
+    else {
+        *box->last = it;
+        box->last = &it->next;
     }
-    pthread_mutex_unlock(&queue->guard);
+    pthread_mutex_unlock(&box->lock);
 }
 
 int mpi_start_message(struct request *it) {
@@ -104,46 +137,54 @@ int mpi_start_message(struct request *it) {
     return MPI_SUCCESS;
 }
 
-/* A message that has come and fits, which stays in the queue. */
-static bool lies_there(const struct request *probe, MPI_Status *status) {
-    struct queue *queue = &queues[probe->comm->members[probe->member].rank];
-    pthread_mutex_lock(&queue->guard);
-    struct message *at = queue->come;
-    while (at != NULL && !fits(probe, at)) at = at->next;
-    if (at != NULL && status != MPI_STATUS_IGNORE) *status = (MPI_Status){ at->from, at->tag, MPI_SUCCESS, 0, (MPI_Count)at->bytes };
-    pthread_mutex_unlock(&queue->guard);
-    return at != NULL;
+static void write_status(MPI_Status *status, const struct message *message) {
+    if (status == MPI_STATUS_IGNORE) return;
+    status->MPI_SOURCE = message != NULL ? message->group_rank : MPI_PROC_NULL;
+    status->MPI_TAG = message != NULL ? message->tag : MPI_ANY_TAG;
+    status->MPI_ERROR = MPI_SUCCESS;
+    status->cancelled_ = 0;
+    status->bytes_ = message != NULL ? (MPI_Count)message->length : 0;
 }
 
-bool mpi_message_waits(const struct request *probe) { return lies_there(probe, MPI_STATUS_IGNORE); }
+/* Looks for a message, and leaves it where it is. */
+static bool has_come(const struct request *probe, MPI_Status *status) {
+    struct mailbox *box = mailbox_of(probe->comm, probe->member);
+    pthread_mutex_lock(&box->lock);
+    const struct message *found = *find_message(box, probe);
+    if (found != NULL) write_status(status, found);
+    pthread_mutex_unlock(&box->lock);
+    return found != NULL;
+}
+
+bool mpi_message_waits(const struct request *probe) { return has_come(probe, MPI_STATUS_IGNORE); }
 
 /* ---- completing */
 
-static int take_message(struct request *it, MPI_Status *status, const char *call) {
+/* As many elements as have come; the bytes of a part of one too, where they lie together. */
+static void unpack_message(const struct message *message, const struct request *it) {
+    size_t size = it->type->size, whole = size > 0 ? message->length / size : 0, part = message->length - whole * size;
+    mpi_unpack(it->type, whole, it->to, message->bytes);
+    if (it->type->dense && part > 0) memcpy((char *)it->to + whole * size, message->bytes + whole * size, part);
+}
+
+static int receive_message(struct request *it, MPI_Status *status, const char *call) {
     struct message *message = it->message;
-    int code = MPI_SUCCESS, other;
-    mpi_far(it->comm, &other);
-    if (status != MPI_STATUS_IGNORE) {
-        status->MPI_SOURCE = message != NULL ? message->from : MPI_PROC_NULL;
-        status->MPI_TAG = message != NULL ? message->tag : MPI_ANY_TAG;
-        status->bytes_ = message != NULL ? (MPI_Count)message->bytes : 0;
-    }
-    if (message == NULL) return code;
     size_t room = (size_t)it->many * it->type->size;
-    if (message->bytes > room)
+    int code = MPI_SUCCESS, other;
+    write_status(status, message);
+    if (message == NULL) return code;
+    if (message->length <= room) unpack_message(message, it);
+    else {
+        mpi_far(it->comm, &other);
         code = mpi_refuse(it->comm, MPI_ERR_TRUNCATE, call, "rank %d sends %zu bytes, and the receive of %s has room for %zu",
-                         it->comm->members[other + message->from].rank, message->bytes, it->site, room);
-    else if (it->type->size > 0) {
-        size_t whole = message->bytes / it->type->size, rest = message->bytes % it->type->size;
-        mpi_unpack(it->type, whole, it->to, message->data);
-        if (rest > 0 && it->type->dense) memcpy((char *)it->to + whole * it->type->size, message->data + whole * it->type->size, rest);
+                          it->comm->members[other + message->group_rank].rank, message->length, it->site, room);
     }
     free(message);
     return code;
 }
 
 int mpi_finish_message(struct request *it, MPI_Status *status, const char *call) {
-    int code = it->sort == RECEIVING ? take_message(it, status, call) : MPI_SUCCESS;
+    int code = it->sort == RECEIVING ? receive_message(it, status, call) : MPI_SUCCESS;
     it->active = false;
     if (!it->persistent) mpi_drop_request(it);
     return code;
@@ -286,8 +327,8 @@ static int probe(int source, int tag, MPI_Comm comm, int *flag, MPI_Status *stat
     mpi_empty_status(status);
     bool nobody = source == MPI_PROC_NULL;
     if (nobody && status != MPI_STATUS_IGNORE) status->MPI_SOURCE = MPI_PROC_NULL;
-    if (flag == NULL && !nobody && !lies_there(it, MPI_STATUS_IGNORE)) mpi_wait_for(call, only, 1, false);
-    bool there = nobody || lies_there(it, status);
+    if (flag == NULL && !nobody && !has_come(it, MPI_STATUS_IGNORE)) mpi_wait_for(call, only, 1, false);
+    bool there = nobody || has_come(it, status);
     if (flag != NULL) *flag = there;
     mpi_drop_request(it);
     return code;
@@ -327,32 +368,36 @@ int MPI_Status_set_cancelled(MPI_Status *status, int flag) {
 
 /* ---- packing */
 
-int MPI_Pack(const void *from, int many, MPI_Datatype handle, void *bytes, int room, int *position, MPI_Comm comm) {
+/* Moves *POSITION past the bytes of some elements, if they lie within ROOM. */
+static int pass(int *position, int room, int many, MPI_Datatype handle, const char *call) {
     struct type *type = mpi_type(handle);
-    (void)comm;
-    if (type == NULL) return mpi_type_error(handle, "MPI_Pack");
-    size_t length = (size_t)many * type->size;
-    if ((size_t)*position + length > (size_t)room) return mpi_refuse(NULL, MPI_ERR_TRUNCATE, "MPI_Pack", "%zu bytes are packed, and there is room for %d", length, room - *position);
-    mpi_pack(type, (size_t)many, from, (char *)bytes + *position);
-    *position += (int)length;
+    if (type == NULL) return mpi_type_error(handle, call);
+    if (many < 0) return mpi_refuse(NULL, MPI_ERR_COUNT, call, "the count %d is negative", many);
+    long long end = *position + (long long)many * (long long)type->size;
+    if (end > room) return mpi_refuse(NULL, MPI_ERR_TRUNCATE, call, "the elements end at byte %lld of a buffer of %d", end, room);
+    *position = (int)end;
     return MPI_SUCCESS;
+}
+
+int MPI_Pack(const void *from, int many, MPI_Datatype handle, void *bytes, int room, int *position, MPI_Comm comm) {
+    (void)comm;
+    mpi_self("MPI_Pack");
+    int begin = *position, code = pass(position, room, many, handle, "MPI_Pack");
+    if (code == MPI_SUCCESS) mpi_pack(mpi_type(handle), (size_t)many, from, (char *)bytes + begin);
+    return code;
 }
 
 int MPI_Unpack(const void *bytes, int length, int *position, void *into, int many, MPI_Datatype handle, MPI_Comm comm) {
-    struct type *type = mpi_type(handle);
     (void)comm;
-    if (type == NULL) return mpi_type_error(handle, "MPI_Unpack");
-    size_t due = (size_t)many * type->size;
-    if ((size_t)*position + due > (size_t)length) return mpi_refuse(NULL, MPI_ERR_TRUNCATE, "MPI_Unpack", "%zu bytes are unpacked, and %d are there", due, length - *position);
-    mpi_unpack(type, (size_t)many, into, (const char *)bytes + *position);
-    *position += (int)due;
-    return MPI_SUCCESS;
+    mpi_self("MPI_Unpack");
+    int begin = *position, code = pass(position, length, many, handle, "MPI_Unpack");
+    if (code == MPI_SUCCESS) mpi_unpack(mpi_type(handle), (size_t)many, into, (const char *)bytes + begin);
+    return code;
 }
 
 int MPI_Pack_size(int many, MPI_Datatype handle, MPI_Comm comm, int *size) {
-    struct type *type = mpi_type(handle);
     (void)comm;
-    if (type == NULL) return mpi_type_error(handle, "MPI_Pack_size");
-    *size = (int)((size_t)many * type->size);
-    return MPI_SUCCESS;
+    mpi_self("MPI_Pack_size");
+    *size = 0;
+    return pass(size, INT32_MAX, many, handle, "MPI_Pack_size");
 }

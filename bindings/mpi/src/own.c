@@ -1,116 +1,128 @@
-/* Part of each program: what a rank has of its own beside the program's static variables. wzcc links exit, rand and so on to these (--wrap). */
+/* Linked into each program: what a rank doesn't share with the ranks beside it, though it isn't one of the program's variables. wzcc has the linker send the
+   program's exit, rand and so on to the functions here (--wrap). Each rank's copy of the program has its copy of this file. */
 #include <dlfcn.h>
+#include <limits.h>
 #include <setjmp.h>
+#include <stdbool.h>
+#include <stdint.h>
 #include <stdio.h>
 #include <stdlib.h>
 #include <string.h>
 #include <unistd.h>
 
+#define OF_PROGRAM(result, name, ...) result __wrap_##name(__VA_ARGS__); result __wrap_##name(__VA_ARGS__)
+
 extern char **environ;
+int main(int argc, char **argv, char **variables);
+int MPI_Initialized(int *flag);
 
-static jmp_buf out;
-static int status;
-static _Bool runs;
-static __thread _Bool is_rank;
+/* ---- the rank's main, and the ways out of it */
 
-int main(int argc, char **argv, char **variables); /* the program's */
+static struct {
+    jmp_buf back; /* behind main */
+    int code;
+    bool entered;
+} rank_main;
+static __thread bool plays_rank;
 
 __attribute__((visibility("default"))) int wz_run_rank_(int argc, char **argv);
 int wz_run_rank_(int argc, char **argv) {
-    runs = is_rank = 1;
-    if (setjmp(out) == 0) status = main(argc, argv, environ);
-    runs = 0;
-    return status;
-}
-
-/* exit ends a rank, not the process; called by another thread of the program it ends all. */
-void __real_exit(int code) __attribute__((noreturn));
-void __wrap_exit(int code) __attribute__((noreturn));
-void __wrap_exit(int code) {
-    if (!runs || !is_rank) __real_exit(code);
-    status = code;
-    longjmp(out, 1);
-}
-
-/* ---- random numbers: each rank draws the same, as processes do */
-static unsigned seed = 1;
-static struct random_data state;
-static char state_bytes[128];
-static _Bool is_seeded;
-static struct drand48_data state48;
-
-int __wrap_rand(void);
-void __wrap_srand(unsigned given);
-long __wrap_random(void);
-void __wrap_srandom(unsigned given);
-double __wrap_drand48(void);
-long __wrap_lrand48(void);
-void __wrap_srand48(long given);
-char *__wrap_strtok(char *text, const char *ends);
-
-void __wrap_srandom(unsigned given) {
-    if (is_seeded) srandom_r(given, &state);
-    else initstate_r(given, state_bytes, sizeof state_bytes, &state);
-    is_seeded = 1;
-}
-
-long __wrap_random(void) {
-    int32_t drawn;
-    if (!is_seeded) __wrap_srandom(1);
-    random_r(&state, &drawn);
-    return drawn;
-}
-
-int __wrap_rand(void) { return rand_r(&seed); }
-
-void __wrap_srand(unsigned given) { seed = given; }
-
-double __wrap_drand48(void) {
-    double drawn;
-    drand48_r(&state48, &drawn);
-    return drawn;
-}
-
-long __wrap_lrand48(void) {
-    long drawn;
-    lrand48_r(&state48, &drawn);
-    return drawn;
-}
-
-void __wrap_srand48(long given) { srand48_r(given, &state48); }
-
-static char *rest;
-char *__wrap_strtok(char *text, const char *ends) { return strtok_r(text, ends, &rest); }
-
-/* ---- a program that is run by itself hands over to wzrun, with WZ_RANKS ranks or one, so that configure scripts can run theirs */
-
-const char wz_interpreter_[] __attribute__((section(".interp"), used)) = "/lib64/ld-linux-x86-64.so.2";
-__asm__(".text\n.globl wz_start_\n.type wz_start_, @function\nwz_start_:\n\tmov %rsp, %rdi\n\tand $-16, %rsp\n\tcall wz_enter_\n\thlt\n");
-
-int MPI_Initialized(int *flag);
-
-/* wzrun lies in the folder bin beside the library's. */
-static void find_wzrun(char path[4200]) {
-    Dl_info library;
-    path[0] = '\0';
-    if (dladdr((void *)MPI_Initialized, &library) == 0 || realpath(library.dli_fname, path) == NULL) return;
-    for (int i = 0; i < 2 && strrchr(path, '/') != NULL; i++) *strrchr(path, '/') = '\0';
-    strcat(path, "/bin/wzrun");
-}
-
-__attribute__((noreturn, used, visibility("hidden"))) void wz_enter_(long *stack) {
-    long words = stack[0];
-    char **word = (char **)(stack + 1), self[4096], run[4200];
-    ssize_t length = readlink("/proc/self/exe", self, sizeof self - 1);
-    char **given = calloc((size_t)words + 2, sizeof *given);
-    if (length > 0 && given != NULL) {
-        self[length] = '\0';
-        find_wzrun(run);
-        given[0] = run;
-        given[1] = self;
-        for (long i = 1; i < words; i++) given[i + 1] = word[i];
-        execv(run, given);
+    plays_rank = true;
+    rank_main.entered = true;
+    switch (setjmp(rank_main.back)) {
+    case 0: rank_main.code = main(argc, argv, environ); break;
+    default: break; /* exit has set the code */
     }
-    fprintf(stderr, "%s: this program is run by wzrun, which isn't found\n", words > 0 ? word[0] : "?");
+    rank_main.entered = false;
+    return rank_main.code;
+}
+
+/* By the rank's thread it ends the rank; by another thread of the program, all. */
+__attribute__((noreturn)) void __real_exit(int code);
+__attribute__((noreturn)) void __wrap_exit(int code);
+void __wrap_exit(int code) {
+    if (plays_rank && rank_main.entered) {
+        rank_main.code = code;
+        longjmp(rank_main.back, 1);
+    }
+    __real_exit(code);
+}
+
+/* ---- draws: a process of its own has the same ones for the same seed, and so has a rank */
+
+static struct {
+    unsigned simple;
+    char table[128];
+    struct random_data additive;
+    struct drand48_data congruential;
+    bool has_additive;
+} draws = { .simple = 1 };
+
+OF_PROGRAM(void, srand, unsigned from) { draws.simple = from; }
+OF_PROGRAM(int, rand, void) { return rand_r(&draws.simple); }
+
+OF_PROGRAM(void, srandom, unsigned from) {
+    if (!draws.has_additive) initstate_r(from, draws.table, sizeof draws.table, &draws.additive);
+    else srandom_r(from, &draws.additive);
+    draws.has_additive = true;
+}
+OF_PROGRAM(long, random, void) {
+    int32_t number = 0;
+    if (!draws.has_additive) __wrap_srandom(1);
+    return random_r(&draws.additive, &number) == 0 ? number : 0;
+}
+
+OF_PROGRAM(void, srand48, long from) { srand48_r(from, &draws.congruential); }
+OF_PROGRAM(double, drand48, void) {
+    double number = 0;
+    drand48_r(&draws.congruential, &number);
+    return number;
+}
+OF_PROGRAM(long, lrand48, void) {
+    long number = 0;
+    lrand48_r(&draws.congruential, &number);
+    return number;
+}
+
+/* ---- strtok keeps its place between calls */
+static char *strtok_place;
+OF_PROGRAM(char *, strtok, char *text, const char *between) { return strtok_r(text, between, &strtok_place); }
+
+/* ---- a program that is run by itself: the system enters it here, and it becomes wzrun with itself as the program, so that configure scripts can run theirs */
+
+__attribute__((section(".interp"), used)) static const char loader[] = "/lib64/ld-linux-x86-64.so.2";
+
+/* Writes PREFIX/bin/wzrun, PREFIX being where the library lies in lib. Whether it could. */
+static bool write_wzrun(char path[PATH_MAX + 16]) {
+    Dl_info of_library;
+    if (!dladdr((void *)(uintptr_t)MPI_Initialized, &of_library) || !realpath(of_library.dli_fname, path)) return false;
+    char *library = strrchr(path, '/');
+    if (library == NULL) return false;
+    *library = '\0';
+    char *folder = strrchr(path, '/');
+    if (folder == NULL) return false;
+    strcpy(folder, "/bin/wzrun");
+    return true;
+}
+
+/* AT: what the system puts on the stack: the number of words, the words, and NULL. */
+__attribute__((noreturn, used, visibility("hidden"))) void wz_become_wzrun_(void *const *at);
+void wz_become_wzrun_(void *const *at) {
+    size_t many = (size_t)(uintptr_t)at[0];
+    char wzrun[PATH_MAX + 16], program[PATH_MAX] = "";
+    char *words[many + 2];
+    memcpy(&words[1], &at[1], (many + 1) * sizeof *words);
+    words[0] = wzrun;
+    words[1] = program;
+    if (many > 0 && readlink("/proc/self/exe", program, sizeof program - 1) > 0 && write_wzrun(wzrun)) execv(wzrun, words);
+    fputs("this program was linked by wzcc, and wzrun, which runs it, isn't found\n", stderr);
     _exit(1);
+}
+
+__attribute__((naked, used)) void wz_start_(void);
+void wz_start_(void) {
+    __asm__("movq %rsp, %rdi\n\t"
+            "andq $-16, %rsp\n\t"
+            "call wz_become_wzrun_\n\t"
+            "hlt");
 }

@@ -110,21 +110,39 @@ static void tell_rank(const struct rank *rank, uint64_t lost) {
     }
 }
 
-/* A way from a rank over those that each waits for, back to it. */
-static bool tell_circle(int from, uint64_t lost, uint64_t gone) {
-    int path[MOST_RANKS + 1], many = 0, at = from;
-    uint64_t seen = 0;
-    while (!(seen >> at & 1)) {
-        seen |= 1ull << at;
-        path[many++] = at;
-        uint64_t next = awaited(&mpi_run.ranks[at], lost | gone) & lost;
-        if (next == 0) return false;
-        at = __builtin_ctzll(next);
+static int lowest(uint64_t ranks) {
+    int rank = 0;
+    while (!(ranks >> rank & 1)) rank++;
+    return rank;
+}
+
+/* Each lost rank points to one that it waits for; -1: it waits for none of the lost. */
+static void point(uint64_t lost, uint64_t gone, int points[MOST_RANKS]) {
+    for (int i = 0; i < mpi_run.size; i++) {
+        uint64_t whom = lost >> i & 1 ? awaited(&mpi_run.ranks[i], lost | gone) & lost : 0;
+        points[i] = whom != 0 ? lowest(whom) : -1;
     }
-    if (at != from) return false;
-    fprintf(stderr, "  so they wait for one another:");
-    for (int i = 0; i < many; i++) fprintf(stderr, " %d ->", path[i]);
-    fprintf(stderr, " %d\n", from);
+}
+
+/* Follows the pointers for as many steps as there are ranks, which ends within a circle if there is one on the way. -1: there is none. */
+static int find_circle(const int points[MOST_RANKS], int rank) {
+    for (int step = 0; step < mpi_run.size && rank >= 0; step++) rank = points[rank];
+    return rank;
+}
+
+/* Tells of a circle, from its lowest rank on. */
+static bool tell_circle(const int points[MOST_RANKS], int from) {
+    int within = find_circle(points, from), first = within;
+    if (within < 0) return false;
+    for (int i = points[within]; i != within; i = points[i])
+        if (i < first) first = i;
+    fprintf(stderr, "  so they wait for one another: %d", first);
+    int at = first;
+    do {
+        at = points[at];
+        fprintf(stderr, " -> %d", at);
+    } while (at != first);
+    fputc('\n', stderr);
     return true;
 }
 
@@ -139,18 +157,31 @@ static void tell_others(const struct sight *sight, uint64_t lost) {
     }
 }
 
+/* A rank that has called MPI_Finalize mostly ends soon: it is given a little time, so that its status is told. */
+static void wait_for_ends(void) {
+    for (int turn = 0; turn < 40; turn++) {
+        bool all = true;
+        for (int i = 0; i < mpi_run.size; i++) all = all && (!atomic_load(&mpi_run.ranks[i].finalized) || atomic_load(&mpi_run.ranks[i].ended));
+        if (all) return;
+        nanosleep(&(struct timespec){ 0, 5000000 }, NULL);
+    }
+}
+
 static void tell_stall(const struct sight *sight, uint64_t lost) {
     char ranks[RANKS_TEXT];
     bool all = (lost | sight->gone) == (mpi_run.size == 64 ? UINT64_MAX : (1ull << mpi_run.size) - 1);
     mpi_tell_alone();
+    wait_for_ends();
     fflush(stdout);
     if (all) fprintf(stderr, "wzrun: stalled: no rank can go on\n");
     else fprintf(stderr, "wzrun: stalled: %s can't go on\n", mpi_ranks_text(lost, ranks));
     for (int i = 0; i < mpi_run.size; i++)
         if (lost >> i & 1) tell_rank(&mpi_run.ranks[i], lost | sight->gone);
     tell_others(sight, lost);
+    int points[MOST_RANKS];
+    point(lost, sight->gone, points);
     for (int i = 0; i < mpi_run.size; i++)
-        if ((lost >> i & 1) && tell_circle(i, lost, sight->gone)) break;
+        if ((lost >> i & 1) && tell_circle(points, i)) break;
     if (mpi_run.strict) fprintf(stderr, "  (--strict: each collective is taken to wait for all its members, each send for its receive)\n");
     mpi_end_run(STATUS_STALLED, "stalled");
 }

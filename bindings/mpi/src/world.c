@@ -42,6 +42,7 @@ void mpi_begin_run(int size) {
         mpi_run.ranks[i].site = "its beginning";
         mpi_run.ranks[i].random = mpi_run.seed * 64 + (uint64_t)i;
     }
+    mpi_open_mailboxes(size);
     mpi_open_world(size);
 }
 

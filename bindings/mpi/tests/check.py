@@ -24,7 +24,7 @@ OPTIONS = {
     "in_place": "-n 2", "start_twice": "-n 1", "stale": "-n 1", "free_nonblocking": "-n 1", "twice_in_list": "-n 1", "finalized": "-n 1", "uncommitted": "-n 1",
     "freed_type": "-n 1", "freed_operation": "-n 1", "null_communicator": "-n 1", "freed_communicator": "-n 1", "unequal": "-n 1", "no_topology": "-n 1",
     "same_buffer": "-n 1", "overlap": "-n 2", "not_for_type": "-n 1", "no_root": "-n 1", "negative": "-n 1", "never_completed": "-n 1",
-    "null_buffer": "-n 2", "told_by_code": "-n 2", "gatherv": "-n 3",
+    "too_many": "-n 2", "neighbors": "-n 2", "null_buffer": "-n 2", "told_by_code": "-n 2", "gatherv": "-n 3",
 }
 # How many ranks each right program is run with, where these aren't 1, 2 and 5.
 RIGHT_RANKS = {"million_places": [2], "threads": [2], "grid": [4, 6], "intercommunicators": [2, 3, 5], "neighbors": [1, 2, 4]}

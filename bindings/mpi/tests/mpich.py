@@ -60,8 +60,8 @@ class Programs:
         return [self.wzcc, "-O1", "-w", *(["-DUSE_MTEST_NBC"] if nonblocking else []), *(f"-I{it}" for it in include), source, *self.util]
 
     def compile_util(self):
-        """What all tests share, once. Only mtest_thread.c asks for more than this library has."""
-        for name in ("mtest", "mtest_common"):
+        """What all tests share, once."""
+        for name in ("mtest", "mtest_common", "mtest_thread"):
             made = self.out / f"{name}.o"
             subprocess.run([*map(str, [it for it in self.words(self.folder / f"util/{name}.c", False) if it not in self.util]), "-c", "-o", str(made)], check=True)
             self.util.append(made)

@@ -113,7 +113,7 @@ static void truncated(void) {
 /* ---- calls that MPI doesn't allow */
 static void in_place(void) { MPI_Gather(MPI_IN_PLACE, 1, MPI_INT, others, 1, MPI_INT, 0, MPI_COMM_WORLD); }
 static void same_buffer(void) { MPI_Allreduce(numbers, numbers, 1, MPI_INT, MPI_SUM, MPI_COMM_WORLD); }
-static void overlap(void) { MPI_Allgather(numbers + 1, 1, MPI_INT, numbers, 1, MPI_INT, MPI_COMM_WORLD); }
+static void overlap(void) { MPI_Allgather(numbers + (rank == 1 ? 1 : 8), 1, MPI_INT, numbers, 1, MPI_INT, MPI_COMM_WORLD); }
 static void null_buffer(void) { MPI_Bcast(rank == 1 ? NULL : numbers, 1, MPI_INT, 0, MPI_COMM_WORLD); }
 static void negative(void) { MPI_Bcast(numbers, rank - 1, MPI_INT, 0, MPI_COMM_WORLD); }
 static void no_root(void) { MPI_Reduce(numbers, others, 1, MPI_INT, MPI_SUM, size, MPI_COMM_WORLD); }
@@ -181,6 +181,14 @@ static void changed(void) {
 static void finalized(void) {
     MPI_Finalize();
     MPI_Barrier(MPI_COMM_WORLD);
+}
+
+static void too_many(void) {
+    static MPI_Request requests[5000];
+    if (rank == 1) MPI_Recv(numbers, 1, MPI_INT, 0, 0, MPI_COMM_WORLD, MPI_STATUS_IGNORE);
+    for (int i = 0; i < 5000; i++) MPI_Ibarrier(MPI_COMM_WORLD, &requests[i]);
+    if (rank == 0) MPI_Send(numbers, 1, MPI_INT, 1, 0, MPI_COMM_WORLD);
+    MPI_Waitall(5000, requests, MPI_STATUSES_IGNORE);
 }
 
 /* ---- ranks that wait for one another */
@@ -272,7 +280,7 @@ static const struct {
     CASE(gatherv), CASE(scatterv), CASE(alltoallv), CASE(alltoallw), CASE(neighbors), CASE(intercommunicator), CASE(truncated), CASE(in_place), CASE(same_buffer),
     CASE(overlap), CASE(null_buffer), CASE(negative), CASE(no_root), CASE(not_for_type), CASE(uncommitted), CASE(freed_type), CASE(freed_operation),
     CASE(null_communicator), CASE(freed_communicator), CASE(unequal), CASE(start_twice), CASE(stale), CASE(free_nonblocking), CASE(twice_in_list),
-    CASE(no_topology), CASE(changed), CASE(finalized), CASE(lacking), CASE(crossed), CASE(missing_start), CASE(missing_split), CASE(any_of_two),
+    CASE(no_topology), CASE(changed), CASE(finalized), CASE(too_many), CASE(lacking), CASE(crossed), CASE(missing_start), CASE(missing_split), CASE(any_of_two),
     CASE(receives_first), CASE(lucky_bcasts), CASE(lucky_sends), CASE(crash), CASE(never_completed), CASE(told_by_code), CASE(aborts),
 };
 
