@@ -1,6 +1,11 @@
 -- Lists of programs, and what they gave.
-use Rattle.std.proofs.Common.{◌≡◌, ℕ, ◌+◌, List, [], ◌∷◌, length, map, Option, Some, None, refl, sym, ap, subst, ◌∙◌}
-use Rattle.std.specs.Prelude.{IfOk, IfSome, Result, Ok, Err}
+use Rattle.std.proofs.Common.{Bool, true, inl, inr, ◌⊎◌, ◌≡◌, ℕ, ◌+◌, List, [], ◌∷◌, length, map, Option, Some, None, refl, sym, ap, subst, ◌∙◌}
+use Rattle.std.specs.Bool.{OnTrue}
+use Rattle.std.specs.Prelude.{All, Contains, IfOk, IfSome, Result, Ok, Err}
+use Rattle.std.proofs.lemmas.List.Elements.{All-contains}
+use Rattle.coll_kinds.specs.declared.refusal.Refusal.{Refusal}
+use Rattle.coll_kinds.specs.declared.refusal.Refusal.TheVariants.{NoMemory}
+use Rattle.coll_traced.specs.Awaiting.{IsSetback}
 use Rattle.std.specs.List.{range_with_len}
 use Rattle.std.proofs.lemmas.List.{length-map}
 use Rattle.std.proofs.lemmas.List.FromFn.{length-range_with_len}
@@ -64,3 +69,16 @@ pub given_ok : {K E P T X F : Type 0} (G : P → ℕ → T → Type 0) (program 
 given_ok G program rank value values ks es ps (Ok x) h ranks programs told =
     subst (λ ps. AreGiven G 0 ps (values x)) programs (given G program rank value 0 ks es (values x) h ranks told)
 given_ok G program rank value values ks es ps (Err why) h ranks programs told = tt
+
+-- the ends of the tasks, where all threads were started
+pub ended : {K E : Type 0} (P : K → E → Type 0) (ks : List K) (rs es : List E) (b : Bool) → OnTrue b (AreEnds P ks rs) → b ≡ true
+    → es ≡ rs → AreEnds P ks es
+ended P ks rs es b h is same =
+    let all : AreEnds P ks rs = subst (λ b. OnTrue b (AreEnds P ks rs)) is h in
+    subst (λ es. AreEnds P ks es) (sym same) all
+
+-- why there are no ends
+pub set_back : (None' : Type 0) (workers : List (Option Refusal)) (why : Refusal) → All (λ end. IfSome end IsSetback) workers
+    → (None' × (why ≡ NoMemory)) ⊎ Contains workers (Some why) → IsSetback why
+set_back None' workers why all (inl none) = inl none.1
+set_back None' workers why all (inr there) = All-contains (λ end. IfSome end IsSetback) workers (Some why) all there
