@@ -367,7 +367,7 @@ Leads:
         :: else -> next = 0; break
         od;
         true;
-        d_step { answer_waits() };
+        d_step { answer_waits(); i = 0 };
 #ifndef UNJUDGED_RETURN
         d_step { judge() };
 #endif

@@ -51,7 +51,7 @@ CONFIGURATIONS = [
     (False, False, "not handed on", "LEAVER LONG NOT_HANDED_ON"),
     (False, False, "not handed on, short", "LEAVER NOT_HANDED_ON"),
     (False, False, "return without a judgement", f"ABSENTEE {THREE} {TWO} LONG PIECES=1 UNJUDGED_RETURN"),
-    (False, False, "early stall", "ONE EARLY_STALL"),
+    (False, False, "early stall", "ONE PIECES=3 EARLY_STALL"),
     (False, False, "stall while a combination is out", "ONE LONG STALL_WHILE_OUT"),
     (False, False, "a post takes many", "POLLS LONG TAKES_MANY"),
 ]
