@@ -223,6 +223,14 @@ static inline int wz_explain_call(const wz_reason *reason, const wz_posted *mine
     return (int)text.length;
 }
 
+/* The same after a post or an initialisation of an engine that one call at a time goes to; mine is what wz_posted_of_call or
+   wz_posted_of_counts makes of the refused call. */
+static inline int wz_explain_post(wz_engine *engine, uint32_t comm, const wz_posted *mine, char *at, size_t size) {
+    wz_posted theirs;
+    bool has_place = engine->reason.code == WZ_MISMATCH && wz_posted_at(engine, comm, engine->reason.place, &theirs) == WZ_DONE;
+    return wz_explain_call(&engine->reason, mine, has_place ? &theirs : NULL, at, size);
+}
+
 /* ---- MPI's error classes */
 
 /* The MPI error class that an answer stands for (MPI 4.1, 9.4), by its name. */

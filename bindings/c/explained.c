@@ -28,9 +28,10 @@ static void is(const char *text, int length, const char *sentence) {
 
 /* ---- an engine of one thread */
 
-static void explains_call(const wz_engine *engine, const wz_posted *mine, const wz_posted *theirs, const char *sentence) {
+static void explains_call(wz_engine *engine, const wz_posted *mine, const wz_posted *theirs, const char *sentence) {
     char text[400];
     is(text, wz_explain_call(&engine->reason, mine, theirs, text, sizeof text), sentence);
+    is(text, wz_explain_post(engine, 0, mine, text, sizeof text), sentence);
 }
 
 static void operations(void) {
