@@ -61,6 +61,7 @@ runs_of() {
         threads) for ranks in 1 2 4 7; do echo "$ranks 200 quiet"; done ;;
         waits | calls) for ranks in 2 4 8; do echo "$ranks"; done ;;
         bounded) for ranks in 3 8; do echo "$ranks"; done ;;
+        waiting) for ranks in 2 4; do echo "$ranks"; done ;;
         mixed) printf '%s\n' "2 200 1" "4 200 2" "8 100 3" ;;
         *) echo ;;
     esac
@@ -126,6 +127,8 @@ check_c() {
     try_client bounded static $c "$here/c/bounded.c" $static $counted
     # shellcheck disable=SC2086
     [ ! "$checks_threads" ] || try_client bounded tsan $c -fsanitize=thread "$here/c/bounded.c" $static $counted
+    # shellcheck disable=SC2086
+    try_client waiting static $c "$here/c/waiting.c" $static -Wl,--wrap=sched_yield
     check_one_refusal
     check_helgrind
     check_headers c c11 "$cc" gcc clang
@@ -140,19 +143,22 @@ check_one_refusal() {
     [ -x "$work/one_refusal" ] || return
     check "sum with one refusal ends, and all are told" sh -c \
         "timeout 600 $work/one_refusal 2>&1 | sort | cut -c1-40 > $work/told; grep -c 'no wait can end' $work/told | grep -qx 3 && grep -q 'rank 2: there is no communicator 9' $work/told"
+    # shellcheck disable=SC2086
+    [ ! "$checks_threads" ] || try_client one_refusal tsan $c -fsanitize=thread "$here/c/sum.c" "$here/c/one_refusal.c" -Wl,--wrap=wz_post $static
 }
 
 # Programs of 2 to 8 ranks under Helgrind, which the shim tells of its words.
 check_helgrind() {
     has valgrind || { skip "C under Helgrind" "there is no valgrind"; return; }
     echo '#include <valgrind/helgrind.h>' | $cc -x c -fsyntax-only - 2> /dev/null || { skip "C under Helgrind" "there is no valgrind/helgrind.h"; return; }
-    for words in sum explained "waits 2 5" "waits 4 2" "calls 3 2" "calls 8 1" "mixed 2 20 1" "mixed 3 10 2" "threads 2 10 quiet" "threads 4 5 quiet" "bounded 2 1"; do
+    for words in sum one_refusal explained "waits 2 3" "waits 4 1" "calls 3 1" "calls 8 1" "mixed 2 10 1" "mixed 3 5 2" "threads 2 5 quiet" "threads 4 3 quiet" "bounded 2 1"; do
         client=${words%% *}
         arguments=${words#"$client"}
-        wrapped=
-        [ "$client" != bounded ] || wrapped="$counted"
+        sources=$here/c/$client.c
+        [ "$client" != bounded ] || sources="$sources $counted"
+        [ "$client" != one_refusal ] || sources="$sources $here/c/sum.c -Wl,--wrap=wz_post"
         # shellcheck disable=SC2086
-        [ -x "$work/$client.helgrind" ] || check "build $client, helgrind" $c -DWZ_HELGRIND "$here/c/$client.c" $static $wrapped -o "$work/$client.helgrind"
+        [ -x "$work/$client.helgrind" ] || check "build $client, helgrind" $c -DWZ_HELGRIND $sources $static -o "$work/$client.helgrind"
         # shellcheck disable=SC2086
         check "$words, helgrind" valgrind --tool=helgrind -q --error-exitcode=9 --fair-sched=yes "$work/$client.helgrind" $arguments
     done
@@ -174,6 +180,11 @@ check_cpp() {
     has "${cxx%% *}" || { skip "C++" "there is no $cxx"; return; }
     # shellcheck disable=SC2086
     try_client cpp static $cplus "$here/cpp/sum.cpp" $static
+    if has valgrind && echo '#include <valgrind/helgrind.h>' | $cxx -x c++ -fsyntax-only - 2> /dev/null; then
+        # shellcheck disable=SC2086
+        check "build cpp, helgrind" $cplus -DWZ_HELGRIND "$here/cpp/sum.cpp" $static -o "$work/cpp.helgrind"
+        [ ! -x "$work/cpp.helgrind" ] || check "cpp, helgrind" valgrind --tool=helgrind -q --error-exitcode=9 --fair-sched=yes "$work/cpp.helgrind"
+    fi
     if runs_threads_checked "${CC:-cc}"; then
         # shellcheck disable=SC2086
         try_client cpp tsan $cplus -fsanitize=thread "$here/cpp/sum.cpp" $static
