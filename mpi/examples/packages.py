@@ -1,7 +1,7 @@
 #!/usr/bin/env python3
 """Records programs of Debian's packages whole, as they are installed, and judges them:
 
-    mpi/examples/packages.py FOLDER [NAME ...]    inputs and records go to FOLDER
+    mpi/examples/packages.py FOLDER [ROUNDS] [NAME ...]    inputs and records go to FOLDER; 3 rounds where no number is said
 
 The packages are lammps, hpcc, mrbayes-mpi and phyml (apt-get install --no-install-recommends lammps hpcc mrbayes-mpi phyml); all of them are
 built for Debian's Open MPI. Each runs with four ranks, without the recorder and with it in turn, ROUNDS times. A row has the collective
@@ -21,12 +21,12 @@ import time
 HERE = os.path.dirname(os.path.abspath(__file__))
 MPI = os.path.dirname(HERE)
 SETTINGS = {"OMPI_ALLOW_RUN_AS_ROOT": "1", "OMPI_ALLOW_RUN_AS_ROOT_CONFIRM": "1", "OMPI_MCA_mpi_yield_when_idle": "1", "OMP_NUM_THREADS": "1"}
-RANKS, ROUNDS, SECONDS = 4, 3, 600
+RANKS, SECONDS = 4, 1200
 
 MELT = """units lj
 atom_style atomic
 lattice fcc 0.8442
-region box block 0 12 0 12 0 12
+region box block 0 10 0 10 0 10
 create_box 1 box
 create_atoms 1 box
 mass 1 1.0
@@ -37,7 +37,7 @@ neighbor 0.3 bin
 neigh_modify every 20 delay 0 check no
 fix 1 all nve
 thermo 10
-run 1000
+run 500
 """
 
 TREE = """#NEXUS
@@ -54,7 +54,7 @@ five  TCGATGCTTGCATGTCGAACCTGTTTGCATGTCGATGACT
 end;
 begin mrbayes;
 set autoclose=yes nowarn=yes;
-mcmc ngen=20000 samplefreq=100 printfreq=1000 nruns=2 nchains=4;
+mcmc ngen=10000 samplefreq=100 printfreq=1000 nruns=2 nchains=4;
 end;
 """
 
@@ -83,7 +83,7 @@ def prepare_mrbayes(folder):
 
 def prepare_phyml(folder):
     shutil.copy("/usr/share/doc/phyml/examples/nucleic", f"{folder}/nucleic")
-    return ["phyml-mpi", "-i", "nucleic", "-b", "8", "--r_seed", "1", "--no_memory_check"]
+    return ["phyml-mpi", "-i", "nucleic", "-b", "4", "--r_seed", "1", "--no_memory_check"]
 
 
 PROGRAMS = {"lammps": prepare_lammps, "hpcc": prepare_hpcc, "mrbayes": prepare_mrbayes, "phyml": prepare_phyml}
@@ -110,7 +110,7 @@ def run(words, folder, settings):
     return time.monotonic() - begin if status == 0 else float("inf")
 
 
-def measure(name, folder):
+def measure(name, folder, rounds):
     shutil.rmtree(folder, ignore_errors=True)
     os.makedirs(folder)
     words = PROGRAMS[name](folder)
@@ -119,7 +119,7 @@ def measure(name, folder):
     records = f"{folder}/record"
     recorded = [f"LD_PRELOAD={MPI}/out/openmpi/librecord.so", f"RECORD_DIR={records}"]
     without, with_it = [], []
-    for _ in range(ROUNDS):
+    for _ in range(rounds):
         without.append(run(words, folder, []))
         shutil.rmtree(records, ignore_errors=True)
         with_it.append(run(words, folder, recorded))
@@ -134,14 +134,15 @@ def measure(name, folder):
 
 
 def main():
-    names = sys.argv[2:] or list(PROGRAMS)
+    rounds = int(sys.argv[2]) if sys.argv[2:] and sys.argv[2].isdigit() else 3
+    names = [it for it in sys.argv[2:] if not it.isdigit()] or list(PROGRAMS)
     if len(sys.argv) < 2 or not set(names) <= set(PROGRAMS):
         sys.exit(__doc__)
     # Whoever ends this ends the run that is under way too.
     signal.signal(signal.SIGTERM, lambda *_: sys.exit(1))
     subprocess.run(["make", "-s", "-C", MPI, "MPICC=mpicc.openmpi", "OUT=out/openmpi", "out/openmpi/librecord.so"], check=True)
     print("| Program | Calls | Seconds without, with | Bytes | where.py, seconds | Told |\n|---|---|---|---|---|---|")
-    right = [measure(name, os.path.abspath(f"{sys.argv[1]}/{name}")) for name in names]
+    right = [measure(name, os.path.abspath(f"{sys.argv[1]}/{name}"), rounds) for name in names]
     sys.exit(0 if all(right) else 1)
 
 

@@ -149,9 +149,13 @@ class Report:
     def tell_stalls(self):
         """What colljob says of the calls, window by window."""
         job = Job(self.records, self.contexts, self.places, self.judge)
-        if not os.path.exists(self.program):
-            print(f"no fault found in the calls; whether ranks can wait for one another wasn't asked: there is no {self.program}")
+        try:
+            return self.tell_windows(job)
+        except Unreadable as why:
+            print(f"no fault found in the calls; whether ranks can wait for one another isn't known: {why}")
             return 3
+
+    def tell_windows(self, job):
         first, windows = 0, 0
         while first is not None and windows < MOST_WINDOWS:
             job.notes = [note for note in job.notes if "place" not in note]

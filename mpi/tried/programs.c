@@ -627,7 +627,7 @@ static void right_threads(void) {
 }
 
 static void right_long(void) {
-    for (int turn = 0; turn < 4 * MANY; turn++)
+    for (int turn = 0; turn < MANY; turn++)
         MPI_Allreduce(&one, &sum, 1, MPI_INT, MPI_SUM, world);
 }
 
