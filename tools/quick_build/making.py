@@ -25,6 +25,7 @@ def build(wanted, kit, progress):
             made = os.path.join(scratch, "made")
             make(wanted, kit, scratch, made, progress)
             place = wanted.place(kit.short_id(), total)
+            os.makedirs(wanted.folder, exist_ok=True)
             building.keep(made, place)
         for name in wanted.names()[MOST:]:
             building.drop(os.path.join(wanted.folder, name))
