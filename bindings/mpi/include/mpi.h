@@ -17,10 +17,10 @@ extern "C" {
 #define MPI_SUBVERSION 1
 #define WORZSUNAB_MPI 1
 
-/* Handles: a kind, a generation and a number in one word. A rank's handles mean nothing to another. */
+/* Handles: a kind, a generation and a number in one word. A rank's handles mean nothing to another. But for types, the compiler tells one kind from another. */
 typedef struct wz_comm_handle_ *MPI_Comm;
 typedef struct wz_group_handle_ *MPI_Group;
-typedef struct wz_type_handle_ *MPI_Datatype;
+typedef int MPI_Datatype; /* as in MPICH, since there are programs that keep types in ints */
 typedef struct wz_op_handle_ *MPI_Op;
 typedef struct wz_request_handle_ *MPI_Request;
 typedef struct wz_info_handle_ *MPI_Info;
@@ -56,7 +56,7 @@ typedef struct MPI_Status {
 #define MPI_COMM_SELF WZ_HANDLE_(MPI_Comm, 1, 2)
 #define MPI_GROUP_NULL WZ_HANDLE_(MPI_Group, 2, 0)
 #define MPI_GROUP_EMPTY WZ_HANDLE_(MPI_Group, 2, 1)
-#define MPI_DATATYPE_NULL WZ_HANDLE_(MPI_Datatype, 3, 0)
+#define MPI_DATATYPE_NULL 0x3c000000
 #define MPI_OP_NULL WZ_HANDLE_(MPI_Op, 4, 0)
 #define MPI_REQUEST_NULL WZ_HANDLE_(MPI_Request, 5, 0)
 #define MPI_INFO_NULL WZ_HANDLE_(MPI_Info, 6, 0)
@@ -70,46 +70,46 @@ typedef struct MPI_Status {
 #define MPI_FILE_NULL WZ_HANDLE_(MPI_File, 10, 0)
 
 /* Types, in the order of types.c. */
-#define MPI_CHAR WZ_HANDLE_(MPI_Datatype, 3, 1)
-#define MPI_SIGNED_CHAR WZ_HANDLE_(MPI_Datatype, 3, 2)
-#define MPI_UNSIGNED_CHAR WZ_HANDLE_(MPI_Datatype, 3, 3)
-#define MPI_SHORT WZ_HANDLE_(MPI_Datatype, 3, 4)
-#define MPI_UNSIGNED_SHORT WZ_HANDLE_(MPI_Datatype, 3, 5)
-#define MPI_INT WZ_HANDLE_(MPI_Datatype, 3, 6)
-#define MPI_UNSIGNED WZ_HANDLE_(MPI_Datatype, 3, 7)
-#define MPI_LONG WZ_HANDLE_(MPI_Datatype, 3, 8)
-#define MPI_UNSIGNED_LONG WZ_HANDLE_(MPI_Datatype, 3, 9)
-#define MPI_LONG_LONG_INT WZ_HANDLE_(MPI_Datatype, 3, 10)
+#define MPI_CHAR 0x3c000001
+#define MPI_SIGNED_CHAR 0x3c000002
+#define MPI_UNSIGNED_CHAR 0x3c000003
+#define MPI_SHORT 0x3c000004
+#define MPI_UNSIGNED_SHORT 0x3c000005
+#define MPI_INT 0x3c000006
+#define MPI_UNSIGNED 0x3c000007
+#define MPI_LONG 0x3c000008
+#define MPI_UNSIGNED_LONG 0x3c000009
+#define MPI_LONG_LONG_INT 0x3c00000a
 #define MPI_LONG_LONG MPI_LONG_LONG_INT
-#define MPI_UNSIGNED_LONG_LONG WZ_HANDLE_(MPI_Datatype, 3, 11)
-#define MPI_INT8_T WZ_HANDLE_(MPI_Datatype, 3, 12)
-#define MPI_INT16_T WZ_HANDLE_(MPI_Datatype, 3, 13)
-#define MPI_INT32_T WZ_HANDLE_(MPI_Datatype, 3, 14)
-#define MPI_INT64_T WZ_HANDLE_(MPI_Datatype, 3, 15)
-#define MPI_UINT8_T WZ_HANDLE_(MPI_Datatype, 3, 16)
-#define MPI_UINT16_T WZ_HANDLE_(MPI_Datatype, 3, 17)
-#define MPI_UINT32_T WZ_HANDLE_(MPI_Datatype, 3, 18)
-#define MPI_UINT64_T WZ_HANDLE_(MPI_Datatype, 3, 19)
-#define MPI_AINT WZ_HANDLE_(MPI_Datatype, 3, 20)
-#define MPI_OFFSET WZ_HANDLE_(MPI_Datatype, 3, 21)
-#define MPI_COUNT WZ_HANDLE_(MPI_Datatype, 3, 22)
-#define MPI_BYTE WZ_HANDLE_(MPI_Datatype, 3, 23)
-#define MPI_PACKED WZ_HANDLE_(MPI_Datatype, 3, 24)
-#define MPI_WCHAR WZ_HANDLE_(MPI_Datatype, 3, 25)
-#define MPI_C_BOOL WZ_HANDLE_(MPI_Datatype, 3, 26)
-#define MPI_FLOAT WZ_HANDLE_(MPI_Datatype, 3, 27)
-#define MPI_DOUBLE WZ_HANDLE_(MPI_Datatype, 3, 28)
-#define MPI_LONG_DOUBLE WZ_HANDLE_(MPI_Datatype, 3, 29)
-#define MPI_C_FLOAT_COMPLEX WZ_HANDLE_(MPI_Datatype, 3, 30)
+#define MPI_UNSIGNED_LONG_LONG 0x3c00000b
+#define MPI_INT8_T 0x3c00000c
+#define MPI_INT16_T 0x3c00000d
+#define MPI_INT32_T 0x3c00000e
+#define MPI_INT64_T 0x3c00000f
+#define MPI_UINT8_T 0x3c000010
+#define MPI_UINT16_T 0x3c000011
+#define MPI_UINT32_T 0x3c000012
+#define MPI_UINT64_T 0x3c000013
+#define MPI_AINT 0x3c000014
+#define MPI_OFFSET 0x3c000015
+#define MPI_COUNT 0x3c000016
+#define MPI_BYTE 0x3c000017
+#define MPI_PACKED 0x3c000018
+#define MPI_WCHAR 0x3c000019
+#define MPI_C_BOOL 0x3c00001a
+#define MPI_FLOAT 0x3c00001b
+#define MPI_DOUBLE 0x3c00001c
+#define MPI_LONG_DOUBLE 0x3c00001d
+#define MPI_C_FLOAT_COMPLEX 0x3c00001e
 #define MPI_C_COMPLEX MPI_C_FLOAT_COMPLEX
-#define MPI_C_DOUBLE_COMPLEX WZ_HANDLE_(MPI_Datatype, 3, 31)
-#define MPI_C_LONG_DOUBLE_COMPLEX WZ_HANDLE_(MPI_Datatype, 3, 32)
-#define MPI_2INT WZ_HANDLE_(MPI_Datatype, 3, 33)
-#define MPI_FLOAT_INT WZ_HANDLE_(MPI_Datatype, 3, 34)
-#define MPI_DOUBLE_INT WZ_HANDLE_(MPI_Datatype, 3, 35)
-#define MPI_LONG_INT WZ_HANDLE_(MPI_Datatype, 3, 36)
-#define MPI_SHORT_INT WZ_HANDLE_(MPI_Datatype, 3, 37)
-#define MPI_LONG_DOUBLE_INT WZ_HANDLE_(MPI_Datatype, 3, 38)
+#define MPI_C_DOUBLE_COMPLEX 0x3c00001f
+#define MPI_C_LONG_DOUBLE_COMPLEX 0x3c000020
+#define MPI_2INT 0x3c000021
+#define MPI_FLOAT_INT 0x3c000022
+#define MPI_DOUBLE_INT 0x3c000023
+#define MPI_LONG_INT 0x3c000024
+#define MPI_SHORT_INT 0x3c000025
+#define MPI_LONG_DOUBLE_INT 0x3c000026
 /* C++ and Fortran names of types that are the same. */
 #define MPI_CXX_BOOL MPI_C_BOOL
 #define MPI_CXX_FLOAT_COMPLEX MPI_C_FLOAT_COMPLEX
@@ -182,7 +182,7 @@ int wz_comm_dup_fn_(MPI_Comm comm, int keyval, void *extra, void *value, void *c
 #define MPI_COMM_DUP_FN wz_comm_dup_fn_
 
 /* Where the next call of this thread stands in the program. */
-void wz_at_(const char *site);
+void wz_note_line_(const char *line);
 
 #include "mpi_calls.h"
 

@@ -50,9 +50,9 @@ static int give_to_each(const struct request *it, uint64_t *parcels) {
         if (to == MPI_PROC_NULL) continue;
         struct parcel *parcel = fill(it, mpi_given_piece(it, pieces == 1 ? 0 : i), 1);
         if (topology != NULL && topology->kind == MPI_CART) parcel->slot = i ^ 1; /* what goes up comes from below */
-        struct parcel **end = (struct parcel **)&parcels[to];
-        while (*end != NULL) end = &(*end)->next;
-        *end = parcel;
+        struct parcel **link = (struct parcel **)&parcels[to];
+        for (; *link != NULL; link = &(*link)->next) {}
+        *link = parcel;
     }
     return it->comm->size;
 }

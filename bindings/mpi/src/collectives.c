@@ -32,11 +32,10 @@ int mpi_engine_refused(struct request *it, int32_t code, const char *call) {
     if (code == WZ_FULL)
         return mpi_refuse(it->comm, MPI_ERR_OTHER, call, "the communicator has room for %u requests that aren't completed, of all its members together, and all is taken",
                           mpi_slots_for(it->comm));
-    wz_reason reason = wz_shared_reason(&it->engine->shared, (uint8_t)it->member);
-    char text[300];
-    if (reason.code == code) wz_explain(&reason, text, sizeof text);
-    else snprintf(text, sizeof text, "%s", wz_message(code));
-    return mpi_refuse(it->comm, class_of(code), call, "the engine refuses it: %s", text);
+    char why[300];
+    wz_reason last = wz_shared_reason(&it->engine->shared, (uint8_t)it->member);
+    wz_explain(&last, why, sizeof why);
+    return mpi_refuse(it->comm, class_of(code), call, "the engine refuses it: %s", last.code == code ? why : wz_message(code));
 }
 
 /* ---- the engine has slots for so many requests: those of this rank that are done make room */

@@ -71,22 +71,28 @@ struct split {
     int color, key;
 };
 
-/* The members from FROM on that say this colour, in the order of their keys. */
+/* A member of a new communicator, before they are put in order. */
+struct candidate {
+    int key, member, rank;
+};
+
+static int by_key(const void *one, const void *other) {
+    const struct candidate *a = one, *b = other;
+    if (a->key == b->key) return a->member - b->member;
+    return a->key < b->key ? -1 : 1;
+}
+
+/* The ranks of the members from FROM on that say this colour, in the order of their keys. */
 static int of_color(struct comm *comm, struct request *done, int from, int many, int color, int *ranks) {
-    int keys[MOST_RANKS], size = 0;
+    struct candidate found[MOST_RANKS];
+    size_t length, size = 0;
     for (int i = from; i < from + many; i++) {
-        size_t length;
         const struct split *split = mpi_parcel_bytes(done, i, &length);
-        if (split->color != color) continue;
-        int at = size++;
-        for (; at > 0 && keys[at - 1] > split->key; at--) {
-            keys[at] = keys[at - 1];
-            ranks[at] = ranks[at - 1];
-        }
-        keys[at] = split->key;
-        ranks[at] = comm->members[i].rank;
+        if (split->color == color) found[size++] = (struct candidate){ split->key, i, comm->members[i].rank };
     }
-    return size;
+    qsort(found, size, sizeof found[0], by_key);
+    for (size_t i = 0; i < size; i++) ranks[i] = found[i].rank;
+    return (int)size;
 }
 
 static int split(MPI_Comm handle, int color, int key, MPI_Comm *made, const char *call) {

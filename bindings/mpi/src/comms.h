@@ -74,16 +74,16 @@ struct topology {
 };
 
 struct comm {
-    long serial; /* no other communicator of the run has it */
+    long serial; /* its own number in the run, which none gets again */
     int size;    /* all members */
     int first;   /* of an intercommunicator: the members of its first group, which come first; else 0 */
-    char name[MPI_MAX_OBJECT_NAME];
+    char name[MPI_MAX_OBJECT_NAME]; /* of MPI_Comm_set_name */
     const char *maker, *site; /* the call that made it; NULL: it was there from the beginning */
     int8_t member_of[MOST_RANKS]; /* of each rank; -1 */
     struct engine *_Atomic newest;
     struct starts *starts;
     pthread_mutex_t guard; /* for its engines, starts and name */
-    atomic_int users;      /* members that haven't freed it, and requests */
+    atomic_int users;      /* its members until they free it, and its requests */
     struct topology **topologies; /* each member's own; NULL: none has one */
     /* while its members come to it (mpi_join) */
     long parent;

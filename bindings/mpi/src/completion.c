@@ -13,7 +13,7 @@ void mpi_empty_status(MPI_Status *status) {
 /* ---- one request */
 
 /* The outcome is in it->out: puts it where the program wants it. */
-static int finish(struct request *it, const char *call) {
+static int end_collective(struct request *it, const char *call) {
     int code = MPI_SUCCESS;
     bool changed = it->lent != NULL && memcmp(it->lent, it->lent_at, it->lent_length) != 0;
     free(it->lent);
@@ -52,7 +52,7 @@ int mpi_complete(struct request *it, MPI_Status *status, const char *call) {
     }
     if (mpi_run.strict && mpi_lacking(it) != 0) mpi_wait_for(call, only, 1, false);
     int32_t code = it->collected ? WZ_DONE : wait_in_engine(it, call);
-    return code == WZ_DONE ? finish(it, call) : mpi_engine_refused(it, code, call);
+    return code == WZ_DONE ? end_collective(it, call) : mpi_engine_refused(it, code, call);
 }
 
 /* A completion call that the text can't tell the outcome of completes a request. */
@@ -286,7 +286,7 @@ int MPI_Testsome(int many, MPI_Request handles[], int *taken, int indices[], MPI
     return code;
 }
 
-/* ---- persistent requests */
+/* ---- starting and freeing */
 
 static int start(MPI_Request handle, const char *call) {
     struct request *it;

@@ -41,21 +41,27 @@ const void *mpi_given_bytes(struct request *it, void **packed, size_t *length) {
     return *packed;
 }
 
-size_t mpi_outcome_bytes(const struct request *it) {
-    size_t block = (size_t)it->call.count * mpi_engine_width(it->call.type), size = (size_t)it->comm->size, all = 0;
-    bool root = it->call.root == it->member;
+/* How many blocks the engine's collective gives to this member. */
+static size_t blocks_got(const struct request *it) {
+    size_t size = (size_t)it->comm->size, if_root = it->call.root == it->member ? 1 : 0;
     switch (it->call.kind) {
     case WZ_BARRIER: return 0;
-    case WZ_GATHER: return root ? size * block : 0;
-    case WZ_REDUCE: return root ? block : 0;
+    case WZ_GATHER: return if_root * size;
+    case WZ_REDUCE: return if_root;
+    case WZ_EXSCAN: return it->member > 0 ? 1 : 0;
     case WZ_ALLGATHER:
-    case WZ_ALLTOALL: return size * block;
-    case WZ_EXSCAN: return it->member > 0 ? block : 0;
-    case WZ_ALLGATHERV:
-        for (size_t i = 0; i < size; i++) all += it->counts[i];
-        return all * mpi_engine_width(it->call.type);
-    default: return block;
+    case WZ_ALLTOALL: return size;
+    default: return 1;
     }
+}
+
+size_t mpi_outcome_bytes(const struct request *it) {
+    size_t elements = blocks_got(it) * it->call.count;
+    if (it->call.kind == WZ_ALLGATHERV) {
+        elements = 0;
+        for (int i = 0; i < it->comm->size; i++) elements += it->counts[i];
+    }
+    return elements * mpi_engine_width(it->call.type);
 }
 
 void *mpi_outcome_place(struct request *it) {

@@ -12,11 +12,12 @@ uint32_t mpi_slots_for(const struct comm *comm) {
 
 static struct engine *open_engine(const struct comm *comm, uint64_t number) {
     struct engine *engine = mpi_must(malloc(sizeof *engine));
-    uint8_t members[MOST_RANKS], size = (uint8_t)comm->size;
-    for (int i = 0; i < MOST_RANKS; i++) members[i] = (uint8_t)i;
-    wz_limits limits = wz_greatest_limits(size);
+    const uint8_t many = (uint8_t)comm->size;
+    uint8_t ranks_of_engine[MOST_RANKS]; /* its rank numbers are the member numbers */
+    for (uint8_t i = 0; i < many; i++) ranks_of_engine[i] = i;
+    wz_limits limits = wz_greatest_limits(many);
     limits.slots = mpi_slots_for(comm);
-    int32_t code = wz_shared_open(&engine->shared, &limits, &size, 1, members, size);
+    int32_t code = wz_shared_open(&engine->shared, &limits, &many, 1, ranks_of_engine, many);
     if (code != WZ_DONE) {
         fprintf(stderr, "wzrun: no engine can be opened for %d ranks: %s\n", comm->size, wz_message(code));
         _exit(1);
@@ -100,8 +101,9 @@ void mpi_close_engines(struct comm *comm) {
 
 struct starts *mpi_starts_at(struct comm *comm, uint64_t place) {
     pthread_mutex_lock(&comm->guard);
-    struct starts *it = comm->starts;
-    while (it != NULL && it->place != place) it = it->next;
+    struct starts *it;
+    for (it = comm->starts; it != NULL; it = it->next)
+        if (it->place == place) break;
     if (it == NULL) {
         it = mpi_must(calloc(1, sizeof *it + sizeof it->of[0] * (size_t)comm->size));
         it->place = place;

@@ -5,12 +5,9 @@
 #include <time.h>
 #include <unistd.h>
 
-enum { NUMBER_BITS = 24, GENERATION_BITS = 32, FIRST_MADE = 64 };
+static uint32_t number_in(const void *handle) { return (uint32_t)((uintptr_t)handle & ((1u << TABLE_NUMBER_BITS) - 1)); }
 
-/* The numbers below FIRST_MADE are those of mpi.h's own objects, which no table has. */
-static uint32_t number_in(const void *handle) { return (uint32_t)((uintptr_t)handle & ((1u << NUMBER_BITS) - 1)); }
-
-static uint32_t generation_in(const void *handle) { return (uint32_t)((uintptr_t)handle >> NUMBER_BITS); }
+static uint32_t generation_in(const void *handle) { return (uint32_t)((uintptr_t)handle >> TABLE_NUMBER_BITS); }
 
 void *mpi_must(void *memory) {
     if (memory != NULL) return memory;
@@ -33,13 +30,13 @@ static uint32_t free_number(struct table *table) {
 uintptr_t mpi_add(enum kind kind, void *object) {
     struct table *table = &mpi_me->tables[kind];
     uint32_t at = free_number(table);
-    if (at >= (1u << NUMBER_BITS) - FIRST_MADE) {
+    if (at >= (1u << TABLE_NUMBER_BITS) - FIRST_MADE) {
         fprintf(stderr, "wzrun: rank %d has 16 million objects of one kind\n", mpi_me->number);
         _exit(1);
     }
     table->objects[at] = object;
     table->lowest_free = at + 1;
-    return (uintptr_t)kind << 56 | (uintptr_t)table->generations[at] << NUMBER_BITS | (at + FIRST_MADE);
+    return (uintptr_t)kind << 56 | (uintptr_t)table->generations[at] << TABLE_NUMBER_BITS | (at + FIRST_MADE);
 }
 
 /* Whether a handle is of this kind and names something that a table has or had. */
@@ -58,7 +55,7 @@ void *mpi_find(enum kind kind, const void *handle) {
 uintptr_t mpi_handle_of(enum kind kind, const void *object) {
     struct table *table = &mpi_me->tables[kind];
     for (uint32_t i = 0; i < table->many; i++)
-        if (table->objects[i] == object) return (uintptr_t)kind << 56 | (uintptr_t)table->generations[i] << NUMBER_BITS | (i + FIRST_MADE);
+        if (table->objects[i] == object) return (uintptr_t)kind << 56 | (uintptr_t)table->generations[i] << TABLE_NUMBER_BITS | (i + FIRST_MADE);
     return (uintptr_t)kind << 56;
 }
 
@@ -88,7 +85,7 @@ uint32_t mpi_draw(uint32_t below) {
 
 void mpi_pause(void) {
     if (mpi_run.seed == 0) return;
-    uint32_t drawn = mpi_draw(64);
-    if (drawn < 8) sched_yield();
-    else if (drawn == 8) nanosleep(&(struct timespec){ 0, (long)mpi_draw(2000000) }, NULL);
+    uint32_t drawn = mpi_draw(256);
+    if (drawn < 32) sched_yield();
+    else if (drawn == 32) nanosleep(&(struct timespec){ 0, (long)mpi_draw(2000000) }, NULL);
 }

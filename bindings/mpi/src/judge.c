@@ -82,7 +82,7 @@ static void find_significant(struct judging *it) {
 static int judge_type(struct judging *it, MPI_Datatype handle, const struct type **type) {
     struct type *found = mpi_type(handle);
     if (found == NULL && handle == MPI_DATATYPE_NULL) REFUSE(MPI_ERR_TYPE, "the type is MPI_DATATYPE_NULL");
-    if (found == NULL) REFUSE(MPI_ERR_TYPE, mpi_was_freed(TYPE, handle) ? "the type was freed" : "there is no such type");
+    if (found == NULL) REFUSE(MPI_ERR_TYPE, mpi_was_type(handle) ? "the type was freed" : "there is no such type");
     if (!found->committed) REFUSE(MPI_ERR_TYPE, "the type isn't committed");
     mpi_type_use(found);
     *type = found;

@@ -60,9 +60,9 @@ static bool takes_class(int op, enum class class) {
 
 bool mpi_op_takes(const struct op *op, const struct type *type) {
     if (op->number == 0) return true;
-    if (type->basic == 0 || type->signature.elements != 1 || type->basic == (int)((uintptr_t)MPI_PACKED & 0xff)) return false;
+    if (type->basic == 0 || type->signature.elements != 1 || type->basic == (MPI_PACKED & 0xff)) return false;
     enum class class = mpi_basic(type->basic)->class;
-    if (type->basic == (int)((uintptr_t)MPI_CHAR & 0xff) && !mpi_run.strict) class = SIGNED;
+    if (type->basic == (MPI_CHAR & 0xff) && !mpi_run.strict) class = SIGNED;
     return takes_class(op->number, class);
 }
 

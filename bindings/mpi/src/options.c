@@ -19,9 +19,9 @@ static const char help[] =
     "  --stats          says how many collectives the engine carried out as they are, and how many it carried\n"
     "Statuses: that of the program; 1: wzrun can't run it; 2: a call that MPI doesn't allow, or calls that don't agree; 3: stalled; 128 + the signal of a crash.\n";
 
-static void give_up(const char *what, const char *why) __attribute__((noreturn));
-static void give_up(const char *what, const char *why) {
-    fprintf(stderr, "wzrun: %s: %s (wzrun --help says more)\n", what, why);
+static void give_up(const char *word, const char *reason) __attribute__((noreturn));
+static void give_up(const char *word, const char *reason) {
+    fprintf(stderr, "wzrun: %s: %s (wzrun --help says more)\n", word, reason);
     exit(1);
 }
 
@@ -90,14 +90,17 @@ void mpi_read_options(int argc, char **argv, struct options *options) {
     int at = 1;
     *options = (struct options){ .ranks = 1 };
     read_variables(options);
-    for (; at < argc && argv[at][0] == '-'; at++) {
+    while (at < argc && argv[at][0] == '-') {
         if (is_word(argv[at], "--help") || is_word(argv[at], "-h")) {
             fputs(help, stdout);
             exit(0);
         }
-        if (read_flag(argv[at])) continue;
+        if (read_flag(argv[at])) {
+            at++;
+            continue;
+        }
         if (at + 1 == argc || !read_value(argv[at], argv[at + 1], options)) give_up(argv[at], "wzrun has no such option, or its value is missing");
-        at++;
+        at += 2;
     }
     if (at == argc) give_up("no program", "it stands after the options");
     options->program = at;

@@ -30,7 +30,7 @@ static struct {
 } comms[MOST_COMMS];
 static int many_comms;
 static atomic_int posts;
-static pthread_mutex_t guard = PTHREAD_MUTEX_INITIALIZER;
+static pthread_mutex_t comms_guard = PTHREAD_MUTEX_INITIALIZER;
 
 static bool is_wanted(void) { return mpi_run.text != NULL || mpi_run.values != NULL || mpi_run.explains; }
 
@@ -43,23 +43,30 @@ static struct recording *recording(void) {
     return me->recording;
 }
 
-static void add_comm(struct comm *comm) {
+static int find_comm(long serial) {
+    for (int i = 0; i < many_comms; i++)
+        if (comms[i].serial == serial) return i;
+    return -1;
+}
+
+/* Under the guard. -1: there is no room for another. */
+static int add_comm(struct comm *comm) {
+    if (many_comms == MOST_COMMS) return -1;
     comms[many_comms].serial = comm->serial;
     comms[many_comms].size = comm->size;
     for (int i = 0; i < comm->size; i++) comms[many_comms].ranks[i] = comm->members[i].rank;
     mpi_comm_name(comm, comms[many_comms].name);
-    many_comms++;
+    return many_comms++;
 }
 
-/* The text's number of a communicator; -1 where there are too many. */
-static int number_of(struct comm *comm) {
+/* How the text names a communicator; -1: it can't. */
+static int text_number(struct comm *comm) {
     if (comm == mpi_world()) return 0;
-    pthread_mutex_lock(&guard);
-    int at = 0;
-    while (at < many_comms && comms[at].serial != comm->serial) at++;
-    if (at == many_comms && many_comms < MOST_COMMS) add_comm(comm);
-    pthread_mutex_unlock(&guard);
-    return at < MOST_COMMS ? at + 1 : -1;
+    pthread_mutex_lock(&comms_guard);
+    int at = find_comm(comm->serial);
+    if (at < 0) at = add_comm(comm);
+    pthread_mutex_unlock(&comms_guard);
+    return at < 0 ? -1 : at + 1;
 }
 
 /* ---- values */
@@ -97,16 +104,16 @@ static void write_values(FILE *to, int type, const void *bytes, size_t length) {
 
 /* ---- posts, initialisations and starts */
 
-static const char *kind_word(const struct request *it) { return wz_kind_word(it->call.kind); }
-
 /* A reduction that is carried stands as its own kind over no elements. */
 static void write_signature(FILE *to, const struct request *it) {
-    fprintf(to, "%s", kind_word(it));
-    if (it->call.kind == WZ_BCAST || it->call.kind == WZ_GATHER || it->call.kind == WZ_SCATTER || it->call.kind == WZ_REDUCE) fprintf(to, " %d", it->call.root);
-    if (it->call.op != WZ_NO_OPERATION) fprintf(to, " %s", wz_operation_word(it->call.op));
-    if (it->call.kind == WZ_BARRIER) return;
+    static const bool rooted[] = { [WZ_BCAST] = true, [WZ_GATHER] = true, [WZ_SCATTER] = true, [WZ_REDUCE] = true, [WZ_ALLGATHERV] = false };
+    const wz_call *call = &it->call;
+    fputs(wz_kind_word(call->kind), to);
+    if (rooted[call->kind]) fprintf(to, " %d", call->root);
+    if (call->op != WZ_NO_OPERATION) fprintf(to, " %s", wz_operation_word(call->op));
+    if (call->kind == WZ_BARRIER) return;
     fprintf(to, " %s", wz_type_word(it->text_type));
-    if (it->call.kind != WZ_ALLGATHERV) fprintf(to, " %u", it->direct ? it->call.count : 0);
+    if (call->kind != WZ_ALLGATHERV) fprintf(to, " %u", it->direct ? call->count : 0);
     else for (int i = 0; i < it->comm->size; i++) fprintf(to, " %u", it->counts[i]);
 }
 
@@ -126,7 +133,7 @@ static FILE *begin_post(struct request *it, const char *word, const char *call) 
     if (!is_wanted()) return NULL;
     struct recording *to = recording();
     if (is_full(to, true)) return NULL;
-    int comm = number_of(it->comm);
+    int comm = text_number(it->comm);
     write_where(to->text, it, call);
     if (comm < 0) {
         fprintf(to->text, "# left out, since a text has room for 15 communicators beside MPI_COMM_WORLD\n");
@@ -233,10 +240,11 @@ bool mpi_record_write_text(const char *path) {
     return fclose(to) == 0;
 }
 
-static int by_request(const void *a, const void *b) {
-    const struct outcome *x = a, *y = b;
-    if (x->request != y->request) return x->request < y->request ? -1 : 1;
-    return (x->start > y->start) - (x->start < y->start);
+/* By request, and then by start. */
+static int in_order(const void *one, const void *other) {
+    const struct outcome *a = one, *b = other;
+    int64_t first = ((int64_t)a->request << 32) + a->start, second = ((int64_t)b->request << 32) + b->start;
+    return first < second ? -1 : first > second;
 }
 
 static bool write_outcomes(const char *path) {
@@ -245,7 +253,7 @@ static bool write_outcomes(const char *path) {
     for (int i = 0; i < mpi_run.size; i++) {
         struct recording *part = mpi_run.ranks[i].recording;
         if (part == NULL) continue;
-        if (part->outcomes > 0) qsort(part->got, (size_t)part->outcomes, sizeof *part->got, by_request);
+        if (part->outcomes > 0) qsort(part->got, (size_t)part->outcomes, sizeof *part->got, in_order);
         for (int j = 0; j < part->outcomes; j++) fputs(part->got[j].line, to);
     }
     return fclose(to) == 0;

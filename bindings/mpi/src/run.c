@@ -28,9 +28,9 @@ struct start {
 
 static sem_t ended;
 
-static void give_up(const char *what, const char *why) __attribute__((noreturn));
-static void give_up(const char *what, const char *why) {
-    fprintf(stderr, "wzrun: %s: %s\n", what, why);
+static void give_up(const char *what, const char *reason) __attribute__((noreturn));
+static void give_up(const char *what, const char *reason) {
+    fprintf(stderr, "wzrun: %s: %s\n", what, reason);
     exit(1);
 }
 
@@ -39,14 +39,14 @@ static void give_up(const char *what, const char *why) {
 static int copy_of(const char *program) {
     struct stat about;
     off_t at = 0;
-    int from = open(program, O_RDONLY | O_CLOEXEC);
-    if (from < 0 || fstat(from, &about) != 0) give_up(program, strerror(errno));
+    int file = open(program, O_CLOEXEC);
+    if (file < 0 || fstat(file, &about) != 0) give_up(program, strerror(errno));
     const char *name = strrchr(program, '/');
     int to = memfd_create(name != NULL ? name + 1 : program, MFD_CLOEXEC);
     if (to < 0) give_up(program, strerror(errno));
     while (at < about.st_size)
-        if (sendfile(to, from, &at, (size_t)(about.st_size - at)) <= 0) give_up(program, "it can't be read");
-    close(from);
+        if (sendfile(to, file, &at, (size_t)(about.st_size - at)) <= 0) give_up(program, "it can't be read");
+    close(file);
     return to;
 }
 
@@ -149,11 +149,12 @@ static void watch_ranks(int size) {
 static int run_ranks(int argc, char **argv, const struct options *options) {
     int size = options->ranks, status = 0;
     const char *program = find_program(argv[options->program]);
-    pthread_t threads[MOST_RANKS];
+    pthread_t thread;
     struct start starts[MOST_RANKS];
     pthread_attr_t attributes;
     pthread_attr_init(&attributes);
     pthread_attr_setstacksize(&attributes, stack_bytes());
+    pthread_attr_setdetachstate(&attributes, PTHREAD_CREATE_DETACHED); /* `ended` tells of its end */
     mpi_begin_run(size);
     sem_init(&ended, 0, 0);
     tell_crashes();
@@ -163,12 +164,9 @@ static int run_ranks(int argc, char **argv, const struct options *options) {
         load(&starts[i], program);
     }
     for (int i = 0; i < size; i++)
-        if (pthread_create(&threads[i], &attributes, play, &starts[i]) != 0) give_up("a thread for each rank", strerror(errno));
+        if (pthread_create(&thread, &attributes, play, &starts[i]) != 0) give_up("a thread for each rank", strerror(errno));
     watch_ranks(size);
-    for (int i = 0; i < size; i++) {
-        pthread_join(threads[i], NULL);
-        if (status == 0) status = mpi_run.ranks[i].status;
-    }
+    for (int i = 0; i < size && status == 0; i++) status = mpi_run.ranks[i].status;
     return status;
 }
 

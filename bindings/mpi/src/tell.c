@@ -106,12 +106,12 @@ int mpi_refuse(struct comm *comm, int class, const char *call, const char *forma
 int mpi_count_ranks(uint64_t ranks) { return __builtin_popcountll(ranks); }
 
 const char *mpi_ranks_text(uint64_t ranks, char text[RANKS_TEXT]) {
-    int many = mpi_count_ranks(ranks), said = 0;
-    size_t at = (size_t)snprintf(text, RANKS_TEXT, many == 1 ? "rank" : "ranks");
-    for (int i = 0; i < MOST_RANKS; i++) {
-        if (!(ranks >> i & 1)) continue;
-        at += (size_t)snprintf(text + at, RANKS_TEXT - at, "%s%d", said == 0 ? " " : said == many - 1 ? " and " : ", ", i);
-        said++;
+    const char *before = " ";
+    size_t at = (size_t)snprintf(text, RANKS_TEXT, mpi_count_ranks(ranks) == 1 ? "rank" : "ranks");
+    while (ranks != 0) {
+        at += (size_t)snprintf(text + at, RANKS_TEXT - at, "%s%d", before, __builtin_ctzll(ranks));
+        ranks &= ranks - 1;
+        before = mpi_count_ranks(ranks) == 1 ? " and " : ", ";
     }
     return text;
 }

@@ -22,8 +22,8 @@ static void add_run(struct building *b, MPI_Aint at, int basic, size_t many) {
 }
 
 static void widen(struct building *b, MPI_Aint low, MPI_Aint high) {
-    if (!b->any || low < b->low) b->low = low;
-    if (!b->any || high > b->high) b->high = high;
+    b->low = b->any && b->low < low ? b->low : low;
+    b->high = b->any && b->high > high ? b->high : high;
     b->any = true;
 }
 
@@ -211,7 +211,7 @@ int MPI_Type_free(MPI_Datatype *of) {
     struct type *type = known(*of, "MPI_Type_free", &code);
     if (type == NULL) return code;
     if (type->predefined) return mpi_refuse(NULL, MPI_ERR_TYPE, "MPI_Type_free", "%s can't be freed", type->name);
-    mpi_remove(TYPE, *of);
+    mpi_forget_type(*of);
     mpi_type_unuse(type);
     *of = MPI_DATATYPE_NULL;
     return code;
@@ -223,7 +223,7 @@ int MPI_Type_free(MPI_Datatype *of) {
 static size_t bytes_of(const struct type *type) {
     size_t gaps = 0;
     for (size_t i = 0; i < type->many; i++)
-        if (type->runs[i].basic == (int)((uintptr_t)MPI_SHORT_INT & 0xff)) gaps += 2 * type->runs[i].many;
+        if (type->runs[i].basic == (MPI_SHORT_INT & 0xff)) gaps += 2 * type->runs[i].many;
     return type->size - gaps;
 }
 

@@ -97,16 +97,40 @@ __attribute__((constructor)) static void fill_basic_types(void) {
     }
 }
 
-static bool is_predefined(MPI_Datatype handle) { return (uintptr_t)handle > (uintptr_t)MPI_DATATYPE_NULL && (uintptr_t)handle < (uintptr_t)MPI_DATATYPE_NULL + BASICS; }
+/* A made type's handle is an int with 19 bits of its number and 11 of its generation. The word that stands for it in the table; a handle whose generation isn't
+   the number's present one stands for the one before. */
+enum { NUMBER_BITS = 19, GENERATION_MASK = 0x7ff, MADE_TYPE = 0x40000000 };
 
-struct type *mpi_type(MPI_Datatype handle) {
-    return is_predefined(handle) ? &basic_types[(uintptr_t)handle & 0xff] : mpi_find(TYPE, handle);
+static const void *table_word(MPI_Datatype handle) {
+    const struct table *table = &mpi_me->tables[TYPE];
+    uint32_t number = (uint32_t)handle & ((1u << NUMBER_BITS) - 1), at = number - FIRST_MADE;
+    if (handle < MADE_TYPE || number < FIRST_MADE || at >= table->many) return NULL;
+    uint32_t generation = table->generations[at], said = (uint32_t)handle >> NUMBER_BITS & GENERATION_MASK;
+    if ((generation & GENERATION_MASK) != said) generation--;
+    return (const void *)((uintptr_t)TYPE << 56 | (uintptr_t)generation << TABLE_NUMBER_BITS | number);
 }
+
+static MPI_Datatype short_handle(uintptr_t word) {
+    uint32_t number = word & ((1u << TABLE_NUMBER_BITS) - 1), generation = (uint32_t)(word >> TABLE_NUMBER_BITS);
+    if (number >= 1u << NUMBER_BITS) {
+        fprintf(stderr, "wzrun: rank %d has 524,288 types\n", mpi_me->number);
+        exit(1);
+    }
+    return (MPI_Datatype)(MADE_TYPE | (generation & GENERATION_MASK) << NUMBER_BITS | number);
+}
+
+bool mpi_was_type(MPI_Datatype handle) { return mpi_was_freed(TYPE, table_word(handle)); }
+
+void mpi_forget_type(MPI_Datatype handle) { mpi_remove(TYPE, table_word(handle)); }
+
+static bool is_predefined(MPI_Datatype handle) { return handle > MPI_DATATYPE_NULL && handle < MPI_DATATYPE_NULL + BASICS; }
+
+struct type *mpi_type(MPI_Datatype handle) { return is_predefined(handle) ? &basic_types[handle & 0xff] : mpi_find(TYPE, table_word(handle)); }
 
 int mpi_type_error(MPI_Datatype handle, const char *call) {
     if (handle == MPI_DATATYPE_NULL) return mpi_refuse(NULL, MPI_ERR_TYPE, call, "the type is MPI_DATATYPE_NULL");
-    if (mpi_was_freed(TYPE, handle)) return mpi_refuse(NULL, MPI_ERR_TYPE, call, "the type was freed");
-    return mpi_refuse(NULL, MPI_ERR_TYPE, call, "%p is no type", (void *)handle);
+    if (mpi_was_type(handle)) return mpi_refuse(NULL, MPI_ERR_TYPE, call, "the type was freed");
+    return mpi_refuse(NULL, MPI_ERR_TYPE, call, "%d is no type", handle);
 }
 
 void mpi_type_use(const struct type *type) {
@@ -128,7 +152,7 @@ static size_t run_bytes(const struct run_of *run) { return basics[run->basic].si
 static void measure(struct type *type) {
     MPI_Aint at = 0;
     bool dense = true;
-    type->basic = type->many > 0 ? type->runs[0].basic : (int)((uintptr_t)MPI_BYTE & 0xff);
+    type->basic = type->many > 0 ? type->runs[0].basic : (MPI_BYTE & 0xff);
     type->signature.power = 1;
     for (size_t i = 0; i < type->many; i++) {
         const struct run_of *run = &type->runs[i];
@@ -153,7 +177,7 @@ MPI_Datatype mpi_new_type(struct run_of *runs, size_t many, MPI_Aint low, MPI_Ai
     type->alignment = alignment;
     type->uses = 1;
     measure(type);
-    return (MPI_Datatype)mpi_add(TYPE, type);
+    return short_handle(mpi_add(TYPE, type));
 }
 
 /* ---- bytes */

@@ -30,7 +30,7 @@ struct signature {
 
 struct type {
     const char *name;
-    size_t size;            /* bytes of the elements, without gaps */
+    size_t size;            /* bytes of its elements alone */
     MPI_Aint low, extent;
     MPI_Aint true_low, true_extent;
     size_t alignment;
@@ -59,6 +59,8 @@ enum { ENGINE_TYPES = 10 };
 size_t mpi_engine_width(int type);
 
 struct type *mpi_type(MPI_Datatype type); /* NULL: there is none */
+bool mpi_was_type(MPI_Datatype type);    /* a handle of a type that was freed */
+void mpi_forget_type(MPI_Datatype type);
 void mpi_type_use(const struct type *type);
 void mpi_type_unuse(const struct type *type);
 struct signature mpi_signature_of(const struct type *type, uint64_t many);

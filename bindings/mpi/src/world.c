@@ -23,9 +23,11 @@ static struct rank *rank_of_address(const void *address) {
     return NULL;
 }
 
-void wz_at_(const char *site) {
-    if (mpi_me == NULL) mpi_me = rank_of_address(site);
-    if (mpi_me != NULL) atomic_store_explicit(&mpi_me->site, site, memory_order_relaxed);
+void wz_note_line_(const char *line) {
+    struct rank *rank = mpi_me != NULL ? mpi_me : rank_of_address(line);
+    if (rank == NULL) return; /* the call itself tells that its thread is no rank's */
+    mpi_me = rank;
+    atomic_store_explicit(&rank->site, line, memory_order_relaxed);
 }
 
 struct rank *mpi_self(const char *call) {
@@ -119,9 +121,9 @@ int MPI_Abort(MPI_Comm comm, int status) {
 /* ---- calls that need nothing */
 
 double MPI_Wtime(void) {
-    struct timespec t;
-    clock_gettime(CLOCK_MONOTONIC, &t);
-    return (double)t.tv_sec + 1e-9 * (double)t.tv_nsec;
+    struct timespec now;
+    clock_gettime(CLOCK_MONOTONIC, &now);
+    return (double)now.tv_sec + (double)now.tv_nsec / 1e9;
 }
 
 double MPI_Wtick(void) { return 1e-9; }
@@ -138,9 +140,9 @@ int MPI_Get_library_version(char *text, int *length) {
 }
 
 int MPI_Get_processor_name(char *name, int *length) {
-    gethostname(name, MPI_MAX_PROCESSOR_NAME - 1);
-    name[MPI_MAX_PROCESSOR_NAME - 1] = '\0';
-    *length = (int)strlen(name);
+    char host[MPI_MAX_PROCESSOR_NAME] = "";
+    gethostname(host, sizeof host - 1);
+    *length = snprintf(name, MPI_MAX_PROCESSOR_NAME, "%s", host);
     return MPI_SUCCESS;
 }
 

@@ -27,7 +27,7 @@ OPTIONS = {
     "too_many": "-n 2", "neighbors": "-n 2", "null_buffer": "-n 2", "told_by_code": "-n 2", "gatherv": "-n 3",
 }
 # How many ranks each right program is run with, where these aren't 1, 2 and 5.
-RIGHT_RANKS = {"million_places": [2], "threads": [2], "grid": [4, 6], "intercommunicators": [2, 3, 5], "neighbors": [1, 2, 4]}
+RIGHT_RANKS = {"many_places": [2], "threads": [2], "grid": [4, 6], "intercommunicators": [2, 3, 5], "neighbors": [1, 2, 4]}
 
 
 def compiled(binaries, source, out, *words):
@@ -94,6 +94,8 @@ def check_right(binaries, out, only):
             continue
         for ranks in RIGHT_RANKS.get(name, [1, 2, 5]):
             for more in ([], ["--strict", "--check"], ["--seed", "7"]):
+                if name == "many_places" and more:
+                    continue
                 all_runs += 1
                 status, said = run([str(binaries / "wzrun"), "-n", str(ranks), *more, str(program), name])
                 if status != 0 or said:

@@ -1,11 +1,12 @@
 #!/usr/bin/env python3
 """Runs MPICH's own tests of the collectives over this library, unmodified, and prints a table:
 
-    tests/mpich.py FOLDER [--bin BIN] [--only NAME ..] [--strict] [--jobs N] [--keep FOLDER] [--text] [--under WORDS]
+    tests/mpich.py FOLDER [--bin BIN] [--only NAME ..] [--strict] [--jobs N] [--keep FOLDER] [--text] [--under WORDS] [--longest SECONDS]
 
 FOLDER is test/mpi of MPICH's sources (Debian has them: apt-get source mpich). The tests and their numbers of ranks are those of its
 coll/testlist.in; a test passes if it ends with status 0 and says "No Errors". BIN has wzcc and wzrun. --text compares what the requests got
 with what `colljob plain`, which COLLJOB or PATH names, says of the calls. --under runs wzrun under these words, as "valgrind -q".
+--keep has the compiled programs stay in a folder; those that are there are taken as they are.
 Ends with 0 where all pass.
 """
 
@@ -14,6 +15,7 @@ import concurrent.futures
 import os
 import pathlib
 import shlex
+import shutil
 import subprocess
 import sys
 import tempfile
@@ -32,7 +34,9 @@ def rows(folder):
         words = line.split()
         if not words or words[0].startswith("#"):
             continue
-        name = words[0].split("@")[-1]
+        if words[0].startswith("@"):  # tests that MPICH runs on large machines alone
+            continue
+        name = words[0]
         arguments = [it.split("=", 1)[1] for it in words[2:] if it.startswith("arg=")]
         yield name, int(words[1]), arguments
 
@@ -63,11 +67,16 @@ class Programs:
         """What all tests share, once."""
         for name in ("mtest", "mtest_common", "mtest_thread"):
             made = self.out / f"{name}.o"
+            if made.exists():
+                self.util.append(made)
+                continue
             subprocess.run([*map(str, [it for it in self.words(self.folder / f"util/{name}.c", False) if it not in self.util]), "-c", "-o", str(made)], check=True)
             self.util.append(made)
 
     def program(self, name):
         """The program, or what the compiler says."""
+        if (self.out / name).exists():
+            self.made[name] = (self.out / name, None)
         if name not in self.made:
             source, nonblocking = source_of(self.folder, name)
             made = subprocess.run([*map(str, self.words(source, nonblocking)), "-o", str(self.out / name)], capture_output=True, text=True)
@@ -117,6 +126,8 @@ def main():
     parser.add_argument("--under", default="")
     parser.add_argument("--keep", type=pathlib.Path)
     options = parser.parse_args()
+    if options.text and shutil.which(os.environ.get("COLLJOB", "colljob")) is None:
+        sys.exit("mpich.py: --text needs colljob in PATH, or its path in COLLJOB")
     with tempfile.TemporaryDirectory() as made:
         out = options.keep or pathlib.Path(made)
         out.mkdir(parents=True, exist_ok=True)

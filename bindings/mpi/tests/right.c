@@ -137,7 +137,7 @@ static void many_requests(void) {
 }
 
 /* More calls than one engine has places for. */
-static void million_places(void) {
+static void many_places(void) {
     int sum;
     for (int i = 0; i < 70000; i++) {
         MPI_Allreduce(&i, &sum, 1, MPI_INT, MPI_SUM, MPI_COMM_WORLD);
@@ -460,7 +460,7 @@ static const struct {
     const char *name;
     void (*run)(void);
 } cases[] = {
-    CASE(all_kinds), CASE(alltoallw), CASE(in_place), CASE(requests), CASE(persistent), CASE(many_requests), CASE(million_places), CASE(types_with_gaps),
+    CASE(all_kinds), CASE(alltoallw), CASE(in_place), CASE(requests), CASE(persistent), CASE(many_requests), CASE(many_places), CASE(types_with_gaps),
     CASE(structures), CASE(doubles), CASE(own_operation), CASE(long_rows), CASE(counted), CASE(communicators), CASE(intercommunicators), CASE(neighbors), CASE(grid),
     CASE(messages), CASE(attributes), CASE(errors), CASE(threads), CASE(profiler), CASE(own_variables),
 };

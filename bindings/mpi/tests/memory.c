@@ -1,0 +1,54 @@
+/* Whether memory stays as it is: over many allreduces on one communicator, and over 100 turns of MPI_Comm_dup and MPI_Comm_free, of types and of operations.
+   wzrun -n 2 ./memory [ALLREDUCES] */
+#include <mpi.h>
+#include <stdio.h>
+#include <stdlib.h>
+#include <unistd.h>
+
+static long resident_kib(void) {
+    long pages = 0;
+    FILE *from = fopen("/proc/self/statm", "r");
+    if (from == NULL || fscanf(from, "%*d %ld", &pages) != 1) pages = -1;
+    if (from != NULL) fclose(from);
+    return pages * (sysconf(_SC_PAGESIZE) / 1024);
+}
+
+static void add(void *in, void *inout, int *many, MPI_Datatype *type) {
+    (void)type;
+    for (int i = 0; i < *many; i++) ((int *)inout)[i] += ((int *)in)[i];
+}
+
+static void make_and_free(void) {
+    MPI_Comm copy;
+    MPI_Datatype pair;
+    MPI_Op op;
+    int given[2] = { 1, 2 }, got[2];
+    MPI_Comm_dup(MPI_COMM_WORLD, &copy);
+    MPI_Type_contiguous(2, MPI_INT, &pair);
+    MPI_Type_commit(&pair);
+    MPI_Op_create(add, 1, &op);
+    MPI_Allreduce(given, got, 2, MPI_INT, op, copy);
+    MPI_Bcast(got, 1, pair, 0, copy);
+    MPI_Op_free(&op);
+    MPI_Type_free(&pair);
+    MPI_Comm_free(&copy);
+}
+
+int main(int argc, char **argv) {
+    int rank, sum, times = argc > 1 ? atoi(argv[1]) : 1000000;
+    long begun, after;
+    MPI_Init(&argc, &argv);
+    MPI_Comm_rank(MPI_COMM_WORLD, &rank);
+    for (int i = 0; i < 140000 && i < times; i++) MPI_Allreduce(&i, &sum, 1, MPI_INT, MPI_SUM, MPI_COMM_WORLD); /* two engines have been there */
+    begun = resident_kib();
+    for (int i = 140000; i < times; i++) MPI_Allreduce(&i, &sum, 1, MPI_INT, MPI_SUM, MPI_COMM_WORLD);
+    after = resident_kib();
+    if (rank == 0) printf("%d allreduces: %ld KiB after the first 140,000, %ld KiB at the end\n", times, begun, after);
+    for (int i = 0; i < 20; i++) make_and_free();
+    begun = resident_kib();
+    for (int i = 0; i < 100; i++) make_and_free();
+    MPI_Barrier(MPI_COMM_WORLD);
+    if (rank == 0) printf("100 communicators, types and operations: %ld KiB before, %ld KiB after\n", begun, resident_kib());
+    MPI_Finalize();
+    return 0;
+}
