@@ -36,11 +36,13 @@ static const char *where(const struct lines *lines, size_t number) {
     return strncmp(above, "# ", 2) == 0 && lines->at[number - 1][0] != '#' ? above + 2 : NULL;
 }
 
-/* The number of the text's line that a line of colljob's shows, as ` 12 | post 0 ..`; 0: it shows none. */
+/* The number of the text's line that a line of colljob's shows, as ` 12 | post 0 ..`, or names, as `FILE: line 12: place mismatch`; 0: none. */
 static size_t shown(const char *line) {
     char *end;
     size_t number = strtoul(line, &end, 10);
-    return strncmp(end, " | ", 3) == 0 ? number : 0;
+    const char *named = strstr(line, ": line ");
+    if (strncmp(end, " | ", 3) == 0) return number;
+    return named != NULL ? strtoul(named + strlen(": line "), NULL, 10) : 0;
 }
 
 static void run_colljob(const char *colljob, const char *path) {
