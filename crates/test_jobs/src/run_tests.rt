@@ -236,6 +236,7 @@ fn is_of_three(report: &Report) -> bool {
 fn report_of_sum_of_three(rt: HostRuntime) -> Result<(), Fail> {
     let (text, _) = SUM_OF_THREE;
     for workers in WORKERS {
+        assert!(rt; *workers <= 8);
         let (_, report) = run_job(&rt, rt.alloc(), text.as_bytes(), *workers, &NoGate)?;
         assert!(rt; is_of_three(&report));
     }
