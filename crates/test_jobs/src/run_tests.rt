@@ -215,7 +215,7 @@ fn has_posted(report: &Report, rank: u8, given: [u8; 4]) -> bool {
                 },
             ),
             None,
-        ) => { bytes.as_slice() == given.as_slice() }
+        ) => bytes.as_slice() == given.as_slice(),
         _ => false,
     }
 }
