@@ -102,7 +102,7 @@ check_tables() {
     sed -n 's/^ *Refusal::\([A-Za-z]*\)\( {.*}\)\{0,1\} => \([0-9]*\),$/\3 \1/p' "$here/../crates/coll_kinds/src/refusal.rt" > "$work/refusals.want"
     check "the table of refusals is that of coll_kinds" cmp "$work/table" "$work/refusals.want"
     "$work/refusals.static" answers > "$work/answers" < /dev/null
-    grep '^| -\{0,1\}[0-9]' "$here/../docs/C.md" > "$work/answers.want"
+    grep '^| -\{0,1\}[0-9]\{1,2\} |' "$here/../docs/C.md" > "$work/answers.want"
     check "docs/C.md has each answer" cmp "$work/answers" "$work/answers.want"
 }
 
