@@ -167,5 +167,5 @@ read-err (Err fault) start text read is = status-read start text (status_of faul
 pub answered-read : (r : Result ℕ JobFault) (start : Option (List ℕ)) (text : List ℕ) (old new : Option (List ℕ)) → IfSome start (λ input. text ≡ take 1048577 input)
     → IfOk r (λ status. status ≡ 0 → WritesMeaning text old new) → IfOk r (λ status. status ≡ 0 → IfSome start (λ input. WritesMeaning input old new))
 answered-read (Ok status) None text old new read writes = λ is. tt
-answered-read (Ok status) (Some input) text old new read writes = λ is. ((writes is).0, meaning-read input text read ∙ (writes is).1.0, (writes is).1.1)
+answered-read (Ok status) (Some input) text old new read writes = λ is. ((writes is).0, meaning-read input text read ∙ (writes is).1, (writes is).2)
 answered-read (Err fault) start text old new read writes = tt
