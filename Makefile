@@ -1,7 +1,7 @@
 # make             the program colljob and the C library, quickly: without proof, in a few minutes (where they are proved: the proved ones)
 # make prove       both proved; from nothing an hour and a half
 # make check       the proofs and all tests, ending in a line `N passed, N failed`; its parts are check-gate, check-tests, check-program,
-#                  check-c, check-cpp, check-rust, check-mpi, check-recorder and check-install; check-recorded stands beside them
+#                  check-c, check-cpp, check-rust, check-mpi, check-recorder, check-recorded and check-install
 # make install     PREFIX= (/usr/local) and DESTDIR=: program, manual page, completions, headers, library, pkg-config file, and the recorder
 #                  of MPI programs where there is an mpicc
 # make uninstall   the same PREFIX= and DESTDIR=
@@ -15,7 +15,7 @@ SHARE = $(DESTDIR)$(PREFIX)/share
 RECORDER = $(DESTDIR)$(PREFIX)/lib/worzsunab
 MPI_CALLS = $(wildcard bindings/mpi/Makefile)
 SCRIPTS = $(wildcard mpi/record/*.py)
-PARTS = gate tests program c cpp rust mpi recorder install
+PARTS = gate tests program c cpp rust mpi recorder recorded install
 
 all: program library
 
@@ -33,8 +33,7 @@ prove:
 check:
 	@tools/check $(PARTS)
 
-# recorded looks at the clock, so it isn't among the parts.
-$(PARTS:%=check-%) check-recorded: check-%:
+$(PARTS:%=check-%): check-%:
 	@tools/check $*
 
 # The recorder is for the MPI library whose mpicc is on the path, or the one that `make -C mpi MPICC=..` named.
@@ -71,4 +70,4 @@ clean:
 	$(MAKE) --no-print-directory -C mpi clean
 	@if [ "$(MPI_CALLS)" ]; then $(MAKE) --no-print-directory -C bindings/mpi clean; fi
 
-.PHONY: all program library recorder prove check check-recorded $(PARTS:%=check-%) install install-program install-recorder uninstall clean
+.PHONY: all program library recorder prove check $(PARTS:%=check-%) install install-program install-recorder uninstall clean

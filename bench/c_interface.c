@@ -160,7 +160,7 @@ static void tell_samples(void) {
 
 /* Samples of TURNS_OF operations until rank 0 says that the time is over, with the threads where the system puts them: what a loaded machine makes
    of the waiting. Beside it, c_interface_mpi.c does the same by MPI. */
-enum { TURNS_OF = 20, MOST_SAMPLES = 1500 }; /* the places of a communicator suffice for two measures of so many */
+enum { TURNS_OF = 20, MOST_SAMPLES = 1500 }; /* a communicator has places for two measures of that many */
 static double waits[MOST_SAMPLES];
 static double seconds = 0.7;
 
@@ -195,7 +195,7 @@ static void *waited_of(void *number) {
     return NULL;
 }
 
-/* Sums of rows of so many bytes, as many as take some time. */
+/* Sums of rows of that many bytes, enough of them to take some time. */
 static uint32_t row_bytes;
 
 static void *rows_of(void *number) {

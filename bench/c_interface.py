@@ -5,14 +5,14 @@ theirs are processes.
 
     bench/c_interface.py [RUNS]    (3 where no number is said)
 
-With `samples` behind RUNS each thread of the shim has a processor of its own, for 2 and 4 ranks, and of 400 samples of 40 operations the
+With `samples` after RUNS each thread of the shim has a processor of its own, for 2 and 4 ranks, and of 400 samples of 40 operations the
 lowest tenth counts: that can be compared on a machine that does other work too. WZ_HEADERS names a folder with other headers.
 
-With `waits` behind RUNS it compares how ranks wait, on the machine as it is and beside as many busy processes as it has processors: medians of small
+With `waits` after RUNS it compares how ranks wait, on the machine as it is and beside as many busy processes as it has processors: medians of small
 operations by 2, 4 and 8 ranks, with the time that nine of ten stay below in brackets, ours and each MPI library's by turns. WZ_BEFORE=HEADERS:LIBRARY adds
 another state of ours, WZ_TRIED="50 200" the shim with other numbers of looks before a thread sleeps.
 
-With `rows` behind RUNS it compares sums of rows of 1 to 256 KiB under the shim instead, where combinations are computed with the lock
+With `rows` after RUNS it compares sums of rows of 1 to 256 KiB under the shim instead, where combinations are computed with the lock
 free and where they aren't, by 2 and 4 ranks. With `instructions` it counts those of one thread that plays all ranks, by valgrind.
 
 Run it at the top of the repository after `make -C bindings` has built out/lib/libworzsunab.a, with nothing beside it. Each library
@@ -150,7 +150,7 @@ def waits(library, runs):
 
 
 def waited(command, environment):
-    """What one run tells; nothing where it isn't through in time."""
+    """What one run prints; nothing where it doesn't end in time."""
     try:
         run = subprocess.run(command, check=True, capture_output=True, text=True, timeout=SECONDS, env=environment)
     except subprocess.TimeoutExpired:
@@ -162,7 +162,7 @@ def waited(command, environment):
 
 
 def told(column):
-    """The medians of what runs told, in microseconds."""
+    """The medians of what runs printed, in microseconds."""
     half, most = (statistics.median(run[i] for run in column) / 1000 for i in (0, 1))
     return f"{half:.1f} ({most:.1f})"
 

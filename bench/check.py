@@ -1,5 +1,5 @@
 #!/usr/bin/env python3
-"""Mistakes in job texts, told by `colljob check`: check.py PROGRAM [TEXTS [SEED]]
+"""Mistakes in job texts, reported by `colljob check`: check.py PROGRAM [TEXTS [SEED]]
 
 Each text is an example with a few words or lines changed at random. Compared are: the first fault with that of `plain`; the status; and each
 change that is proposed with `plain` on the changed text, which must have no fault up to the line for which it is proposed. Ends with 1 where
@@ -65,7 +65,7 @@ def plain_fault(program, text):
 
 
 def replaced(text, replacements):
-    """The text with lines in place of others, and the number of the line behind the last of them."""
+    """The text with lines in place of others, and the number of the line after the last of them."""
     lines = text.removesuffix("\n").split("\n")
     for it in sorted(replacements, key=lambda it: -it["line"]):
         lines[it["line"] - 1:it["line"]] = it["by"]
@@ -73,7 +73,7 @@ def replaced(text, replacements):
 
 
 def objection(program, text):
-    """What is wrong with what is told of a text; None where nothing is."""
+    """What is wrong with what is reported of a text; None where nothing is."""
     fault = plain_fault(program, text)
     ended = answer(program, ["check", "--format", "json"], text)
     if ended.stderr:

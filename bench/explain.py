@@ -4,7 +4,7 @@
 Each text has 2 to 6 ranks, some communicators, and collectives that are posted or started in an order of each rank's own among
 communicators, with waits, waits for any and some, and tests in between. It is explained once and run with 0 to 8 progress threads, three
 times. A text that never stalls must end in each run, one that stalls in every run must stall in each. Ends with 1 where one doesn't, and
-shows the text. So it does where the shortest circle that is told is no circle, or a search of all circles finds a shorter one. Told is also
+shows the text. So it does where the shortest circle that is reported is no circle, or a search of all circles finds a shorter one. It also prints
 how many of the texts that may stall did so in some run, and in each.
 """
 import collections
@@ -41,7 +41,7 @@ class Collective:
         self.words = " ".join(words)
 
     def values(self, rank):
-        """What a rank gives, behind a colon."""
+        """What a rank gives, after a colon."""
         member = self.group.index(rank)
         count = len(self.group) if self.kind in ("alltoall", "rsblock", "scatter") else 1
         if self.kind == "barrier" or self.kind in OF_ROOT and member != self.root:
@@ -50,7 +50,7 @@ class Collective:
 
 
 def completion(rng, live):
-    """A line that waits for or tests some of these requests, and those that are surely inactive behind it."""
+    """A line that waits for or tests some of these requests, and those that are surely inactive after it."""
     some = rng.sample(live, rng.randint(1, len(live)))
     names = " ".join(map(str, some))
     match rng.randrange(6):

@@ -14,7 +14,7 @@ CALLED = ["coll_kinds", "coll_plans", "coll_core", "coll_complete", "coll_engine
 
 
 def words(text):
-    """Without blanks, and without the comma that rt fmt puts behind the last of several lines."""
+    """Without blanks, and without the comma that rt fmt puts after the last of several lines."""
     return re.sub(r",([)\]}])", r"\1", "".join(text.split()))
 
 

@@ -41,7 +41,7 @@ def many_communicators():
 
 
 def one_post_each(ranks, collective, elements):
-    """Each rank posts the same collective, with so many elements of its own."""
+    """Each rank posts the same collective, with that many elements of its own."""
     lines = [f"ranks {ranks}"]
     for rank in range(ranks):
         values = " ".join(str((i + rank) % 10) for i in range(elements))

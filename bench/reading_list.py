@@ -4,7 +4,7 @@ blank lines aside; of a type that Rust declares, the lines of its declaration. T
 
     bench/reading_list.py CRATE/FILE.NAME .. [--beyond CRATE/FILE.NAME ..]
 
-as coll_core/BetweenCalls.BetweenCalls; what those behind --beyond rest on is left out.
+as coll_core/BetweenCalls.BetweenCalls; what those after --beyond rest on is left out.
 
 docs/THEOREM.md has its answers.
 """

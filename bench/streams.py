@@ -2,8 +2,8 @@
 """What the program does with the files and streams of the machine: streams.py PROGRAM
 
 The cases that no test of the gate can make, since they need a process with streams of its own: the file that standard output or standard
-error goes to is refused by whatever name, and keeps what it had; terminals and pipes get what is named in order; a full device and a folder are told
-with the system's words; and where the reader of a pipe has gone nothing is told. Ends with 1 where something else is seen.
+error goes to is refused by whatever name, and keeps what it had; terminals and pipes get what is named in order; a full device and a folder are reported
+in the system's words; and where the reader of a pipe has gone nothing is reported. Ends with 1 where something else is seen.
 """
 import os
 import pathlib

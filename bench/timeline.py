@@ -47,7 +47,7 @@ def check_lanes(bars):
 
 
 def bars_of(trace):
-    """(rank, request, start, its line, the line of its completion), as the trace tells them; 0 for an unwritten line."""
+    """(rank, request, start, its line, the line of its completion), as the trace has them; 0 for an unwritten line."""
     begun, bars, starts = {}, set(), {}
     for line in trace:
         head, _, told = line.rstrip("\n").rpartition("  # ")

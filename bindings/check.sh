@@ -4,13 +4,17 @@
 # Tells each check; one that has no tool here is named as skipped. The last line is `N passed, N failed`.
 # check.sh FOLDER [c|cpp|rust]..
 set -u
-here=$(dirname -- "$(readlink -f -- "$0")")
-lib=$(readlink -f -- "$1")
-shift
+command -v timeout > /dev/null || { echo "check.sh: there is no timeout, by which a check that hangs ends" >&2; exit 2; }
 work=$(mktemp -d)
 trap 'rm -rf -- "$work"' EXIT
 trap 'exit 130' INT
 trap 'exit 143' TERM HUP
+# Words that hold several options are split at spaces, which the repository's path and the library's may have: they have other names here.
+ln -s "$(dirname -- "$(dirname -- "$(readlink -f -- "$0")")")" "$work/top"
+ln -s "$(readlink -f -- "$1")" "$work/lib"
+here=$work/top/bindings
+lib=$work/lib
+shift
 cc=${CC:-cc}
 cxx=${CXX:-c++}
 header="-I$here/../include"
@@ -49,10 +53,14 @@ check() {
     fi
 }
 
-# Whether programs of a compiler run under ThreadSanitizer here.
+# Whether programs of a compiler run under ThreadSanitizer here. Where the kernel places memory at more places than the sanitizer knows, some
+# runs fail, and others don't.
 runs_threads_checked() {
     echo 'int main(void) { return 0; }' > "$work/empty.c"
-    $1 -fsanitize=thread "$work/empty.c" -o "$work/empty" > /dev/null 2>&1 && "$work/empty" > /dev/null 2>&1
+    $1 -fsanitize=thread "$work/empty.c" -o "$work/empty" > /dev/null 2>&1 || return 1
+    for _ in 1 2 3 4 5 6 7 8 9 10 11 12 13 14 15 16 17 18 19 20; do
+        "$work/empty" > /dev/null 2>&1 || return 1
+    done
 }
 
 # The clients, and what each is run with: a line for each run.
@@ -81,15 +89,21 @@ try_client() {
     done < "$work/runs"
 }
 
+# Whether a compiler is there, with the headers of its language.
+compiles() {
+    has "${2%% *}" && echo '#include <stdint.h>' | $2 -x "$1" -fsyntax-only - > /dev/null 2>&1
+}
+
 # Each header by itself, as C11 and as C++11, by each compiler that is there.
 check_headers() {
     language=$1
     standard=$2
     shift 2
     for compiler in "$@"; do
+        compiles "$language" "$compiler" || continue
         for file in "$here"/../include/*.h; do
             name=$(basename "$file")
-            ! has "${compiler%% *}" || check "$name by itself, $standard, $compiler" sh -c \
+            check "$name by itself, $standard, $compiler" sh -c \
                 "echo '#include \"$name\"' | $compiler -std=$standard $warnings $header -x $language -fsyntax-only -"
         done
     done
@@ -111,7 +125,7 @@ check_c() {
     checks_threads=
     ! runs_threads_checked "$cc" || checks_threads=yes
     [ "$checks_threads" ] || skip "C under ThreadSanitizer" "programs of $cc don't run under it here"
-    for client in sum threads refusals cases waits explained calls mixed; do
+    for client in sum threads refusals cases waits explained calls mixed left; do
         [ -e "$here/c/$client.c" ] || continue
         # shellcheck disable=SC2086
         try_client $client static $c "$here/c/$client.c" $static
@@ -122,7 +136,7 @@ check_c() {
     done
     # shellcheck disable=SC2086
     try_client memory static $c "$here/c/memory.c" $static -Wl,--wrap=malloc -Wl,--wrap=realloc
-    counted="-Wl,--wrap=wz_run_work -Wl,--wrap=wz_step -Wl,--wrap=wz_settle"
+    counted="-Wl,--wrap=wz_run_work -Wl,--wrap=wz_return_work -Wl,--wrap=wz_step -Wl,--wrap=wz_settle -Wl,--wrap=pthread_cond_wait"
     # shellcheck disable=SC2086
     try_client bounded static $c "$here/c/bounded.c" $static $counted
     # shellcheck disable=SC2086
@@ -133,7 +147,7 @@ check_c() {
     check_helgrind
     check_headers c c11 "$cc" gcc clang
     check_tables
-    check_leaks refusals cases memory sum explained "waits 3 5" "calls 3 2" "threads 4 20 quiet"
+    check_leaks refusals cases memory sum explained left "waits 3 5" "calls 3 2" "threads 4 20 quiet"
 }
 
 # Where one rank's post is refused, the program ends, and the three others are told.
@@ -194,7 +208,7 @@ check_cpp() {
 }
 
 check_rust() {
-    has cargo || { skip "Rust" "there is no cargo"; return; }
+    cargo --version > /dev/null 2>&1 || { skip "Rust" "there is no cargo that runs"; return; }
     cd "$here/rust" || exit 1
     export WORZSUNAB_LIB="$lib" CARGO_TARGET_DIR="$work/cargo"
     check "Rust: tests" cargo test --offline --quiet

@@ -59,9 +59,10 @@ _colljob() {
         'explain')
             case "$before" in
                 --format) _colljob_words 'text json dot'; return ;;
+                --color) _colljob_words 'auto always never'; return ;;
             esac
             takes_job=1
-            options='--format --strict --all -h --help'
+            options='--format --color --strict --all -h --help'
             ;;
         'check')
             case "$before" in

@@ -6,6 +6,7 @@ import pathlib
 import pty
 import re
 import select
+import shutil
 import subprocess
 import sys
 import tempfile
@@ -24,6 +25,7 @@ ROWS = [
     ("colljob plain ", JOBS),
     ("colljob check --format ", ["text", "json"]),
     ("colljob check --color ", ["auto", "always", "never"]),
+    ("colljob explain --color ", ["auto", "always", "never"]),
     ("colljob explain --format ", ["text", "json", "dot"]),
     ("colljob run --workers ", [str(number) for number in range(9)]),
     ("colljob run --out ", ALL),
@@ -37,7 +39,7 @@ END = "<<end>>"
 
 
 def of_bash(line):
-    """What bash offers behind the line."""
+    """What bash offers after the line."""
     words = line.split(" ")
     listed = " ".join(f"'{word}'" for word in words)
     script = f"""source {HERE}/colljob.bash
@@ -95,7 +97,7 @@ class Zsh:
         read_until(self.shell, "ready> ", 30)
 
     def offers(self, line):
-        """What zsh offers behind the line."""
+        """What zsh offers after the line."""
         offered = self.folder / "offered.txt"
         offered.unlink(missing_ok=True)
         os.write(self.shell, line.encode() + b"\x14")
@@ -115,6 +117,9 @@ def without_slash(words):
 
 
 def main():
+    missing = [shell for shell in ("bash", "zsh") if shutil.which(shell) is None]
+    if missing:
+        sys.exit(f"test.py: there is no {missing[0]}")
     failed = 0
     with tempfile.TemporaryDirectory() as name:
         folder = pathlib.Path(name)

@@ -8,6 +8,9 @@
    who wait: they go on until they are answered, and who gives the lock up while work is left calls one of them. Combinations of long rows
    are computed with the lock free, and come back through the record.
 
+   No rank has to win the lock: whoever has it carries out what stands in all records, and takes all combinations back. Only a rank that is
+   called has to come by itself; where it doesn't, a rank that tests again and again computes what is left.
+
    models/shim.pml is this protocol in Promela. */
 #ifndef WORZSUNAB_COMBINER_H
 #define WORZSUNAB_COMBINER_H
@@ -152,12 +155,21 @@ static inline void wz_judge_(wz_shared *shared) {
 /* Before something is begun: once no request has bytes any longer, no row is long. */
 static inline void wz_forget_long_(wz_shared *shared) {
     uint64_t lent = 0;
-    if (shared->has_long && shared->outside == 0 && wz_lent(&shared->engine, &lent) == WZ_DONE && lent == 0) shared->has_long = false;
+    if (!shared->has_long || shared->outside > 0 || shared->is_left) return;
+    if (wz_lent(&shared->engine, &lent) == WZ_DONE && lent == 0) shared->has_long = false;
+}
+
+/* A rank that had left and begins, tests or waits again is there again: else it would count both as waiting and as gone. */
+static inline void wz_is_back_(wz_shared *shared, wz_record *record) {
+    if (!record->left || record->ask.kind == WZ_ONCE) return;
+    record->left = false;
+    shared->gone--;
 }
 
 /* Carries out what a rank asks for. */
 static inline void wz_carry_out_(wz_shared *shared, wz_record *record) {
     wz_ask *ask = &record->ask;
+    wz_is_back_(shared, record);
     if (ask->kind == WZ_BEGINS) wz_forget_long_(shared);
     int32_t code = ask->does(shared, ask);
     if (code == WZ_PENDING && ask->kind == WZ_TESTS && shared->unsettled) {
@@ -183,7 +195,7 @@ static inline void wz_carry_out_(wz_shared *shared, wz_record *record) {
 
 /* Returns what a rank has computed. */
 static inline void wz_take_back_(wz_shared *shared, wz_record *record) {
-    wz_return_work(&shared->engine, &record->work);
+    wz_return_work(&shared->engine, record->work);
     shared->outside--;
     shared->unsettled = true;
     if (record->run != WZ_DONE) wz_answer_waits_(shared, record->run);
@@ -207,15 +219,31 @@ static inline bool wz_serve_(wz_shared *shared) {
     return any;
 }
 
-/* Makes actions up to the next combination, which its thread is to compute with the lock free; one who doesn't wait leaves it to those who do. */
+/* Takes the next combination out, unless that is done; `unsettled` is false where there is none. */
+static inline int32_t wz_find_next_(wz_shared *shared) {
+    if (shared->is_left) return WZ_DONE;
+    int32_t code = wz_take_work(&shared->engine, shared->next);
+    shared->is_left = code == WZ_DONE;
+    if (code != WZ_NO_WORK) return code;
+    shared->unsettled = false;
+    return WZ_DONE;
+}
+
+/* Whether a rank leaves combinations to those who wait. One that waits doesn't, nor one that has found too often that the rank which was called
+   hadn't come: that one's thread may get no processor, or never find the lock free beside ranks that test again and again. */
+static inline bool wz_leaves_(const wz_shared *shared, const wz_record *me) {
+    return me->ask.kind != WZ_WAITS && shared->waiting > 0 && me->late < WZ_LOOKS;
+}
+
+/* Makes actions up to the next combination, which its thread is to compute with the lock free, or leaves. A combination that is left stays taken
+   out, since the engine would compare its rows, under the lock, to take it back. */
 static inline int32_t wz_take_piece_(wz_shared *shared, wz_record *me) {
-    int32_t code = wz_take_work(&shared->engine, &me->work);
-    if (code == WZ_NO_WORK) {
-        shared->unsettled = false;
-        return WZ_DONE;
-    }
-    if (code != WZ_DONE) return code;
-    if (me->ask.kind != WZ_WAITS && shared->waiting > 0) return wz_return_work(&shared->engine, &me->work);
+    int32_t code = wz_find_next_(shared);
+    if (!shared->is_left || wz_leaves_(shared, me)) return code;
+    wz_work *taken = shared->next;
+    shared->next = me->work;
+    me->work = taken;
+    shared->is_left = false;
     shared->outside++;
     wz_write_(&me->piece, WZ_OUT);
     return WZ_DONE;
@@ -240,21 +268,25 @@ static inline bool wz_try_lock_(wz_shared *shared) {
     return !wz_read_(&shared->held) && !wz_swap_(&shared->held, 1);
 }
 
-/* Under the lock: where work is left and nobody computes who waits, calls one who waits. */
-static inline void wz_hand_on_(wz_shared *shared) {
+/* Under the lock: where work is left and nobody computes who waits, calls one who waits, or notes that the one who was called hasn't come yet. */
+static inline void wz_hand_on_(wz_shared *shared, wz_record *me) {
     wz_record *found = NULL;
-    if (!shared->unsettled || shared->waiting == 0) return;
+    int late = me->late;
+    if (shared->waiting > 0 && !shared->unsettled) return;
+    me->late = 0;
+    if (shared->waiting == 0) return;
     for (uint32_t rank = 0; rank < shared->ranks; rank++) {
         wz_record *record = &shared->records[rank];
         int stage = wz_read_(&record->stage);
+        if (stage == WZ_CALLED) me->late = late < WZ_LOOKS ? late + 1 : late;
         if (stage == WZ_CALLED || (stage == WZ_WAITING && wz_read_(&record->piece) != WZ_NO_PIECE)) return;
         if (stage == WZ_WAITING && found == NULL) found = record;
     }
     if (found != NULL) wz_write_(&found->stage, WZ_CALLED);
 }
 
-static inline void wz_unlock_(wz_shared *shared) {
-    wz_hand_on_(shared);
+static inline void wz_unlock_(wz_shared *shared, wz_record *me) {
+    wz_hand_on_(shared, me);
     wz_write_(&shared->held, 0);
     wz_wake_(shared);
 }
@@ -283,9 +315,9 @@ static inline void wz_lead_(wz_shared *shared, wz_record *me) {
         if (wz_read_(&me->stage) == WZ_CALLED) wz_write_(&me->stage, WZ_WAITING);
         wz_make_progress_(shared, me);
     }
-    wz_unlock_(shared);
+    wz_unlock_(shared, me);
     if (wz_read_(&me->piece) != WZ_OUT) return;
-    me->run = wz_run_work(&me->work);
+    me->run = wz_run_work(me->work);
     wz_write_(&me->piece, WZ_BACK);
 }
 

@@ -61,8 +61,9 @@ typedef struct wz_record {
     int sleeps;
     int32_t answer;
     wz_ask ask;
-    wz_work work;
-    int32_t run; /* what wz_run_work answered */
+    wz_work *work; /* its combination, where it has one */
+    int32_t run;   /* what wz_run_work answered */
+    int late;      /* how often in a row, WZ_LOOKS at most, its rank gave the lock up while a rank that had been called before hadn't come */
     bool left;
     uint32_t in_vain; /* how often its thread has looked long and slept all the same, less how often not; the thread's own, as is the next */
     uint32_t calls;   /* how often it has waited with few looks */
@@ -95,12 +96,15 @@ typedef struct wz_shared {
     bool stalled;     /* nothing was begun since the last */
     bool unsettled;   /* actions may be left that can be made, or progress was refused memory */
     bool has_long;    /* some rank gave a long row */
+    bool is_left;     /* `next` is a combination that is left to those who wait */
+    wz_work *next;    /* what is taken out next */
     uint8_t sizes[WZ_MOST_COMMUNICATORS];
     uint8_t members[WZ_MOST_COMMUNICATORS][WZ_MOST_RANKS];
     uint32_t places[WZ_MOST_COMMUNICATORS][WZ_MOST_RANKS]; /* by rank, how many places of its list are taken */
     uint32_t generations[WZ_MOST_SLOTS];                   /* of the last request that each slot was given to */
     wz_buffers buffers[WZ_MOST_SLOTS];                     /* of the same */
     wz_record records[WZ_MOST_RANKS + 1];                  /* the one behind the last rank's is that of a guest */
+    wz_work works[WZ_MOST_RANKS + 2];                      /* one for each record, and one to take out into: they change places */
     pthread_mutex_t guests; /* a thread that plays no rank: one at a time */
 } wz_shared;
 

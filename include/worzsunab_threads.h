@@ -37,7 +37,9 @@ static inline int32_t wz_shared_open(wz_shared *shared, const wz_limits *limits,
         wz_word_(&record->sleeps);
         pthread_mutex_init(&record->guard, NULL);
         pthread_cond_init(&record->woken, NULL);
+        record->work = &shared->works[rank];
     }
+    shared->next = &shared->works[WZ_MOST_RANKS + 1];
     return WZ_DONE;
 }
 
@@ -53,6 +55,7 @@ static inline int32_t wz_shared_open_world(wz_shared *shared, uint8_t ranks) {
 static inline int32_t wz_shared_close(wz_shared *shared) {
     int32_t code = wz_close(&shared->engine);
     if (code != WZ_DONE) return code;
+    if (shared->is_left) wz_drop_work(shared->next);
     for (uint32_t rank = 0; rank <= shared->ranks; rank++) {
         pthread_cond_destroy(&shared->records[rank].woken);
         pthread_mutex_destroy(&shared->records[rank].guard);
@@ -317,7 +320,8 @@ static inline int32_t wz_do_leave_(wz_shared *shared, wz_ask *ask) {
     return WZ_DONE;
 }
 
-/* The rank's thread makes no further call, so others don't wait for it. Call it on every way out of the thread. */
+/* The rank's thread makes no further call, so others don't wait for it. Call it on every way out of the thread. A rank that begins, tests or
+   waits afterwards counts again. */
 static inline void wz_shared_leave(wz_shared *shared, uint8_t rank) {
     wz_ask ask = wz_ask_(WZ_ONCE, rank, wz_do_leave_);
     wz_asked_(shared, &ask);

@@ -46,7 +46,7 @@ static inline const char *wz_message(int32_t code) {
     }
 }
 
-/* The name of an answer: of a refusal as docs/PROMISES.md has it. */
+/* The name of an answer: of a refusal that of crates/coll_kinds/src/refusal.rt. */
 static inline const char *wz_name(int32_t code) {
     static const char *const names[] = {
         "Done", "BadComm", "NotMember", "BadSignature", "BadLength", "Mismatch", "Stale", "NotYours", "Active", "NotPersistent",
@@ -156,7 +156,8 @@ static inline void wz_say_stall_(wz_text_ *text, const wz_reason *reason) {
     if (reason->want > 1) wz_say_(text, " and %lu more", (unsigned long)reason->want - 1);
 }
 
-/* What is known of a refusal. */
+/* What is known of a refusal by its reason alone: which of three things is wrong with an operation, and what a refused collective is itself,
+   wz_explain_post says. */
 static inline int wz_explain(const wz_reason *reason, char *at, size_t size) {
     static const char *const rules[] = { "", "the root isn't a member, or isn't 0 for a collective without a root",
                                          "the operation is missing, isn't for that type, or is one too many",

@@ -1,9 +1,9 @@
 /* How threads share one engine by flat combining. Run by check.py; README.md says what is checked and what isn't.
  *
  * Each rank's port has a publication record. Whoever holds the engine's lock serves all records, steps, completes for waiters,
- * tells a stall, finds a successor for what is ready, and unlocks: RELEASE is the only way out of the lock. What is done under
- * one hold is one step of the model, since nobody else sees its middle; publishing, taking the lock, unlocking, waking and the
- * look at the records after the unlock are steps of their own.
+ * reports a stall, finds a successor for what is ready, and unlocks: RELEASE is the only way out of the lock, but for a combination of a
+ * few bytes, after which the thread comes back. What is done under one hold is one step of the model, since nobody else sees its
+ * middle; publishing, taking the lock, unlocking, waking and the look at the records after the unlock are steps of their own.
  *
  * Sizes:   RANKS, COLLECTIVES, WORKERS (progress threads), STEPS (engine steps under one hold: 1 covers each partial advance),
  *          SPURIOUS (wake-ups of each thread for no reason), REFUSALS (combinations that are refused memory)
@@ -19,9 +19,9 @@
  *          PLAIN_UNLOCK       who goes out with a combination unlocks without RELEASE
  *          LATE_PARK          a port is marked as parked after it has unlocked
  *          UNWOKEN            a parked port is answered, and isn't woken
- *          STALL_WHILE_OUT    a stall is told though a combination is out
+ *          STALL_WHILE_OUT    a stall is reported though a combination is out
  *          STALL_BEFORE_SERVE a stall is looked for before the records are served, and what is published counts as a rest
- *          LASTING_STALL      a stall that was told stays told, though a request is ready again
+ *          LASTING_STALL      a stall that was reported stays, though a request is ready again
  *          UNSEEN_DROP        who gives the lock up doesn't look for ports that were dropped meanwhile
  */
 #ifndef RANKS
@@ -226,7 +226,7 @@ inline settle() {
     od
 }
 
-/* nothing is ready or out, and each port waits for what isn't the case or has ended: nobody can go on */
+/* nothing is ready or out, and each port is blocked in a wait or has ended: nobody can go on */
 inline tell_stall() {
     look(count, found);
 #ifdef STALL_WHILE_OUT
@@ -555,7 +555,7 @@ Looks:
     };
     if
     :: got -> d_step { got = 0; inside = inside & ~BIT(me); next = TO_NEXT }; goto Release
-    :: !got && what != WAIT_ANY -> next = TO_WAIT; goto Release     /* it publishes its wait once more */
+    :: !got && what != WAIT_ANY -> next = TO_WAIT; goto Release     /* it publishes its wait again */
     :: !got && what == WAIT_ANY
     fi;
 
@@ -569,6 +569,9 @@ Turn: true;
         UNLOCK; WAKE; WRITTEN; goto Computes
 #else
         goto Release
+#endif
+#ifndef GATED
+    :: first == 2 -> d_step { first = 0; hand_out(piece) }; UNLOCK; WAKE; goto ComputesBetween      /* it is of a few bytes */
 #endif
     :: word[me] != ANSWERED && first == 1 -> d_step { first = 0; next = TO_SPIN }; goto Release
     :: word[me] != ANSWERED && first == 0 && stalled ->
@@ -602,6 +605,13 @@ Computes:       /* the lock is free */
         :: next = TO_SPIN; goto Release
         fi
     fi;
+
+#ifndef GATED
+ComputesBetween:    /* the lock is free, and nothing was done for others but to wake them */
+    ENTER;
+    d_step { commit(); piece = 0 };
+    goto Turn;
+#endif
 
 Parks: true;
 #ifdef LATE_PARK
@@ -798,7 +808,7 @@ proctype Watcher() {
 end:
     if
     :: lock != HELD && SOME_REQUEST(IS_MET) -> assert(false)    /* who waits is answered under the hold that finishes the request */
-    :: lock != HELD && !stalled && ended != EVERYONE && ALL_REST && !SOME_REQUEST(IS_BUSY) -> assert(false)     /* a stall is told at once */
+    :: lock != HELD && !stalled && ended != EVERYONE && ALL_REST && !SOME_REQUEST(IS_BUSY) -> assert(false)     /* a stall is reported at once */
     :: lock != HELD && ONE_IS_LOST -> assert(false)             /* who is marked as parked is registered */
     fi
 }

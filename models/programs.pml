@@ -88,7 +88,7 @@ inline program() {
 inline verdict() { assert(stalled); ends(0, STALLED); ends(1, WELL) }
 #endif
 
-#ifdef RESUMED          /* a stall is told, and both ranks go on and post what the other needs */
+#ifdef RESUMED          /* a stall is reported, and both ranks go on and post what the other needs */
 inline program() {
     members[0] = 3; members[1] = 3; combines[1] = 1;
     line(0, POST, 0); line(0, TRY, 0); line(0, POST, 1); line(0, WAIT, 0); line(0, WAIT, 1);

@@ -7,15 +7,19 @@
  *
  * Sizes:   RANKS, COLLECTIVES, PIECES (combinations of a collective)
  * Forms:   LONG (combinations are computed with the lock free), CHAINED (a combination is ready once the one before it is there),
- *          FAIR (for liveness)
+ *          FAIR (for liveness), COARSE (what one hold of the lock does to the records is one step for all of them, and so are the wake-ups
+ *          that follow it)
  * Faults:  NOT_WOKEN          who gives the lock up wakes none of those that ask
  *          LOOKS_FIRST        who is about to sleep looks at its record before it says so
  *          LOCK_UNSEEN        and doesn't look whether the lock is free
  *          NOT_HANDED_ON      work is left without calling one who waits
  *          UNJUDGED_RETURN    who only returns a piece doesn't look for a stall
- *          EARLY_STALL        a stall is told though work is left
- *          STALL_WHILE_OUT    a stall is told though a combination is out
+ *          EARLY_STALL        a stall is reported though work is left
+ *          STALL_WHILE_OUT    a stall is reported though a combination is out
  *          TAKES_MANY         who posts or tests goes on after its piece
+ *          LEFT_UNSEEN        those who wait look for a combination to take out, and not for the one that is left to them
+ *          NEVER_LATE         who tests leaves a combination again and again, also where the one who was called to it doesn't come
+ *          GONE_TWICE         who had left and calls again counts as gone still
  */
 #ifndef RANKS
 #define RANKS 2
@@ -63,7 +67,9 @@ byte pieces[RANKS];     /* that this call has computed */
 bit held;
 /* under the lock */
 byte waiting, gone, outside;
-bit stalled, unsettled;
+byte next_of;           /* the collective, and one more, of the combination that is left to those who wait; 0: none is */
+bit stalled, unsettled, left[RANKS];
+bit late[RANKS];        /* it gave the lock up while a rank that had been called before hadn't come: once is often enough here */
 
 #define IS_OVER(r) (stage[r] == ANSWERED && piece[r] == NONE)
 #ifdef NOT_WOKEN
@@ -90,7 +96,20 @@ inline make_ready(c) {
 #endif
 }
 
+/* a rank that had left and calls again is there again */
+inline come_back(r) {
+#ifndef GONE_TWICE
+    if
+    :: left[r] && kind[r] != A_LEAVE -> left[r] = 0; gone--
+    :: else
+    fi
+#else
+    skip
+#endif
+}
+
 inline carry_out(r) {
+    come_back(r);
     if
     :: kind[r] == A_POST ->
         posted[about[r]] = posted[about[r]] | BIT(r);
@@ -99,7 +118,7 @@ inline carry_out(r) {
         :: else
         fi;
         stalled = 0; unsettled = 1; answer(r, DONE)
-    :: kind[r] == A_LEAVE -> gone++; answer(r, DONE)
+    :: kind[r] == A_LEAVE -> gone = gone + (left[r] -> 0 : 1); left[r] = 1; answer(r, DONE)
     :: (kind[r] == A_TEST || kind[r] == A_WAIT) && IS_DONE(about[r]) -> answer(r, DONE)
     :: kind[r] == A_TEST && !IS_DONE(about[r]) && unsettled -> stage[r] = TESTED
     :: kind[r] == A_TEST && !IS_DONE(about[r]) && !unsettled -> answer(r, PENDING)
@@ -117,7 +136,7 @@ inline take_back(r) {
 #ifdef CHAINED
     make_ready(taken[r]);
 #endif
-    outside--; unsettled = 1; piece[r] = NONE
+    outside--; unsettled = 1; piece[r] = NONE; taken[r] = 0
 }
 
 inline serve(r) {
@@ -154,16 +173,33 @@ inline find_work() {
     od
 }
 
+#ifdef NEVER_LATE
+#define LEAVES(r) (kind[r] != A_WAIT && waiting > 0)
+#else
+#define LEAVES(r) (kind[r] != A_WAIT && waiting > 0 && !late[r])
+#endif
+#ifdef LEFT_UNSEEN
+#define IS_LEFT(r) (next_of > 0 && kind[r] != A_WAIT)
+#else
+#define IS_LEFT(r) (next_of > 0)
+#endif
+
+/* as many actions as one call makes; or the next combination is taken out, and computed by this rank or left */
 inline progress(r) {
     find_work();
     if
-    :: j == COLLECTIVES -> unsettled = 0
 #ifdef LONG
-    :: j < COLLECTIVES && kind[r] != A_WAIT && waiting > 0      /* it is left to those who wait */
-    :: j < COLLECTIVES && !(kind[r] != A_WAIT && waiting > 0) ->
-        ready[j] = ready[j] - 1; taken[r] = j; outside++; piece[r] = OUT
+    :: IS_LEFT(r)
+    :: !IS_LEFT(r) && j == COLLECTIVES -> unsettled = 0
+    :: !IS_LEFT(r) && j < COLLECTIVES -> ready[j] = ready[j] - 1; next_of = j + 1
+    fi;
+    if
+    :: next_of > 0 && unsettled && !LEAVES(r) ->
+        taken[r] = next_of - 1; next_of = 0; outside++; piece[r] = OUT
+    :: else
 #else
-    :: j < COLLECTIVES ->                                       /* as many actions as one call makes */
+    :: j == COLLECTIVES -> unsettled = 0
+    :: j < COLLECTIVES ->
         ready[j] = ready[j] - 1; missing[j] = missing[j] - 1;
 #ifdef CHAINED
         make_ready(j)
@@ -193,7 +229,7 @@ inline judge() {
         :: i < COLLECTIVES -> assert(ready[i] == 0); i++
         :: else -> break
         od;
-        assert(outside == 0);
+        assert(outside == 0 && next_of == 0);
         i = 0;
         do
         :: i < RANKS ->
@@ -210,15 +246,20 @@ inline judge() {
 
 #define GOES_ON(r) (stage[r] == WAITING && piece[r] != NONE)
 
-inline hand_on() {
+inline hand_on(r) {
 #ifndef NOT_HANDED_ON
     if
     :: unsettled && waiting > 0 ->
-        i = 0; j = RANKS;
+        late[r] = 0; i = 0; j = RANKS;
         do
         :: i < RANKS ->
             if
-            :: stage[i] == CALLED || GOES_ON(i) -> j = RANKS; break
+            :: stage[i] == CALLED ->
+#ifdef LONG
+                late[r] = 1;
+#endif
+                j = RANKS; break
+            :: GOES_ON(i) -> j = RANKS; break
             :: stage[i] == WAITING && piece[i] == NONE && j == RANKS -> j = i; i++
             :: else -> i++
             fi
@@ -228,7 +269,8 @@ inline hand_on() {
         :: j < RANKS -> stage[j] = CALLED
         :: else
         fi
-    :: else
+    :: waiting == 0 -> late[r] = 0
+    :: waiting > 0 && !unsettled
     fi
 #else
     skip
@@ -241,14 +283,15 @@ inline hand_on() {
 #define WAIT 2
 #define TEST 3
 #define POLL 4          /* tests until it is done */
+#define LEAVE 5         /* and goes on all the same */
 #define LINES 6
-byte command[RANKS * LINES], argument[RANKS * LINES], length[RANKS];
-byte ending[RANKS];     /* what its last wait told */
+hidden byte command[RANKS * LINES], argument[RANKS * LINES], length[RANKS];     /* which don't change */
+byte ending[RANKS];     /* what its last wait returned */
 byte over;              /* ranks whose programs have ended */
 #define EVERYONE ((1 << RANKS) - 1)
 inline line(r, what, on) { command[(r) * LINES + length[r]] = what; argument[(r) * LINES + length[r]] = on; length[r] = length[r] + 1 }
 #define ALL(what, on) j = 0; do :: j < RANKS -> line(j, what, on); j++ :: else -> break od
-byte must_stall;        /* ranks to which a stall must be told */
+byte must_stall;        /* ranks to which a stall must be reported */
 
 inline program() {
     i = 0;
@@ -271,6 +314,12 @@ inline program() {
     ALL(POST, 0); line(0, WAIT, 0);
 #if RANKS == 3
     line(1, WAIT, 0)
+#endif
+#elif defined(RETURNS)      /* rank 0 leaves, and comes back to wait for the others, which test */
+    line(0, LEAVE, 0); line(0, POST, 0); line(0, WAIT, 0);
+    line(1, POST, 0); line(1, POLL, 0);
+#if RANKS == 3
+    line(2, POST, 0); line(2, POLL, 0)
 #endif
 #elif defined(TESTER)       /* rank 0 posts and tests a collective of its own beside those of the others */
     members[0] = EVERYONE & ~1; members[1] = 1;
@@ -302,14 +351,22 @@ inline program() {
 #define SOME_ASK (stage[0] == ASKED || stage[1] == ASKED || piece[0] == BACK || piece[1] == BACK)
 #endif
 
+#ifdef COARSE
+#define SERVE_ALL true; d_step { do :: next < RANKS -> serve(next); next++ :: else -> next = 0; break od }
+#define WAKE_ALL d_step { do :: next < RANKS -> if :: sleeps[next] && IS_DUE(next) -> sleeps[next] = 0 :: else fi; next++ :: else -> next = 0; break od }
+#else
+#define SERVE_ALL do :: next < RANKS -> d_step { serve(next) }; next++ :: else -> next = 0; break od
+#define WAKE_ALL do :: next < RANKS -> if :: sleeps[next] -> if :: IS_DUE(next) -> sleeps[next] = 0 :: else fi :: else fi; next++ :: else -> next = 0; break od
+#endif
+
 /* ---------------------------------------------------------------- a rank's thread */
 proctype Rank(byte me) {
     byte at, what, next;
     bit was;
 Next: true;
     d_step {
-        what = command[me * LINES + at]; about[me] = argument[me * LINES + at]; at++; pieces[me] = 0;
-        kind[me] = (what == POST -> A_POST : (what == WAIT -> A_WAIT : (what == END -> A_LEAVE : A_TEST)));
+        what = command[me * LINES + at]; about[me] = argument[me * LINES + at]; at++; pieces[me] = 0; reply[me] = DONE;
+        kind[me] = (what == POST -> A_POST : (what == WAIT -> A_WAIT : (what == END || what == LEAVE -> A_LEAVE : A_TEST)));
         stage[me] = ASKED
     };
 
@@ -361,11 +418,7 @@ Looks:
 Leads:
     if
     :: stage[me] == ANSWERED ->         /* only a piece is left to return */
-        next = 0;
-        do
-        :: next < RANKS -> d_step { serve(next) }; next++
-        :: else -> next = 0; break
-        od;
+        SERVE_ALL;
         true;
         d_step { answer_waits(); i = 0 };
 #ifndef UNJUDGED_RETURN
@@ -384,10 +437,7 @@ Leads:
     :: else
     fi;
 Turn:
-    do
-    :: next < RANKS -> d_step { serve(next) }; next++
-    :: else -> next = 0; break
-    od;
+    SERVE_ALL;
     true;
     d_step {
         if
@@ -404,21 +454,9 @@ Turn:
     fi;
 
 Unlocks: true;
-    d_step { hand_on() };
+    d_step { hand_on(me) };
     held = 0;
-    do
-    :: next < RANKS ->
-        if
-        :: sleeps[next] ->
-            if
-            :: IS_DUE(next) -> sleeps[next] = 0
-            :: else
-            fi
-        :: else
-        fi;
-        next++
-    :: else -> next = 0; break
-    od;
+    WAKE_ALL;
     if
     :: piece[me] == OUT ->              /* it is computed with the lock free */
         pieces[me] = pieces[me] + 1;

@@ -3,11 +3,11 @@
 
     mpi/compare.py TEXT ...
 
-It tells the first difference of each text, and at the end how often each kind of collective differed, with the shortest such text. Each
+It reports the first difference of each text, and at the end how often each kind of collective differed, with the shortest such text. Each
 library is tried whose compiler is found, mpicc.openmpi or mpicc.mpich (Debian's libopenmpi-dev and libmpich-dev), and run_text is built
 for it. The oracle is ./colljob at the top of the repository, or the program that --colljob or the variable COLLJOB names. (Where nothing
 is proved, ./colljob takes a minute for each text.) Texts are played many in a run, and those that differ once more by themselves. One that
-isn't through in some seconds, or ends its processes, is told and left. A text with a fault is told and not played. The status is 1 where
+isn't through in some seconds, or ends its processes, is named and left. A text with a fault is named and not played. The status is 1 where
 something differed.
 """
 
@@ -28,7 +28,7 @@ Difference = collections.namedtuple("Difference", "text what line")
 
 
 def expected(colljob, path):
-    """The lines that a text means, or None where it has a fault, which is told."""
+    """The lines that a text means, or None where it has a fault, which is reported."""
     run = subprocess.run([colljob, "plain", path], capture_output=True, text=True)
     if run.returncode:
         print(run.stderr.strip() or f"{path}: colljob ended with status {run.returncode}")
@@ -145,7 +145,7 @@ def compare(library, program, wanted, words):
     kinds = collections.defaultdict(list)
     for path, want in wanted.items():
         difference = first_difference(path, want, found[path])
-        # What a text left behind in the library may be what the next one meets, so only what differs alone counts.
+        # What a text left in the library may be what the next one meets, so only what differs alone counts.
         if difference and words.batch > 1:
             difference = first_difference(path, want, play(library, program, [path], 1, words.seconds)[path])
         if difference:

@@ -17,7 +17,7 @@ KINDS = ["barrier", "bcast", "gather", "scatter", "allgather", "alltoall", "redu
 ROOTED = {"bcast", "gather", "scatter", "reduce"}
 COMBINING = {"reduce", "allreduce", "rsblock", "scan", "exscan"}
 INTEGERS = {"i8": (-128, 127), "i16": (-32768, 32767), "i32": (-(1 << 31), (1 << 31) - 1), "i64": (-(1 << 63), (1 << 63) - 1)}
-INTEGERS |= {"u8": (0, 255), "u16": (0, 65535), "u32": (0, (1 << 32) - 1), "u64": (0, (1 << 64) - 1)}
+INTEGERS.update({"u8": (0, 255), "u16": (0, 65535), "u32": (0, (1 << 32) - 1), "u64": (0, (1 << 64) - 1)})
 OPERATIONS = ["max", "min", "sum", "prod", "land", "lor", "lxor", "band", "bor", "bxor", "lastnz"]
 
 # The types on which few operations are allowed.
@@ -96,7 +96,7 @@ class Writer:
             self.free.append(it)
 
     def start(self, these):
-        """Starts persistent requests, each rank in an order of its own: a wait for one stands behind the starts of all."""
+        """Starts persistent requests, each rank in an order of its own: a wait for one stands after the starts of all."""
         for rank in range(self.ranks):
             mine = [it for it in these if rank in it.members]
             for it in mine:

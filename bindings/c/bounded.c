@@ -1,5 +1,6 @@
-/* A post or a test does its own part and a fixed number of steps, also while other ranks' long rows are combined: linked with
-   -Wl,--wrap=wz_run_work -Wl,--wrap=wz_step -Wl,--wrap=wz_settle, it counts what each call makes.
+/* A post or a test does its own part and a fixed number of steps, also while other ranks' long rows are combined, and no combination goes back
+   undone: linked with -Wl,--wrap=wz_run_work -Wl,--wrap=wz_return_work -Wl,--wrap=wz_step -Wl,--wrap=wz_settle, it counts what each call makes.
+   Tests alone complete, also where ranks wait that get no processor: linked with -Wl,--wrap=pthread_cond_wait, it holds their threads up.
    bounded RANKS [ROUNDS [times]]: with `times` it prints the longest microseconds of a post and of a test too. */
 #include <stdio.h>
 #include <stdlib.h>
@@ -17,17 +18,23 @@ static pthread_barrier_t together;
 static __thread uint32_t combinations, steps;
 static __thread bool unbounded;
 
+/* By the rank that computed it, a combination that isn't back yet. */
+static wz_work *computed[MOST];
+static __thread uint8_t own_rank;
+
+/* Whether a thread of another rank than 0 that wakes in a call sleeps on. */
+static bool holds_up;
+
 int32_t __real_wz_run_work(wz_work *work);
 int32_t __wrap_wz_run_work(wz_work *work);
+int32_t __real_wz_return_work(wz_engine *engine, wz_work *work);
+int32_t __wrap_wz_return_work(wz_engine *engine, wz_work *work);
 int32_t __real_wz_step(wz_engine *engine, uint32_t budget, uint32_t *actions);
 int32_t __wrap_wz_step(wz_engine *engine, uint32_t budget, uint32_t *actions);
 int32_t __real_wz_settle(wz_engine *engine);
 int32_t __wrap_wz_settle(wz_engine *engine);
-
-int32_t __wrap_wz_run_work(wz_work *work) {
-    combinations++;
-    return __real_wz_run_work(work);
-}
+int __real_pthread_cond_wait(pthread_cond_t *woken, pthread_mutex_t *guard);
+int __wrap_pthread_cond_wait(pthread_cond_t *woken, pthread_mutex_t *guard);
 
 int32_t __wrap_wz_step(wz_engine *engine, uint32_t budget, uint32_t *actions) {
     int32_t code = __real_wz_step(engine, budget, actions);
@@ -49,6 +56,35 @@ int32_t __wrap_wz_settle(wz_engine *engine) {
     } while (0)
 
 #define DONE(call) HOLDS((call) == WZ_DONE)
+
+int32_t __wrap_wz_run_work(wz_work *work) {
+    int32_t code = __real_wz_run_work(work);
+    combinations++;
+    if (code == WZ_DONE) __atomic_store_n(&computed[own_rank], work, __ATOMIC_SEQ_CST);
+    return code;
+}
+
+int32_t __wrap_wz_return_work(wz_engine *engine, wz_work *work) {
+    int by = 0;
+    while (by < MOST && __atomic_load_n(&computed[by], __ATOMIC_SEQ_CST) != work) by++;
+    HOLDS(by < MOST);
+    __atomic_store_n(&computed[by], NULL, __ATOMIC_SEQ_CST);
+    return __real_wz_return_work(engine, work);
+}
+
+static void sleep_for(long milliseconds) {
+    const struct timespec time = { 0, milliseconds * 1000000 };
+    nanosleep(&time, NULL);
+}
+
+int __wrap_pthread_cond_wait(pthread_cond_t *woken, pthread_mutex_t *guard) {
+    int code = __real_pthread_cond_wait(woken, guard);
+    if (own_rank == 0 || !__atomic_load_n(&holds_up, __ATOMIC_SEQ_CST)) return code;
+    pthread_mutex_unlock(guard);
+    while (__atomic_load_n(&holds_up, __ATOMIC_SEQ_CST)) sleep_for(1);
+    pthread_mutex_lock(guard);
+    return code;
+}
 
 static double now(void) {
     struct timespec t;
@@ -124,14 +160,66 @@ static void polled(uint8_t me) {
 /* What rank 0's post leaves is made by the others, who wait, also where they sleep: rank 0 makes no call until they have their sums. */
 static void left_to_others(uint8_t me) {
     static int32_t rows[MOST][LONG];
-    const struct timespec nap = { 0, 20000000 };
     wz_request request;
     for (int at = 0; at < LONG; at++) rows[me][at] = at;
-    if (me == 0) nanosleep(&nap, NULL);
+    if (me == 0) sleep_for(20);
     DONE(wz_iallreduce(&shared, me, 0, rows[me], rows[me], LONG, WZ_INT32, WZ_SUM, &request));
     if (me != 0) DONE(wz_wait(&shared, me, &request));
     pthread_barrier_wait(&together);
     DONE(wz_wait(&shared, me, &request)); /* of the others, a null request */
+    for (int at = 0; at < LONG; at++) HOLDS(rows[me][at] == ranks * at);
+}
+
+/* Rank 0 tests until it is done, while the others, who wait, are held up once they are called. */
+static void tests_alone(wz_request *request) {
+    const int most = WZ_LOOKS + 64; /* an allreduce of eight ranks has 24 combinations */
+    int tests = 0;
+    for (int32_t code = WZ_PENDING; code == WZ_PENDING; tests++) {
+        HOLDS(tests < most);
+        combinations = steps = 0;
+        code = wz_try(&shared, 0, request);
+        HOLDS((code == WZ_DONE || code == WZ_PENDING) && combinations <= 1 && steps <= WZ_STEPS && !unbounded);
+    }
+}
+
+/* Under the lock: whether the others sleep in their waits, and nothing is left for which one would be called. */
+static int32_t others_sleep(wz_shared *its, wz_ask *ask) {
+    bool sleep = !its->unsettled && its->outside == 0;
+    for (int r = 1; r < ranks; r++) {
+        const wz_record *record = &its->records[r];
+        sleep = sleep && wz_read_(&record->stage) == WZ_WAITING && wz_read_(&record->sleeps);
+    }
+    *(bool *)ask->out = sleep;
+    return WZ_DONE;
+}
+
+static void until_others_sleep(void) {
+    bool sleep = false;
+    wz_ask ask = wz_ask_(WZ_ONCE, UINT8_MAX, others_sleep);
+    ask.out = &sleep;
+    while (!sleep) {
+        sleep_for(1);
+        DONE(wz_asked_(&shared, &ask));
+    }
+}
+
+/* What is left to ranks that are called and don't come is made by one that tests. */
+static void called_in_vain(uint8_t me) {
+    static int32_t rows[MOST][LONG];
+    wz_request request;
+    for (int at = 0; at < LONG; at++) rows[me][at] = at;
+    pthread_barrier_wait(&together);
+    if (me == 0) {
+        until_others_sleep();
+        __atomic_store_n(&holds_up, true, __ATOMIC_SEQ_CST);
+    }
+    DONE(wz_iallreduce(&shared, me, 0, rows[me], rows[me], LONG, WZ_INT32, WZ_SUM, &request));
+    if (me == 0) {
+        tests_alone(&request);
+        __atomic_store_n(&holds_up, false, __ATOMIC_SEQ_CST);
+    } else {
+        DONE(wz_wait(&shared, me, &request));
+    }
     for (int at = 0; at < LONG; at++) HOLDS(rows[me][at] == ranks * at);
 }
 
@@ -149,13 +237,14 @@ static void short_again(uint8_t me) {
 }
 
 static void *rank(void *number) {
-    uint8_t me = (uint8_t)(size_t)number;
+    uint8_t me = own_rank = (uint8_t)(size_t)number;
     for (int round = 0; round < rounds; round++) {
         if (me == 0) short_sums();
         else long_sums(me);
     }
     polled(me);
     left_to_others(me);
+    called_in_vain(me);
     short_again(me);
     wz_shared_leave(&shared, me);
     return NULL;

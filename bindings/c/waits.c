@@ -2,6 +2,7 @@
    waits RANKS [ROUNDS] */
 #include <stdio.h>
 #include <stdlib.h>
+#include <unistd.h>
 
 #include "worzsunab_threads.h"
 
@@ -121,6 +122,20 @@ static void refused(uint8_t me) {
     HOLDS(wz_shared_wait_for_any(&shared, me, list, 1, &found) == WZ_STALE && found == 0 && count == 4);
 }
 
+/* Rank 0 leaves and comes back: it counts once, so no stall is reported to it while the last rank still works. */
+static void comes_back(uint8_t me) {
+    wz_request request = WZ_NULL_REQUEST;
+    size_t count = 99;
+    if (me == 0) {
+        wz_shared_leave(&shared, me);
+        DONE(wz_shared_post(&shared, me, 0, &barrier, NULL, 0, &request));
+    }
+    pthread_barrier_wait(&together);
+    if (me == ranks - 1) usleep(20000);
+    if (me != 0) DONE(wz_shared_post(&shared, me, 0, &barrier, NULL, 0, &request));
+    DONE(wz_shared_wait(&shared, me, &request, NULL, 0, &count));
+}
+
 /* Rank 0 leaves; the others wait, each by another wait, for barriers that it never posts: all are told. */
 static void stall(uint8_t me) {
     wz_part part = { WZ_NULL_REQUEST, 0, 0, 0, false };
@@ -147,6 +162,7 @@ static void *rank(void *number) {
         for_any(me);
         one_of_two(me);
     }
+    comes_back(me);
     refused(me);
     stall(me);
     return NULL;

@@ -162,22 +162,22 @@ def record(program, library, folder, seconds):
 
 
 def judge(folder):
-    """What is told of a record, and how many collective calls it has."""
-    told = subprocess.run([sys.executable, f"{MPI}/record/where.py", folder], capture_output=True, text=True)
-    if told.returncode == 2:
-        sys.exit(told.stderr)
-    calls = re.search(r"(\d+) collective calls", told.stdout)
-    return told.stdout.replace(folder, "record").strip(), int(calls[1]) if calls else 0
+    """What is reported of a record, and how many collective calls it has."""
+    run = subprocess.run([sys.executable, f"{MPI}/record/where.py", folder], capture_output=True, text=True)
+    if run.returncode == 2:
+        sys.exit(run.stderr)
+    calls = re.search(r"(\d+) collective calls", run.stdout)
+    return run.stdout.replace(folder, "record").strip(), int(calls[1]) if calls else 0
 
 
 def report(folder, name, library, fault, seconds):
     program, line = build_hpcc(folder, library, fault) if name == "hpcc" else build_test(folder, name, library, fault)
     records = f"{folder}/record"
     end = record(program, library, records, seconds)
-    told, calls = judge(records)
-    right = line in told and "fault: " in told if fault else "no fault" in told and "fault: " not in told.replace("no fault: ", "")
+    words, calls = judge(records)
+    right = line in words and "fault: " in words if fault else "no fault" in words and "fault: " not in words.replace("no fault: ", "")
     print(f"{'right' if right else 'WRONG'}: {name}, {library}, {fault.what + ' (' + line + ')' if fault else 'as it is'}: {end}; {calls} calls")
-    print("    " + told.replace("\n", "\n    "), flush=True)
+    print("    " + words.replace("\n", "\n    "), flush=True)
     return right
 
 

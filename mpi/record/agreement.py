@@ -1,4 +1,4 @@
-"""Whether calls of several ranks agree as MPI asks for it, and how a call is told."""
+"""Whether calls of several ranks agree as MPI asks for it, and a call in words."""
 
 import functools
 
@@ -12,6 +12,9 @@ ALIKE = {
     "truth": "C_BOOL CXX_BOOL LOGICAL",
 }
 CLASS = {"MPI_" + name: kind for kind, names in ALIKE.items() for name in names.split()}
+
+# Libraries through which interpreted programs make operations.
+INTERPRETED = ("mpi4py", "libjulia", "Rmpi")
 
 # How well two things agree.
 SAME, BY_LETTER, DIFFERENT = 0, 1, 2
@@ -68,19 +71,35 @@ def classed(runs):
 
 
 def compare_operations(a, b):
-    """A user's operation is known by its function where both ranks run one program, else by the order of creation."""
+    """A user's operation is known by its function where both ranks run one program. Where they don't, or where one function of an interpreter's
+    library stands for what an interpreted program does, two operations can't be distinguished: each rank may make its own in any order."""
     if a == b or "?" in (a.name, b.name):
         return SAME
     if a.name != b.name:
         return DIFFERENT
-    if a.module and a.module == b.module:
-        return SAME if (a.offset, a.commutes) == (b.offset, b.commutes) else DIFFERENT
-    return SAME if a.order == b.order else DIFFERENT
+    if not a.module or a.module != b.module or any(name in a.module for name in INTERPRETED):
+        return SAME
+    return SAME if (a.offset, a.commutes) == (b.offset, b.commutes) else DIFFERENT
 
 
 def part(side, member):
     """What stands on a side for a member: a type and a count."""
     return side.types[member if len(side.types) > 1 else 0], side.counts[member if side.each else 0]
+
+
+def amount(side, member):
+    """The bytes of a side's part of a member."""
+    if not side:
+        return 0
+    kind, count = part(side, member)
+    return kind.bytes * count
+
+
+@functools.lru_cache(maxsize=1 << 12)
+def is_empty(call):
+    """Whether a call says of its data that there are none: a library needn't wait there."""
+    sides = [side for side in (call.sent, call.got) if side]
+    return bool(sides) and not any(amount(side, member) for side in sides for member in range(len(side.counts)))
 
 
 def data_pairs(name, calls, root):
@@ -97,7 +116,7 @@ def data_pairs(name, calls, root):
 
 
 class Disagreement:
-    """That calls don't agree: WHAT differs, how badly, and the members of whom it is told, or None for all."""
+    """That calls don't agree: WHAT differs, how badly, and the members that it concerns, or None for all."""
 
     def __init__(self, what, how=DIFFERENT, members=None):
         self.what, self.how, self.members = what, how, members
@@ -153,7 +172,7 @@ def compare_pairs(pairs):
     return letter
 
 
-# How a call is told
+# A call in words
 
 
 def call_name(form, name):
@@ -187,7 +206,7 @@ def side_words(side):
 
 
 def call_words(call, operation):
-    """A call as it is told: `MPI_Reduce(1 MPI_INT, MPI_SUM, root 0)`. OPERATION tells an operation."""
+    """A call in words: `MPI_Reduce(1 MPI_INT, MPI_SUM, root 0)`. OPERATION gives those of an operation."""
     words = []
     if call.name in EQUAL or call.name == "Reduce_scatter":
         words.append(side_words(call.sent))

@@ -10,8 +10,8 @@ long count_at(struct counts counts, int member) {
     return counts.width == sizeof(int) ? ((const int *)counts.first)[member] : (long)((const MPI_Count *)counts.first)[member];
 }
 
-/* A type is told above the line that has its number. */
-static void tell_types(const struct side *side, int members) {
+/* A type's line stands above the line that has its number. */
+static void write_types(const struct side *side, int members) {
     if (!side->stands)
         return;
     for (int member = 0; side->types && member < members; member++)
@@ -49,8 +49,8 @@ struct gift write_call(const struct call *call) {
     const char form[] = {' ', call->form, ' ', 0};
     int members = call->context->size, op = call->op == MPI_OP_NULL ? -1 : operation_of(call->op);
     const struct type *type = type_of(call->type);
-    tell_types(&call->sent, members);
-    tell_types(&call->got, members);
+    write_types(&call->sent, members);
+    write_types(&call->got, members);
     log_text("call ");
     log_signed(call->context->number);
     log_text(form);

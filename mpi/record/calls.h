@@ -26,7 +26,7 @@ struct side {
 };
 
 struct call {
-    const char *name; /* behind MPI_, of the blocking form */
+    const char *name; /* after MPI_, of the blocking form */
     char form;        /* 'b' blocking, 'n' nonblocking, 'p' persistent */
     struct context *context;
     int root; /* NO_ROOT for a call without one */

@@ -210,13 +210,11 @@ struct posting {
 
 static struct posting write_collective(char form, struct call call) {
     struct posting posting = {.persistent = form == 'p'};
-    begin_command();
     if (!call.context) {
-        log_text("unknown MPI_");
-        log_text(call.name);
-        log_text("\n");
+        write_unknown(call.name);
         return posting;
     }
+    begin_command();
     call.form = form;
     posting.written = true;
     posting.gift = write_call(&call);
@@ -232,16 +230,19 @@ static struct posting write_collective(char form, struct call call) {
     return posting;
 }
 
-static void tell_refused(int result) {
-    if (result != MPI_SUCCESS)
-        write_numbered("refused", result);
+static void write_refused(int result) {
+    if (result == MPI_SUCCESS)
+        return;
+    log_thread();
+    log_place(here);
+    write_numbered("refused", result);
 }
 
 static int made_request(int result, const struct posting *posting, const MPI_Request *request) {
     log_lock();
-    tell_refused(result);
+    write_refused(result);
     if (result == MPI_SUCCESS && posting->written)
-        request_made(*request, posting->number, posting->persistent, posting->awaited)->gift = posting->gift;
+        request_made(request, posting->number, posting->persistent, posting->awaited)->gift = posting->gift;
     log_unlock();
     return result;
 }
@@ -250,7 +251,7 @@ static int returned(int result) {
     if (result == MPI_SUCCESS)
         return result;
     log_lock();
-    tell_refused(result);
+    write_refused(result);
     log_unlock();
     return result;
 }
@@ -281,7 +282,7 @@ static int returned(int result) {
 #define PERSISTENT(NAME, suffix, parameters, arguments, call)
 #endif
 
-/* The three forms of a collective. LOWER is how its nonblocking form is written behind MPI_I. */
+/* The three forms of a collective. LOWER is how its nonblocking form is written after MPI_I. */
 #define FORMS(NAME, LOWER, suffix, parameters, arguments, call)                                                                             \
     BLOCKING(MPI_##NAME##suffix, parameters, arguments, call)                                                                               \
     REQUESTING(MPI_I##LOWER##suffix, 'n', (UNWRAP parameters, MPI_Request * request), (UNWRAP arguments, request), call)                    \

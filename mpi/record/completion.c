@@ -11,7 +11,7 @@ static bool is_collective(const struct request *it) { return it && it->number !=
 
 /* Starts */
 
-static void write_start(MPI_Request handle) {
+static void write_start(const MPI_Request *handle) {
     struct request *it = request_of(handle, ++namings);
     if (!it)
         return;
@@ -28,7 +28,7 @@ static void write_start(MPI_Request handle) {
 
 INTERPOSED(MPI_Start, (MPI_Request * request), (request)) {
     log_lock();
-    write_start(*request);
+    write_start(request);
     log_unlock();
     return next_MPI_Start(request);
 }
@@ -36,14 +36,14 @@ INTERPOSED(MPI_Start, (MPI_Request * request), (request)) {
 INTERPOSED(MPI_Startall, (int count, MPI_Request *requests), (count, requests)) {
     log_lock();
     for (int place = 0; place < count; place++)
-        write_start(requests[place]);
+        write_start(&requests[place]);
     log_unlock();
     return next_MPI_Startall(count, requests);
 }
 
 INTERPOSED(MPI_Request_free, (MPI_Request * request), (request)) {
     log_lock();
-    struct request *it = request_of(*request, ++namings);
+    struct request *it = request_of(request, ++namings);
     if (is_collective(it)) {
         begin_command();
         write_numbered("free", it->number);
@@ -63,14 +63,16 @@ struct named {
     struct request *one;
 };
 
-/* Tells of each active request that the call waits for it. */
+/* Says of each active request that the call waits for it. */
 static void await_requests(const struct named *named, const MPI_Request *handles) {
     for (int place = 0; place < named->count; place++) {
         struct request *it = named->requests[place];
         if (it && it->active)
             now_awaits(it->awaited);
-        else if (!it && handles[place] != MPI_REQUEST_NULL)
+        else if (!it && handles[place] != MPI_REQUEST_NULL) {
             now_awaits((struct awaited){.kind = AWAITED_OTHER});
+            now_elsewhere();
+        }
     }
 }
 
@@ -84,7 +86,7 @@ static void name_requests(struct named *named, int count, const MPI_Request *han
     }
     namings++;
     for (int place = 0; place < named->count; place++)
-        named->requests[place] = request_of(handles[place], namings);
+        named->requests[place] = request_of(&handles[place], namings);
     await_requests(named, handles);
 }
 
@@ -117,16 +119,18 @@ static void write_tests(struct named *named, int count, const MPI_Request *handl
         struct request *it = named->requests[place];
         if (!is_collective(it))
             continue;
-        if (it->told == row + 1) {
-            untold++;
-            it->untold++;
+        if (it->asked == row + 1) {
+            unwritten++;
+            it->unwritten++;
             continue;
         }
-        if (!begun)
+        if (!begun) {
+            log_thread();
             log_place(here);
+        }
         begun = true;
-        it->told = row + 1;
-        it->untold = 0;
+        it->asked = row + 1;
+        it->unwritten = 0;
         write_numbered("test", it->number);
     }
     log_unlock();
@@ -134,27 +138,31 @@ static void write_tests(struct named *named, int count, const MPI_Request *handl
 
 /* What a completion call did */
 
-/* What is told of a collective that a call completed, and is persistent: only `wait` and `waitall` make it startable in a text. The row of
-   tests goes on, so what is counted stays. */
+/* That a test completed a request, and of a persistent one a wait: only `wait` and `waitall` make it startable in a text. The row of tests goes
+   on, so what is counted stays. */
 static void write_completed(struct request *it, bool tested) {
-    if (tested && it->untold > 0) {
-        untold--;
+    log_thread();
+    log_place(here);
+    if (tested && it->unwritten > 0) {
+        unwritten--;
         write_numbered("test", it->number);
     }
+    if (tested)
+        write_numbered("tested", it->number);
     if (!it->persistent)
         return;
     log_text("# the call above completed this persistent request\n");
     write_numbered("wait", it->number);
 }
 
-static void complete(struct request *it, bool told, bool tested) {
-    if (told && is_collective(it))
+static void complete(struct request *it, bool written, bool tested) {
+    if (written && is_collective(it))
         write_completed(it, tested);
     if (it && it->persistent)
         it->active = false;
 }
 
-/* A request whose handle is gone is complete. What a communicator under way becomes is known only now. */
+/* A request whose handle is gone is complete. A library may say only now what a communicator under way is. */
 static void settle(struct named *named, const MPI_Request *handles) {
     for (int place = 0; place < named->count; place++) {
         struct request *it = named->requests[place];
@@ -162,12 +170,20 @@ static void settle(struct named *named, const MPI_Request *handles) {
             continue;
         if (it->made && it->key) {
             log_place(here);
-            communicator_made(*it->made, it->key, "MPI_Comm_idup");
+            communicator_made(it->comm == MPI_COMM_NULL ? *it->made : it->comm, it->key, "MPI_Comm_idup");
         }
         request_gone(it);
     }
     if (named->requests != &named->one)
         free(named->requests);
+}
+
+/* Whether a call says what it has completed. */
+static bool says(int result) {
+    int class = MPI_SUCCESS;
+    if (result != MPI_SUCCESS)
+        PMPI_Error_class(result, &class);
+    return class == MPI_SUCCESS || class == MPI_ERR_IN_STATUS;
 }
 
 /* Ends a call that has completed the requests at these places. */
@@ -211,7 +227,7 @@ INTERPOSED(MPI_Waitany, (int count, MPI_Request *requests, int *place, MPI_Statu
     now_any();
     write_wait(&named, "waitany", count, requests);
     int result = next_MPI_Waitany(count, requests, place, status);
-    completed(&named, requests, *place != MPI_UNDEFINED && *place >= 0 && *place < count, place, false);
+    completed(&named, requests, says(result) && *place != MPI_UNDEFINED && *place >= 0 && *place < count, place, false);
     return result;
 }
 
@@ -221,7 +237,7 @@ INTERPOSED(MPI_Waitsome, (int count, MPI_Request *requests, int *done, int *plac
     now_any();
     write_wait(&named, "waitsome", count, requests);
     int result = next_MPI_Waitsome(count, requests, done, places, statuses);
-    completed(&named, requests, *done == MPI_UNDEFINED ? 0 : *done, places, false);
+    completed(&named, requests, !says(result) || *done == MPI_UNDEFINED ? 0 : *done, places, false);
     return result;
 }
 
@@ -229,7 +245,7 @@ INTERPOSED(MPI_Test, (MPI_Request * request, int *flag, MPI_Status *status), (re
     struct named named;
     write_tests(&named, 1, request);
     int result = next_MPI_Test(request, flag, status);
-    completed_all(&named, request, true, *flag);
+    completed_all(&named, request, true, says(result) && *flag);
     return result;
 }
 
@@ -237,7 +253,7 @@ INTERPOSED(MPI_Testall, (int count, MPI_Request *requests, int *flag, MPI_Status
     struct named named;
     write_tests(&named, count, requests);
     int result = next_MPI_Testall(count, requests, flag, statuses);
-    completed_all(&named, requests, true, *flag);
+    completed_all(&named, requests, true, says(result) && *flag);
     return result;
 }
 
@@ -246,7 +262,7 @@ INTERPOSED(MPI_Testany, (int count, MPI_Request *requests, int *place, int *flag
     struct named named;
     write_tests(&named, count, requests);
     int result = next_MPI_Testany(count, requests, place, flag, status);
-    completed(&named, requests, *flag && *place != MPI_UNDEFINED, place, true);
+    completed(&named, requests, says(result) && *flag && *place != MPI_UNDEFINED, place, true);
     return result;
 }
 
@@ -255,6 +271,6 @@ INTERPOSED(MPI_Testsome, (int count, MPI_Request *requests, int *done, int *plac
     struct named named;
     write_tests(&named, count, requests);
     int result = next_MPI_Testsome(count, requests, done, places, statuses);
-    completed(&named, requests, *done == MPI_UNDEFINED ? 0 : *done, places, true);
+    completed(&named, requests, !says(result) || *done == MPI_UNDEFINED ? 0 : *done, places, true);
     return result;
 }

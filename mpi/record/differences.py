@@ -12,6 +12,10 @@ MAKERS = {"Comm_dup", "Comm_dup_with_info", "Comm_split", "Comm_split_type", "Co
 # What a rank that came to its end may have left out without harm.
 FREES = {"Comm_free"}
 
+# Why a context isn't judged.
+DIFFERED = "made after their parent's calls began to differ"
+THREADS = "made of one on which several threads of a rank call, so that it isn't known which of them is which"
+
 # Comparisons are remembered, since a program repeats itself; that of a program that doesn't isn't to fill the memory.
 MOST_REMEMBERED = 1 << 16
 
@@ -40,7 +44,7 @@ class Contexts:
         return self.known[key][1].members
 
     def name(self, key):
-        """How a context is told."""
+        """A context in words."""
         rank, context = self.known[key]
         if context.maker in ("MPI_COMM_WORLD", "MPI_COMM_SELF"):
             return context.maker
@@ -58,13 +62,13 @@ class Contexts:
 
 
 class Judge:
-    """Compares all calls of all contexts."""
+    """Compares all calls of all contexts. UNSEEN are the ranks that made calls which weren't recorded."""
 
-    def __init__(self, records, contexts):
-        self.records, self.contexts, self.compared = records, contexts, {}
+    def __init__(self, records, contexts, unseen=()):
+        self.records, self.contexts, self.unseen, self.compared = records, contexts, set(unseen), {}
         self.differ = {}  # of each context the first place at which calls differ
-        self.unsure = set()  # what was made after its parent's calls differ: it may be another one at each rank
-        self.skipped, self.found = 0, []
+        self.unsure = {}  # what may be another one at each rank, or has no order, with why: DIFFERED or THREADS
+        self.skipped, self.found = collections.Counter(), []
         for key in contexts.in_order():
             self.judge_context(key)
 
@@ -74,33 +78,42 @@ class Judge:
     def warnings(self):
         return [it for it in self.found if not it.is_fault()]
 
+    def doubt(self, found):
+        """Why a difference may be none, or None."""
+        if not self.has_order(found.key):
+            return "several threads of a rank call on it, and the order that was recorded is one of many"
+        if self.unseen.intersection(self.contexts.members(found.key)):
+            return "calls that weren't recorded may explain this"
+        return None
+
     def has_order(self, key):
         """False where several threads of a rank call on a context: what was recorded is one order of several."""
         return all(len(record.threads.get(key, ())) < 2 for record in self.records.values())
 
     def judge_context(self, key):
-        if self.made_after_difference(key) or not self.has_order(key):
-            self.unsure.add(key)
-        if self.made_after_difference(key):
-            self.skipped += 1
+        why = self.why_another(key)
+        if why:
+            self.unsure[key] = why
+            self.skipped[why] += 1
             return
+        if not self.has_order(key):
+            self.unsure[key] = THREADS
         for difference in self.judge(key):
             self.found.append(difference)
             if difference.is_fault() and not difference.lacking:
                 self.differ[key] = difference.index
 
-    def made_after_difference(self, key):
-        """Whether a context was made when the calls of what it was made of, or of what that was made of, had begun to differ."""
+    def why_another(self, key):
+        """Why a context may be another one at each rank: when it was made, the calls of what it was made of, or of what that was made of, had begun to
+        differ, or have no order. None where it is one."""
         parent, _, last = key.rpartition("/")
-        if not parent:
-            return False
         number = last.split(".")[0]
-        if parent in self.unsure or not number.isdigit():
-            return parent in self.unsure
+        if not parent or parent in self.unsure or not number.isdigit():
+            return self.unsure.get(parent)
         if parent not in self.differ:
-            return False
+            return None
         calls = [record.calls[parent][: self.differ[parent]] for record in self.records.values() if parent in record.calls]
-        return min(sum(command.call.name in MAKERS for command in it) for it in calls) <= int(number)
+        return DIFFERED if min(sum(command.call.name in MAKERS for command in it) for it in calls) <= int(number) else None
 
     def is_sure(self, key, index):
         """Whether the calls at a place of a context are known to be meant for one another."""
@@ -133,10 +146,10 @@ class Judge:
         found = self.compared[known]
         if not found:
             return None
-        what, told = found.what, found.members
-        for member in told or ():
+        what, concerned = found.what, found.members
+        for member in concerned or ():
             what = what.replace(f"%{member} ", f"rank {members[member]} ").replace(f"%{member},", f"rank {members[member]},")
-        calls = {rank: command for rank, command in here.items() if told is None or members.index(rank) in told}
+        calls = {rank: command for rank, command in here.items() if concerned is None or members.index(rank) in concerned}
         return Difference(key, index, what, calls, found.how, of=most)
 
     def lack(self, key, index, here, calls, most):
@@ -161,7 +174,7 @@ class Judge:
 
 
 def difference_lines(difference, contexts, records, places):
-    """A difference as it is told: what differs, and the calls of the ranks, those alike together."""
+    """A difference in words: what differs, and the calls of the ranks, those alike together."""
     lines = [f"call {difference.index + 1} on {contexts.name(difference.key)}: {difference.what}"]
     alike = collections.defaultdict(list)
     for rank, command in difference.calls.items():

@@ -4,7 +4,9 @@ import bisect
 import collections
 
 from agreement import SAME, call_name, compare_data, part
+from differences import difference_lines
 from records import rank_words
+from text_places import LAST, MADE, NOT_JUDGED
 
 MOST_RANKS, MOST_COMMUNICATORS, MOST_REQUESTS, MOST_TEXT = 64, 16, 4096, 1048576
 MOST_COUNT, MOST_BYTES = 65536, 16777216
@@ -12,6 +14,10 @@ MOST_COUNT, MOST_BYTES = 65536, 16777216
 LONGEST = [4096, 1024, 256, 64, 16, 4]
 WIDTHS = {"i8": 1, "u8": 1, "byte": 1, "i16": 2, "u16": 2, "i32": 4, "u32": 4, "i64": 8, "u64": 8, "2int": 8}
 ENDLESS = 1 << 60
+# Where any thread may call MPI, one that hasn't called it yet may do what others wait for.
+MULTIPLE = 3
+# How many faults stand in the head of a text, which may not show them.
+MOST_NOTED = 3
 
 KINDS = {"Barrier": "barrier", "Bcast": "bcast", "Gather": "gather", "Scatter": "scatter", "Allgather": "allgather", "Allgatherv": "allgatherv", "Alltoall": "alltoall",
          "Reduce": "reduce", "Allreduce": "allreduce", "Reduce_scatter_block": "rsblock", "Scan": "scan", "Exscan": "exscan"}
@@ -104,10 +110,10 @@ def blocks_given(signature, member, size):
 class Job:
     """The text of all records, or of one context alone. What a rank without an end never reached is added, as it must be if the ranks agree."""
 
-    def __init__(self, records, contexts, places, judge, only=None):
+    def __init__(self, records, contexts, places, judge, only=None, notes=()):
         self.records, self.contexts, self.places, self.judge = records, contexts, places, judge
         self.size = next(iter(records.values())).size
-        self.notes, self.signatures, self.starts = [], {}, None
+        self.notes, self.signatures, self.starts = list(notes), {}, None
         self.differ = {fault.key: fault.index for fault in judge.faults()}
         self.choose_communicators(only)
         self.added = self.never_reached()
@@ -234,8 +240,10 @@ class Job:
             if request not in self.renumbered or self.started[request] > starts:
                 return []
             return [" ".join(["start", str(self.renumbered[request]), *self.values(rank, self.records[rank].requests[request], command.gift)])]
-        kept = [str(self.renumbered[it]) for it in command.numbers if it in self.renumbered]
-        return [" ".join([command.word, *kept])] if kept else []
+        kept = [it for it in command.numbers if it in self.renumbered and (command.word == "free" or waits_for_all(self.records[rank].requests[it].call))]
+        if command.word in ("waitany", "waitsome") and len(kept) < len(command.numbers):
+            return []
+        return [" ".join([command.word, *(str(self.renumbered[it]) for it in kept)])] if kept else []
 
     def call_lines(self, rank, command, window):
         if not self.is_kept(command, window):
@@ -366,10 +374,38 @@ class Job:
         return lines
 
     def incomplete(self):
-        """What isn't there of the ranks, in words."""
+        """What isn't there of the ranks, and what a text can't show, in words."""
         notes = [f"rank {rank} has no record" for rank in range(self.size) if rank not in self.records]
         open_ends = [rank for rank, record in self.records.items() if not record.ended]
-        return notes + ([f"incomplete: no MPI_Finalize at {rank_words(open_ends)}"] if open_ends else [])
+        notes += [f"incomplete: no MPI_Finalize at {rank_words(open_ends)}"] if open_ends else []
+        not_judged = why_not_judged(self.records, self.judge.unseen)
+        notes += [NOT_JUDGED + not_judged] if not_judged else []
+        found = [it for it in self.judge.faults() + self.judge.warnings() if not self.judge.doubt(it)]
+        lines = [(it, difference_lines(it, self.contexts, self.records, self.places)) for it in found[:MOST_NOTED]]
+        return notes + [("fault: " if it.is_fault() else "warning: ") + "; ".join(line.strip() for line in lines_of) for it, lines_of in lines]
+
+    def whole_lines(self, lines):
+        """A text with its notes, and a last line by which one that was cut is known."""
+        return [MADE] + [f"# {note}" for note in self.incomplete() + self.notes] + lines + [LAST]
+
+
+def why_not_judged(records, unseen):
+    """Why it can't be known whether the calls let ranks wait for one another, or None. UNSEEN are the ranks that made calls past the recorder."""
+    unsure = [rank for rank, record in records.items() if record.unsure]
+    silent = [rank for rank, record in records.items() if record.thread_level >= MULTIPLE and not record.ended]
+    if any(len(record.callers) > 1 for record in records.values()):
+        return "several threads of a rank make collective calls, and the order that was recorded is one of many"
+    if unseen:
+        return f"{rank_words(unseen)} called MPI by names that begin with PMPI, or call or may call it in callbacks of MPI_Finalize, which isn't recorded"
+    if silent:
+        return f"with MPI_THREAD_MULTIPLE a thread of {rank_words(silent)} that hasn't called MPI yet may call it"
+    return f"the library gave {rank_words(unsure)} one handle for several requests, and for which of them it waited isn't known" if unsure else None
+
+
+def waits_for_all(call):
+    """Whether a wait for a call's request may last until all members have called it: among neighbours a library waits for these alone. (Without a
+    wait a text's persistent request couldn't be started again.)"""
+    return call.form == "p" or not call.name.startswith("Neighbor_")
 
 
 def size_of(lines):

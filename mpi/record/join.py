@@ -4,17 +4,20 @@
     mpi/record/join.py FOLDER > job.text
     mpi/record/join.py --from P FOLDER    only what stands at place P or after it on each communicator
 
-Each command has a comment above it that says where the call stands in the program. What had to be left out is told on standard error and
+Each command has a comment above it that says where the call stands in the program. What had to be left out stands on standard error and
 in the text's first lines; the status is then 3. Of a program that hung or was killed, what a rank never reached is added as it must be if
-the ranks agree, and told as such. Where no text can be made, its only line says why, and the status is 2.
+the ranks agree, and said to be so. Where no text can be made, its only line says why, and the status is 2.
 """
 
 import argparse
+import os
 import sys
 
 from differences import Contexts, Judge
 from job_text import Job
 from records import Places, Unreadable, read_records
+from stalls import doubts
+from standing import limits_of, ranks_unseen, read_nows
 
 
 def give_up(why):
@@ -34,14 +37,15 @@ def main():
         give_up(str(why))
     places = Places(records)
     contexts = Contexts(records, places)
-    job = Job(records, contexts, places, Judge(records, contexts))
+    nows = read_nows(words.folder, records)
+    job = Job(records, contexts, places, Judge(records, contexts, ranks_unseen(nows)), notes=limits_of(records, nows) + doubts(records, contexts))
     lines = job.fitting_text(words.first)
     if lines is None:
         give_up(f"{words.folder}: " + "; ".join(job.notes))
     notes = job.incomplete() + job.notes
     for note in notes:
         print(f"{words.folder}: {note}", file=sys.stderr)
-    print("\n".join([f"# {note}" for note in notes] + lines))
+    print("\n".join(job.whole_lines(lines)))
     sys.exit(3 if any(note.startswith("left out") for note in notes) else 0)
 
 

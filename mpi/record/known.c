@@ -76,7 +76,10 @@ static void tell_context(const struct context *context, const char *maker) {
     log_text("\n");
 }
 
+/* A handle whose owner was freed unseen may be another's now. */
 static struct context *take_up(char kind, uint64_t handle, MPI_Group group, char *key, const char *maker) {
+    if (kind != 'g')
+        context_gone(find(kind, handle));
     struct context *fresh = must(malloc(sizeof *fresh));
     *fresh = (struct context){.handle = handle, .kind = kind, .number = numbers++, .key = key, .next = contexts};
     PMPI_Group_size(group, &fresh->size);
@@ -104,12 +107,16 @@ static void take_up_group(char kind, uint64_t handle, MPI_Group group, const cha
     PMPI_Group_free(&group);
 }
 
+void communicator_unfollowed(MPI_Comm comm) { context_gone(context_of_comm(comm)); }
+
 void communicator_made(MPI_Comm comm, const char *key, const char *maker) {
     MPI_Group group;
     int inter;
     PMPI_Comm_test_inter(comm, &inter);
-    if (inter)
+    if (inter || !key) {
+        communicator_unfollowed(comm);
         return;
+    }
     PMPI_Comm_group(comm, &group);
     take_up_group('c', bits_of(&comm, sizeof comm), group, key, maker);
 }
@@ -197,24 +204,43 @@ static unsigned bucket_of(MPI_Request handle) {
     return (unsigned)(bits_of(&handle, sizeof handle) * UINT64_C(0x9e3779b97f4a7c15) >> 32) % BUCKETS;
 }
 
-struct request *request_made(MPI_Request handle, long number, bool persistent, struct awaited awaited) {
+struct request *request_made(const MPI_Request *handle, long number, bool persistent, struct awaited awaited) {
     struct request *fresh = must(malloc(sizeof *fresh));
-    unsigned bucket = bucket_of(handle);
-    awaited.form = 1;
-    *fresh = (struct request){.handle = handle, .number = number, .persistent = persistent, .active = !persistent, .awaited = awaited, .next = requests[bucket]};
+    unsigned bucket = bucket_of(*handle);
+    awaited.form |= OF_REQUEST;
+    *fresh = (struct request){.handle = *handle, .variable = variable_of(handle), .number = number, .persistent = persistent, .active = !persistent, .awaited = awaited, .next = requests[bucket]};
     requests[bucket] = fresh;
     return fresh;
 }
 
-struct request *request_of(MPI_Request handle, unsigned long naming) {
-    if (handle == MPI_REQUEST_NULL)
+struct request *request_of(const MPI_Request *handle, unsigned long naming) {
+    struct request *found = NULL;
+    int candidates = 0, collectives = 0;
+    if (*handle == MPI_REQUEST_NULL)
         return NULL;
-    for (struct request *it = requests[bucket_of(handle)]; it; it = it->next)
-        if (it->handle == handle && it->named != naming) {
-            it->named = naming;
-            return it;
+    const MPI_Request *variable = variable_of(handle);
+    /* The later made stand before the earlier ones. Of two with one variable, it has the later one's handle. */
+    for (struct request *it = requests[bucket_of(*handle)]; it; it = it->next)
+        if (it->handle == *handle && it->named != naming) {
+            found = it;
+            if (variable && it->variable == variable) {
+                candidates = 1;
+                break;
+            }
+            candidates++;
+            collectives += it->number != NO_REQUEST;
         }
-    return NULL;
+    if (candidates > 1 && collectives)
+        log_text("unsure\n");
+    if (found)
+        found->named = naming;
+    return found;
+}
+
+void each_request(void (*act)(const struct request *)) {
+    for (int bucket = 0; bucket < BUCKETS; bucket++)
+        for (const struct request *it = requests[bucket]; it; it = it->next)
+            act(it);
 }
 
 void request_gone(struct request *request) {

@@ -37,11 +37,15 @@ struct context *context_of_group(struct context *parent, MPI_Group group, int ta
 /* The key of what all members of a context make together by their next such call, still without the first member. Freed by the caller. */
 char *key_of_next(struct context *parent);
 
-/* Takes up what was made, and tells the file its members. MAKER is the name of the call that made it. */
+/* Takes up what was made, and writes its members. MAKER is the name of the call that made it. A communicator between two groups, and
+   one without a key, isn't followed. */
 void communicator_made(MPI_Comm comm, const char *key, const char *maker);
 void window_made(MPI_Win window, const char *key, const char *maker);
 void file_made(MPI_File file, const char *key, const char *maker);
 void context_gone(struct context *context);
+
+/* Says that a communicator was made that isn't followed: its handle may have been another's. */
+void communicator_unfollowed(MPI_Comm comm);
 
 /* The rank in MPI_COMM_WORLD of a message's peer. */
 int world_rank(const struct context *context, int peer);
@@ -55,24 +59,33 @@ struct gift {
 
 struct request {
     MPI_Request handle;
+    const MPI_Request *variable; /* where the program's handle stood as it was made, or null */
     long number; /* among the collective requests of this rank; NO_REQUEST for a message */
     bool persistent;
     bool active; /* false of a persistent one between its completion and its start */
     struct gift gift;
-    MPI_Comm *made; /* of a communicator under way */
+    MPI_Comm comm;  /* a communicator under way, or null where only its completion says it */
+    MPI_Comm *made; /* where that then stands */
     char *key;      /* likewise */
     struct awaited awaited;
     unsigned long named; /* the last completion call that named it */
-    unsigned long told;  /* the last row of tests in which a test of it was written */
-    long untold;         /* the tests of it since then that weren't */
+    unsigned long asked; /* the last row of tests in which a test of it was written */
+    long unwritten;      /* the tests of it since then that weren't */
     struct request *next;
 };
 
-struct request *request_made(MPI_Request handle, long number, bool persistent, struct awaited awaited);
+/* Where the program's handle stands, or null where the call has a copy of it: Fortran's libraries pass their own. */
+const MPI_Request *variable_of(const MPI_Request *handle);
 
-/* The request of a handle that the completion call of number NAMING hasn't named yet, or null. Some libraries have one handle for
-   several requests that are complete from the start. */
-struct request *request_of(MPI_Request handle, unsigned long naming);
+struct request *request_made(const MPI_Request *handle, long number, bool persistent, struct awaited awaited);
+
+/* The request of a handle that the completion call of number NAMING hasn't named yet, or null. Some libraries have one handle for several
+   requests that are complete from the start: of these it is the one whose variable it is, else the first. Where that may be another one's,
+   the file says so. */
+struct request *request_of(const MPI_Request *handle, unsigned long naming);
 void request_gone(struct request *request);
+
+/* Does something for each request that is neither complete nor freed. */
+void each_request(void (*act)(const struct request *));
 
 #endif

@@ -16,7 +16,8 @@
 
 enum { WINDOW = 1 << 20 };
 
-static pthread_mutex_t mutex = PTHREAD_MUTEX_INITIALIZER;
+/* A library may free what it made while it is asked something under the lock. */
+static pthread_mutex_t mutex = PTHREAD_RECURSIVE_MUTEX_INITIALIZER_NP;
 
 /* The part of the file that is mapped. */
 static struct {
@@ -75,6 +76,7 @@ bool log_open(const char *folder, int rank, int size, long run, const char *libr
         return false;
     }
     snprintf(path, sizeof path, "%s/rank.%d", folder, rank);
+    unlink(path); /* another run may still write to the file that was there */
     window.file = open(path, O_RDWR | O_CREAT | O_TRUNC | O_CLOEXEC, 0666);
     if (window.file < 0) {
         fprintf(stderr, "record: %s can't be opened: %s; rank %d isn't recorded\n", path, strerror(errno), rank);

@@ -14,7 +14,7 @@
 #include <time.h>
 #include <unistd.h>
 
-enum { THREADS = 64, SHOWN = 24, NAME = 40, MESSAGES = 4096, TRIES = 64, VERSION = 1, UNSEEN = 1, LOST = 2 };
+enum { THREADS = 64, SHOWN = 24, NAME = 40, MESSAGES = 4096, TRIES = 64, VERSION = 1, UNSEEN = 1, LOST = 2, UNSHOWN = 4, ELSEWHERE = 8, CALLBACKS = 16 };
 
 /* The beat is a lower bound of the time up to which the process lived. A tenth of a second is short beside a hang that a person notices. */
 static const struct timespec BEAT = {.tv_nsec = 100000000};
@@ -45,7 +45,8 @@ struct now {
     uint64_t run;
     _Atomic uint64_t beat;
     uint32_t uncounted; /* whether a message wasn't counted, or one was cancelled */
-    uint32_t unseen;    /* UNSEEN where the program called MPI past the recorder, LOST where the record couldn't be written further */
+    _Atomic uint32_t unseen; /* UNSEEN where the program called MPI past the recorder, LOST where the record couldn't be written further, UNSHOWN
+                           where more threads called MPI than there is room for, ELSEWHERE where the program waits by other calls too, CALLBACKS where MPI_Finalize may call back */
     struct standing threads[THREADS];
     struct message_count messages[MESSAGES];
 };
@@ -127,6 +128,7 @@ static void begin_beat(void) {
 void now_open(const char *folder, int rank, int size, long run) {
     char path[4096];
     snprintf(path, sizeof path, "%s/now.%d", folder, rank);
+    unlink(path);
     int file = open(path, O_RDWR | O_CREAT | O_TRUNC | O_CLOEXEC, 0666);
     void *bytes = MAP_FAILED;
     if (file >= 0 && !(errno = posix_fallocate(file, 0, sizeof(struct now))))
@@ -150,12 +152,19 @@ void now_finalized(void) {
         now->finalized = 1;
 }
 
+static void now_flag(uint32_t flag) {
+    if (now && !(now->unseen & flag))
+        atomic_fetch_or(&now->unseen, flag);
+}
+
 int now_thread(void) {
     if (thread >= 0)
         return thread;
     thread = atomic_fetch_add(&threads, 1);
     if (thread < THREADS && !pthread_getcpuclockid(pthread_self(), &watched[thread].clock))
         watched[thread].task = (int)syscall(SYS_gettid);
+    if (thread >= THREADS)
+        now_flag(UNSHOWN);
     return thread;
 }
 
@@ -203,15 +212,11 @@ void now_cancelled(void) {
         now->uncounted = 1;
 }
 
-void now_unseen(void) {
-    if (now)
-        now->unseen |= UNSEEN;
-}
+void now_unseen(void) { now_flag(UNSEEN); }
+void now_lost(void) { now_flag(LOST); }
+void now_elsewhere(void) { now_flag(ELSEWHERE); }
 
-void now_lost(void) {
-    if (now)
-        now->unseen |= LOST;
-}
+void now_callbacks(void) { now_flag(CALLBACKS); }
 
 /* The slot of messages alike. A message for which none is found in some tries isn't counted, and the reader then trusts no count. */
 static struct message_count *slot_of(struct awaited message) {

@@ -7,6 +7,7 @@
 
 enum awaited_kind { AWAITED_COLLECTIVE = 1, AWAITED_RECEIVE, AWAITED_SEND, AWAITED_OTHER, AWAITED_RANK };
 enum { NO_RANK = -2, ANY_RANK = -1, RANK_UNKNOWN = -3 };
+enum awaited_form { OF_CALL = 0, OF_REQUEST = 1, BUFFERED = 2 };
 
 /* One thing that a call waits for. */
 struct awaited {
@@ -16,7 +17,7 @@ struct awaited {
     int32_t tag;     /* of a message: -1 for any */
     int64_t index;   /* of a collective: its place in the order of its context; of a message: how many alike this rank called before */
     int32_t place;   /* where a request was made, or 0 */
-    int32_t form;    /* of a message or collective: 0 of the call itself, 1 of a request */
+    int32_t form;    /* of a message or collective: 0 of the call itself, 1 of a request; 2 more of a send that is buffered */
 };
 
 void now_open(const char *folder, int rank, int size, long run);
@@ -34,12 +35,15 @@ void now_leave(void);
 long now_count(struct awaited message);
 long now_counted(struct awaited message); /* the same without counting it */
 
-/* Says that a message was cancelled, so the counts don't tell what was received. */
+/* Says that a message was cancelled, so the counts don't say what was received. */
 void now_cancelled(void);
 
-/* Says that the program called the library past the recorder, and that the record couldn't be written further. */
+/* Says that the program called the library past the recorder, that the record couldn't be written further, that the program waits by calls
+   that are neither collectives nor messages, and that MPI_Finalize may call back the program, which may call anything. */
 void now_unseen(void);
 void now_lost(void);
+void now_elsewhere(void);
+void now_callbacks(void);
 
 /* The number of this thread among those that have called MPI, from 0 on. */
 int now_thread(void);

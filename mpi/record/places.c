@@ -11,14 +11,14 @@
 #include <string.h>
 #include <unistd.h>
 
-enum { PLACES = 4096, FRAMES = 32, LINE = 4096 };
+enum { PLACES = 4096, FRAMES = 32, ALL_FRAMES = 1024, LINE = 4096 };
 
-enum language { PROGRAM, FORTRAN, PYTHON, LIBRARY };
+enum language { PROGRAM, FORTRAN, PYTHON, LIBRARY, RECORDER };
 
 /* The return addresses that were met, by hash. A number of 0 is an empty slot. */
 static struct {
     void *address;
-    int number; /* -1 where it was met, and isn't told */
+    int number; /* -1 where it was met, and isn't written */
     enum language language;
 } places[PLACES];
 static int known_addresses, numbers;
@@ -35,7 +35,9 @@ static enum language language_of(const Dl_info *module) {
     name = name ? name + 1 : module->dli_fname;
     if (strstr(name, "libmpi_mpifh") || strstr(name, "libmpi_usempi") || strstr(name, "libmpichfort"))
         return FORTRAN;
-    if (strstr(name, "libmpi") || strstr(name, "mca_") || strstr(name, "libopen-") || strstr(name, "librecord"))
+    if (strstr(name, "librecord"))
+        return RECORDER;
+    if (strstr(name, "libmpi") || strstr(name, "mca_") || strstr(name, "libopen-"))
         return LIBRARY;
     return strstr(module->dli_fname, "mpi4py") ? PYTHON : PROGRAM;
 }
@@ -67,7 +69,21 @@ static enum language language_at(void *address) {
 }
 
 bool place_is_fortran(void *caller) { return language_at(caller) == FORTRAN; }
-bool place_is_library(void *caller) { return language_at(caller) == LIBRARY; }
+bool place_is_library(void *caller) {
+    enum language language = language_at(caller);
+    return language == LIBRARY || language == RECORDER;
+}
+
+/* The first frames are the recorder's own, up to the entry that asks. */
+bool place_is_below_entry(void) {
+    void *frames[ALL_FRAMES];
+    int count = backtrace(frames, ALL_FRAMES), frame = 0;
+    while (frame < count && language_at(frames[frame]) == RECORDER)
+        frame++;
+    while (frame < count && language_at(frames[frame]) != RECORDER)
+        frame++;
+    return frame < count || count == ALL_FRAMES;
+}
 
 /* The first frame above the caller that doesn't lie between the program and the C interface. */
 static void *frame_above(void *caller) {
@@ -97,7 +113,7 @@ static void tell_address(void *address, int number) {
 static int place_of_address(void *address) {
     log_lock();
     unsigned slot = slot_of(address);
-    /* Before the file is open a place can't be told, so it gets its number later. */
+    /* Before the file is open a place can't be written, so it gets its number later. */
     if (places[slot].number < 0 && log_stands()) {
         places[slot].number = ++numbers;
         tell_address(address, numbers);

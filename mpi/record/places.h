@@ -14,6 +14,9 @@ bool place_is_fortran(void *caller);
 /* Whether it lies in the MPI library itself. */
 bool place_is_library(void *caller);
 
+/* Whether the entry that asks for it was called within another one, by the frames of this thread's stack. */
+bool place_is_below_entry(void);
+
 /* The line that says where the lines after it stand. The lock is held. */
 void log_place(int place);
 

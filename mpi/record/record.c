@@ -13,10 +13,10 @@
 #include <time.h>
 #include <unistd.h>
 
-_Thread_local bool inside;
+_Thread_local const char *inside;
 _Thread_local int here;
 _Thread_local void *caller;
-long untold;
+long unwritten;
 unsigned long row;
 
 static long requests; /* how many collective requests this rank has made */
@@ -35,6 +35,24 @@ bool find_next(void *function, const char *name) {
 
 /* Shared by all entries */
 
+/* Set while MPI_Finalize is under way: what its callbacks call isn't recorded. */
+static _Thread_local bool is_ending;
+
+/* The stack grows downwards, so a frame that doesn't lie below that of the call under way says that this one was left. One that lies below it
+   may be of a later call too: then no other entry is on the stack. */
+bool is_within(const void *frame, void *address) {
+    if ((const char *)frame < inside && (place_is_library(address) || place_is_below_entry()))
+        return true;
+    inside = NULL;
+    now_cancelled(); /* whether a message was sent or received isn't known */
+    return false;
+}
+
+void note_within(void *address) {
+    if (is_ending && !place_is_library(address))
+        now_unseen();
+}
+
 bool is_through_fortran(void *address) {
     if (place_is_fortran(address))
         return true;
@@ -44,20 +62,24 @@ bool is_through_fortran(void *address) {
 }
 
 void begin_command(void) {
-    if (untold > 0) {
+    if (unwritten > 0) {
         log_text("# ");
-        log_signed(untold);
+        log_signed(unwritten);
         log_text(" further tests gave false\n");
     }
-    untold = 0;
+    unwritten = 0;
     row++;
-    if (now_thread() != last_thread) {
-        last_thread = now_thread();
-        log_text("%");
-        log_signed(last_thread);
-        log_text("\n");
-    }
+    log_thread();
     log_place(here);
+}
+
+void log_thread(void) {
+    if (now_thread() == last_thread)
+        return;
+    last_thread = now_thread();
+    log_text("%");
+    log_signed(last_thread);
+    log_text("\n");
 }
 
 void write_numbered(const char *word, long number) {
@@ -69,15 +91,26 @@ void write_numbered(const char *word, long number) {
 
 long next_request(void) { return requests++; }
 
+const MPI_Request *variable_of(const MPI_Request *handle) { return place_is_fortran(caller) ? NULL : handle; }
+
 struct awaited collective_awaited(const struct context *context) {
     return (struct awaited){.kind = AWAITED_COLLECTIVE, .context = context->number, .index = context->calls - 1, .place = here};
 }
 
 void await_collective(const struct context *context) { now_awaits(collective_awaited(context)); }
 
+void write_unknown(const char *name) {
+    begin_command();
+    log_text("unknown MPI_");
+    log_text(name);
+    log_text("\n");
+}
+
 void write_named(struct context *context, char form, const char *name) {
-    if (!context)
+    if (!context) {
+        write_unknown(name);
         return;
+    }
     struct call call = {.name = name, .form = form, .context = context, .root = NO_ROOT, .op = MPI_OP_NULL, .type = MPI_DATATYPE_NULL};
     begin_command();
     write_call(&call);
@@ -104,15 +137,27 @@ static const char *check_library(void) {
     exit(1);
 }
 
-/* Where a call stands that came before the file is told anew. */
+/* The folder that the variable RECORD_DIR names; of a program that another one has started, a folder of its own in that one's. */
+static void choose_folder(char *folder, size_t room, long run) {
+    const char *named = getenv("RECORD_DIR");
+    MPI_Comm parent;
+    named = named && *named ? named : "record.out";
+    PMPI_Comm_get_parent(&parent);
+    if (parent == MPI_COMM_NULL)
+        snprintf(folder, room, "%s", named);
+    else
+        snprintf(folder, room, "%s/started.%ld", named, run);
+}
+
+/* Where a call stands that came before the file is written anew. */
 static void begin_record(const char *name, void *caller, int thread_level) {
-    const char *folder = getenv("RECORD_DIR");
+    char folder[4000];
     int rank, size;
     long run = (long)time(NULL) * 100000 + getpid() % 100000;
-    folder = folder && *folder ? folder : "record.out";
     PMPI_Comm_rank(MPI_COMM_WORLD, &rank);
     PMPI_Comm_size(MPI_COMM_WORLD, &size);
     PMPI_Bcast(&run, 1, MPI_LONG, 0, MPI_COMM_WORLD);
+    choose_folder(folder, sizeof folder, run);
     log_lock();
     if (log_open(folder, rank, size, run, check_library())) {
         write_numbered("threads", thread_level);
@@ -146,12 +191,20 @@ INTERPOSED(MPI_Session_init, (MPI_Info info, MPI_Errhandler handler, MPI_Session
 }
 #endif
 
+static void write_open(const struct request *request) {
+    if (request->number != NO_REQUEST && request->active)
+        write_numbered("open", request->number);
+}
+
 INTERPOSED(MPI_Finalize, (void), ()) {
     log_lock();
     begin_command();
+    each_request(write_open);
     log_close();
     log_unlock();
+    is_ending = true;
     int result = next_MPI_Finalize();
+    is_ending = false;
     now_finalized();
     return result;
 }
@@ -166,17 +219,16 @@ INTERPOSED(MPI_Abort, (MPI_Comm comm, int code), (comm, code)) {
 
 /* What types and operations are */
 
-INTERPOSED(MPI_Type_free, (MPI_Datatype * type), (type)) {
+FREEING(MPI_Type_free, (MPI_Datatype * type), (type), type_gone(*type)) {
     log_lock();
     type_gone(*type);
     log_unlock();
     return next_MPI_Type_free(type);
 }
 
-INTERPOSED(MPI_Op_create, (MPI_User_function * function, int commutes, MPI_Op *op), (function, commutes, op)) {
+static int made_operation(int result, const MPI_Op *op, const void *function, int commutes) {
     const void *address;
-    int result = next_MPI_Op_create(function, commutes, op);
-    memcpy(&address, &function, sizeof address);
+    memcpy(&address, function, sizeof address);
     log_lock();
     if (result == MPI_SUCCESS)
         operation_made(*op, address, commutes, here);
@@ -184,7 +236,17 @@ INTERPOSED(MPI_Op_create, (MPI_User_function * function, int commutes, MPI_Op *o
     return result;
 }
 
-INTERPOSED(MPI_Op_free, (MPI_Op * op), (op)) {
+INTERPOSED(MPI_Op_create, (MPI_User_function * function, int commutes, MPI_Op *op), (function, commutes, op)) {
+    return made_operation(next_MPI_Op_create(function, commutes, op), op, &function, commutes);
+}
+
+#if MPI_VERSION >= 4
+INTERPOSED(MPI_Op_create_c, (MPI_User_function_c * function, int commutes, MPI_Op *op), (function, commutes, op)) {
+    return made_operation(next_MPI_Op_create_c(function, commutes, op), op, &function, commutes);
+}
+#endif
+
+FREEING(MPI_Op_free, (MPI_Op * op), (op), operation_gone(*op)) {
     log_lock();
     operation_gone(*op);
     log_unlock();

@@ -13,7 +13,7 @@ class Unreadable(Exception):
 
 # A basic type of a signature, and how often it stands in a row.
 Run = collections.namedtuple("Run", "name bytes times")
-# WORD, EACH and EXACT tell how it stands in a job text; WHOLE is false where the signature isn't known to its end.
+# WORD, EACH and EXACT say how it stands in a job text; WHOLE is false where the signature isn't known to its end.
 Type = collections.namedtuple("Type", "word each exact bytes runs whole")
 # NAME is that of MPI, `user` or `?`. The others are of a user's operation.
 Operation = collections.namedtuple("Operation", "name order commutes offset module")
@@ -29,11 +29,11 @@ NO_TYPE = Type("byte", 0, False, 0, (), True)
 class Command:
     """One line of a record: a collective call, or what is done with requests."""
 
-    __slots__ = ("place", "thread", "remarks", "word", "numbers", "call", "key", "index", "request", "gift", "refused")
+    __slots__ = ("place", "thread", "remarks", "word", "numbers", "call", "key", "index", "request", "gift", "refused", "done")
 
     def __init__(self, place, thread, remarks, word):
         self.place, self.thread, self.remarks, self.word = place, thread, remarks, word
-        self.numbers, self.call, self.key, self.index, self.request, self.gift, self.refused = [], None, None, None, None, [], None
+        self.numbers, self.call, self.key, self.index, self.request, self.gift, self.refused, self.done = [], None, None, None, None, [], None, False
 
 
 class Record:
@@ -42,12 +42,17 @@ class Record:
     def __init__(self, path, shared):
         self.path, self.shared = path, shared
         self.commands, self.contexts, self.places, self.types, self.operations = [], {}, {}, {}, {}
-        self.ended = self.cut = False
+        self.ended = False
+        self.unsure = False  # whether a wait may have been for another request than the one that is written
+        self.opened = []  # the numbers of collective requests that weren't complete as it came to MPI_Finalize
+        self.refused = []  # the commands that the library refused
         self.abort = None
         self.unknown = collections.Counter()
         self.calls = collections.defaultdict(list)  # of each context the commands, in their order
         self.requests = []  # the commands that made requests
         self.threads = collections.defaultdict(set)  # of each context the threads that called on it
+        self.callers = set()  # all threads of the commands
+        self.tests = {}  # of each request the last test
         self.thread_level = 0
         with open(path, "rb") as file:
             # The file of a program that was killed has zeros after its last line, or a part of a line.
@@ -100,6 +105,7 @@ class Record:
         command.index = len(calls)
         calls.append(command)
         self.threads[command.key].add(command.thread)
+        self.callers.add(command.thread)
         if command.call.form in "np":
             command.request = len(self.requests)
             self.requests.append(command)
@@ -151,8 +157,13 @@ class Record:
             self.unknown[words[1]] += 1
             self.keep(["# LEFT OUT: " + words[1] + " on a communicator whose maker isn't recorded"], place, thread)
         elif word == "refused":
-            if self.commands:
-                self.commands[-1].refused = words[1]
+            self.refuse(place, thread, words[1])
+        elif word == "tested":
+            self.tests[int(words[1])].done = True
+        elif word == "unsure":
+            self.unsure = True
+        elif word == "open":
+            self.opened.append(int(words[1]))
         elif word == "abort":
             self.abort = (int(words[1]), place)
         elif word == "end":
@@ -170,7 +181,18 @@ class Record:
             command.numbers, command.gift = [int(words[1])], words[2:]
         else:
             command.numbers = [int(it) for it in words[1:]]
+        if words[0] == "test":
+            self.tests[command.numbers[0]] = command
+        self.callers.add(thread)
         self.commands.append(command)
+
+    def refuse(self, place, thread, error):
+        """The library gave back an error of the last collective that a thread has called at a place."""
+        for command in reversed(self.commands):
+            if command.call and (command.place, command.thread) == (place, thread):
+                command.refused = error
+                self.refused.append(command)
+                return
 
     def keep(self, remarks, place, thread):
         """Remarks after which no command stands."""

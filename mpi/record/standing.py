@@ -1,37 +1,56 @@
 """Where each rank stands: the MPI call under way, as now.c keeps it, what it waits for, and which ranks wait for one another."""
 
 import collections
+import functools
 import os
 import re
 import struct
 
-from agreement import call_name
+from agreement import amount, call_name, is_empty
+from job_text import MULTIPLE, WAITED
 from records import rank_words
 
 THREADS, SHOWN, MESSAGES, VERSION = 64, 24, 4096, 1
 HEAD, THREAD, AWAITED, MESSAGE = struct.Struct("=4I2Q2I"), struct.Struct("=2Q4i2Q40s"), struct.Struct("=4iq2i"), struct.Struct("=4iq")
 COLLECTIVE, RECEIVE, SEND, OTHER, RANK = 1, 2, 3, 4, 5
+OF_REQUEST, BUFFERED = 1, 2
+UNSEEN, LOST, UNSHOWN, ELSEWHERE, CALLBACKS = 1, 2, 4, 8, 16
 ANY = -1
 SECOND = 1e9
 
-# Ranks are told to wait for one another where all of them have stood in their calls for so many seconds at once: a message under way
-# takes less. On a machine with more to do than processors a thread that has had no turn doesn't stand: it must have used some of a
-# processor's time in its call, or have slept there.
-STANDS, RAN, ASLEEP = 0.5, 1e7, 3
+# Ranks are said to wait for one another where all of them have stood in their calls for STANDS seconds at once. On a machine with more to do
+# than processors a thread that has had no turn doesn't stand: it must have used some of a processor's time in its call, a millisecond, where a
+# short message or collective takes one or two microseconds, or have slept there.
+STANDS, RAN, ASLEEP = 0.5, 1e6, 3
 
 Awaited = collections.namedtuple("Awaited", "kind context rank tag index place form")
 Thread = collections.namedtuple("Thread", "number since calls inside place count any ran asleep name awaited")
 
-# The members whose calls a collective needs to be complete at a rank, whatever the library: of these kinds all, of the others see `needed`.
-ALL_NEEDED = {"Barrier", "Allgather", "Allgatherv", "Alltoall", "Alltoallv", "Alltoallw", "Allreduce", "Reduce_scatter", "Reduce_scatter_block", "Comm_split", "Comm_dup"}
+def givers(call, member, size):
+    """The members without whose call a collective can't be complete at one of SIZE members, whatever the library: those that give it something."""
+    every, name = range(size), call.name
+    if name in ("Barrier", "Comm_split", "Comm_dup"):
+        return every
+    if name in ("Allgather", "Allgatherv", "Alltoall", "Alltoallv", "Alltoallw") or name in ("Gather", "Gatherv") and member == call.root:
+        return [it for it in every if amount(call.got, it)]
+    if name in ("Bcast", "Scatter", "Scatterv"):
+        return [call.root] if amount(call.sent if name == "Bcast" else call.got, 0) and call.root in every else []
+    if name in ("Allreduce", "Reduce_scatter", "Reduce_scatter_block") or name == "Reduce" and member == call.root:
+        return every if amount(call.sent, member if name == "Reduce_scatter" else 0) else []
+    return range(member) if name in ("Scan", "Exscan") and amount(call.sent, 0) else []
+
+
+def moves_nothing(call):
+    """Whether a call moves no data, so that it lasts only where it waits for members that haven't called it."""
+    return call.name in WAITED or is_empty(call)
 
 
 class Now:
     """The file of one rank: of the run RUN, or of any for None."""
 
     def __init__(self, path, run):
-        self.lost = False
-        self.threads, self.messages, self.beat, self.counted, self.finalized, self.unseen = [], {}, 0, False, False, False
+        self.there = self.lost = self.unshown = self.elsewhere = self.callbacks = False
+        self.threads, self.counts, self.beat, self.counted, self.finalized, self.unseen = [], b"", 0, False, False, False
         try:
             with open(path, "rb") as file:
                 data = file.read()
@@ -42,8 +61,8 @@ class Now:
         version, _, _, finalized, its_run, beat, uncounted, unseen = HEAD.unpack_from(data)
         if version != VERSION or run not in (None, its_run):
             return
-        self.beat, self.counted, self.finalized, self.unseen = beat, not uncounted and not unseen, bool(finalized), bool(unseen & 1)
-        self.lost = bool(unseen & 2)
+        self.there, self.beat, self.counted, self.finalized = True, beat, not uncounted and not unseen & (UNSEEN | LOST), bool(finalized)
+        self.unseen, self.lost, self.unshown, self.elsewhere, self.callbacks = (bool(unseen & flag) for flag in (UNSEEN, LOST, UNSHOWN, ELSEWHERE, CALLBACKS))
         at = HEAD.size
         for number in range(THREADS):
             since, calls, inside, place, count, any_, ran, asleep, name = THREAD.unpack_from(data, at)
@@ -52,25 +71,66 @@ class Now:
                 awaited = [Awaited(*AWAITED.unpack_from(data, at + place_ * AWAITED.size)) for place_ in range(min(count, SHOWN))]
                 self.threads.append(Thread(number, since, calls, bool(inside), place, count, bool(any_), ran, asleep, name.split(b"\0")[0].decode(), awaited))
             at += SHOWN * AWAITED.size
-        for _ in range(MESSAGES):
-            kind, context, rank, tag, calls = MESSAGE.unpack_from(data, at)
-            at += MESSAGE.size
-            if kind:
-                self.messages[kind, context, rank, tag] = calls
+        self.counts = data[at:at + MESSAGES * MESSAGE.size]
+
+    @functools.cached_property
+    def messages(self):
+        """How many messages alike the rank has called, by their kind, context, rank and tag."""
+        return {(kind, context, rank, tag): calls for kind, context, rank, tag, calls in MESSAGE.iter_unpack(self.counts) if kind}
+
+
+def calls_under_way(folder):
+    """What each rank of a folder has under way: for each of its threads how many calls it has entered, and since when it is in the last one."""
+    names = [name for name in os.listdir(folder) if re.fullmatch(r"now\.\d+", name)] if os.path.isdir(folder) else []
+    return {int(name[4:]): [(it.calls, it.since) for it in Now(os.path.join(folder, name), None).threads] for name in names}
+
+
+def read_nows(folder, records):
+    """The file of each rank. One that stands in MPI_Finalize may yet call MPI in a callback, past the recorder."""
+    nows = {rank: Now(os.path.join(folder, f"now.{rank}"), record.run) for rank, record in records.items()}
+    for rank, now in nows.items():
+        now.unseen = now.unseen or records[rank].ended and now.callbacks and not now.finalized
+    return nows
+
+
+def ranks_unseen(nows):
+    """The ranks that called MPI past the recorder, or may yet do so."""
+    return [rank for rank, now in nows.items() if now.unseen]
+
+
+def limits_of(records, nows):
+    """What a text of the records can't show, in words."""
+    ranks = {
+        "made collective calls that the library refused": [rank for rank, record in records.items() if record.refused],
+        "called MPI_Finalize with collectives that no call was seen to complete": [rank for rank, record in records.items() if record.opened],
+    }
+    ranks["called MPI_Finalize and didn't come out of it"] = [rank for rank, record in records.items() if record.ended and nows[rank].there and not nows[rank].finalized]
+    elsewhere = any(now.messages or now.elsewhere or not now.there for now in nows.values())
+    notes = [f"incomplete: {rank_words(those)} {words}" for words, those in ranks.items() if those]
+    return notes + (["by themselves: what the ranks wait for beside collectives isn't in the text"] if elsewhere else [])
 
 
 class Standings:
-    """Where the ranks stand that didn't come to their ends."""
+    """Where the ranks stand that didn't come to their ends. NOWS has the files that say so. BEFORE has what was under way before the records were read: the program may still
+    run, and a rank that has gone on meanwhile waits for none."""
 
-    def __init__(self, folder, records, contexts, places, judge):
-        self.records, self.contexts, self.places, self.judge = records, contexts, places, judge
-        self.now = {rank: Now(os.path.join(folder, f"now.{rank}"), record.run) for rank, record in records.items()}
+    def __init__(self, nows, records, contexts, places, judge, before):
+        self.now, self.records, self.contexts, self.places, self.judge, self.before = nows, records, contexts, places, judge, before
         self.lost = [rank for rank, now in self.now.items() if now.lost]
         self.open = [rank for rank, record in records.items() if not record.ended and rank not in self.lost]
+        self.ending = [rank for rank, record in records.items() if record.ended and self.now[rank].there and not self.now[rank].finalized]
+        self.unknown = [rank for rank, now in self.now.items() if not now.there]
+        self.unshown = [rank for rank, now in self.now.items() if now.unshown]
+
+    def limits(self):
+        return limits_of(self.records, self.now)
+
+    def waits_elsewhere(self):
+        """Whether ranks wait for one another also by what isn't a collective."""
+        return any(now.messages or now.elsewhere or not now.there for now in self.now.values())
 
     def unseen(self):
-        """The ranks that called MPI past the recorder."""
-        return [rank for rank, now in self.now.items() if now.unseen]
+        return ranks_unseen(self.now)
 
     # What a rank waits for
 
@@ -94,19 +154,21 @@ class Standings:
         calls = self.records[rank].calls.get(self.key(rank, awaited.context), ())
         return calls[awaited.index] if awaited.index < len(calls) else None
 
-    def needed(self, rank, awaited):
-        """The members without whose call a collective isn't complete here, by what it means."""
-        command = self.command(rank, awaited)
-        members = self.contexts.members(self.key(rank, awaited.context))
-        name = command.call.name if command else None
-        if name in ALL_NEEDED:
-            return set(members)
-        root = members[command.call.root] if command and command.call.root is not None and command.call.root < len(members) else None
-        if name in ("Bcast", "Scatter", "Scatterv"):
-            return {root} - {rank}
-        if name in ("Reduce", "Gather", "Gatherv") and rank == root:
-            return set(members)
-        return set(members[: members.index(rank)]) if name in ("Scan", "Exscan") else set()
+    def collective_options(self, rank, awaited, alone):
+        """The same as `options`, of a collective. One that moves data between members that have called it may just take long, and so may one
+        that calls back the program or has to do with a disk."""
+        command, members = self.command(rank, awaited), self.contexts.members(self.key(rank, awaited.context))
+        if not command or command.call.name.startswith("Neighbor_"):
+            return None  # which members are neighbours isn't recorded
+        lacking = set(self.lacking(rank, awaited))
+        needed = lacking & {members[it] for it in givers(command.call, members.index(rank), len(members))}
+        if needed:
+            return "all", needed
+        if not lacking or not alone or any(it not in self.records or it in self.lost for it in members):
+            return None
+        call, is_first = command.call, lacking == set(members) - {rank}
+        waits = moves_nothing(call) or is_first and bool(call.sent or call.got or call.name == "Win_fence")
+        return ("any", lacking) if waits else None
 
     def messages(self, rank, kind, key, peer, tag):
         """How many messages alike a rank has called, or None where that isn't known."""
@@ -123,10 +185,44 @@ class Standings:
             return None
         return self.messages(awaited.rank, SEND, key, rank, awaited.tag)
 
+    def numbers(self, key, peer):
+        """The number of a context at a member, or at each for any, or None where a member's messages weren't counted."""
+        found = {}
+        for member in self.contexts.members(key) if peer == ANY else [peer]:
+            if member not in self.now or not self.now[member].counted:
+                return None
+            found[member] = next((number for number, context in self.records[member].contexts.items() if context.key == key), None)
+        return found
+
+    def classes(self, rank, awaited):
+        """How many messages of each rank and tag were sent that a receive may have, or None."""
+        key = self.key(rank, awaited.context)
+        numbers = self.numbers(key, awaited.rank) if key else None
+        if numbers is None:
+            return None
+        found = {}
+        for member, number in numbers.items():
+            for (kind, context, peer, tag), calls in self.now[member].messages.items():
+                if (kind, context, peer) == (SEND, number, rank) and awaited.tag in (-1, tag):
+                    found[member, tag] = calls
+        return found
+
+    def nothing_left(self, rank, awaited):
+        """Whether each message that a receive may have was surely received by one before it. Receives for just one rank and tag come first to
+        their own; of those that are alike, each that was called before takes one of what is left."""
+        sent = self.classes(rank, awaited)
+        if sent is None or awaited.index < 0 or not self.now[rank].counted:
+            return False
+        mine, first = self.now[rank].messages, not awaited.form & OF_REQUEST and ANY in (awaited.rank, awaited.tag)
+        own = {it: mine.get((RECEIVE, awaited.context, *it), 0) if first else 0 for it in sent}
+        over = sum(max(0, calls - own[it]) for it, calls in sent.items())
+        within = sum(calls for it, calls in sent.items() if calls <= own[it])
+        return over <= max(0, awaited.index - within)
+
     def receives(self, rank, awaited):
         """How many receives the peer of a send has called that may take it, or None."""
         key = self.key(rank, awaited.context)
-        if awaited.rank < 0 or not key:
+        if awaited.rank < 0 or not key or not self.now[rank].counted:
             return None
         found = [self.messages(awaited.rank, RECEIVE, key, peer, tag) for peer in (rank, ANY) for tag in (awaited.tag, -1)]
         return None if None in found else sum(found)
@@ -137,21 +233,15 @@ class Standings:
         if not self.is_sure(rank, awaited):
             return None
         if awaited.kind == COLLECTIVE:
-            lacking = set(self.lacking(rank, awaited))
-            needed = lacking & self.needed(rank, awaited)
-            if needed:
-                return "all", needed
-            return ("any", lacking) if lacking and alone else None
+            return self.collective_options(rank, awaited, alone)
         if awaited.kind == RECEIVE and awaited.rank >= 0:
-            sent = self.sent(rank, awaited)
-            missing = sent is None and alone or sent is not None and 0 <= awaited.index >= sent
-            return ("all", {awaited.rank}) if missing else None
+            return ("all", {awaited.rank}) if self.nothing_left(rank, awaited) else None
         if awaited.kind == RECEIVE and awaited.rank == ANY and alone:
-            key = self.key(rank, awaited.context)
-            return ("any", set(self.contexts.members(key)) - {rank}) if key else None
-        if awaited.kind == SEND and awaited.rank >= 0 and alone:
+            others = set(self.contexts.members(self.key(rank, awaited.context))) - {rank}
+            return ("any", others) if others and self.nothing_left(rank, awaited) else None
+        if awaited.kind == SEND and awaited.rank >= 0 and alone and not awaited.form & BUFFERED:
             called = self.receives(rank, awaited)
-            return ("all", {awaited.rank}) if called is None or called <= awaited.index else None
+            return ("all", {awaited.rank}) if called is not None and called <= awaited.index else None
         return None
 
     def waits(self, rank):
@@ -160,6 +250,8 @@ class Standings:
         if rank not in self.open or len(threads) != 1 or not threads[0].inside or threads[0].count > SHOWN:
             return None
         thread = threads[0]
+        if thread.name.startswith("MPI_Test") or self.before.get(rank) != [(thread.calls, thread.since)]:
+            return None
         found = [self.options(rank, it, len(thread.awaited) == 1) for it in thread.awaited]
         return (thread, found) if any(found) and not (thread.any and None in found) else None
 
@@ -197,7 +289,11 @@ class Standings:
         since = max(thread.since for thread, _ in stuck.values())
         return all(self.now[rank].beat >= since + STANDS * SECOND and had_turn(thread) for rank, (thread, _) in stuck.items())
 
-    # What is told
+    def may_have_threads(self, ranks):
+        """Those of some ranks of which a thread that hasn't called MPI yet may call it."""
+        return [rank for rank in ranks if self.records[rank].thread_level >= MULTIPLE and not self.records[rank].ended]
+
+    # What is reported
 
     def place(self, rank, number):
         return self.places.name(self.records[rank], number) or "place unknown"
@@ -222,7 +318,7 @@ class Standings:
             sent = self.sent(rank, awaited)
             if sent is not None and sent <= awaited.index:
                 return f" (rank {awaited.rank} has sent {sent or 'none'} such, and rank {rank} has called {awaited.index} such receives before)" if awaited.index else f" (rank {awaited.rank} has sent none such)"
-        if awaited.kind == SEND and awaited.form == 0:
+        if awaited.kind == SEND and not awaited.form:
             called = self.receives(rank, awaited)
             if called is not None and called <= awaited.index:
                 return f" (rank {awaited.rank} has called {called or 'no'} receive{'s' if called > 1 else ''} for it)"
@@ -251,20 +347,20 @@ class Standings:
     def thread_words(self, rank, thread):
         where = f"{thread.name}, {self.place(rank, thread.place)}"
         if not thread.inside:
-            return f"in no MPI call{self.seconds(rank, thread)}; the last was {where}" + self.tested_words(rank, thread)
+            return f"in no MPI call that is followed{self.seconds(rank, thread)}; the last was {where}" + self.tested_words(rank, thread)
         words = f"in {where}" + self.seconds(rank, thread)
         shown = thread.awaited
         if not shown:
             return words
         if shown[0].kind == RANK:
             return f"{words}: of rank {shown[0].rank}"
-        if shown[0].form == 0 and shown[0].kind != OTHER:
-            told = [self.collective_words(rank, it, True) if it.kind == COLLECTIVE else self.message_words(rank, it) for it in shown]
-            return f"{words}: {'; '.join(told)}"
-        told = [self.awaited_words(rank, it) for it in shown[:4]]
-        more = thread.count - len(told)
+        if not shown[0].form & OF_REQUEST and shown[0].kind != OTHER:
+            parts = [self.collective_words(rank, it, True) if it.kind == COLLECTIVE else self.message_words(rank, it) for it in shown]
+            return f"{words}: {'; '.join(parts)}"
+        parts = [self.awaited_words(rank, it) for it in shown[:4]]
+        more = thread.count - len(parts)
         head = "for one of " if thread.any and thread.count > 1 else "for "
-        return f"{words}: {head}{'; '.join(told)}" + (f"; and {more} more" if more else "")
+        return f"{words}: {head}{'; '.join(parts)}" + (f"; and {more} more" if more else "")
 
     def tested_words(self, rank, thread):
         """What a rank last asked for that is in no call: it may ask again and again."""
@@ -279,13 +375,17 @@ class Standings:
         if not now.threads:
             last = next((command for command in reversed(record.commands) if command.word), None)
             return [f"its last recorded call is at {self.place(rank, last.place)}" if last else "no call of it was recorded"]
+        return self.thread_lines(rank)
+
+    def thread_lines(self, rank):
+        now = self.now[rank]
         lines = [self.thread_words(rank, thread) for thread in now.threads]
         return [f"thread {thread.number}: {words}" for thread, words in zip(now.threads, lines)] if len(lines) > 1 else lines
 
-    def lines(self):
-        """Where each rank stands that didn't come to its end, those alike together, with the shortest of their times."""
+    def lines(self, ranks):
+        """Where each of these ranks stands, those alike together, with the shortest of their times."""
         alike = collections.defaultdict(list)
-        for rank in self.open:
+        for rank in ranks:
             for words in self.rank_lines(rank):
                 alike[without_seconds(words)].append((seconds_of(words), rank, words))
         return [f"{rank_words([rank for _, rank, _ in those])}: {min(those)[2]}" for those in alike.values()]

@@ -1,4 +1,4 @@
-"""What colljob says of a job text, with the places in the program that the text's comments tell."""
+"""What colljob says of a job text, with the places in the program that stand in the text's comments."""
 
 import collections
 import re
@@ -6,11 +6,22 @@ import subprocess
 
 from records import Unreadable
 
-# The comment that tells where a call stands.
+# The comment that says where a call stands.
 PLACE = re.compile(r"# (\S+:\d+|\S+ 0x[0-9a-f]+(, in .*)?|place unknown)")
 
-# The notes of join.py at the head of a text.
-NOTE = re.compile(r"# (incomplete: .*|left out: .*|rank \d+ has no record)")
+# The first and the last line of a text that was made of records.
+MADE, LAST = "# made of records, whole where its last line says so", "# the end of the text"
+
+CUT = "incomplete: the text was cut"
+
+# How the note of a text begins of which it isn't known whether its lines let ranks wait for one another.
+NOT_JUDGED = "incomplete: stalls aren't judged: "
+
+# The notes at the head of such a text.
+NOTE = re.compile(r"# (incomplete: .*|left out: .*|fault: .*|warning: .*|by themselves: .*|rank \d+ has no record)")
+
+# How `colljob explain` begins where it doesn't know.
+UNKNOWN = re.compile(r"(warning: )?(may stall|.* may$)", re.M)
 
 # A line of `colljob explain` that shows a line of the text.
 SHOWN = re.compile(r" *(\d+) \| \S.*")
@@ -20,19 +31,21 @@ Verdict = collections.namedtuple("Verdict", "fault stalls unknown lines")
 
 
 class Text:
-    """The lines of a text, and the place in the program that the comment above each tells."""
+    """The lines of a text, and the place in the program that the comment above each has."""
 
     def __init__(self, path):
         self.path, self.calls, self.ranks, self.members, self.notes, self.none = path, [], 0, [], [], None
         try:
             with open(path) as file:
                 self.read(file)
-        except (OSError, UnicodeDecodeError) as why:
-            raise Unreadable(f"{path}: {why.strerror if isinstance(why, OSError) else 'not a text'}") from why
+        except (OSError, ValueError, IndexError) as why:
+            raise Unreadable(f"{path}: {why.strerror if isinstance(why, OSError) else 'not a job text'}") from why
 
     def read(self, file):
         rank, where, next_request, next_place = None, None, collections.Counter(), collections.Counter()
+        made, last = False, ""
         for number, line in enumerate(file, 1):
+            made, last = made or line.strip() == MADE, line.strip()
             words = line.split()
             if line.startswith("# no text: "):
                 self.none = line[11:].strip()
@@ -55,6 +68,8 @@ class Text:
                     next_request[rank] += 1
                     next_place[rank, communicator] += 1
                 self.calls.append(Call(number, rank, words, where, communicator, place, request))
+        if made and last != LAST:
+            self.notes.append(CUT)
 
     def at(self, number):
         return next((call for call in self.calls if call.line == number), None)
@@ -134,24 +149,33 @@ def judge(path, program, text=None):
         number = SHOWN.fullmatch(line)
         call = text.at(int(number[1])) if number else None
         lines.append(f"{line}    # {call.where}" if call and call.where else line)
-    unknown = run.stdout.startswith("may stall")
+    unknown = bool(UNKNOWN.match(run.stdout))
     return Verdict(None, run.returncode != 0 and not unknown, unknown, lines)
 
 
 def tell(path, program):
-    """Tells of a text alone, and returns the status of where.py."""
+    """Reports on a text alone, and returns the status of where.py."""
     text = Text(path)
     if text.none or not text.ranks:
         raise Unreadable(f"{path}: no text to judge: {text.none or 'it is empty, or was cut: did join.py fail?'}")
     for note in text.notes:
         print(f"{path}: {note}")
+    if any(note.startswith("fault: ") for note in text.notes):
+        return 1
+    if CUT in text.notes:
+        print(f"{path}: not judged: what was cut off isn't known")
+        return 3
+    if any(note.startswith(NOT_JUDGED) for note in text.notes):
+        print(f"{path}: no fault in what is there")
+        return 3
     verdict = judge(path, program, text)
     if verdict.fault or verdict.stalls:
         print(verdict.fault or f"{path}: no fault in what is there")
         print("\n".join(verdict.lines))
         return 1
-    whole = not text.notes and not verdict.unknown
+    apart = any(note.startswith("by themselves: ") for note in text.notes)
+    whole = len(text.notes) == apart and not verdict.unknown
     print(f"{path}: no fault" + ("" if whole else " in what is there"))
-    if verdict.unknown or whole:
+    if verdict.unknown or whole and not apart:
         print("\n".join(verdict.lines))
     return 0 if whole else 3

@@ -18,15 +18,15 @@ static int type_numbers;
 static const char *const SIGNED[] = {"i8", "i16", "i32", "i64"};
 static const char *const UNSIGNED[] = {"u8", "u16", "u32", "u64"};
 
-static const char *by_width(const char *const *words, int bytes) {
+static const char *by_width(const char *const *words, long long bytes) {
     return bytes == 1 ? words[0] : bytes == 2 ? words[1] : bytes == 4 ? words[2] : bytes == 8 ? words[3] : NULL;
 }
 
-static int bytes_of(MPI_Datatype type) {
-    int bytes = 0;
+static long long bytes_of(MPI_Datatype type) {
+    MPI_Count bytes = 0;
     if (type != MPI_DATATYPE_NULL)
-        PMPI_Type_size(type, &bytes);
-    return bytes;
+        PMPI_Type_size_x(type, &bytes);
+    return (long long)bytes;
 }
 
 /* The word of a basic type that a job text has, or null. */
@@ -60,8 +60,9 @@ struct signature {
     } runs[RUNS];
 };
 
+/* A basic type of no bytes only marks a bound. */
 static void add_run(struct signature *to, MPI_Datatype basic, long times) {
-    if (times <= 0)
+    if (times <= 0 || bytes_of(basic) == 0)
         return;
     if (to->count && to->runs[to->count - 1].basic == basic)
         to->runs[to->count - 1].times += times;
@@ -153,10 +154,11 @@ static struct signature signature_of(MPI_Datatype type) {
 
 /* Unsigned integers of the widest width that divides the size stand in a text for what it doesn't have. */
 static void choose_word(struct type *type, const struct signature *signature) {
-    int bytes = bytes_of(type->handle), width = bytes % 8 == 0 ? 8 : bytes % 4 == 0 ? 4 : bytes % 2 == 0 ? 2 : 1;
+    long long bytes = bytes_of(type->handle);
+    int width = bytes % 8 == 0 ? 8 : bytes % 4 == 0 ? 4 : bytes % 2 == 0 ? 2 : 1;
     MPI_Datatype basic = signature->count == 1 ? signature->runs[0].basic : MPI_DATATYPE_NULL;
     type->word = basic != MPI_DATATYPE_NULL ? text_word(basic) : NULL;
-    type->each = type->word ? signature->runs[0].times : bytes / width;
+    type->each = type->word ? signature->runs[0].times : (long)(bytes / width);
     type->exact = basic == type->handle && type->word;
     if (!type->word)
         type->word = by_width(UNSIGNED, width);
@@ -166,14 +168,14 @@ static void choose_word(struct type *type, const struct signature *signature) {
 static void tell_type(const struct type *type, const struct signature *signature) {
     char line[256], name[MPI_MAX_OBJECT_NAME];
     int length;
-    snprintf(line, sizeof line, "type %d %s %ld %d %d", type->number, type->word, type->each, type->exact, bytes_of(type->handle));
+    snprintf(line, sizeof line, "type %d %s %ld %d %lld", type->number, type->word, type->each, type->exact, bytes_of(type->handle));
     log_text(line);
     for (int run = 0; run < signature->count; run++) {
         strcpy(name, "");
         PMPI_Type_get_name(signature->runs[run].basic, name, &length);
         for (char *byte = name; *byte; byte++)
             *byte = *byte == ' ' || *byte == '\n' ? '_' : *byte;
-        snprintf(line, sizeof line, " %.180s/%d*%ld", *name ? name : "unnamed", bytes_of(signature->runs[run].basic), signature->runs[run].times);
+        snprintf(line, sizeof line, " %.180s/%lld*%ld", *name ? name : "unnamed", bytes_of(signature->runs[run].basic), signature->runs[run].times);
         log_text(line);
     }
     log_text(signature->whole ? "\n" : " ?\n");

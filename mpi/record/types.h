@@ -1,4 +1,4 @@
-/* Datatypes and operations: each has a number in the record, and a line that tells what it is. */
+/* Datatypes and operations: each has a number in the record, and a line that says what it is. */
 #ifndef TYPES_H
 #define TYPES_H
 
@@ -14,11 +14,11 @@ struct type {
     struct type *next;
 };
 
-/* What is known of a type; at the first time the file is told. Null for MPI_DATATYPE_NULL. */
+/* What is known of a type; its line is written at the first time. Null for MPI_DATATYPE_NULL. */
 const struct type *type_of(MPI_Datatype type);
 void type_gone(MPI_Datatype type);
 
-/* The number of an operation; at the first time the file is told. */
+/* The number of an operation; its line is written at the first time. */
 int operation_of(MPI_Op op);
 
 /* FUNCTION is where the program's function lies. */

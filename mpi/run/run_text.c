@@ -1,5 +1,5 @@
 /* Carries out job texts over an MPI library, each process as one rank: mpirun -n 4 run_text TEXT ... A text of fewer ranks than there
-   are processes leaves the others idle. Standard output has the lines of `colljob plain`, behind `text NAME` where more than one was
+   are processes leaves the others idle. Standard output has the lines of `colljob plain`, after `text NAME` where more than one was
    named. What a text may say is in docs/JOB_TEXT.md; run_text trusts that it has no fault, and stops at what it can't carry out. */
 #define _POSIX_C_SOURCE 200809L
 #include <ctype.h>
@@ -93,7 +93,7 @@ static bool reading;
 
 /* Memory and messages */
 
-/* What all processes meet while they read a text is told by the first of them; the others wait for the end that it brings. */
+/* What all processes meet while they read a text is reported by the first of them; the others wait for the end that it brings. */
 static void stop(const char *name, int line, const char *format, ...) {
     char reason[512], where[32] = "";
     va_list rest;
@@ -272,7 +272,7 @@ static void read_counts(const struct text *text, const struct line *line, int *n
     request->count = request->counts[request->rank];
 }
 
-/* Reads `C SIG` behind the first word. The place of the word behind it goes to END. */
+/* Reads `C SIG` after the first word. The place of the word after it goes to END. */
 static struct request read_request(struct player *player, int *end) {
     const struct text *text = player->text;
     const struct line *line = player->line;

@@ -1,28 +1,5 @@
 /* Small programs with one planted fault each, and right ones, for ../tried.py: `programs NAME`. The marks A and B name lines for it. */
-#define _GNU_SOURCE
-#include <mpi.h>
-#include <pthread.h>
-#include <stdio.h>
-#include <stdlib.h>
-#include <string.h>
-#include <unistd.h>
-#ifdef OPEN_MPI
-#include <mpi-ext.h>
-#define INIT(call) MPIX_##call
-#else
-#define INIT(call) MPI_##call
-#endif
-
-enum { MANY = 5000, LARGE = 1 << 20, ROOM = 4096 };
-
-static int rank, size, one = 1, sum, row[ROOM], other[ROOM];
-static MPI_Comm world, twin;
-static MPI_Request request, requests[8];
-
-static void never(void) {
-    for (;;)
-        sleep(1);
-}
+#include "tried.h"
 
 /* Faults of collectives: roots, counts, types, operations, kinds */
 
@@ -681,13 +658,7 @@ static void ended_among_pairs(void) {
         MPI_Sendrecv(&one, 1, MPI_INT, (rank + 1) % size, 1, row, 1, MPI_INT, (rank + size - 1) % size, 1, world, MPI_STATUS_IGNORE);
 }
 
-/* Which is called */
-
-#define PROGRAM(name) {#name, name}
-static const struct {
-    const char *name;
-    void (*run)(void);
-} programs[] = {
+const struct program programs[] = {
     PROGRAM(other_root), PROGRAM(other_count), PROGRAM(other_type), PROGRAM(other_operation), PROGRAM(other_user_operation), PROGRAM(other_structure),
     PROGRAM(other_call), PROGRAM(blocking_meets_nonblocking), PROGRAM(nonblocking_meets_persistent), PROGRAM(gather_count), PROGRAM(scatter_type),
     PROGRAM(gatherv_count), PROGRAM(scatterv_count), PROGRAM(allgatherv_count), PROGRAM(alltoallv_count), PROGRAM(alltoallw_type),
@@ -702,18 +673,5 @@ static const struct {
     PROGRAM(right_in_place), PROGRAM(right_types), PROGRAM(right_operations), PROGRAM(right_files), PROGRAM(right_windows), PROGRAM(right_messages),
     PROGRAM(right_communicators), PROGRAM(right_tests), PROGRAM(right_threads), PROGRAM(right_long), PROGRAM(right_large),
     PROGRAM(right_sixty_four), PROGRAM(right_many_communicators), PROGRAM(right_neighbours), PROGRAM(ended_among_collectives),
-    PROGRAM(ended_among_messages), PROGRAM(ended_among_pairs),
+    PROGRAM(ended_among_messages), PROGRAM(ended_among_pairs), {0},
 };
-
-int main(int words, char **word) {
-    int level;
-    MPI_Init_thread(&words, &word, strstr(word[1], "threads") ? MPI_THREAD_MULTIPLE : MPI_THREAD_SINGLE, &level);
-    world = MPI_COMM_WORLD;
-    MPI_Comm_rank(world, &rank);
-    MPI_Comm_size(world, &size);
-    for (size_t place = 0; place < sizeof programs / sizeof *programs; place++)
-        if (!strcmp(word[1], programs[place].name))
-            programs[place].run();
-    MPI_Finalize();
-    return 0;
-}

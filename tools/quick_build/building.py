@@ -87,6 +87,11 @@ def keep(made, path):
     os.replace(part, path)
 
 
+def told(error, place):
+    """What is reported of an error of the system: of a copy that fails it names the file that was written, and where it names none the place."""
+    return f"{error.filename2 or error.filename or place}: {error.strerror}"
+
+
 def drop(path):
     """Removes a file where it is there."""
     with contextlib.suppress(OSError):

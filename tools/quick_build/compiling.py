@@ -1,4 +1,4 @@
-"""The objects of a module: its text is cut into parts, which the kit's clang compiles side by side."""
+"""The objects of a module: its text may be cut into parts, which the kit's clang compiles side by side."""
 
 import os
 import subprocess
@@ -31,11 +31,11 @@ def text_of(kit, scratch, module, progress):
         return file.read()
 
 
-def objects_of(kit, scratch, module, code, progress):
-    """Compiles a module in as many parts as there are processors, to position-independent code of a kind (`-fPIE` or `-fPIC`). The paths
-    of the objects."""
+def objects_of(kit, scratch, module, code, parts, progress):
+    """Compiles a module in so many parts, to position-independent code of a kind (`-fPIE` or `-fPIC`). A function of another part isn't
+    inlined. The paths of the objects."""
     objects, calls = [], []
-    for number, text in enumerate(module.parts(processors())):
+    for number, text in enumerate(module.parts(parts)):
         path = os.path.join(scratch, f"part{number}")
         with open(f"{path}.ll", "w", encoding="utf-8") as file:
             file.write(text)

@@ -1,7 +1,8 @@
 """The sources of the small program for `run` and `plain`: those of `coll_job`, without what these two don't need.
 
 Whole modules are left out, and functions of a few others; first_main.txt has what stands in their place. No line of what these two do is
-written anew but there, so they say and write the same as the whole program. `make check` compares them.
+written anew but there, so they say and write the same as the whole program. `make check` compares them; tools/checks/names, which takes no
+time, reports a name that is gone.
 """
 
 import os
@@ -14,7 +15,8 @@ KEPT = ["host", "keeping", "opening", "progress", "screen"]
 
 # Modules that are kept without some items.
 CUT = {
-    "tasks": ["run", "run_on", "do_parsed", "write_answer", "help", "show", "BAD_WORDS"],
+    "tasks": ["run", "run_on", "do_parsed", "help", "show", "BAD_WORDS"],
+    "answering": ["write_answer"],
     "carrying_out": ["run_recorded", "draw_run", "draw_recorded", "is_explained", "EXPLAINED"],
     "machine": ["main_of"],
 }
@@ -51,6 +53,10 @@ def item_of(text, name):
     if not end:
         raise OtherShape(f"the item {name} has no end")
     return begin, end.end()
+
+
+def is_item_of(text, name):
+    return re.search(ITEM.format(name=name), text, re.MULTILINE) is not None
 
 
 def without(text, names):
@@ -90,11 +96,12 @@ def cut(scratch, tools, uses):
     crates = sources.crates_below(uses, [name for name in imported(texts[it] for it in KEPT) if name in uses])
     libraries = [name for name in imported(texts.values()) if name not in uses and name in uses["coll_job"] and name not in LEFT_OUT]
     named = [*crates, *libraries]
+    gone = {name: [item for item in items if not is_item_of(own.get(name, ""), item)] for name, items in CUT.items()}
     for file in os.listdir(folder):
         os.remove(os.path.join(folder, file))
     for name in modules:
         text = without(texts[name], CUT.get(name, [])) if name in texts else ""
-        write(folder, f"{name}.rt", with_uses(text, modules, named, CUT) + own.get(name, ""))
+        write(folder, f"{name}.rt", with_uses(text, modules, named, gone) + own.get(name, ""))
     heads = "".join(f"mod {name};\n" for name in modules)
     write(folder, "main.rt", "#![tactic(auto)]\n\n" + heads + own["main"])
     return {"coll_job": named, **{name: uses[name] for name in crates}}

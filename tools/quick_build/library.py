@@ -71,7 +71,8 @@ def make(kit, scratch, uses, crates, made, progress):
     if missing:
         raise OtherKit(f"its front end lowered no function {missing[0]}")
     module.export(names)
-    objects = compiling.objects_of(kit, scratch, module, "-fPIC", progress)
+    # (In one part: where rows' bytes are read by functions of another one, long rows take ten times as long; see bench/RESULTS.md.)
+    objects = compiling.objects_of(kit, scratch, module, "-fPIC", 1, progress)
     progress.enter("linking")
     join(kit, scratch, objects, made, progress)
 

@@ -58,7 +58,7 @@ def make_program(kit, scratch, name, uses, made, progress):
     caught = front_end.lower(kit, scratch, name, f"crates/{name}/src/main.rt", libraries, progress.wait)
     progress.enter("compiling")
     module = modules.Module(compiling.text_of(kit, scratch, caught, progress))
-    objects = compiling.objects_of(kit, scratch, module, "-fPIE", progress)
+    objects = compiling.objects_of(kit, scratch, module, "-fPIE", compiling.processors(), progress)
     progress.enter("linking")
     compiling.link(kit, scratch, objects, made, progress)
     os.chmod(made, 0o755)

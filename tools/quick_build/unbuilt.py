@@ -53,7 +53,7 @@ def built(wanted, kit, missing, words):
         try_once(wanted.top, f"this kit builds no quick program ({error})", words)
     except OSError as error:
         progress.clear()
-        answering.fail(f"{error.filename or wanted.folder}: {error.strerror}")
+        answering.fail(building.told(error, wanted.folder))
     finally:
         progress.clear()
 

@@ -66,6 +66,7 @@ typedef struct MPI_Status {
 #define MPI_ERRORS_RETURN WZ_HANDLE_(MPI_Errhandler, 7, 2)
 #define MPI_ERRORS_ABORT WZ_HANDLE_(MPI_Errhandler, 7, 3)
 #define MPI_MESSAGE_NULL WZ_HANDLE_(MPI_Message, 8, 0)
+#define MPI_MESSAGE_NO_PROC WZ_HANDLE_(MPI_Message, 8, 1)
 #define MPI_WIN_NULL WZ_HANDLE_(MPI_Win, 9, 0)
 #define MPI_FILE_NULL WZ_HANDLE_(MPI_File, 10, 0)
 
@@ -180,6 +181,11 @@ typedef int MPI_Comm_delete_attr_function(MPI_Comm comm, int keyval, void *value
 #define MPI_COMM_NULL_DELETE_FN ((MPI_Comm_delete_attr_function *)0)
 int wz_comm_dup_fn_(MPI_Comm comm, int keyval, void *extra, void *value, void *copied, int *flag);
 #define MPI_COMM_DUP_FN wz_comm_dup_fn_
+typedef MPI_Comm_copy_attr_function MPI_Copy_function;
+typedef MPI_Comm_delete_attr_function MPI_Delete_function;
+#define MPI_NULL_COPY_FN MPI_COMM_NULL_COPY_FN
+#define MPI_NULL_DELETE_FN MPI_COMM_NULL_DELETE_FN
+#define MPI_DUP_FN MPI_COMM_DUP_FN
 
 /* Where the next call of this thread stands in the program. */
 void wz_note_line_(const char *line);

@@ -22,18 +22,18 @@ static struct keyval *keyval_of(int number) {
     return number >= FIRST_KEYVAL && number < FIRST_KEYVAL + mpi_me->many_keyvals ? &mpi_me->keyvals[number - FIRST_KEYVAL] : NULL;
 }
 
-int MPI_Comm_create_keyval(MPI_Comm_copy_attr_function *copy, MPI_Comm_delete_attr_function *delete, int *number, void *extra) {
-    struct rank *me = mpi_self("MPI_Comm_create_keyval");
+static int create_keyval(MPI_Comm_copy_attr_function *copy, MPI_Comm_delete_attr_function *delete, int *number, void *extra, const char *call) {
+    struct rank *me = mpi_self(call);
     me->keyvals = mpi_must(realloc(me->keyvals, sizeof *me->keyvals * (size_t)(me->many_keyvals + 1)));
     me->keyvals[me->many_keyvals] = (struct keyval){ copy, delete, extra, false };
     *number = FIRST_KEYVAL + me->many_keyvals++;
     return MPI_SUCCESS;
 }
 
-int MPI_Comm_free_keyval(int *number) {
-    mpi_self("MPI_Comm_free_keyval");
+static int free_keyval(int *number, const char *call) {
+    mpi_self(call);
     struct keyval *keyval = keyval_of(*number);
-    if (keyval == NULL || keyval->freed) return mpi_refuse(NULL, MPI_ERR_KEYVAL, "MPI_Comm_free_keyval", "there is no key value %d", *number);
+    if (keyval == NULL || keyval->freed) return mpi_refuse(NULL, MPI_ERR_KEYVAL, call, "there is no key value %d", *number);
     keyval->freed = true; /* communicators may have values of it still */
     *number = MPI_KEYVAL_INVALID;
     return MPI_SUCCESS;
@@ -63,9 +63,9 @@ static int delete_one(MPI_Comm handle, struct attribute **at) {
     return code;
 }
 
-int MPI_Comm_set_attr(MPI_Comm handle, int number, void *value) {
+static int set_attr(MPI_Comm handle, int number, void *value, const char *call) {
     struct comm *comm;
-    int code = known(handle, number, &comm, "MPI_Comm_set_attr");
+    int code = known(handle, number, &comm, call);
     if (code != MPI_SUCCESS) return code;
     struct attribute **at = find(comm, number);
     if (*at != NULL) code = delete_one(handle, at);
@@ -85,13 +85,13 @@ static bool predefined(int number, void *value) {
     return true;
 }
 
-int MPI_Comm_get_attr(MPI_Comm handle, int number, void *value, int *flag) {
-    mpi_self("MPI_Comm_get_attr");
+static int get_attr(MPI_Comm handle, int number, void *value, int *flag, const char *call) {
+    mpi_self(call);
     struct comm *comm = mpi_comm(handle);
-    if (comm == NULL) return mpi_comm_error(handle, "MPI_Comm_get_attr");
+    if (comm == NULL) return mpi_comm_error(handle, call);
     *flag = predefined(number, value);
     if (*flag) return MPI_SUCCESS;
-    int code = known(handle, number, &comm, "MPI_Comm_get_attr");
+    int code = known(handle, number, &comm, call);
     if (code != MPI_SUCCESS) return code;
     struct attribute *it = *find(comm, number);
     *flag = it != NULL;
@@ -99,14 +99,40 @@ int MPI_Comm_get_attr(MPI_Comm handle, int number, void *value, int *flag) {
     return code;
 }
 
-int MPI_Comm_delete_attr(MPI_Comm handle, int number) {
+static int delete_attr(MPI_Comm handle, int number, const char *call) {
     struct comm *comm;
-    int code = known(handle, number, &comm, "MPI_Comm_delete_attr");
+    int code = known(handle, number, &comm, call);
     if (code != MPI_SUCCESS) return code;
     struct attribute **at = find(comm, number);
-    if (*at == NULL) return mpi_refuse(comm, MPI_ERR_ARG, "MPI_Comm_delete_attr", "the communicator has no value of this key");
+    if (*at == NULL) return mpi_refuse(comm, MPI_ERR_ARG, call, "the communicator has no value of this key");
     return delete_one(handle, at);
 }
+
+/* ---- the calls, and those of MPI 1 that MPI 4.1, 16.1 deprecates */
+
+int MPI_Comm_create_keyval(MPI_Comm_copy_attr_function *copy, MPI_Comm_delete_attr_function *delete, int *number, void *extra) {
+    return create_keyval(copy, delete, number, extra, "MPI_Comm_create_keyval");
+}
+
+int MPI_Keyval_create(MPI_Copy_function *copy, MPI_Delete_function *delete, int *number, void *extra) {
+    return create_keyval(copy, delete, number, extra, "MPI_Keyval_create");
+}
+
+int MPI_Comm_free_keyval(int *number) { return free_keyval(number, "MPI_Comm_free_keyval"); }
+
+int MPI_Keyval_free(int *number) { return free_keyval(number, "MPI_Keyval_free"); }
+
+int MPI_Comm_set_attr(MPI_Comm handle, int number, void *value) { return set_attr(handle, number, value, "MPI_Comm_set_attr"); }
+
+int MPI_Attr_put(MPI_Comm handle, int number, void *value) { return set_attr(handle, number, value, "MPI_Attr_put"); }
+
+int MPI_Comm_get_attr(MPI_Comm handle, int number, void *value, int *flag) { return get_attr(handle, number, value, flag, "MPI_Comm_get_attr"); }
+
+int MPI_Attr_get(MPI_Comm handle, int number, void *value, int *flag) { return get_attr(handle, number, value, flag, "MPI_Attr_get"); }
+
+int MPI_Comm_delete_attr(MPI_Comm handle, int number) { return delete_attr(handle, number, "MPI_Comm_delete_attr"); }
+
+int MPI_Attr_delete(MPI_Comm handle, int number) { return delete_attr(handle, number, "MPI_Attr_delete"); }
 
 int mpi_copy_attributes(struct comm *from, MPI_Comm from_handle, struct comm *to) {
     for (struct attribute *it = mpi_member(from)->attributes; it != NULL; it = it->next) {

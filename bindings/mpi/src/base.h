@@ -18,7 +18,7 @@ enum { MOST_RANKS = 64 };
 
 enum { TABLE_NUMBER_BITS = 24, FIRST_MADE = 64 }; /* the numbers below FIRST_MADE are those of mpi.h's own objects, which no table has */
 
-enum kind { COMM = 1, GROUP, TYPE, OP, REQUEST, INFO, ERRHANDLER, KINDS };
+enum kind { COMM = 1, GROUP, TYPE, OP, REQUEST, INFO, ERRHANDLER, TAKEN, KINDS }; /* TAKEN: a message that MPI_Mprobe took out */
 
 /* A rank's objects of one kind, by their numbers. A handle has the generation of its number too, so that one which was freed is known as such. */
 struct table {
@@ -38,6 +38,7 @@ struct wait {
     struct request **list;
     int many;
     bool any; /* one of the list is enough */
+    struct request *room; /* it waits until the engine has room for this one, and the list is empty; NULL: it doesn't */
 };
 
 struct rank {
@@ -48,6 +49,7 @@ struct rank {
     const char *_Atomic site; /* of its last call */
     struct table tables[KINDS];
     struct request *free_requests;
+    struct request *let_go; /* messages under way whose requests were freed */
     int level; /* of MPI_Init_thread */
     uint64_t random;
     uint64_t calls[64][2]; /* of each collective: those that were carried, and those that were direct */
@@ -57,11 +59,15 @@ struct rank {
     char *error_strings[64];
     struct keyval *keyvals;
     int many_keyvals;
-    struct recording *recording; /* its part of the job text */
+    struct recording *_Atomic recording; /* its part of the job text */
+    struct notes *notes; /* where notes are wanted */
     /* while it waits */
     atomic_bool waits;
     atomic_uint waits_begun;
     struct wait wait;
+    int64_t wait_begun;
+    atomic_uint turns_in_vain; /* of waits for room */
+    atomic_bool has_no_hope;   /* whoever watches says so: nobody makes room */
     atomic_uint wake; /* counts what may have let it go on; it sleeps until it changes */
     atomic_bool sleeps;
 };
@@ -71,8 +77,10 @@ struct run {
     struct rank ranks[MOST_RANKS];
     atomic_int blocked; /* ranks that wait or have ended */
     bool strict, checks, explains, statistics;
+    bool notes; /* for --trace, --timeline or --stats */
     uint64_t seed;           /* 0: nothing is drawn */
-    const char *text, *values; /* the files for the job text and for what requests got; NULL: none */
+    const char *text, *values;    /* the files for the job text and for what requests got; NULL: none */
+    const char *trace, *timeline; /* and for what the run did */
     const char *program;
 };
 

@@ -16,8 +16,9 @@ struct parcel {
     _Alignas(16) char data[];
 };
 
-static struct parcel *fill(const struct request *it, struct piece piece, int takers) {
+static struct parcel *fill(struct request *it, struct piece piece, int takers) {
     size_t bytes = (size_t)piece.many * piece.type->size;
+    it->given += bytes;
     struct signature signature = mpi_signature_of(piece.type, (uint64_t)piece.many);
     struct parcel *parcel = mpi_must(malloc(sizeof *parcel + bytes));
     *parcel = (struct parcel){ .takers = takers, .function = (uint8_t)it->arguments.function, .slot = -1, .basic = (int16_t)piece.type->basic, .name = it->name,
@@ -41,7 +42,7 @@ static int receivers(const struct request *it) {
     return mpi_far(it->comm, &other);
 }
 
-static int give_to_each(const struct request *it, uint64_t *parcels) {
+static int give_to_each(struct request *it, uint64_t *parcels) {
     const struct topology *topology = mpi_is_neighbor(it->arguments.function) ? it->comm->topologies[it->member] : NULL;
     int many = receivers(it), pieces = mpi_given_many(it);
     memset(parcels, 0, sizeof *parcels * (size_t)it->comm->size);
@@ -104,6 +105,7 @@ static int deliver(struct request *it, int i, const char *call) {
     struct parcel *parcel = next_parcel(it, i);
     if (parcel == NULL) return mpi_refuse(it->comm, MPI_ERR_ARG, call, "rank %d gives nothing to this rank", it->comm->members[from].rank);
     if (piece.type != NULL) code = judge_parcel(it, from, parcel, mpi_signature_of(piece.type, (uint64_t)piece.many), piece.type, call);
+    it->got += parcel->bytes;
     if (piece.type != NULL && code == MPI_SUCCESS) mpi_unpack(piece.type, (size_t)piece.many, piece.at, parcel->data);
     take(parcel);
     return code;
@@ -159,6 +161,7 @@ static int open_reduction(struct request *it, const char *call) {
         parcels[i] = next_parcel(it, i);
         if (code == MPI_SUCCESS) code = judge_parcel(it, mpi_got_from(it, i), parcels[i], due, it->give_type, call);
     }
+    if (many > 0) it->got += (size_t)mpi_got_piece(it, 0).many * it->give_type->size;
     if (many > 0 && code == MPI_SUCCESS) combine(it, parcels, many, first_element(it), mpi_got_piece(it, 0));
     for (int i = 0; i < many; i++) take(parcels[i]);
     /* a scan's later parcels come too */

@@ -1,12 +1,9 @@
 /* Posts collectives: looks at the call, compares it with the others' at its place, and gives it to the engine. */
 #include "collectives.h"
 
+#include "notes.h"
 #include "record.h"
 #include "tell.h"
-
-#include <time.h>
-
-enum { LONGEST_FULL = 1000 }; /* turns of a millisecond in which nobody made room, after which a post is refused */
 
 static const char *name_of(const struct arguments *arguments) {
     return arguments->name != NULL ? arguments->name : mpi_collective_names[arguments->function][arguments->form];
@@ -30,7 +27,7 @@ int mpi_engine_refused(struct request *it, int32_t code, const char *call) {
     if (code == WZ_ACTIVE)
         return mpi_refuse(it->comm, MPI_ERR_REQUEST, call, "the request of %s is active still: it was started at %s and not completed since", it->site, it->started_at);
     if (code == WZ_FULL)
-        return mpi_refuse(it->comm, MPI_ERR_OTHER, call, "the communicator has room for %u requests that aren't completed, of all its members together, and all is taken",
+        return mpi_refuse(it->comm, MPI_ERR_OTHER, call, "the communicator has room for %u requests that are neither completed nor freed, of all its members together, and all is taken",
                           mpi_slots_for(it->comm));
     char why[300];
     wz_reason last = wz_shared_reason(&it->engine->shared, (uint8_t)it->member);
@@ -38,83 +35,50 @@ int mpi_engine_refused(struct request *it, int32_t code, const char *call) {
     return mpi_refuse(it->comm, class_of(code), call, "the engine refuses it: %s", last.code == code ? why : wz_message(code));
 }
 
-/* ---- the engine has slots for so many requests: those of this rank that are done make room */
-
-static bool make_room(struct request *it) {
-    struct table *table = &mpi_me->tables[REQUEST];
-    bool any = false;
-    for (uint32_t i = 0; i < table->many; i++) {
-        struct request *old = table->objects[i];
-        if (old == NULL || old->sort != COLLECTIVE || !old->active || old->engine != it->engine || old->persistent || old->collected) continue;
-        size_t count;
-        old->collected = wz_shared_test(&old->engine->shared, (uint8_t)old->member, &old->held, old->out, old->room, &count) == WZ_DONE;
-        any = any || old->collected;
-    }
-    return any;
-}
-
 /* ---- posting and starting */
-
-static int32_t post_once(struct request *it, const void *bytes, size_t length) {
-    wz_shared *shared = &it->engine->shared;
-    uint8_t member = (uint8_t)it->member;
-    if (it->persistent) return wz_shared_start(shared, member, &it->held, bytes, length);
-    if (it->call.kind != WZ_ALLGATHERV) return wz_shared_post(shared, member, 0, &it->call, bytes, length, &it->held);
-    return wz_shared_post_allgatherv(shared, member, 0, it->call.type, it->counts, (size_t)it->comm->size, bytes, length, &it->held);
-}
-
-static int32_t init_once(struct request *it) {
-    wz_shared *shared = &it->engine->shared;
-    uint8_t member = (uint8_t)it->member;
-    if (it->call.kind != WZ_ALLGATHERV) return wz_shared_init(shared, member, 0, &it->call, &it->held);
-    return wz_shared_init_allgatherv(shared, member, 0, it->call.type, it->counts, (size_t)it->comm->size, &it->held);
-}
-
-/* Under --check: keeps what is given, and fills where the outcome comes with what nobody takes for it. */
-static void lend(struct request *it, const void *bytes, size_t length, bool packed) {
-    bool here = it->arguments.give == MPI_IN_PLACE || it->arguments.function == BCAST;
-    if (!mpi_run.checks || it->arguments.form == BLOCKING || !it->direct) return;
-    if (!packed && length > 0) {
-        it->lent = mpi_must(malloc(length));
-        memcpy(it->lent, bytes, length);
-        it->lent_length = length;
-        it->lent_at = bytes;
-    }
-    if (it->out != it->scratch && it->room > 0 && (!here || (it->arguments.function == BCAST && !mpi_is_root(it)))) memset(it->out, 0xa5, it->room);
-}
 
 int mpi_begin(struct request *it, const char *call) {
     uint64_t parcels[MOST_RANKS];
     const void *bytes = parcels;
     void *packed = NULL;
     size_t length = 0;
+    bool lends = mpi_run.checks && it->arguments.form != BLOCKING;
     it->started_at = mpi_me->site;
+    it->given = it->got = 0;
+    if (it->persistent) it->begun = mpi_clock();
     if (it->direct) bytes = mpi_given_bytes(it, &packed, &length);
     else length = sizeof parcels[0] * (size_t)mpi_parcels(it, parcels);
+    if (it->direct) it->given = length;
     it->room = mpi_outcome_bytes(it);
-    it->out = it->direct ? mpi_outcome_place(it) : NULL;
+    it->out = it->direct && !lends ? mpi_outcome_place(it) : NULL;
     if (it->out == NULL) it->out = mpi_scratch(it, it->room);
     if (it->persistent) mpi_record_start(it, call, bytes, length);
     else mpi_record_post(it, call, bytes, length);
     if (it->persistent) atomic_store(&it->starts->of[it->member], ++it->times);
-    int32_t code = post_once(it, bytes, length);
-    for (int turn = 0; code == WZ_FULL && turn < LONGEST_FULL; turn++) {
-        if (!make_room(it)) nanosleep(&(struct timespec){ 0, 1000000 }, NULL);
-        code = post_once(it, bytes, length);
+    int32_t code = mpi_ask_with_room(it, &(struct asking){ it->persistent ? mpi_ask_start : mpi_ask_post, bytes, length }, call);
+    if (code == WZ_DONE) {
+        if (lends) mpi_lend(it);
+        mpi_note_begun(it, it->persistent ? STARTED : POSTED, call, bytes, length);
     }
-    if (code == WZ_DONE) lend(it, bytes, length, packed != NULL);
     free(packed);
     if (code != WZ_DONE) return mpi_engine_refused(it, code, call);
     it->active = true;
     return MPI_SUCCESS;
 }
 
+static int32_t ask_init(struct request *it, const void *bytes, size_t length) {
+    (void)bytes, (void)length;
+    return mpi_ask_init(it);
+}
+
 static int initialise(struct request *it) {
     it->starts = mpi_starts_at(it->comm, it->place);
     it->times = atomic_load(&it->starts->of[it->member]);
     mpi_record_init(it);
-    int32_t code = init_once(it);
-    return code == WZ_DONE ? MPI_SUCCESS : mpi_engine_refused(it, code, it->name);
+    int32_t code = mpi_ask_with_room(it, &(struct asking){ ask_init, NULL, 0 }, it->name);
+    if (code != WZ_DONE) return mpi_engine_refused(it, code, it->name);
+    mpi_note_begun(it, INITIALISED, it->name, NULL, 0);
+    return MPI_SUCCESS;
 }
 
 /* Another member has another call at this place. */
@@ -145,6 +109,7 @@ int mpi_post(struct comm *comm, const struct arguments *arguments, struct reques
         if (other >= 0) code = disagreeing(it, &called, other);
     }
     if (code == MPI_SUCCESS) {
+        mpi_note_called(it, &called);
         it->engine = mpi_engine_at(comm, it->place);
         code = it->persistent ? initialise(it) : mpi_begin(it, it->name);
     }
@@ -185,17 +150,4 @@ int mpi_collective(MPI_Comm handle, const struct arguments *arguments, MPI_Reque
     }
     mpi_record_wait("wait", &it, 1, it->name);
     return mpi_complete(it, MPI_STATUS_IGNORE, it->name);
-}
-
-void mpi_tell_statistics(void) {
-    fprintf(stderr, "wzrun: collectives that were posted or initialised, by all ranks:\n");
-    for (int i = 0; i < COLLECTIVES; i++) {
-        uint64_t direct = 0, carried = 0;
-        for (int j = 0; j < mpi_run.size; j++) {
-            direct += mpi_run.ranks[j].calls[i][true];
-            carried += mpi_run.ranks[j].calls[i][false];
-        }
-        if (direct + carried > 0)
-            fprintf(stderr, "  %s: %llu direct, %llu carried\n", mpi_collective_names[i][BLOCKING], (unsigned long long)direct, (unsigned long long)carried);
-    }
 }

@@ -56,6 +56,7 @@ struct request {
     struct comm *comm;
     int member;
     const char *name, *site, *started_at;
+    struct loan *loan; /* under --check, while it is under way */
     struct request *next;
 
     /* ---- of a collective */
@@ -75,13 +76,20 @@ struct request {
     size_t room;
     void *scratch;
     size_t scratch_room;
-    void *lent; /* under --check: what was given, its length, and where it lies in the program */
-    size_t lent_length;
-    const void *lent_at;
+    size_t given, got; /* bytes, of this start */
+
+    /* ---- for notes (notes.h) */
+    uint64_t order; /* of the last call of the engine, among all */
+    int64_t begun;
+    bool noted;
+    size_t note; /* the rank's note of its start, where noted */
+    int number;  /* among the rank's posts and initialisations */
+    struct tally *tally;
 
     /* ---- of a message */
+    struct request *next_let_go; /* next is the mailbox's while it is under way */
     int other, tag; /* whom it goes to or comes from, as the program said */
-    bool synchronous;
+    bool synchronous, cancelled;
     const void *from;
     void *to;
     MPI_Count many;
@@ -123,6 +131,22 @@ int mpi_begin(struct request *request, const char *call); /* posts or starts it 
 int mpi_judge(struct request *request, struct called *called);
 int mpi_engine_refused(struct request *request, int32_t code, const char *call);
 
+/* ---- asks.c: what the engine is asked for a request */
+int32_t mpi_ask_post(struct request *request, const void *bytes, size_t length);
+int32_t mpi_ask_init(struct request *request);
+int32_t mpi_ask_start(struct request *request, const void *bytes, size_t length);
+int32_t mpi_ask_test(struct request *request); /* into its `out` */
+int32_t mpi_ask_wait(struct request *request);
+int32_t mpi_ask_free(struct request *request);
+
+/* ---- room.c: the same where the engine may have no room. WZ_FULL: none can be made */
+struct asking {
+    int32_t (*ask)(struct request *request, const void *bytes, size_t length);
+    const void *bytes;
+    size_t length;
+};
+int32_t mpi_ask_with_room(struct request *request, const struct asking *asking, const char *call);
+
 /* ---- carried.c */
 struct parcel;
 int mpi_parcels(struct request *request, uint64_t parcels[MOST_RANKS]); /* what is given as parcels' addresses; how many */
@@ -137,20 +161,29 @@ const void *mpi_given_bytes(struct request *request, void **packed, size_t *leng
 void *mpi_outcome_place(struct request *request); /* NULL: scratch memory */
 void mpi_put_outcome(struct request *request);
 
+/* ---- loans.c, under --check */
+void mpi_lend(struct request *request);            /* as it begins */
+const char *mpi_end_loan(struct request *request); /* before its outcome comes. NULL, or "sends", "receives into": of what the program has changed */
+
 /* ---- completion.c, waiting.c, messages.c */
 int mpi_complete(struct request *request, MPI_Status *status, const char *call);
+int mpi_tell_changed(const struct request *request, const char *what, const char *call);
 enum progress { GOES_ON, IS_DONE, COMPUTES }; /* COMPUTES: something of it is computed just now */
 enum progress mpi_progress(struct request *request);
+bool mpi_is_at_rest(struct engine *engine); /* no request of it becomes done before somebody begins another */
 bool mpi_is_done(struct request *request);
 /* The members whose calls a collective lacks, as ranks; whom a message waits for. */
 uint64_t mpi_lacking(const struct request *request);
 void mpi_begin_wait(const char *call, struct request **list, int many, bool any);
+void mpi_begin_wait_for_room(const char *call, struct request *request);
 void mpi_end_wait(void);
 void mpi_wait_for(const char *call, struct request **list, int many, bool any); /* until all, or any, are done */
 void mpi_wake(struct comm *comm, int but);
 void mpi_wake_rank(struct rank *rank);
 void mpi_empty_status(MPI_Status *status);
 int mpi_finish_message(struct request *request, MPI_Status *status, const char *call);
+int mpi_let_go(struct request *request, const char *call); /* an active message's request that is freed */
+void mpi_finish_let_go(void);                              /* those of this rank that are done by now */
 void mpi_open_mailboxes(int many);
 bool mpi_message_waits(const struct request *probe);
 int mpi_start_message(struct request *request);

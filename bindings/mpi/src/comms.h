@@ -107,6 +107,8 @@ void mpi_open_world(int size);
    intercommunicator's first group; 0: it is none. */
 MPI_Comm mpi_join(struct comm *parent, uint64_t key, const char *maker, const int *ranks, int size, int first);
 
+void mpi_give_topology(MPI_Comm comm, struct topology topology); /* topology.c: this member's own */
+
 /* An intercommunicator's two groups, seen by this rank: its own begins at member *own, the other at *other. */
 int mpi_near(const struct comm *comm, int *own);
 int mpi_far(const struct comm *comm, int *other);

@@ -1,5 +1,6 @@
 /* The calls that complete requests, start and free them. */
 #include "collectives.h"
+#include "notes.h"
 #include "record.h"
 #include "tell.h"
 
@@ -12,30 +13,32 @@ void mpi_empty_status(MPI_Status *status) {
 
 /* ---- one request */
 
+int mpi_tell_changed(const struct request *it, const char *what, const char *call) {
+    return mpi_refuse(it->comm, MPI_ERR_BUFFER, call, "what %s at %s %s was changed before it was completed here", it->name, it->started_at, what);
+}
+
 /* The outcome is in it->out: puts it where the program wants it. */
 static int end_collective(struct request *it, const char *call) {
     int code = MPI_SUCCESS;
-    bool changed = it->lent != NULL && memcmp(it->lent, it->lent_at, it->lent_length) != 0;
-    free(it->lent);
-    it->lent = NULL;
+    const char *changed = mpi_end_loan(it);
     mpi_record_outcome(it);
-    if (changed) code = mpi_refuse(it->comm, MPI_ERR_BUFFER, call, "what %s at %s sends was changed before it was completed here", it->name, it->started_at);
+    if (changed != NULL) code = mpi_tell_changed(it, changed, call);
     if (!it->direct) code = mpi_open_parcels(it, call);
     else if (it->out == it->scratch) mpi_put_outcome(it);
+    if (it->direct) it->got = it->room;
+    mpi_note_completed(it, call);
     it->active = it->collected = false;
     if (!it->persistent && !it->kept) mpi_drop_request(it);
     return code;
 }
 
 static int32_t wait_in_engine(struct request *it, const char *call) {
-    wz_shared *shared = &it->engine->shared;
     struct request *only[1] = { it };
-    size_t count;
     mpi_begin_wait(call, only, 1, false);
-    int32_t code = wz_shared_wait(shared, (uint8_t)it->member, &it->held, it->out, it->room, &count);
+    int32_t code = mpi_ask_wait(it);
     while (code == WZ_STALLED) { /* all members wait, and nothing can end it: whoever watches tells it (watch.c) */
         nanosleep(&(struct timespec){ 0, 5000000 }, NULL);
-        code = wz_shared_test(shared, (uint8_t)it->member, &it->held, it->out, it->room, &count);
+        code = mpi_ask_test(it);
         if (code == WZ_PENDING) code = WZ_STALLED;
     }
     mpi_end_wait();
@@ -48,10 +51,12 @@ int mpi_complete(struct request *it, MPI_Status *status, const char *call) {
     if (!it->active) return MPI_SUCCESS;
     if (it->sort != COLLECTIVE) {
         if (!mpi_is_done(it)) mpi_wait_for(call, only, 1, false);
+        mpi_finish_let_go();
         return mpi_finish_message(it, status, call);
     }
     if (mpi_run.strict && mpi_lacking(it) != 0) mpi_wait_for(call, only, 1, false);
     int32_t code = it->collected ? WZ_DONE : wait_in_engine(it, call);
+    mpi_finish_let_go();
     return code == WZ_DONE ? end_collective(it, call) : mpi_engine_refused(it, code, call);
 }
 
@@ -296,7 +301,10 @@ static int start(MPI_Request handle, const char *call) {
     if (!it->persistent) return mpi_refuse(it->comm, MPI_ERR_REQUEST, call, "the request of %s isn't persistent", it->site);
     if (it->active) return mpi_refuse(it->comm, MPI_ERR_REQUEST, call, "the request of %s is active still: it was started at %s and not completed since", it->site, it->started_at);
     mpi_pause();
-    if (it->sort != COLLECTIVE) return mpi_start_message(it);
+    if (it->sort != COLLECTIVE) {
+        mpi_lend(it);
+        return mpi_start_message(it);
+    }
     code = mpi_begin(it, call);
     mpi_wake(it->comm, it->member);
     return code;
@@ -319,8 +327,10 @@ static int free_collective(struct request *it, const char *call) {
         return mpi_refuse(it->comm, MPI_ERR_REQUEST, call, "the request of %s is a nonblocking collective's, which can't be freed (MPI 4.1, 6.12)", it->site);
     if (it->active) return mpi_engine_refused(it, WZ_ACTIVE, call);
     mpi_record_free(it);
-    int32_t code = wz_shared_free(&it->engine->shared, (uint8_t)it->member, &it->held);
-    return code == WZ_DONE ? MPI_SUCCESS : mpi_engine_refused(it, code, call);
+    int32_t code = mpi_ask_free(it);
+    if (code != WZ_DONE) return mpi_engine_refused(it, code, call);
+    mpi_note_freed(it);
+    return MPI_SUCCESS;
 }
 
 int MPI_Request_free(MPI_Request *handle) {
@@ -331,12 +341,9 @@ int MPI_Request_free(MPI_Request *handle) {
     if (code != MPI_SUCCESS) return code;
     if (it == NULL) return mpi_refuse(NULL, MPI_ERR_REQUEST, call, "the request is MPI_REQUEST_NULL");
     if (it->sort == COLLECTIVE) code = free_collective(it, call);
-    else if (it->active && !mpi_is_done(it)) code = mpi_refuse(it->comm, MPI_ERR_REQUEST, call, "the request of %s is active still", it->site);
     if (code != MPI_SUCCESS) return code;
-    if (it->sort != COLLECTIVE && it->active) { /* a send that is over */
-        it->persistent = false;
-        code = mpi_finish_message(it, MPI_STATUS_IGNORE, call);
-    } else mpi_drop_request(it);
     *handle = MPI_REQUEST_NULL;
+    if (it->sort != COLLECTIVE && it->active) return mpi_let_go(it, call);
+    mpi_drop_request(it);
     return code;
 }

@@ -2,6 +2,7 @@
    its places and no request has it any longer. */
 #include "comms.h"
 
+#include <malloc.h>
 #include <unistd.h>
 
 /* MPI_COMM_WORLD has the most slots from the beginning; other communicators have 256 for each member, which take less memory and time to open. */
@@ -45,6 +46,7 @@ static void close_old(struct comm *comm) {
         if (older->requests == 0 && (older->number + 1) * PLACES_OF_ENGINE <= least) {
             at->older = older->older;
             close_engine(older);
+            malloc_trim(0); /* else 16 MiB stay with the threads' arenas, which the next engine doesn't take from */
         } else at = older;
     }
 }

@@ -1,5 +1,5 @@
-/* Has colljob tell why a run ended badly: the calls so far are written as a job text, and behind the lines of the text that colljob names stand those of the
-   program, which the text has as comments. */
+/* Has colljob report why a run ended badly: the calls so far, and those that ranks haven't come to, are written as a job text, and after the lines of the text that
+   colljob names stand those of the program, which the text has as comments. */
 #include "explain.h"
 
 #include "record.h"
@@ -36,47 +36,79 @@ static const char *where(const struct lines *lines, size_t number) {
     return strncmp(above, "# ", 2) == 0 && lines->at[number - 1][0] != '#' ? above + 2 : NULL;
 }
 
-/* The number of the text's line that a line of colljob's shows, as ` 12 | post 0 ..`, or names, as `FILE: line 12: place mismatch`; 0: none. */
+/* The number of the text's line that a line of colljob's shows, as ` 12 | post 0 ..`; 0: none. */
 static size_t shown(const char *line) {
     char *end;
     size_t number = strtoul(line, &end, 10);
-    const char *named = strstr(line, ": line ");
-    if (strncmp(end, " | ", 3) == 0) return number;
-    return named != NULL ? strtoul(named + strlen(": line "), NULL, 10) : 0;
+    return strncmp(end, " | ", 3) == 0 ? number : 0;
 }
 
-static void run_colljob(const char *colljob, const char *path) {
-    char command[2 * 4096 + 100], line[4096];
-    struct lines lines = read_lines(path);
-    snprintf(command, sizeof command, "'%s' explain --strict '%s' 2>&1", colljob, path);
-    FILE *from = popen(command, "r");
-    while (from != NULL && fgets(line, sizeof line, from) != NULL) {
-        line[strcspn(line, "\n")] = '\0';
-        const char *place = where(&lines, shown(line));
-        fprintf(stderr, "  %s%s%s\n", line, place != NULL ? "    # " : "", place != NULL ? place : "");
+/* Says where the lines stand that a sentence of colljob's names: `.. its line 12 stands behind its wait in line 9`, `.. place 0: lines 6, 10`. A fault of the whole
+   text is reported with its last line, which is none of the program's. */
+static void tell_named(const struct lines *lines, const char *sentence) {
+    const char *before = "    # ";
+    if (strstr(sentence, " missing") != NULL) return;
+    for (const char *at = strstr(sentence, "line"); at != NULL; at = strstr(at + 1, "line")) {
+        if (at[4] != ' ' && strncmp(at + 4, "s ", 2) != 0) continue;
+        const char *rest = at + (at[4] == 's' ? 6 : 5);
+        while (*rest >= '0' && *rest <= '9') {
+            char *end;
+            size_t number = strtoul(rest, &end, 10);
+            const char *place = where(lines, number);
+            if (place != NULL) fprintf(stderr, "%sline %zu: %s", before, number, place);
+            if (place != NULL) before = "; ";
+            rest = strncmp(end, ", ", 2) == 0 ? end + 2 : end;
+        }
     }
+}
+
+static void tell_line(const struct lines *lines, const char *line) {
+    const char *place = where(lines, shown(line));
+    fprintf(stderr, "  %s", line);
+    if (place != NULL) fprintf(stderr, "    # %s", place);
+    else if (shown(line) == 0) tell_named(lines, line);
+    fputc('\n', stderr);
+}
+
+static void run_colljob(const char *colljob, const char *words, const char *path) {
+    char command[2 * 4096 + 100], *line = NULL;
+    size_t room = 0;
+    struct lines lines = read_lines(path);
+    snprintf(command, sizeof command, "'%s' %s '%s' 2>&1", colljob, words, path);
+    FILE *from = popen(command, "r");
+    while (from != NULL && getline(&line, &room, from) > 0) {
+        line[strcspn(line, "\n")] = '\0';
+        tell_line(&lines, line);
+    }
+    free(line);
     if (from != NULL) pclose(from);
 }
 
-void mpi_explain_end(const char *kind) {
-    char made[] = "/tmp/wzrun-XXXXXX";
+/* A file of the text that nobody asked for. Whether there is one. */
+static bool write_own(char path[]) {
+    int file = mkstemp(path);
+    if (file < 0) return false;
+    close(file);
+    return mpi_record_write_text(path);
+}
+
+void mpi_explain_end(const struct question *question) {
+    char own[] = "/tmp/wzrun-XXXXXX";
     const char *path = mpi_run.text, *colljob = getenv("COLLJOB");
-    (void)kind;
-    if (!mpi_run.explains) {
-        if (path != NULL) fprintf(stderr, "  the calls so far stand in %s: colljob explain --strict %s\n", path, path);
+    if (question->untold != NULL && (mpi_run.explains || path != NULL)) {
+        fprintf(stderr, "  colljob can't tell more of it: %s\n", question->untold);
         return;
     }
-    if (path == NULL) {
-        int file = mkstemp(made);
-        if (file < 0) return;
-        close(file);
-        path = made;
-        mpi_record_write_text(path);
+    if (!mpi_run.explains) {
+        if (path != NULL) fprintf(stderr, "  the calls stand in %s: colljob %s %s\n", path, question->words, path);
+        return;
     }
+    if (path == NULL && !write_own(own)) return;
+    if (path == NULL) path = own;
     if (colljob == NULL && system("command -v colljob > /dev/null 2>&1") == 0) colljob = "colljob";
     if (colljob != NULL) {
-        fprintf(stderr, "  colljob explain --strict %s says:\n", path);
-        run_colljob(colljob, path);
-        if (path == made) unlink(made);
-    } else fprintf(stderr, "  the calls so far stand in %s; with colljob in PATH, or its path in COLLJOB: colljob explain --strict %s\n", path, path);
+        fprintf(stderr, "  colljob %s %s says:\n", question->words, path);
+        run_colljob(colljob, question->words, path);
+        if (path == own) unlink(own);
+    } else fprintf(stderr, "  the calls stand in %s; with colljob in PATH, or its path in COLLJOB: colljob %s %s\n", path, question->words, path);
 }

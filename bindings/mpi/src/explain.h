@@ -2,7 +2,8 @@
 #ifndef WZ_EXPLAIN_H
 #define WZ_EXPLAIN_H
 
-/* KIND: the fault that was told. */
-void mpi_explain_end(const char *kind);
+#include "unreached.h"
+
+void mpi_explain_end(const struct question *question);
 
 #endif

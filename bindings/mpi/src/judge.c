@@ -95,6 +95,8 @@ static bool has_many_types(enum function function) { return function == ALLTOALL
 static int judge_many_types(struct judging *it) {
     struct request *request = it->request;
     int gives = mpi_given_many(request), gets = mpi_got_many(request);
+    bool lacks = (it->gives && gives > 0 && it->call->give_types == NULL) || (gets > 0 && it->call->get_types == NULL);
+    if (lacks) REFUSE(MPI_ERR_TYPE, "the array of types is null");
     request->types = mpi_must(calloc((size_t)(gives + gets) + 1, sizeof *request->types));
     for (int i = 0; i < gives + gets; i++) {
         MPI_Datatype handle = i >= gives ? it->call->get_types[i - gives] : it->gives ? it->call->give_types[i] : it->call->get_types[i];
@@ -114,9 +116,36 @@ static int judge_types(struct judging *it) {
 
 /* ---- counts for each rank */
 
-static int judge_counts(struct judging *it, struct numbers counts, int many) {
-    for (int i = 0; counts.at != NULL && i < many; i++)
-        if (mpi_number(counts, i) < 0) REFUSE(MPI_ERR_COUNT, "the count %lld for rank %d is negative", mpi_number(counts, i), i);
+static bool gives_by_counts(enum function function) {
+    return function == SCATTERV || function == ALLTOALLV || function == ALLTOALLW || function == REDUCE_SCATTER || function == NEIGHBOR_ALLTOALLV || function == NEIGHBOR_ALLTOALLW;
+}
+
+static bool gets_by_counts(enum function function) {
+    return function == GATHERV || function == ALLGATHERV || function == ALLTOALLV || function == ALLTOALLW || function == NEIGHBOR_ALLGATHERV || function == NEIGHBOR_ALLTOALLV ||
+           function == NEIGHBOR_ALLTOALLW;
+}
+
+/* Of what is given, or got: what the program says of it. A type where all have one. */
+struct each {
+    const char *what;
+    struct numbers counts, places;
+    int many;
+    const void *buffer;
+    const struct type *type;
+};
+
+static int judge_each(struct judging *it, const struct each *each) {
+    long long all = 0;
+    if (each->many == 0) return MPI_SUCCESS;
+    if (each->counts.at == NULL) REFUSE(MPI_ERR_COUNT, "the array of the counts that it %s is null", each->what);
+    for (int i = 0; i < each->many; i++) {
+        long long count = mpi_number(each->counts, i);
+        if (count < 0) REFUSE(MPI_ERR_COUNT, "the count %lld for rank %d is negative", count, i);
+        all += count;
+    }
+    if (it->function == REDUCE_SCATTER) return MPI_SUCCESS;
+    if (each->places.at == NULL) REFUSE(MPI_ERR_ARG, "the array of the displacements of what it %s is null", each->what);
+    if (each->buffer == NULL && all > 0 && each->type != NULL && each->type->predefined) REFUSE(MPI_ERR_BUFFER, "the buffer of what it %s is null", each->what);
     return MPI_SUCCESS;
 }
 
@@ -135,8 +164,10 @@ static int judge_numbers(struct judging *it) {
     if (!it->gives) call->give_counts.at = call->give_places.at = NULL;
     if (!it->gets) call->get_counts.at = call->get_places.at = NULL;
     if (mpi_is_neighbor(it->function) && it->function <= NEIGHBOR_ALLGATHERV) near = 0;
-    int code = judge_counts(it, call->give_counts, near);
-    if (code == MPI_SUCCESS) code = judge_counts(it, call->get_counts, got);
+    int code = MPI_SUCCESS;
+    if (it->gives && gives_by_counts(it->function)) code = judge_each(it, &(struct each){ "sends", call->give_counts, call->give_places, near, call->give, it->request->give_type });
+    if (code == MPI_SUCCESS && it->gets && gets_by_counts(it->function))
+        code = judge_each(it, &(struct each){ "receives", call->get_counts, call->get_places, got, call->get, it->request->get_type });
     if (code != MPI_SUCCESS || call->form == BLOCKING) return code;
     size_t all = 2 * (size_t)near + 2 * (size_t)got;
     long long *at = it->request->own_numbers = mpi_must(malloc(sizeof *at * (all + 1)));
@@ -176,15 +207,10 @@ static int judge_alike(struct judging *it, long long gives, const struct type *g
     return MPI_SUCCESS;
 }
 
-static bool has_count_for_each(enum function function) {
-    return function == GATHERV || function == SCATTERV || function == ALLGATHERV || function == ALLTOALLV || function == ALLTOALLW ||
-           function == NEIGHBOR_ALLGATHERV || function == NEIGHBOR_ALLTOALLV || function == NEIGHBOR_ALLTOALLW;
-}
-
 static int judge_moved(struct judging *it) {
     const struct arguments *call = it->call;
     struct request *request = it->request;
-    bool counts = has_count_for_each(it->function), gives_counts = counts && call->give_counts.at != NULL, gets_counts = counts && call->get_counts.at != NULL;
+    bool counts = gives_by_counts(it->function) || gets_by_counts(it->function), gives_counts = counts && call->give_counts.at != NULL, gets_counts = counts && call->get_counts.at != NULL;
     int code = MPI_SUCCESS;
     if (has_many_types(it->function)) return code;
     if (it->gives && !gives_counts) code = judge_buffer(it, call->give, call->give_count, request->give_type, it->function == BCAST ? "" : "send");

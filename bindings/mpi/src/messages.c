@@ -1,162 +1,20 @@
-/* Messages between two ranks. They aren't the engine's: a send puts its bytes into the receiver's queue. It is complete then; a synchronous one, and under --strict
-   each but MPI_Bsend, only when it is received, so that a program which leans on a library's buffers is told. */
-#include "collectives.h"
+/* The calls that send and receive. */
 #include "counted.h"
+#include "mail.h"
+#include "notes.h"
 #include "tell.h"
-
-struct message {
-    long comm;      /* its serial number */
-    int group_rank; /* the sender's, in its group */
-    int tag;
-    size_t length;
-    struct request *awaited_by; /* the synchronous send that ends once it is received; NULL: none */
-    struct rank *author;
-    struct message *later;
-    char bytes[];
-};
-
-/* A rank's mail: what has come and nobody has asked for, and the receives that nothing has come for, each in its order. */
-struct mailbox {
-    pthread_mutex_t lock;
-    struct message *oldest, **end;
-    struct request *first, **last;
-};
-static struct mailbox mailboxes[MOST_RANKS];
-
-void mpi_open_mailboxes(int many) {
-    for (struct mailbox *it = mailboxes; it < mailboxes + many; it++) {
-        pthread_mutex_init(&it->lock, NULL);
-        it->end = &it->oldest;
-        it->last = &it->first;
-    }
-}
-
-static struct mailbox *mailbox_of(const struct comm *comm, int member) { return &mailboxes[comm->members[member].rank]; }
-
-/* Whether a receive, or a probe, asks for such a message. The tags of the library's own messages are negative, and MPI_ANY_TAG doesn't mean them. */
-static bool asks_for(const struct request *it, const struct message *message) {
-    if (message->comm != it->comm->serial) return false;
-    if (it->other != MPI_ANY_SOURCE && it->other != message->group_rank) return false;
-    return it->tag == MPI_ANY_TAG ? message->tag >= 0 : it->tag == message->tag;
-}
-
-/* The link to the oldest message that a receive asks for; the last link of all where none has come. */
-static struct message **find_message(struct mailbox *box, const struct request *it) {
-    struct message **link = &box->oldest;
-    for (; *link != NULL; link = &(*link)->later)
-        if (asks_for(it, *link)) break;
-    return link;
-}
-
-static struct message *take_out(struct mailbox *box, const struct request *it) {
-    struct message **link = find_message(box, it), *found = *link;
-    if (found == NULL) return NULL;
-    *link = found->later;
-    if (box->end == &found->later) box->end = link;
-    return found;
-}
-
-/* The receive that was first to ask for a message; NULL: nobody has. */
-static struct request *take_receive(struct mailbox *box, const struct message *message) {
-    for (struct request **link = &box->first; *link != NULL; link = &(*link)->next) {
-        struct request *found = *link;
-        if (!asks_for(found, message)) continue;
-        *link = found->next;
-        if (box->last == &found->next) box->last = link;
-        return found;
-    }
-    return NULL;
-}
-
-/* Under the lock of the receiver's mailbox. Once `arrived` is set a request is its own rank's again. */
-static void hand_over(struct message *message, struct request *receive) {
-    struct request *send = message->awaited_by;
-    struct rank *author = message->author;
-    receive->message = message;
-    atomic_store(&receive->arrived, true);
-    if (send != NULL) {
-        atomic_store(&send->arrived, true);
-        mpi_wake_rank(author);
-    }
-}
-
-static struct message *write_message(struct request *it) {
-    size_t length = (size_t)it->many * it->type->size;
-    struct message *message = mpi_must(malloc(sizeof *message + length));
-    int own;
-    mpi_near(it->comm, &own);
-    message->comm = it->comm->serial;
-    message->group_rank = it->member - own;
-    message->tag = it->tag;
-    message->length = length;
-    message->awaited_by = it->synchronous ? it : NULL;
-    message->author = mpi_me;
-    message->later = NULL;
-    mpi_pack(it->type, (size_t)it->many, it->from, message->bytes);
-    return message;
-}
-
-static void start_send(struct request *it) {
-    int other;
-    mpi_far(it->comm, &other);
-    struct mailbox *box = mailbox_of(it->comm, other + it->other);
-    struct message *message = write_message(it);
-    atomic_store(&it->arrived, !it->synchronous);
-    pthread_mutex_lock(&box->lock);
-    struct request *receive = take_receive(box, message);
-    if (receive != NULL) hand_over(message, receive);
-    else {
-        *box->end = message;
-        box->end = &message->later;
-    }
-    pthread_mutex_unlock(&box->lock);
-    mpi_wake_rank(&mpi_run.ranks[box - mailboxes]);
-}
-
-static void start_receive(struct request *it) {
-    struct mailbox *box = mailbox_of(it->comm, it->member);
-    atomic_store(&it->arrived, false);
-    it->next = NULL;
-    pthread_mutex_lock(&box->lock);
-    struct message *message = take_out(box, it);
-    if (message != NULL) hand_over(message, it);
-    else {
-        *box->last = it;
-        box->last = &it->next;
-    }
-    pthread_mutex_unlock(&box->lock);
-}
 
 int mpi_start_message(struct request *it) {
     it->active = true;
+    it->cancelled = false;
+    if (it->persistent) it->begun = mpi_clock();
     it->message = NULL;
     it->started_at = mpi_me->site;
     if (it->other == MPI_PROC_NULL) atomic_store(&it->arrived, true);
-    else if (it->sort == SENDING) start_send(it);
-    else start_receive(it);
+    else if (it->sort == SENDING) mpi_start_send(it);
+    else mpi_start_receive(it);
     return MPI_SUCCESS;
 }
-
-static void write_status(MPI_Status *status, const struct message *message) {
-    if (status == MPI_STATUS_IGNORE) return;
-    status->MPI_SOURCE = message != NULL ? message->group_rank : MPI_PROC_NULL;
-    status->MPI_TAG = message != NULL ? message->tag : MPI_ANY_TAG;
-    status->MPI_ERROR = MPI_SUCCESS;
-    status->cancelled_ = 0;
-    status->bytes_ = message != NULL ? (MPI_Count)message->length : 0;
-}
-
-/* Looks for a message, and leaves it where it is. */
-static bool has_come(const struct request *probe, MPI_Status *status) {
-    struct mailbox *box = mailbox_of(probe->comm, probe->member);
-    pthread_mutex_lock(&box->lock);
-    const struct message *found = *find_message(box, probe);
-    if (found != NULL) write_status(status, found);
-    pthread_mutex_unlock(&box->lock);
-    return found != NULL;
-}
-
-bool mpi_message_waits(const struct request *probe) { return has_come(probe, MPI_STATUS_IGNORE); }
 
 /* ---- completing */
 
@@ -167,41 +25,83 @@ static void unpack_message(const struct message *message, const struct request *
     if (it->type->dense && part > 0) memcpy((char *)it->to + whole * size, message->bytes + whole * size, part);
 }
 
+/* What is sent has to be of the types that are received (MPI 4.1, 3.3.1). Bytes and packed ones are let pass as any, and so is a part of an element of several types. */
+static bool is_of_type(const struct message *message, const struct type *type) {
+    const struct basic *sent = mpi_basic(message->basic), *received = mpi_basic(type->basic);
+    uint64_t elements = type->signature.elements;
+    if (message->signature.elements == 0 || elements == 0 || sent->class == BITS || received->class == BITS) return true;
+    if (message->basic > 0 && type->basic > 0) return sent->code == received->code;
+    return message->signature.elements % elements != 0 || mpi_signature_of(type, message->signature.elements / elements).hash == message->signature.hash;
+}
+
+static const char *types_text(int basic) { return basic > 0 ? mpi_basic(basic)->name : "elements of several types"; }
+
+static int judge_message(const struct request *it, const struct message *message, const char *call) {
+    int other;
+    size_t room = (size_t)it->many * it->type->size;
+    mpi_far(it->comm, &other);
+    int rank = it->comm->members[other + message->group_rank].rank;
+    if (message->length > room)
+        return mpi_refuse(it->comm, MPI_ERR_TRUNCATE, call, "rank %d sends %zu bytes at %s, and the receive of %s has room for %zu", rank, message->length, message->site,
+                          it->started_at, room);
+    if (is_of_type(message, it->type)) return MPI_SUCCESS;
+    return mpi_refuse(it->comm, MPI_ERR_TYPE, call, "rank %d sends %s at %s, and the receive of %s is of %s", rank, types_text(message->basic), message->site, it->started_at,
+                      types_text(it->type->basic));
+}
+
 static int receive_message(struct request *it, MPI_Status *status, const char *call) {
     struct message *message = it->message;
-    size_t room = (size_t)it->many * it->type->size;
-    int code = MPI_SUCCESS, other;
-    write_status(status, message);
-    if (message == NULL) return code;
-    if (message->length <= room) unpack_message(message, it);
-    else {
-        mpi_far(it->comm, &other);
-        code = mpi_refuse(it->comm, MPI_ERR_TRUNCATE, call, "rank %d sends %zu bytes, and the receive of %s has room for %zu",
-                          it->comm->members[other + message->group_rank].rank, message->length, it->site, room);
+    if (it->cancelled) {
+        mpi_empty_status(status);
+        if (status != MPI_STATUS_IGNORE) status->cancelled_ = 1;
+        return MPI_SUCCESS;
     }
+    mpi_write_status(status, message);
+    if (message == NULL) return MPI_SUCCESS;
+    int code = judge_message(it, message, call);
+    if (code == MPI_SUCCESS) unpack_message(message, it);
     free(message);
     return code;
 }
 
 int mpi_finish_message(struct request *it, MPI_Status *status, const char *call) {
+    const char *changed = mpi_end_loan(it);
     int code = it->sort == RECEIVING ? receive_message(it, status, call) : MPI_SUCCESS;
+    if (changed != NULL) code = mpi_tell_changed(it, changed, call);
+    mpi_note_message(it, call);
     it->active = false;
     if (!it->persistent) mpi_drop_request(it);
     return code;
 }
 
-/* ---- the calls */
+/* ---- letting go. The message goes on (MPI 4.1, 3.7.3): what is received comes before the next call that completes something returns. */
 
-/* The arguments of a message. */
-struct words {
-    const void *from;
-    void *to;
-    MPI_Count many;
-    MPI_Datatype type;
-    int other, tag;
-    MPI_Comm comm;
-    const char *call;
-};
+int mpi_let_go(struct request *it, const char *call) {
+    const char *changed = mpi_end_loan(it);
+    int code = changed != NULL ? mpi_tell_changed(it, changed, call) : MPI_SUCCESS;
+    mpi_remove(REQUEST, it->handle);
+    it->handle = MPI_REQUEST_NULL;
+    it->persistent = false;
+    it->next_let_go = mpi_me->let_go;
+    mpi_me->let_go = it;
+    mpi_finish_let_go();
+    return code;
+}
+
+void mpi_finish_let_go(void) {
+    struct request **at = &mpi_me->let_go;
+    while (*at != NULL) {
+        struct request *it = *at;
+        if (!mpi_is_done(it)) {
+            at = &it->next_let_go;
+            continue;
+        }
+        *at = it->next_let_go;
+        mpi_finish_message(it, MPI_STATUS_IGNORE, it->name);
+    }
+}
+
+/* ---- the calls */
 
 static int judge(const struct words *words, struct comm *comm, bool receives) {
     int other, far = mpi_far(comm, &other);
@@ -218,7 +118,7 @@ static int judge(const struct words *words, struct comm *comm, bool receives) {
     return MPI_SUCCESS;
 }
 
-static int make(const struct words *words, enum sort sort, bool synchronous, struct request **made) {
+int mpi_make_message(const struct words *words, enum sort sort, bool synchronous, struct request **made) {
     struct rank *me = mpi_self(words->call);
     struct comm *comm = mpi_comm(words->comm);
     if (comm == NULL) return mpi_comm_error(words->comm, words->call);
@@ -240,7 +140,7 @@ static int make(const struct words *words, enum sort sort, bool synchronous, str
 
 static int blocking(const struct words *words, enum sort sort, bool synchronous, MPI_Status *status) {
     struct request *it;
-    int code = make(words, sort, synchronous, &it);
+    int code = mpi_make_message(words, sort, synchronous, &it);
     if (code != MPI_SUCCESS) return code;
     mpi_pause();
     mpi_start_message(it);
@@ -249,16 +149,17 @@ static int blocking(const struct words *words, enum sort sort, bool synchronous,
 
 static int nonblocking(const struct words *words, enum sort sort, bool synchronous, MPI_Request *request) {
     struct request *it;
-    int code = make(words, sort, synchronous, &it);
+    int code = mpi_make_message(words, sort, synchronous, &it);
     if (code != MPI_SUCCESS) return code;
     mpi_pause();
     *request = mpi_publish(it);
+    mpi_lend(it);
     return mpi_start_message(it);
 }
 
 static int persistent(const struct words *words, enum sort sort, bool synchronous, MPI_Request *request) {
     struct request *it;
-    int code = make(words, sort, synchronous, &it);
+    int code = mpi_make_message(words, sort, synchronous, &it);
     if (code != MPI_SUCCESS) return code;
     it->persistent = true;
     *request = mpi_publish(it);
@@ -286,8 +187,8 @@ int mpi_Recv_init(RECEIVE_WORDS, MPI_Request *request) { return persistent(RECEI
 
 static int both(const struct words *sent, const struct words *received, MPI_Status *status) {
     struct request *receive, *send;
-    int code = make(received, RECEIVING, false, &receive);
-    if (code == MPI_SUCCESS) code = make(sent, SENDING, mpi_run.strict, &send);
+    int code = mpi_make_message(received, RECEIVING, false, &receive);
+    if (code == MPI_SUCCESS) code = mpi_make_message(sent, SENDING, mpi_run.strict, &send);
     if (code != MPI_SUCCESS) return code;
     mpi_pause();
     mpi_start_message(receive);
@@ -306,52 +207,12 @@ int mpi_Sendrecv(const void *from, MPI_Count many, MPI_Datatype type, int to, in
 int mpi_Sendrecv_replace(void *from, MPI_Count many, MPI_Datatype type, int to, int tag, int source, int source_tag, MPI_Comm comm, MPI_Status *status) {
     const char *call = "MPI_Sendrecv_replace";
     struct request *receive, *send;
-    int code = make(SENT(call), SENDING, mpi_run.strict, &send);
-    if (code == MPI_SUCCESS) code = make(&(struct words){ NULL, from, many, type, source, source_tag, comm, call }, RECEIVING, false, &receive);
+    int code = mpi_make_message(SENT(call), SENDING, mpi_run.strict, &send);
+    if (code == MPI_SUCCESS) code = mpi_make_message(&(struct words){ NULL, from, many, type, source, source_tag, comm, call }, RECEIVING, false, &receive);
     if (code != MPI_SUCCESS) return code;
     mpi_start_message(send);
     mpi_start_message(receive);
     code = mpi_complete(receive, status, call);
     int other = mpi_complete(send, MPI_STATUS_IGNORE, call);
     return code != MPI_SUCCESS ? code : other;
-}
-
-static int probe(int source, int tag, MPI_Comm comm, int *flag, MPI_Status *status, const char *call) {
-    char byte;
-    struct request *it;
-    int code = make(&(struct words){ NULL, &byte, 0, MPI_BYTE, source, tag, comm, call }, RECEIVING, false, &it);
-    if (code != MPI_SUCCESS) return code;
-    struct request *only[1] = { it };
-    it->sort = PROBING;
-    it->active = true;
-    mpi_empty_status(status);
-    bool nobody = source == MPI_PROC_NULL;
-    if (nobody && status != MPI_STATUS_IGNORE) status->MPI_SOURCE = MPI_PROC_NULL;
-    if (flag == NULL && !nobody && !has_come(it, MPI_STATUS_IGNORE)) mpi_wait_for(call, only, 1, false);
-    bool there = nobody || has_come(it, status);
-    if (flag != NULL) *flag = there;
-    mpi_drop_request(it);
-    return code;
-}
-
-int MPI_Probe(int source, int tag, MPI_Comm comm, MPI_Status *status) { return probe(source, tag, comm, NULL, status, "MPI_Probe"); }
-
-int MPI_Iprobe(int source, int tag, MPI_Comm comm, int *flag, MPI_Status *status) { return probe(source, tag, comm, flag, status, "MPI_Iprobe"); }
-
-/* A buffer isn't needed: each send has its own memory. */
-static __thread void *attached;
-static __thread int attached_size;
-
-int MPI_Buffer_attach(void *buffer, int size) {
-    attached = buffer;
-    attached_size = size;
-    return MPI_SUCCESS;
-}
-
-int MPI_Buffer_detach(void *buffer, int *size) {
-    *(void **)buffer = attached;
-    *size = attached_size;
-    attached = NULL;
-    attached_size = 0;
-    return MPI_SUCCESS;
 }

@@ -4,7 +4,7 @@
 
 #include <time.h>
 
-enum { LONGEST_TURNS = 1000 }; /* of a millisecond: so long the others are given to come to the place */
+enum { LONGEST_TURNS = 3000 }; /* of a millisecond: so long the others are given to come to the place */
 
 /* Whether a rank won't come to the place any more, as far as can be seen. */
 static bool stays_away(const struct rank *rank) { return atomic_load(&rank->ended) || rank == mpi_me; }
@@ -111,5 +111,5 @@ void mpi_tell_mismatch(struct comm *comm, uint64_t number) {
     tell_calls(&place);
     tell_absent(&place);
     tell_difference(&place);
-    mpi_end_run(STATUS_WRONG, "place mismatch");
+    mpi_end_run(STATUS_WRONG, mpi_complete_mismatch());
 }

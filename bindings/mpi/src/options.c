@@ -10,13 +10,15 @@ static const char help[] =
     "wzrun [-n N] [OPTION ..] PROGRAM [ARGUMENT ..]: runs N ranks of a program that wzcc linked, as threads of one process\n"
     "  -n N, -np N      1 to 64 ranks; else WZ_RANKS says how many, or there is one\n"
     "  --strict         a collective is complete only once all its members have called it, and a send once it is received\n"
-    "  --check          tells where a program changes what a nonblocking or persistent collective sends before it is completed\n"
+    "  --check          tells where a program changes what a nonblocking or persistent call sends, or writes to where it receives, before it is completed\n"
     "  --seed S         draws by the number S how the ranks interleave and which of several finished requests MPI_Waitany and its like take\n"
     "  --seeds A..B     runs it with each of these seeds until a run ends badly\n"
     "  --explain        at a bad end has colljob, which PATH has or COLLJOB names, tell why\n"
     "  --text FILE      writes the calls as a job text\n"
     "  --values FILE    writes what requests got, as the lines of `colljob plain`\n"
-    "  --stats          says how many collectives the engine carried out as they are, and how many it carried\n"
+    "  --timeline FILE  writes when each collective and message was under way, and each wait, as trace events that Perfetto opens\n"
+    "  --trace FILE     writes each call that an engine accepted, in the order in which the engines took them\n"
+    "  --stats          says what ranks and collectives gave, got and waited, how many collectives the engine carried out as they are, and how many it carried\n"
     "Statuses: that of the program; 1: wzrun can't run it; 2: a call that MPI doesn't allow, or calls that don't agree; 3: stalled; 128 + the signal of a crash.\n";
 
 static void give_up(const char *word, const char *reason) __attribute__((noreturn));
@@ -65,6 +67,8 @@ static bool read_value(const char *word, const char *value, struct options *opti
     else if (is_word(word, "--seeds")) read_seeds(value, options);
     else if (is_word(word, "--text")) mpi_run.text = value;
     else if (is_word(word, "--values")) mpi_run.values = value;
+    else if (is_word(word, "--timeline")) mpi_run.timeline = value;
+    else if (is_word(word, "--trace")) mpi_run.trace = value;
     else return false;
     return true;
 }
@@ -84,6 +88,8 @@ static void read_variables(struct options *options) {
     if (is_set("WZ_SEED")) mpi_run.seed = number("WZ_SEED", getenv("WZ_SEED"), NULL);
     if (is_set("WZ_TEXT")) mpi_run.text = getenv("WZ_TEXT");
     if (is_set("WZ_VALUES")) mpi_run.values = getenv("WZ_VALUES");
+    if (is_set("WZ_TIMELINE")) mpi_run.timeline = getenv("WZ_TIMELINE");
+    if (is_set("WZ_TRACE")) mpi_run.trace = getenv("WZ_TRACE");
 }
 
 void mpi_read_options(int argc, char **argv, struct options *options) {
@@ -110,13 +116,14 @@ void mpi_read_options(int argc, char **argv, struct options *options) {
 
 /* The same words with --seed SEED in place of --seeds. */
 static int run_seed(int argc, char **argv, uint64_t seed) {
+    static char word[] = "--seed";
     char text[24];
     char **words = mpi_must(calloc((size_t)argc + 1, sizeof *words));
     snprintf(text, sizeof text, "%llu", (unsigned long long)seed);
     for (int i = 0; i < argc; i++) words[i] = argv[i];
     for (int i = 1; i + 1 < argc; i++)
         if (is_word(words[i], "--seeds")) {
-            words[i] = (char[]){ "--seed" };
+            words[i] = word;
             words[i + 1] = text;
             break;
         }

@@ -8,6 +8,7 @@
 #include <stdio.h>
 #include <stdlib.h>
 #include <string.h>
+#include <time.h>
 #include <unistd.h>
 
 #define OF_PROGRAM(result, name, ...) result __wrap_##name(__VA_ARGS__); result __wrap_##name(__VA_ARGS__)
@@ -84,9 +85,22 @@ OF_PROGRAM(long, lrand48, void) {
     return number;
 }
 
-/* ---- strtok keeps its place between calls */
+OF_PROGRAM(long, mrand48, void) {
+    long number = 0;
+    mrand48_r(&draws.congruential, &number);
+    return number;
+}
+
+/* ---- what the C library keeps between calls, or gives back in memory of its own */
 static char *strtok_place;
 OF_PROGRAM(char *, strtok, char *text, const char *between) { return strtok_r(text, between, &strtok_place); }
+
+static struct tm parts_of_time;
+static char time_text[64];
+OF_PROGRAM(struct tm *, localtime, const time_t *time) { return localtime_r(time, &parts_of_time); }
+OF_PROGRAM(struct tm *, gmtime, const time_t *time) { return gmtime_r(time, &parts_of_time); }
+OF_PROGRAM(char *, ctime, const time_t *time) { return ctime_r(time, time_text); }
+OF_PROGRAM(char *, asctime, const struct tm *parts) { return asctime_r(parts, time_text); }
 
 /* ---- a program that is run by itself: the system enters it here, and it becomes wzrun with itself as the program, so that configure scripts can run theirs */
 

@@ -1,4 +1,4 @@
-/* MPI_Pack and its like, and what a status says of a message that was cancelled: none is. */
+/* MPI_Pack and its like, and what a status says of whether its receive was cancelled. */
 #include "tell.h"
 #include "types.h"
 

@@ -1,72 +1,85 @@
 /* Writes the calls of a run as a job text, as each rank makes them, and what its requests got. A rank writes its own part. A text has room for 4,096 posts and
    1 MiB; where a run has more, it says so. */
-#include "record.h"
-
-#include "explain.h"
-#include "tell.h"
-
-enum { MOST_POSTS = 4096, MOST_COMMS = 15, MOST_TEXT = 1000000 };
-
-struct outcome {
-    int request;
-    uint32_t start;
-    char *line;
-};
-
-struct recording {
-    FILE *text;
-    char *bytes;
-    size_t length;
-    int requests, outcomes;
-    struct outcome *got;
-    bool full;
-};
+#include "recording.h"
 
 /* The communicators that the text names, beside MPI_COMM_WORLD. */
-static struct {
-    long serial;
-    int size, ranks[MOST_RANKS];
-    char name[NAME_TEXT];
-} comms[MOST_COMMS];
-static int many_comms;
+static struct text_comm comms[MOST_COMMS + 1];
+static int many_comms = 1;
 static atomic_int posts;
 static pthread_mutex_t comms_guard = PTHREAD_MUTEX_INITIALIZER;
 
-static bool is_wanted(void) { return mpi_run.text != NULL || mpi_run.values != NULL || mpi_run.explains; }
+bool mpi_record_is_wanted(void) { return mpi_run.text != NULL || mpi_run.values != NULL || mpi_run.explains; }
 
-static struct recording *recording(void) {
-    struct rank *me = mpi_me;
-    if (me->recording == NULL) {
-        me->recording = mpi_must(calloc(1, sizeof *me->recording));
-        me->recording->text = mpi_must(open_memstream(&me->recording->bytes, &me->recording->length));
-    }
-    return me->recording;
+/* The rank makes its part, or whoever ends the run, if that comes first. */
+struct recording *mpi_record_part(struct rank *rank) {
+    struct recording *part = atomic_load(&rank->recording), *none = NULL;
+    if (part != NULL) return part;
+    part = mpi_must(calloc(1, sizeof *part));
+    part->text = mpi_must(open_memstream(&part->bytes, &part->length));
+    return atomic_compare_exchange_strong(&rank->recording, &none, part) ? part : none;
 }
 
+/* This rank's part, locked; NULL: no text is wanted. */
+static struct recording *open_part(void) {
+    if (!mpi_record_is_wanted()) return NULL;
+    struct recording *part = mpi_record_part(mpi_me);
+    flockfile(part->text);
+    return part;
+}
+
+static void close_part(struct recording *part) { funlockfile(part->text); }
+
+/* ---- communicators */
+
 static int find_comm(long serial) {
-    for (int i = 0; i < many_comms; i++)
+    for (int i = 1; i < many_comms; i++)
         if (comms[i].serial == serial) return i;
     return -1;
 }
 
 /* Under the guard. -1: there is no room for another. */
-static int add_comm(struct comm *comm) {
-    if (many_comms == MOST_COMMS) return -1;
-    comms[many_comms].serial = comm->serial;
-    comms[many_comms].size = comm->size;
-    for (int i = 0; i < comm->size; i++) comms[many_comms].ranks[i] = comm->members[i].rank;
-    mpi_comm_name(comm, comms[many_comms].name);
+static int add_comm(long serial, const int *ranks, int size, const char *name) {
+    if (many_comms > MOST_COMMS) return -1;
+    struct text_comm *comm = &comms[many_comms];
+    comm->serial = serial;
+    comm->size = size;
+    memcpy(comm->ranks, ranks, sizeof *ranks * (size_t)size);
+    snprintf(comm->name, sizeof comm->name, "%s", name);
     return many_comms++;
 }
 
 /* How the text names a communicator; -1: it can't. */
 static int text_number(struct comm *comm) {
+    char name[NAME_TEXT];
+    int ranks[MOST_RANKS];
     if (comm == mpi_world()) return 0;
+    mpi_comm_name(comm, name);
+    for (int i = 0; i < comm->size; i++) ranks[i] = comm->members[i].rank;
     pthread_mutex_lock(&comms_guard);
     int at = find_comm(comm->serial);
-    if (at < 0) at = add_comm(comm);
+    if (at < 0) at = add_comm(comm->serial, ranks, comm->size, name);
     pthread_mutex_unlock(&comms_guard);
-    return at < 0 ? -1 : at + 1;
+    return at;
+}
+
+int mpi_record_comms(void) {
+    pthread_mutex_lock(&comms_guard);
+    int many = many_comms;
+    pthread_mutex_unlock(&comms_guard);
+    return many;
+}
+
+const struct text_comm *mpi_record_comm(int number) {
+    comms[0].size = mpi_run.size;
+    for (int i = 0; number == 0 && i < mpi_run.size; i++) comms[0].ranks[i] = i;
+    return &comms[number];
+}
+
+int mpi_record_add_comm(const int *ranks, int size, const char *name) {
+    pthread_mutex_lock(&comms_guard);
+    int at = add_comm(MESSAGE_COMM, ranks, size, name);
+    pthread_mutex_unlock(&comms_guard);
+    return at;
 }
 
 /* ---- values */
@@ -89,7 +102,7 @@ static unsigned long long unsigned_at(const char *at, int type) {
     }
 }
 
-static void write_values(FILE *to, int type, const void *bytes, size_t length) {
+void mpi_write_values(FILE *to, int type, const void *bytes, size_t length) {
     size_t width = mpi_engine_width(type);
     if (length == 0) return;
     fputs(" :", to);
@@ -105,7 +118,7 @@ static void write_values(FILE *to, int type, const void *bytes, size_t length) {
 /* ---- posts, initialisations and starts */
 
 /* A reduction that is carried stands as its own kind over no elements. */
-static void write_signature(FILE *to, const struct request *it) {
+void mpi_write_signature(FILE *to, const struct request *it) {
     static const bool rooted[] = { [WZ_BCAST] = true, [WZ_GATHER] = true, [WZ_SCATTER] = true, [WZ_REDUCE] = true, [WZ_ALLGATHERV] = false };
     const wz_call *call = &it->call;
     fputs(wz_kind_word(call->kind), to);
@@ -129,47 +142,76 @@ static void write_where(FILE *to, const struct request *it, const char *call) {
     fprintf(to, "# %s, %s%s\n", call, atomic_load(&mpi_me->site), it->direct ? "" : ": carried, so without its values");
 }
 
-static FILE *begin_post(struct request *it, const char *word, const char *call) {
-    if (!is_wanted()) return NULL;
-    struct recording *to = recording();
-    if (is_full(to, true)) return NULL;
-    int comm = text_number(it->comm);
+bool mpi_record_begin_post(struct recording *to, const struct made *made) {
+    if (is_full(to, true)) return false;
+    if (to->requests % 64 == 0) to->made = mpi_must(realloc(to->made, sizeof *to->made * (size_t)(to->requests + 64)));
+    fprintf(to->text, "%s %d ", made->persistent ? "init" : "post", made->comm);
+    fflush(to->text);
+    struct made *it = &to->made[to->requests++];
+    *it = *made;
+    it->place = to->places[made->comm]++;
+    it->begin = to->length;
+    return true;
+}
+
+void mpi_record_end_signature(struct recording *to) {
+    fflush(to->text);
+    to->made[to->requests - 1].end = to->length;
+}
+
+/* Writes a post or an initialisation, but for what it gives. Whether it is there. */
+static bool write_post(struct recording *to, struct request *it, const char *call) {
+    struct made made = { .comm = text_number(it->comm), .persistent = it->persistent, .call = it->call, .name = call, .site = atomic_load(&mpi_me->site) };
+    if (to->full) return false;
     write_where(to->text, it, call);
-    if (comm < 0) {
+    if (made.comm < 0) {
         fprintf(to->text, "# left out, since a text has room for 15 communicators beside MPI_COMM_WORLD\n");
-        return NULL;
+        to->left_out = true;
+        return false;
     }
-    it->recorded = to->requests++;
-    fprintf(to->text, "%s %d ", word, comm);
-    write_signature(to->text, it);
-    return to->text;
+    made.call.type = it->text_type;
+    if (!it->direct) made.call.count = 0;
+    if (!mpi_record_begin_post(to, &made)) return false;
+    it->recorded = to->requests - 1;
+    mpi_write_signature(to->text, it);
+    mpi_record_end_signature(to);
+    return true;
 }
 
 void mpi_record_post(struct request *it, const char *call, const void *bytes, size_t length) {
-    FILE *to = begin_post(it, "post", call);
+    struct recording *to = open_part();
     if (to == NULL) return;
-    if (it->direct) write_values(to, it->text_type, bytes, length);
-    fputc('\n', to);
+    if (write_post(to, it, call)) {
+        if (it->direct) mpi_write_values(to->text, it->text_type, bytes, length);
+        fputc('\n', to->text);
+    }
+    close_part(to);
 }
 
 void mpi_record_init(struct request *it) {
-    FILE *to = begin_post(it, "init", it->name);
-    if (to != NULL) fputc('\n', to);
+    struct recording *to = open_part();
+    if (to == NULL) return;
+    if (write_post(to, it, it->name)) fputc('\n', to->text);
+    close_part(to);
 }
 
 void mpi_record_start(struct request *it, const char *call, const void *bytes, size_t length) {
-    if (it->recorded < 0 || is_full(recording(), false)) return;
-    FILE *to = recording()->text;
-    write_where(to, it, call);
-    fprintf(to, "start %d", it->recorded);
-    if (it->direct) write_values(to, it->text_type, bytes, length);
-    fputc('\n', to);
+    if (it->recorded < 0) return;
+    struct recording *to = open_part();
+    if (!is_full(to, false)) {
+        write_where(to->text, it, call);
+        fprintf(to->text, "start %d", it->recorded);
+        if (it->direct) mpi_write_values(to->text, it->text_type, bytes, length);
+        fputc('\n', to->text);
+        to->made[it->recorded].starts++;
+    }
+    close_part(to);
 }
 
 void mpi_record_refused(struct request *it) {
     void *packed = NULL;
     size_t length = 0;
-    if (!is_wanted()) return;
+    if (!mpi_record_is_wanted()) return;
     if (it->persistent) {
         mpi_record_init(it);
         return;
@@ -181,42 +223,53 @@ void mpi_record_refused(struct request *it) {
 
 /* ---- completion */
 
+static bool is_recorded(const struct request *it) { return it != NULL && it->active && it->recorded >= 0; }
+
 void mpi_record_wait(const char *word, struct request **list, int many, const char *call) {
     bool any = false;
-    if (!is_wanted()) return;
-    for (int i = 0; i < many; i++) any = any || (list[i] != NULL && list[i]->active && list[i]->recorded >= 0);
-    if (!any || is_full(recording(), false)) return;
-    FILE *to = recording()->text;
-    fprintf(to, "# %s, %s\n%s", call, atomic_load(&mpi_me->site), word);
-    for (int i = 0; i < many; i++)
-        if (list[i] != NULL && list[i]->active && list[i]->recorded >= 0) fprintf(to, " %d", list[i]->recorded);
-    fputc('\n', to);
+    if (!mpi_record_is_wanted()) return;
+    for (int i = 0; i < many; i++) any = any || is_recorded(list[i]);
+    if (!any) return;
+    struct recording *to = open_part();
+    if (!is_full(to, false)) {
+        fprintf(to->text, "# %s, %s\n%s", call, atomic_load(&mpi_me->site), word);
+        for (int i = 0; i < many; i++)
+            if (is_recorded(list[i])) fprintf(to->text, " %d", list[i]->recorded);
+        fputc('\n', to->text);
+    }
+    close_part(to);
 }
 
-/* A text tells only of waits that a request is inactive, and a test that completes one stands as a wait. */
-void mpi_record_completed(struct request *it) {
-    if (it->recorded < 0 || is_full(recording(), false)) return;
-    fprintf(recording()->text, "# completed, %s\nwait %d\n", atomic_load(&mpi_me->site), it->recorded);
+/* A line of one recorded request. */
+static void write_command(const struct request *it, const char *call, const char *command) {
+    if (it->recorded < 0) return;
+    struct recording *to = open_part();
+    if (!is_full(to, false)) {
+        fprintf(to->text, "# %s, %s\n%s %d\n", call, atomic_load(&mpi_me->site), command, it->recorded);
+        if (strcmp(command, "free") == 0) to->made[it->recorded].freed = true;
+    }
+    close_part(to);
 }
 
-void mpi_record_free(struct request *it) {
-    if (it->recorded < 0 || is_full(recording(), false)) return;
-    fprintf(recording()->text, "# MPI_Request_free, %s\nfree %d\n", atomic_load(&mpi_me->site), it->recorded);
-}
+/* A text shows only by waits that a request is inactive, and a test that completes one stands as a wait. */
+void mpi_record_completed(struct request *it) { write_command(it, "completed", "wait"); }
+
+void mpi_record_free(struct request *it) { write_command(it, "MPI_Request_free", "free"); }
 
 void mpi_record_outcome(struct request *it) {
     if (mpi_run.values == NULL || it->recorded < 0) return;
-    struct recording *to = recording();
+    struct recording *to = open_part();
     size_t size;
     if (to->outcomes % 64 == 0) to->got = mpi_must(realloc(to->got, sizeof *to->got * (size_t)(to->outcomes + 64)));
     struct outcome *got = &to->got[to->outcomes++];
     *got = (struct outcome){ it->recorded, it->persistent ? it->times - 1 : 0, NULL };
     FILE *line = mpi_must(open_memstream(&got->line, &size));
     fprintf(line, "rank %d req %d start %u", mpi_me->number, got->request, got->start);
-    if (it->direct && it->room > 0) write_values(line, it->text_type, it->out, it->room);
+    if (it->direct && it->room > 0) mpi_write_values(line, it->text_type, it->out, it->room);
     else fputs(" :", line);
     fputc('\n', line);
     fclose(line);
+    close_part(to);
 }
 
 /* ---- the files */
@@ -225,17 +278,19 @@ bool mpi_record_write_text(const char *path) {
     FILE *to = fopen(path, "w");
     if (to == NULL) return false;
     fprintf(to, "ranks %d\n", mpi_run.size);
-    for (int i = 0; i < many_comms; i++) {
+    for (int i = 1; i < mpi_record_comms(); i++) {
         fprintf(to, "# %s\ncomm", comms[i].name);
         for (int j = 0; j < comms[i].size; j++) fprintf(to, " %d", comms[i].ranks[j]);
         fputc('\n', to);
     }
     for (int i = 0; i < mpi_run.size; i++) {
-        struct recording *part = mpi_run.ranks[i].recording;
+        struct recording *part = atomic_load(&mpi_run.ranks[i].recording);
         fprintf(to, "rank %d\n", i);
         if (part == NULL) continue;
+        flockfile(part->text);
         fflush(part->text);
         fwrite(part->bytes, 1, part->length, to);
+        funlockfile(part->text);
     }
     return fclose(to) == 0;
 }
@@ -251,10 +306,12 @@ static bool write_outcomes(const char *path) {
     FILE *to = fopen(path, "w");
     if (to == NULL) return false;
     for (int i = 0; i < mpi_run.size; i++) {
-        struct recording *part = mpi_run.ranks[i].recording;
+        struct recording *part = atomic_load(&mpi_run.ranks[i].recording);
         if (part == NULL) continue;
+        flockfile(part->text);
         if (part->outcomes > 0) qsort(part->got, (size_t)part->outcomes, sizeof *part->got, in_order);
         for (int j = 0; j < part->outcomes; j++) fputs(part->got[j].line, to);
+        funlockfile(part->text);
     }
     return fclose(to) == 0;
 }

@@ -4,6 +4,7 @@
 
 #include "collectives.h"
 
+bool mpi_record_is_wanted(void);
 void mpi_record_post(struct request *request, const char *call, const void *bytes, size_t length);
 void mpi_record_init(struct request *request);
 void mpi_record_start(struct request *request, const char *call, const void *bytes, size_t length);
@@ -16,6 +17,8 @@ void mpi_record_outcome(struct request *request);
 bool mpi_record_write(void);
 bool mpi_record_write_text(const char *path);
 
-void mpi_tell_statistics(void); /* collectives.c */
+/* A collective as the text has it after its communicator, and values after a colon. */
+void mpi_write_signature(FILE *to, const struct request *request);
+void mpi_write_values(FILE *to, int type, const void *bytes, size_t length);
 
 #endif

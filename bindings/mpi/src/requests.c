@@ -1,6 +1,7 @@
 /* A rank's requests. They are used again, with their scratch memory. */
 #include "collectives.h"
 
+#include "notes.h"
 #include "tell.h"
 
 struct request *mpi_new_request(enum sort sort, struct comm *comm, const char *name) {
@@ -21,6 +22,7 @@ struct request *mpi_new_request(enum sort sort, struct comm *comm, const char *n
     it->name = name;
     it->site = it->started_at = me->site;
     it->recorded = -1;
+    it->begun = mpi_clock();
     it->scratch = scratch;
     it->scratch_room = room;
     mpi_use(comm);
@@ -42,7 +44,7 @@ void mpi_drop_request(struct request *it) {
     free(it->types);
     free(it->own_numbers);
     free(it->counts);
-    free(it->lent);
+    free(it->loan);
     mpi_unuse(it->comm);
     it->next = mpi_me->free_requests;
     mpi_me->free_requests = it;

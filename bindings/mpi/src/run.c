@@ -1,6 +1,7 @@
 /* wzrun: each rank has a copy of the program in memory, so that it has its static variables for itself, and a thread that calls its main. */
 #include "run.h"
 
+#include "notes.h"
 #include "options.h"
 #include "record.h"
 #include "tell.h"
@@ -177,5 +178,7 @@ int wz_main_(int argc, char **argv) {
     int status = run_ranks(argc, argv, &options);
     if (mpi_run.statistics) mpi_tell_statistics();
     if (!mpi_record_write()) give_up(mpi_run.text != NULL ? mpi_run.text : mpi_run.values, "it can't be written");
+    const char *unwritten = mpi_run.notes ? mpi_write_notes() : NULL;
+    if (unwritten != NULL) give_up(unwritten, "it can't be written");
     return status;
 }

@@ -3,6 +3,7 @@
 
 #include "collectives.h"
 #include "explain.h"
+#include "notes.h"
 #include "record.h"
 
 #include <stdarg.h>
@@ -63,10 +64,12 @@ static pthread_mutex_t telling = PTHREAD_MUTEX_INITIALIZER;
 
 void mpi_tell_alone(void) { pthread_mutex_lock(&telling); }
 
-void mpi_end_run(int status, const char *kind) {
+void mpi_end_run(int status, struct question question) {
     fflush(stdout);
     if (!mpi_record_write()) fprintf(stderr, "wzrun: %s can't be written\n", mpi_run.text != NULL ? mpi_run.text : mpi_run.values);
-    if (kind != NULL) mpi_explain_end(kind);
+    const char *unwritten = mpi_run.notes ? mpi_write_notes() : NULL;
+    if (unwritten != NULL) fprintf(stderr, "wzrun: %s can't be written\n", unwritten);
+    if (question.words != NULL) mpi_explain_end(&question);
     fflush(stderr);
     _exit(status);
 }
@@ -98,7 +101,7 @@ int mpi_refuse(struct comm *comm, int class, const char *call, const char *forma
     mpi_tell_alone();
     fflush(stdout);
     fprintf(stderr, "wzrun: rank %d: %s at %s: %s (%s)\n", me->number, call, me->site, me->last_refusal, mpi_class_name(class));
-    mpi_end_run(STATUS_WRONG, NULL);
+    mpi_end_run(STATUS_WRONG, (struct question){ NULL, NULL });
 }
 
 /* ---- words */

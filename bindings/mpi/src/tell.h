@@ -3,6 +3,7 @@
 #define WZ_TELL_H
 
 #include "comms.h"
+#include "unreached.h"
 
 enum { STATUS_WRONG = 2, STATUS_STALLED = 3 };
 
@@ -12,9 +13,9 @@ int mpi_refuse(struct comm *comm, int class, const char *call, const char *forma
 void mpi_warn(const char *format, ...) __attribute__((format(printf, 1, 2)));
 const char *mpi_class_name(int class);
 
-/* Ends the run. Whoever tells something has taken the right to it first, so that one thing is told. */
+/* Ends the run; with --explain colljob is asked why. Whoever reports something has taken the right to it first, so that one thing is reported. */
 void mpi_tell_alone(void);
-void mpi_end_run(int status, const char *kind) __attribute__((noreturn));
+void mpi_end_run(int status, struct question question) __attribute__((noreturn));
 
 /* Lists of ranks: "rank 2", "ranks 0, 1 and 3". */
 enum { RANKS_TEXT = 320 };

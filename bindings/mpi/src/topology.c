@@ -41,7 +41,7 @@ static int make(struct comm *comm, int size, const char *call, MPI_Comm *made) {
     return code;
 }
 
-static void give_topology(MPI_Comm handle, struct topology topology) {
+void mpi_give_topology(MPI_Comm handle, struct topology topology) {
     struct comm *comm = mpi_comm(handle);
     pthread_mutex_lock(&comm->guard);
     if (comm->topologies == NULL) comm->topologies = mpi_must(calloc((size_t)comm->size, sizeof *comm->topologies));
@@ -106,7 +106,7 @@ int MPI_Cart_create(MPI_Comm handle, int dimensions, const int sizes[], const in
     }
     if (all > comm->size) return mpi_refuse(comm, MPI_ERR_ARG, call, "the grid has more ranks than the communicator, which has %d", comm->size);
     code = make(comm, (int)all, call, made);
-    if (code == MPI_SUCCESS && *made != MPI_COMM_NULL) give_topology(*made, grid(dimensions, sizes, periods, mpi_my_member(comm)));
+    if (code == MPI_SUCCESS && *made != MPI_COMM_NULL) mpi_give_topology(*made, grid(dimensions, sizes, periods, mpi_my_member(comm)));
     return code;
 }
 
@@ -174,7 +174,7 @@ int MPI_Cart_sub(MPI_Comm handle, const int stays[], MPI_Comm *made) {
         periods[dimensions++] = it->periods[i];
     }
     code = MPI_Comm_split(handle, color, key, made);
-    if (code == MPI_SUCCESS) give_topology(*made, grid(dimensions, sizes, periods, mpi_my_member(mpi_comm(*made))));
+    if (code == MPI_SUCCESS) mpi_give_topology(*made, grid(dimensions, sizes, periods, mpi_my_member(mpi_comm(*made))));
     return code;
 }
 
@@ -216,7 +216,7 @@ int MPI_Graph_create(MPI_Comm handle, int nodes, const int index[], const int ed
     code = make(comm, nodes, call, made);
     if (code != MPI_SUCCESS || *made == MPI_COMM_NULL) return code;
     int from = me > 0 ? index[me - 1] : 0, own = index[me] - from;
-    give_topology(*made, (struct topology){ .kind = MPI_GRAPH, .nodes = nodes, .index = copy_of(index, nodes), .edges = copy_of(edges, many), .in = own, .out = own,
+    mpi_give_topology(*made, (struct topology){ .kind = MPI_GRAPH, .nodes = nodes, .index = copy_of(index, nodes), .edges = copy_of(edges, many), .in = own, .out = own,
                                             .sources = copy_of(edges + from, own), .destinations = copy_of(edges + from, own) });
     return code;
 }
@@ -262,7 +262,7 @@ int MPI_Dist_graph_create_adjacent(MPI_Comm handle, int in, const int sources[],
     struct topology it = { .kind = MPI_DIST_GRAPH, .in = in, .out = out, .sources = copy_of(sources, in), .destinations = copy_of(destinations, out), .weighted = weighted };
     if (weighted) it.source_weights = copy_of(source_weights, source_weights != MPI_WEIGHTS_EMPTY ? in : 0);
     if (weighted) it.destination_weights = copy_of(destination_weights, destination_weights != MPI_WEIGHTS_EMPTY ? out : 0);
-    give_topology(*made, it);
+    mpi_give_topology(*made, it);
     return code;
 }
 

@@ -1,5 +1,5 @@
 /* Waiting: for one request of an engine the engine's own wait serves; for others a rank sleeps until a call of another may have let it go on. */
-#include "collectives.h"
+#include "notes.h"
 
 #include <linux/futex.h>
 #include <sched.h>
@@ -17,16 +17,25 @@ enum {
 static pthread_mutex_t looking = PTHREAD_MUTEX_INITIALIZER;
 static atomic_bool looked_at;
 
-void mpi_begin_wait(const char *call, struct request **list, int many, bool any) {
+static void begin_wait(struct wait wait) {
     struct rank *me = mpi_me;
-    me->wait = (struct wait){ call, me->site, list, many, any };
+    me->wait = wait;
+    me->wait_begun = mpi_clock();
     atomic_fetch_add_explicit(&me->waits_begun, 1, memory_order_relaxed);
     atomic_store(&me->waits, true);
 }
 
+void mpi_begin_wait(const char *call, struct request **list, int many, bool any) {
+    begin_wait((struct wait){ .call = call, .site = mpi_me->site, .list = list, .many = many, .any = any });
+}
+
+void mpi_begin_wait_for_room(const char *call, struct request *it) { begin_wait((struct wait){ .call = call, .site = mpi_me->site, .room = it }); }
+
 /* Whoever looks at the ranks may be at this one's list, which the caller gives up now. */
 void mpi_end_wait(void) {
-    atomic_store(&mpi_me->waits, false);
+    struct rank *me = mpi_me;
+    atomic_store(&me->waits, false);
+    mpi_note_wait(me->wait.call, me->wait.site, me->wait_begun);
     if (!atomic_load(&looked_at)) return;
     pthread_mutex_lock(&looking);
     pthread_mutex_unlock(&looking);
@@ -77,6 +86,19 @@ static int32_t see(wz_shared *shared, wz_ask *ask) {
     return WZ_DONE;
 }
 
+static int32_t see_rest(wz_shared *shared, wz_ask *ask) {
+    *(bool *)ask->out = shared->outside == 0 && !shared->unsettled;
+    return WZ_DONE;
+}
+
+bool mpi_is_at_rest(struct engine *engine) {
+    bool rests = false;
+    wz_ask ask = wz_ask_(WZ_ONCE, (uint8_t)engine->shared.ranks, see_rest);
+    ask.out = &rests;
+    wz_asked_(&engine->shared, &ask);
+    return rests;
+}
+
 /* The watching thread plays no rank, so it is a guest of the engine. */
 static enum progress progress_of_collective(struct request *it) {
     struct sight_of_request sight = { it, GOES_ON };
@@ -97,8 +119,7 @@ enum progress mpi_progress(struct request *it) {
 
 /* Takes over the outcome of a collective that is done in the engine: it lies in it->out then. */
 static bool collect(struct request *it) {
-    size_t count;
-    if (!it->collected) it->collected = wz_shared_test(&it->engine->shared, (uint8_t)it->member, &it->held, it->out, it->room, &count) == WZ_DONE;
+    if (!it->collected) it->collected = mpi_ask_test(it) == WZ_DONE;
     return it->collected;
 }
 

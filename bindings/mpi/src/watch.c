@@ -2,7 +2,8 @@
 
    A rank is lost if it waits, nothing of what it waits for is done, and what it waits for lacks calls of ranks that are lost, have ended or have called
    MPI_Finalize. A collective may be done before all members have called it, so it is given up only where all of those that it lacks are lost; under --strict
-   where one is. Of the requests of MPI_Waitany and MPI_Waitsome all have to be given up. The lost ranks are the greatest set that is so. */
+   where one is. Of the requests of MPI_Waitany and MPI_Waitsome all have to be given up. A rank that waits for room in an engine is lost where all other members of
+   the communicator are: each of them might complete requests. The lost ranks are the greatest set that is so. */
 #include "watch.h"
 
 #include "tell.h"
@@ -23,6 +24,7 @@ static bool is_open(struct request *it) { return it != NULL && it->active; }
 static bool is_stuck(const struct rank *rank) {
     const struct wait *wait = &rank->wait;
     bool open = false;
+    if (wait->room != NULL) return mpi_is_at_rest(wait->room->engine);
     for (int i = 0; i < wait->many; i++) {
         if (!is_open(wait->list[i])) continue;
         if (mpi_progress(wait->list[i]) != GOES_ON) return false;
@@ -48,8 +50,16 @@ static bool is_hopeless(const struct request *it, uint64_t lost) {
     return one ? (lacks & lost) != 0 : (lacks & ~lost) == 0;
 }
 
+/* Whether all other members of a communicator are lost. */
+static bool gets_no_room(const struct request *it, uint64_t lost) {
+    for (int i = 0; i < it->comm->size; i++)
+        if (i != it->member && !(lost >> it->comm->members[i].rank & 1)) return false;
+    return true;
+}
+
 static bool is_lost(const struct rank *rank, uint64_t lost) {
     const struct wait *wait = &rank->wait;
+    if (wait->room != NULL) return gets_no_room(wait->room, lost);
     for (int i = 0; i < wait->many; i++) {
         if (!is_open(wait->list[i])) continue;
         bool hopeless = is_hopeless(wait->list[i], lost);
@@ -157,9 +167,9 @@ static void tell_others(const struct sight *sight, uint64_t lost) {
     }
 }
 
-/* A rank that has called MPI_Finalize mostly ends soon: it is given a little time, so that its status is told. */
+/* A rank that has called MPI_Finalize mostly ends soon: it is given two seconds, so that its status is reported. */
 static void wait_for_ends(void) {
-    for (int turn = 0; turn < 40; turn++) {
+    for (int turn = 0; turn < 400; turn++) {
         bool all = true;
         for (int i = 0; i < mpi_run.size; i++) all = all && (!atomic_load(&mpi_run.ranks[i].finalized) || atomic_load(&mpi_run.ranks[i].ended));
         if (all) return;
@@ -183,7 +193,7 @@ static void tell_stall(const struct sight *sight, uint64_t lost) {
     for (int i = 0; i < mpi_run.size; i++)
         if ((lost >> i & 1) && tell_circle(points, i)) break;
     if (mpi_run.strict) fprintf(stderr, "  (--strict: each collective is taken to wait for all its members, each send for its receive)\n");
-    mpi_end_run(STATUS_STALLED, "stalled");
+    mpi_end_run(STATUS_STALLED, mpi_complete_stalled(lost, sight->gone));
 }
 
 /* The waits that lost ranks are in, as one number: it changes where one of them has gone on in between. */
@@ -194,18 +204,44 @@ static uint64_t waits_of(uint64_t lost) {
     return number;
 }
 
+/* The lowest of the lost ranks that wait for room; NULL: none does. */
+static struct rank *first_without_room(uint64_t lost) {
+    for (int i = 0; i < mpi_run.size; i++)
+        if ((lost >> i & 1) && mpi_run.ranks[i].wait.room != NULL) return &mpi_run.ranks[i];
+    return NULL;
+}
+
+/* Whether each lost rank that waits for room has begun and ended a turn in vain since BEFORE, which becomes now: the second of two turns that ended was begun since. */
+static bool all_tried_again(uint64_t lost, unsigned before[MOST_RANKS]) {
+    bool all = true;
+    for (int i = 0; i < mpi_run.size; i++) {
+        const struct rank *rank = &mpi_run.ranks[i];
+        if ((lost >> i & 1) && rank->wait.room != NULL && atomic_load(&rank->turns_in_vain) - before[i] < 2) all = false;
+    }
+    for (int i = 0; all && i < mpi_run.size; i++) before[i] = atomic_load(&mpi_run.ranks[i].turns_in_vain);
+    return all;
+}
+
 /* One look sees the ranks one after the other, so one that it sees last may just have let go on one that it saw first. Where a second look sees the same ranks
-   lost in the same waits, nothing that any of them did before the first look's end has let another go on. */
+   lost in the same waits, nothing that any of them did before the first look's end has let another go on. At that second look an engine at rest stays so; if a rank
+   that waits for room then makes a turn in vain, and a third look sees the same, none of its requests gives a slot up. */
 void mpi_watch(void) {
     static uint64_t lost_before, waits_before;
+    static unsigned turns_before[MOST_RANKS];
     static int looks;
     mpi_look(true);
     struct sight sight = look();
     uint64_t lost = sight.waiting != 0 ? find_lost(&sight) : 0, waits = waits_of(lost);
     uint64_t all = mpi_run.size == 64 ? UINT64_MAX : (1ull << mpi_run.size) - 1;
-    looks = lost != 0 && lost == lost_before && waits == waits_before ? looks + 1 : 0;
+    bool same = lost != 0 && lost == lost_before && waits == waits_before, again = all_tried_again(same ? lost : 0, turns_before);
+    looks = !same ? 0 : again ? looks + 1 : looks;
     lost_before = lost;
     waits_before = waits;
-    if (looks > ((lost | sight.gone) == all ? 0 : PATIENCE)) tell_stall(&sight, lost);
+    struct rank *without_room = first_without_room(lost);
+    bool is_sure = looks > ((lost | sight.gone) == all ? 0 : PATIENCE) + (without_room != NULL);
+    if (is_sure && without_room != NULL) {
+        atomic_store(&without_room->has_no_hope, true); /* it is refused, and others may go on then */
+        lost_before = 0;
+    } else if (is_sure) tell_stall(&sight, lost);
     mpi_look(false);
 }

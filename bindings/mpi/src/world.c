@@ -1,5 +1,5 @@
 /* The beginning and the end of a run, and the calls that need no communicator. */
-#include "collectives.h"
+#include "notes.h"
 #include "record.h"
 #include "tell.h"
 
@@ -44,6 +44,7 @@ void mpi_begin_run(int size) {
         mpi_run.ranks[i].site = "its beginning";
         mpi_run.ranks[i].random = mpi_run.seed * 64 + (uint64_t)i;
     }
+    mpi_begin_notes();
     mpi_open_mailboxes(size);
     mpi_open_world(size);
 }
@@ -115,7 +116,7 @@ int MPI_Abort(MPI_Comm comm, int status) {
     mpi_tell_alone();
     fflush(stdout);
     fprintf(stderr, "wzrun: rank %d ends all by MPI_Abort(%d) at %s\n", me->number, status, me->site);
-    mpi_end_run((status & 255) != 0 ? status & 255 : 1, NULL);
+    mpi_end_run((status & 255) != 0 ? status & 255 : 1, (struct question){ NULL, NULL });
 }
 
 /* ---- calls that need nothing */

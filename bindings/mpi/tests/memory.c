@@ -5,6 +5,8 @@
 #include <stdlib.h>
 #include <unistd.h>
 
+enum { PLACES = 65536 }; /* of an engine, which keeps something for each that was taken */
+
 static long resident_kib(void) {
     long pages = 0;
     FILE *from = fopen("/proc/self/statm", "r");
@@ -36,14 +38,15 @@ static void make_and_free(void) {
 
 int main(int argc, char **argv) {
     int rank, sum, times = argc > 1 ? atoi(argv[1]) : 1000000;
+    int first = times < 3 * PLACES ? times : 2 * PLACES + times % PLACES; /* the third engine has as many places taken then as the last one at the end */
     long begun, after;
     MPI_Init(&argc, &argv);
     MPI_Comm_rank(MPI_COMM_WORLD, &rank);
-    for (int i = 0; i < 140000 && i < times; i++) MPI_Allreduce(&i, &sum, 1, MPI_INT, MPI_SUM, MPI_COMM_WORLD); /* two engines have been there */
+    for (int i = 0; i < first; i++) MPI_Allreduce(&i, &sum, 1, MPI_INT, MPI_SUM, MPI_COMM_WORLD);
     begun = resident_kib();
-    for (int i = 140000; i < times; i++) MPI_Allreduce(&i, &sum, 1, MPI_INT, MPI_SUM, MPI_COMM_WORLD);
+    for (int i = first; i < times; i++) MPI_Allreduce(&i, &sum, 1, MPI_INT, MPI_SUM, MPI_COMM_WORLD);
     after = resident_kib();
-    if (rank == 0) printf("%d allreduces: %ld KiB after the first 140,000, %ld KiB at the end\n", times, begun, after);
+    if (rank == 0) printf("%d allreduces: %ld KiB after the first %d, %ld KiB at the end\n", times, begun, first, after);
     for (int i = 0; i < 20; i++) make_and_free();
     begun = resident_kib();
     for (int i = 0; i < 100; i++) make_and_free();

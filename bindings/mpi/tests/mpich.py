@@ -1,11 +1,13 @@
 #!/usr/bin/env python3
-"""Runs MPICH's own tests of the collectives over this library, unmodified, and prints a table:
+"""Runs MPICH's own tests over this library, unmodified, and prints a table:
 
-    tests/mpich.py FOLDER [--bin BIN] [--only NAME ..] [--strict] [--jobs N] [--keep FOLDER] [--text] [--under WORDS] [--longest SECONDS]
+    tests/mpich.py FOLDER [--bin BIN] [--parts PART ..] [--only NAME ..] [--strict] [--jobs N] [--keep FOLDER] [--text] [--under WORDS]
+                   [--longest SECONDS]
 
-FOLDER is test/mpi of MPICH's sources (Debian has them: apt-get source mpich). The tests and their numbers of ranks are those of its
-coll/testlist.in; a test passes if it ends with status 0 and says "No Errors". BIN has wzcc and wzrun. --text compares what the requests got
-with what `colljob plain`, which COLLJOB or PATH names, says of the calls. --under runs wzrun under these words, as "valgrind -q".
+FOLDER is test/mpi of MPICH's sources (Debian has them: apt-get source mpich). The tests and their numbers of ranks are those of the
+lists of its folders PART, coll where none is named; a test passes if it ends with status 0 and says "No Errors" within SECONDS, 180 where none are said, or within the list's
+own limit. BIN has wzcc and wzrun. --text compares what the requests got with what `colljob plain`, which COLLJOB or PATH names, says of the
+calls. --under runs wzrun under these words, as "valgrind -q".
 --keep has the compiled programs stay in a folder; those that are there are taken as they are.
 Ends with 0 where all pass.
 """
@@ -28,26 +30,30 @@ FOUND = ["STDARG_H", "STRING_H", "STDLIB_H", "UNISTD_H", "SYS_TIME_H", "SYS_RESO
 LONGEST = 180
 
 
-def rows(folder):
-    """Name, ranks and arguments of each test of the list that has a source."""
-    for line in (folder / "coll/testlist.in").read_text().splitlines():
+def rows(folder, part):
+    """Name, with the part, ranks, arguments and the list's own limit, in seconds, of each test of a part's list."""
+    found = [it for it in (folder / part / "testlist.in", folder / part / "testlist") if it.exists()]
+    if not found:
+        sys.exit(f"mpich.py: {folder / part} has no testlist")
+    for line in found[0].read_text().splitlines():
         words = line.split()
         if not words or words[0].startswith("#"):
             continue
         if words[0].startswith("@"):  # tests that MPICH runs on large machines alone
             continue
-        name = words[0]
+        name = f"{part}/{words[0]}"
         arguments = [it.split("=", 1)[1] for it in words[2:] if it.startswith("arg=")]
-        yield name, int(words[1]), arguments
+        limits = [int(it.split("=", 1)[1]) for it in words[2:] if it.startswith("timeLimit=")]
+        yield name, int(words[1]), arguments, max(limits, default=0)
 
 
 def source_of(folder, name):
     """A test's source, and whether it is compiled for the nonblocking calls."""
-    plain = folder / f"coll/{name}.c"
-    other = folder / f"coll/{name[2:]}.c"
+    part, word = name.split("/")
+    plain, other = folder / f"{name}.c", folder / part / f"{word[2:]}.c"
     if plain.exists():
         return plain, False
-    return (other, True) if name.startswith("nb") and other.exists() else (None, False)
+    return (other, True) if word.startswith("nb") and other.exists() else (None, False)
 
 
 class Programs:
@@ -60,7 +66,7 @@ class Programs:
         self.util = []
 
     def words(self, source, nonblocking):
-        include = [self.out, self.folder / "include", self.folder / "util", self.folder / "dtpools/include", self.folder / "coll"]
+        include = [self.out, self.folder / "include", self.folder / "util", self.folder / "dtpools/include", source.parent]
         return [self.wzcc, "-O1", "-w", *(["-DUSE_MTEST_NBC"] if nonblocking else []), *(f"-I{it}" for it in include), source, *self.util]
 
     def compile_util(self):
@@ -75,14 +81,15 @@ class Programs:
 
     def program(self, name):
         """The program, or what the compiler says."""
-        if (self.out / name).exists():
-            self.made[name] = (self.out / name, None)
+        program = self.out / name.replace("/", "-")
+        if program.exists():
+            self.made[name] = (program, None)
         if name not in self.made:
             source, nonblocking = source_of(self.folder, name)
-            made = subprocess.run([*map(str, self.words(source, nonblocking)), "-o", str(self.out / name)], capture_output=True, text=True)
+            made = subprocess.run([*map(str, self.words(source, nonblocking)), "-o", str(program)], capture_output=True, text=True)
             lacks = sorted({it.split("`")[1].split("'")[0] for it in made.stderr.splitlines() if "undefined reference to" in it})
             said = "lacks " + ", ".join(lacks) if lacks else made.stderr.strip().splitlines()[:1]
-            self.made[name] = (self.out / name, None) if made.returncode == 0 else (None, str(said))
+            self.made[name] = (program, None) if made.returncode == 0 else (None, str(said))
         return self.made[name]
 
 
@@ -95,14 +102,14 @@ def same_values(text, values):
     return plain.stdout == values.read_bytes()
 
 
-def run(program, ranks, arguments, options, folder):
+def run(program, ranks, arguments, seconds, options, folder):
     """What came of a test: a word, and the last line that it said where it didn't pass."""
     words = [*shlex.split(options.under), str(options.bin / "wzrun"), "-n", str(ranks), *(["--strict"] if options.strict else [])]
     text, values = folder / f"{program.name}.{ranks}.job", folder / f"{program.name}.{ranks}.values"
     if options.text:
         words += ["--text", str(text), "--values", str(values)]
     try:
-        done = subprocess.run([*words, str(program), *arguments], capture_output=True, text=True, timeout=options.longest, errors="replace")
+        done = subprocess.run([*words, str(program), *arguments], capture_output=True, text=True, timeout=seconds, errors="replace")
     except subprocess.TimeoutExpired:
         return "hangs", ""
     said = (done.stderr + done.stdout).strip().splitlines()
@@ -118,6 +125,7 @@ def main():
     parser = argparse.ArgumentParser(description=__doc__, formatter_class=argparse.RawDescriptionHelpFormatter)
     parser.add_argument("folder", type=pathlib.Path)
     parser.add_argument("--bin", type=pathlib.Path, default=HERE.parent / "out/bin")
+    parser.add_argument("--parts", nargs="+", default=["coll"])
     parser.add_argument("--only", nargs="*")
     parser.add_argument("--strict", action="store_true")
     parser.add_argument("--text", action="store_true")
@@ -132,7 +140,7 @@ def main():
         out = options.keep or pathlib.Path(made)
         out.mkdir(parents=True, exist_ok=True)
         programs = Programs(options.folder, str(options.bin / "wzcc"), out)
-        wanted = [it for it in rows(options.folder) if not options.only or it[0] in options.only]
+        wanted = [it for part in options.parts for it in rows(options.folder, part) if not options.only or it[0].split("/")[1] in options.only]
         lacks = [it for it in wanted if source_of(options.folder, it[0])[0] is None]
         wanted = [it for it in wanted if it not in lacks]
         programs.compile_util()
@@ -140,10 +148,10 @@ def main():
             list(pool.map(programs.program, dict.fromkeys(it[0] for it in wanted)))
 
         def judged(row):
-            name, ranks, arguments = row
+            name, ranks, arguments, limit = row
             program, said = programs.program(name)
             begun = time.monotonic()
-            word, why = ("isn't built", said) if program is None else run(program, ranks, arguments, options, out)
+            word, why = ("isn't built", said) if program is None else run(program, ranks, arguments, max(limit, options.longest), options, out)
             return name, ranks, arguments, word, why, time.monotonic() - begun
 
         passed, all_rows = 0, 0
@@ -151,7 +159,7 @@ def main():
             for name, ranks, arguments, word, why, seconds in pool.map(judged, wanted):
                 all_rows += 1
                 passed += word == "passes"
-                print(f"| {' '.join([name, *arguments])} | {ranks} | {word} | {why.replace('|', '/')} | {seconds:.1f} s |", flush=True)
+                print(f"| {' '.join([name.split('coll/')[-1], *arguments])} | {ranks} | {word} | {why.replace('|', '/')} | {seconds:.1f} s |", flush=True)
         print(f"{passed} of {all_rows} rows with a source pass; {len(lacks)} have none: {' '.join(sorted({it[0] for it in lacks}))}")
     return 0 if passed == all_rows else 1
 

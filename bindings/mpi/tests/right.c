@@ -1,5 +1,6 @@
 /* Programs without a mistake: right NAME runs one of them, which says nothing and ends with 0. */
 #include <mpi.h>
+#include <getopt.h>
 #include <pthread.h>
 #include <stdio.h>
 #include <stdlib.h>
@@ -322,6 +323,25 @@ static void neighbors(void) {
     MPI_Comm_free(&graph);
 }
 
+/* Rank 0 names the edges of a star to and from all ranks, its own too, with weights. */
+static void star(void) {
+    MPI_Comm graph;
+    int sources[64], degrees[64], destinations[128], weights[128], edges = 0, in, out, weighted, from[64], in_weights[64], to[64], out_weights[64], got[64];
+    for (int i = 0; i < size; i++) {
+        sources[i] = i;
+        degrees[i] = i == 0 ? size : 1;
+        for (int j = 0; j < degrees[i]; j++) destinations[edges] = i == 0 ? j : 0, weights[edges] = 100 * i + destinations[edges], edges++;
+    }
+    MPI_Dist_graph_create(MPI_COMM_WORLD, rank == 0 ? size : 0, sources, degrees, destinations, weights, MPI_INFO_NULL, 0, &graph);
+    MPI_Dist_graph_neighbors_count(graph, &in, &out, &weighted);
+    HOLDS(weighted && in == (rank == 0 ? size : 1) && out == in);
+    MPI_Dist_graph_neighbors(graph, 64, from, in_weights, 64, to, out_weights);
+    for (int i = 0; i < in; i++) HOLDS(in_weights[i] == 100 * from[i] + rank && out_weights[i] == 100 * rank + to[i]);
+    MPI_Neighbor_allgather(&rank, 1, MPI_INT, got, 1, MPI_INT, graph);
+    for (int i = 0; i < in; i++) HOLDS(got[i] == from[i]);
+    MPI_Comm_free(&graph);
+}
+
 static void grid(void) {
     MPI_Comm all, row;
     int sizes[2] = { 0, 0 }, periods[2] = { 0, 0 }, at[2], up, down, got[4] = { -1, -1, -1, -1 }, sum, columns;
@@ -402,6 +422,27 @@ static void attributes(void) {
     HOLDS(flag && *bound >= 32767);
 }
 
+/* The same by the names of MPI 1. */
+static void attributes_of_one(void) {
+    MPI_Comm copy;
+    int key, flag, number = 5, *bound;
+    void *value;
+    deleted = 0;
+    MPI_Keyval_create(MPI_DUP_FN, note_delete, &key, NULL);
+    MPI_Attr_put(MPI_COMM_WORLD, key, &number);
+    MPI_Comm_dup(MPI_COMM_WORLD, &copy);
+    MPI_Attr_get(copy, key, &value, &flag);
+    HOLDS(flag && value == &number);
+    MPI_Comm_free(&copy);
+    MPI_Attr_delete(MPI_COMM_WORLD, key);
+    MPI_Attr_get(MPI_COMM_WORLD, key, &value, &flag);
+    HOLDS(!flag && deleted == 2);
+    MPI_Keyval_free(&key);
+    HOLDS(key == MPI_KEYVAL_INVALID);
+    MPI_Attr_get(MPI_COMM_WORLD, MPI_TAG_UB, &bound, &flag);
+    HOLDS(flag && *bound >= 32767);
+}
+
 static void errors(void) {
     int class, number = rank, code;
     MPI_Comm copy;
@@ -455,14 +496,113 @@ static void own_variables(void) {
     exit(0);
 }
 
+/* Messages that are taken out before they are received, and a receive that is given up. */
+static void matched(void) {
+    int next = (rank + 1) % size, before = (rank + size - 1) % size, mine = 10 * rank, got = -1, flag = 0;
+    MPI_Request sends[2], request;
+    MPI_Message message;
+    MPI_Status status;
+    MPI_Isend(&mine, 1, MPI_INT, next, 4, MPI_COMM_WORLD, &sends[0]);
+    MPI_Isend(&rank, 1, MPI_INT, next, 5, MPI_COMM_WORLD, &sends[1]);
+    MPI_Mprobe(before, 5, MPI_COMM_WORLD, &message, &status);
+    HOLDS(status.MPI_SOURCE == before && status.MPI_TAG == 5);
+    MPI_Recv(&got, 1, MPI_INT, before, MPI_ANY_TAG, MPI_COMM_WORLD, &status);
+    HOLDS(got == 10 * before && status.MPI_TAG == 4);
+    MPI_Mrecv(&got, 1, MPI_INT, &message, &status);
+    HOLDS(got == before && message == MPI_MESSAGE_NULL);
+    MPI_Waitall(2, sends, MPI_STATUSES_IGNORE);
+    MPI_Improbe(before, 6, MPI_COMM_WORLD, &flag, &message, &status);
+    MPI_Barrier(MPI_COMM_WORLD);
+    HOLDS(!flag && message == MPI_MESSAGE_NULL);
+    MPI_Isend(&mine, 1, MPI_INT, next, 6, MPI_COMM_WORLD, &sends[0]);
+    while (!flag) MPI_Improbe(before, 6, MPI_COMM_WORLD, &flag, &message, &status);
+    MPI_Imrecv(&got, 1, MPI_INT, &message, &request);
+    MPI_Wait(&request, &status);
+    HOLDS(got == 10 * before && status.MPI_SOURCE == before);
+    MPI_Wait(&sends[0], MPI_STATUS_IGNORE);
+    MPI_Mprobe(MPI_PROC_NULL, 0, MPI_COMM_WORLD, &message, &status);
+    HOLDS(message == MPI_MESSAGE_NO_PROC);
+    MPI_Mrecv(NULL, 0, MPI_INT, &message, &status);
+    HOLDS(message == MPI_MESSAGE_NULL && status.MPI_SOURCE == MPI_PROC_NULL);
+    MPI_Irecv(&got, 1, MPI_INT, before, 7, MPI_COMM_WORLD, &request);
+    MPI_Cancel(&request);
+    MPI_Wait(&request, &status);
+    MPI_Test_cancelled(&status, &flag);
+    HOLDS(flag);
+}
+
+/* Each rank has its own place in its words. */
+static void options(void) {
+    const struct option names[] = { { "count", required_argument, NULL, 'c' }, { "verbose", no_argument, NULL, 'v' }, { NULL, 0, NULL, 0 } };
+    for (int turn = 0; turn < 200; turn++) {
+        char number[20], *words[] = { "options", "input", "-vq", "--count", number, "-o", "out", "--verb", "--count=7", "--", "-x", NULL };
+        int option, seen = 0, count = 0;
+        snprintf(number, sizeof number, "%d", 100 * turn + rank);
+        optind = 1;
+        while ((option = getopt_long(11, words, "vqo:c:", names, NULL)) != -1) {
+            HOLDS(option == 'v' || option == 'q' || option == 'o' || option == 'c');
+            if (option == 'c' && seen++ == 0) HOLDS(atoi(optarg) == 100 * turn + rank);
+            if (option == 'o') HOLDS(strcmp(optarg, "out") == 0);
+            count++;
+        }
+        HOLDS(count == 6 && optind == 9 && strcmp(words[9], "input") == 0 && strcmp(words[10], "-x") == 0);
+    }
+}
+
+/* Messages go on when their requests are freed, and a receive buffer holds what it held behind a shorter message. */
+static void let_go(void) {
+    int next = (rank + 1) % size, before = (rank + size - 1) % size, mine = rank, got = -1, word, row[3] = { -1, -2, -3 };
+    MPI_Request request;
+    MPI_Irecv(&got, 1, MPI_INT, before, 1, MPI_COMM_WORLD, &request);
+    MPI_Request_free(&request);
+    HOLDS(request == MPI_REQUEST_NULL);
+    MPI_Issend(&mine, 1, MPI_INT, next, 1, MPI_COMM_WORLD, &request);
+    MPI_Request_free(&request);
+    MPI_Sendrecv(&mine, 1, MPI_INT, next, 2, &word, 1, MPI_INT, before, 2, MPI_COMM_WORLD, MPI_STATUS_IGNORE);
+    HOLDS(got == before && word == before);
+    MPI_Ssend_init(&mine, 1, MPI_INT, next, 3, MPI_COMM_WORLD, &request);
+    MPI_Start(&request);
+    MPI_Request_free(&request);
+    MPI_Irecv(row, 3, MPI_INT, before, 3, MPI_COMM_WORLD, &request);
+    MPI_Wait(&request, MPI_STATUS_IGNORE);
+    HOLDS(row[0] == before && row[1] == -2 && row[2] == -3);
+    MPI_Irecv(row, 3, MPI_INT, before, 4, MPI_COMM_WORLD, &request);
+    MPI_Cancel(&request);
+    MPI_Wait(&request, MPI_STATUS_IGNORE);
+    HOLDS(row[0] == before && row[2] == -3);
+}
+
+/* Arrays that aren't significant at a member may be null. */
+static void null_arrays(void) {
+    int ones[64], places[64], mine = rank, got = -1, row[64];
+    MPI_Datatype types[64];
+    for (int i = 0; i < size; i++) {
+        ones[i] = 1;
+        places[i] = i;
+        types[i] = MPI_INT;
+        row[i] = i;
+    }
+    int root = rank == size - 1;
+    MPI_Scatterv(root ? row : NULL, root ? ones : NULL, root ? places : NULL, MPI_INT, &got, 1, MPI_INT, size - 1, MPI_COMM_WORLD);
+    HOLDS(got == rank);
+    MPI_Gatherv(&mine, 1, MPI_INT, root ? row : NULL, root ? ones : NULL, root ? places : NULL, MPI_INT, size - 1, MPI_COMM_WORLD);
+    for (int i = 0; i < size; i++) row[i] = rank;
+    MPI_Alltoallv(MPI_IN_PLACE, NULL, NULL, MPI_DATATYPE_NULL, row, ones, places, MPI_INT, MPI_COMM_WORLD);
+    for (int i = 0; i < size; i++) HOLDS(row[i] == i);
+    for (int i = 0; i < size; i++) places[i] = 4 * i;
+    MPI_Alltoallw(MPI_IN_PLACE, NULL, NULL, NULL, row, ones, places, types, MPI_COMM_WORLD);
+    for (int i = 0; i < size; i++) HOLDS(row[i] == rank);
+}
+
 #define CASE(name) { #name, name }
 static const struct {
     const char *name;
     void (*run)(void);
 } cases[] = {
     CASE(all_kinds), CASE(alltoallw), CASE(in_place), CASE(requests), CASE(persistent), CASE(many_requests), CASE(many_places), CASE(types_with_gaps),
-    CASE(structures), CASE(doubles), CASE(own_operation), CASE(long_rows), CASE(counted), CASE(communicators), CASE(intercommunicators), CASE(neighbors), CASE(grid),
-    CASE(messages), CASE(attributes), CASE(errors), CASE(threads), CASE(profiler), CASE(own_variables),
+    CASE(structures), CASE(doubles), CASE(own_operation), CASE(long_rows), CASE(counted), CASE(communicators), CASE(intercommunicators), CASE(neighbors), CASE(star), CASE(grid),
+    CASE(messages), CASE(attributes), CASE(errors), CASE(threads), CASE(profiler), CASE(own_variables), CASE(options), CASE(matched),
+    CASE(let_go), CASE(null_arrays), CASE(attributes_of_one),
 };
 
 int main(int argc, char **argv) {

@@ -3,6 +3,7 @@
 #include <stdio.h>
 #include <stdlib.h>
 #include <string.h>
+#include <unistd.h>
 
 static int rank, size, numbers[64], others[64];
 
@@ -66,7 +67,7 @@ static void user_operation(void) {
     MPI_Op_create(rank == 1 ? first_of_two : second_of_two, 0, &op);
     MPI_Reduce(numbers, others, 1, MPI_INT, op, 0, MPI_COMM_WORLD);
 }
-static void dup(void) {
+static void duplicate(void) {
     MPI_Comm made;
     if (rank == 0) MPI_Barrier(MPI_COMM_WORLD);
     else MPI_Comm_dup(MPI_COMM_WORLD, &made);
@@ -108,6 +109,10 @@ static void intercommunicator(void) {
 static void truncated(void) {
     if (rank == 0) MPI_Send(numbers, 4, MPI_INT, 1, 7, MPI_COMM_WORLD);
     if (rank == 1) MPI_Recv(others, 3, MPI_INT, 0, 7, MPI_COMM_WORLD, MPI_STATUS_IGNORE);
+}
+static void other_type(void) {
+    if (rank == 0) MPI_Send(numbers, 4, MPI_INT, 1, 7, MPI_COMM_WORLD);
+    if (rank == 1) MPI_Recv(others, 4, MPI_FLOAT, 0, 7, MPI_COMM_WORLD, MPI_STATUS_IGNORE);
 }
 
 /* ---- calls that MPI doesn't allow */
@@ -270,18 +275,100 @@ static void aborts(void) {
     MPI_Barrier(MPI_COMM_WORLD);
 }
 
+/* ---- arrays that aren't there */
+static void null_counts(void) { MPI_Gatherv(numbers, 1, MPI_INT, others, NULL, numbers, MPI_INT, 0, MPI_COMM_WORLD); }
+static void null_places(void) {
+    int counts[] = { 1, 1 };
+    MPI_Alltoallv(numbers, counts, numbers, MPI_INT, others, counts, NULL, MPI_INT, MPI_COMM_WORLD);
+}
+static void null_types(void) {
+    int counts[] = { 1, 1 };
+    MPI_Alltoallw(numbers, counts, numbers, NULL, others, counts, numbers, NULL, MPI_COMM_WORLD);
+}
+static void null_among_counts(void) {
+    int counts[] = { 1, 1 }, places[] = { 0, 1 };
+    MPI_Allgatherv(numbers, 1, MPI_INT, NULL, counts, places, MPI_INT, MPI_COMM_WORLD);
+}
+
+/* ---- memory that is lent */
+static void changed_send(void) {
+    MPI_Request request;
+    if (rank == 0) {
+        MPI_Isend(numbers, 1, MPI_INT, 1, 0, MPI_COMM_WORLD, &request);
+        numbers[0]++;
+        MPI_Wait(&request, MPI_STATUS_IGNORE);
+    } else MPI_Recv(others, 1, MPI_INT, 0, 0, MPI_COMM_WORLD, MPI_STATUS_IGNORE);
+}
+static void changed_outcome(void) {
+    MPI_Request request;
+    MPI_Iallreduce(numbers, others, 2, MPI_INT, MPI_SUM, MPI_COMM_WORLD, &request);
+    if (rank == 0) others[1]++;
+    MPI_Wait(&request, MPI_STATUS_IGNORE);
+}
+static void changed_carried(void) {
+    MPI_Datatype column;
+    MPI_Request request;
+    int counts[] = { 2, 2 }, places[] = { 0, 2 };
+    MPI_Type_vector(2, 1, 4, MPI_INT, &column);
+    MPI_Type_commit(&column);
+    MPI_Ialltoallv(numbers, counts, places, MPI_INT, others, (int[]){ 1, 1 }, (int[]){ 0, 2 }, column, MPI_COMM_WORLD, &request);
+    others[1]++; /* between two elements of the column */
+    if (rank == 1) others[4]++;
+    MPI_Wait(&request, MPI_STATUS_IGNORE);
+}
+static void changed_receive(void) {
+    MPI_Request request;
+    MPI_Recv_init(others, 2, MPI_INT, 1 - rank, 0, MPI_COMM_WORLD, &request);
+    MPI_Start(&request);
+    if (rank == 0) others[0]++;
+    MPI_Send(numbers, 1, MPI_INT, 1 - rank, 0, MPI_COMM_WORLD);
+    MPI_Wait(&request, MPI_STATUS_IGNORE);
+}
+
+/* ---- more requests than there is room for at one time */
+static void inits(void) {
+    MPI_Request request;
+    MPI_Comm copy;
+    MPI_Comm_dup(MPI_COMM_WORLD, &copy);
+    for (int i = 0; i < 257; i++) MPI_Barrier_init(copy, MPI_INFO_NULL, &request);
+}
+/* Rank 1 makes room only once it has read that rank 0 waits for some. */
+static void late_room(void) {
+    enum { FIRST = 100, ALL = 513 };
+    static MPI_Request requests[ALL];
+    MPI_Comm copy;
+    int ends[2], errors = dup(2);
+    char text[500];
+    MPI_Comm_dup(MPI_COMM_WORLD, &copy);
+    for (int i = 0; i < FIRST; i++) MPI_Ibarrier(copy, &requests[i]);
+    if (rank == 1 && (pipe(ends) != 0 || dup2(ends[1], 2) < 0)) abort();
+    MPI_Barrier(MPI_COMM_WORLD);
+    if (rank == 1) {
+        ssize_t length = read(ends[0], text, sizeof text);
+        if (length < 0 || dup2(errors, 2) < 0 || write(2, text, (size_t)length) != length) abort();
+        MPI_Waitall(FIRST, requests, MPI_STATUSES_IGNORE);
+    }
+    for (int i = FIRST; i < ALL; i++) {
+        MPI_Ibarrier(copy, &requests[i]);
+        if (rank == 1) MPI_Wait(&requests[i], MPI_STATUS_IGNORE);
+    }
+    if (rank == 0) MPI_Waitall(ALL, requests, MPI_STATUSES_IGNORE);
+    MPI_Comm_free(&copy);
+}
+
 #define CASE(name) { #name, name }
 static const struct {
     const char *name;
     void (*run)(void);
 } cases[] = {
     CASE(root), CASE(kind), CASE(operation), CASE(count), CASE(type), CASE(signature), CASE(blocking), CASE(persistent), CASE(order), CASE(allgatherv),
-    CASE(alltoall), CASE(reduce_scatter), CASE(reduce_scatter_block), CASE(scan), CASE(exscan), CASE(doubles), CASE(user_operation), CASE(dup), CASE(init_root),
-    CASE(gatherv), CASE(scatterv), CASE(alltoallv), CASE(alltoallw), CASE(neighbors), CASE(intercommunicator), CASE(truncated), CASE(in_place), CASE(same_buffer),
+    CASE(alltoall), CASE(reduce_scatter), CASE(reduce_scatter_block), CASE(scan), CASE(exscan), CASE(doubles), CASE(user_operation), CASE(duplicate), CASE(init_root),
+    CASE(gatherv), CASE(scatterv), CASE(alltoallv), CASE(alltoallw), CASE(neighbors), CASE(intercommunicator), CASE(truncated), CASE(other_type), CASE(in_place), CASE(same_buffer),
     CASE(overlap), CASE(null_buffer), CASE(negative), CASE(no_root), CASE(not_for_type), CASE(uncommitted), CASE(freed_type), CASE(freed_operation),
     CASE(null_communicator), CASE(freed_communicator), CASE(unequal), CASE(start_twice), CASE(stale), CASE(free_nonblocking), CASE(twice_in_list),
     CASE(no_topology), CASE(changed), CASE(finalized), CASE(too_many), CASE(lacking), CASE(crossed), CASE(missing_start), CASE(missing_split), CASE(any_of_two),
-    CASE(receives_first), CASE(lucky_bcasts), CASE(lucky_sends), CASE(crash), CASE(never_completed), CASE(told_by_code), CASE(aborts),
+    CASE(receives_first), CASE(lucky_bcasts), CASE(lucky_sends), CASE(crash), CASE(never_completed), CASE(told_by_code), CASE(aborts), CASE(inits), CASE(late_room),
+    CASE(null_counts), CASE(null_places), CASE(null_types), CASE(null_among_counts), CASE(changed_send), CASE(changed_outcome), CASE(changed_carried), CASE(changed_receive),
 };
 
 int main(int argc, char **argv) {

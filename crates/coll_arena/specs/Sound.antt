@@ -7,7 +7,7 @@ use Rattle.coll_arena.specs.Slots.{Slots, count, generation_of, home, lent, reco
 
 -- what holds of each slot, by its generation, its weight, its record and its list
 pub record IsSoundSlot {R : Type 0} (wear generation weight : ℕ) (found : Option R) (list : ℕ) : Type 0 where
-  -- a slot on Free can be given out once more, one on Worn can't
+  -- a slot on Free can be given out again, one on Worn can't
   pub aged : generation ≤ wear
   pub free : list ≡ 0 → generation < wear
   pub worn : list ≡ 1 → generation ≡ wear

@@ -46,7 +46,7 @@ impl<R> Model for Arena<R> {
     ghost invariant = { λ a. IsKept (view_of a.generations.items a.weights.items a.records.items a.links a.comms a.wear) a.lent };
 }
 
-/// The records of so many slots without a request.
+/// The records of this many slots without a request.
 fn no_records<R: Drop>(alloc: Global, slots: u32) -> Result<Vec<Option<R>>, AllocError>
     ensures { IfOk result (λ made. made.items ≡ replicate slots None) }
 {

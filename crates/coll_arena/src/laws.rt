@@ -15,7 +15,7 @@ use crate::list_name::ListName;
 use coll_lists::{Columns, laws as links};
 
 /// Each slot lies on exactly one list; a slot has a record exactly where it lies on neither Free nor Worn; slots on
-/// Free can be given out once more, those on Worn can't.
+/// Free can be given out again, those on Worn can't.
 pub fn is_sound<R: Drop>(arena: &Arena<R>)
     ensures { IsSound arena.now }
 {

@@ -1,11 +1,11 @@
-//! An engine with one collective that is posted, stepped and completed again and again.
+//! An engine on which one collective is posted, stepped and completed again and again.
 
 use coll_core::{Config, Contribution, Core, DoneWork, Offer, Stepped, Work};
 use coll_kinds::{Datatype, Kind, Mode, Op, Refusal, Signature, Ticket};
 use coll_plans::plan;
 use std::alloc::Global;
 
-/// An engine for 64 ranks, with requests that wait beside.
+/// An engine for 64 ranks, with one collective that is repeated and other requests that stay pending beside it.
 #[derive(Drop)]
 pub struct Bench {
     alloc: Global,
@@ -16,7 +16,7 @@ pub struct Bench {
     tickets: Vec<Ticket>,
 }
 
-/// One element of each member.
+/// The counts of an allgatherv in which each member gives one element.
 fn ones(members: u8) -> [u32; 64] {
     let mut counts = [0; 64];
     for count in counts.iter_mut().take(usize::from(members)) {
@@ -25,7 +25,7 @@ fn ones(members: u8) -> [u32; 64] {
     counts
 }
 
-/// A signature of the kind, of one i32 value of each of so many members.
+/// A signature of the kind for this number of members, with one i32 value of each.
 fn signature(kind: Kind, members: u8) -> Signature {
     Signature {
         kind,
@@ -50,7 +50,7 @@ fn signature(kind: Kind, members: u8) -> Signature {
     }
 }
 
-/// The numbers below a bound.
+/// The numbers below a bound, in order.
 fn numbers(alloc: Global, below: u8) -> Result<Vec<u8>, Refusal> {
     let mut all = Vec::new(alloc);
     for number in 0..below {
@@ -59,7 +59,7 @@ fn numbers(alloc: Global, below: u8) -> Result<Vec<u8>, Refusal> {
     Ok(all)
 }
 
-// The calls of the core, with nothing that they promise: what they do is counted when the program runs.
+// Forwards to the core without contracts: the program counts what the calls do when it runs.
 
 fn post(core: &mut Core, rank: u8, comm: u32, offer: Offer) -> Result<Ticket, Refusal> {
     match core.post(rank, comm, offer) {
@@ -76,7 +76,7 @@ fn retire(core: &mut Core, rank: u8, ticket: Ticket) -> Result<bool, Refusal> {
     Ok(core.retire(rank, ticket)?.is_some())
 }
 
-/// One action, whose combination is computed where it is one. False where nothing is ready.
+/// Does one action, and computes its combination if it has one. Returns false if nothing was ready.
 fn act(core: &mut Core) -> Result<bool, Refusal> {
     match core.step()? {
         Stepped::Quiet => Ok(false),
@@ -98,7 +98,7 @@ fn commit(core: &mut Core, done: DoneWork) -> Result<bool, Refusal> {
     Ok(true)
 }
 
-/// An engine for 64 ranks, with a communicator of so many members and one of two ranks.
+/// An engine for 64 ranks, with a communicator of this number of members and one of two ranks.
 fn open(alloc: Global, members: u8) -> Result<Core, Refusal> {
     let mut groups = Vec::new(alloc);
     groups.push(numbers(alloc, members)?)?;
@@ -115,7 +115,7 @@ fn open(alloc: Global, members: u8) -> Result<Core, Refusal> {
     Core::open(alloc, config)
 }
 
-/// A barrier of two, at one of them.
+/// The offer of a barrier of two ranks, for the first of them.
 fn waiting(alloc: Global) -> Result<Offer, Refusal> {
     let plan = plan(alloc, signature(Kind::Barrier, 2), 2, 0)?;
     Ok(Offer {
@@ -125,7 +125,7 @@ fn waiting(alloc: Global) -> Result<Offer, Refusal> {
 }
 
 impl Bench {
-    /// An engine with a communicator of so many members, and so many barriers that one of two ranks has posted.
+    /// An engine with a communicator of `members` members, and with `others` barriers that only one of two ranks has posted.
     pub fn new(alloc: Global, kind: Kind, members: u8, others: u32) -> Result<Bench, Refusal> {
         let mut core = open(alloc, members)?;
         for _other in 0..others {
@@ -143,7 +143,7 @@ impl Bench {
         })
     }
 
-    /// Plans what all members post.
+    /// Plans the collective for all members.
     pub fn plan(&mut self) -> Result<(), Refusal> {
         let members = self.members;
         if members > 64 {
@@ -160,7 +160,7 @@ impl Bench {
         Ok(())
     }
 
-    /// Posts it at all members, the last first.
+    /// Posts the collective at all members, the last one first.
     pub fn post(&mut self) -> Result<(), Refusal> {
         for _member in 0..self.members {
             self.post_last()?;
@@ -179,7 +179,7 @@ impl Bench {
         Ok(())
     }
 
-    /// Steps until nothing is ready, and computes what is handed out: how many actions that were.
+    /// Steps until nothing is ready, and computes what is handed out. Returns the number of actions.
     pub fn steps(&mut self) -> Result<u64, Refusal> {
         for count in 0..1_000_000 {
             if !act(&mut self.core)? {
@@ -189,7 +189,7 @@ impl Bench {
         Err(Refusal::Torn)
     }
 
-    /// Does the same in one call.
+    /// Does the same as `steps` in one call of the core.
     pub fn settle(&mut self) -> Result<u64, Refusal> {
         settle(&mut self.core)
     }
@@ -202,7 +202,7 @@ impl Bench {
         Ok(())
     }
 
-    /// Completes the last request, which is that rank's.
+    /// Completes the last request, which is this rank's.
     fn retire_last(&mut self, rank: u8) -> Result<(), Refusal> {
         let Some(ticket) = self.tickets.pop() else {
             return Err(Refusal::Torn);

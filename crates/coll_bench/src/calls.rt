@@ -1,5 +1,5 @@
-//! Runs each kind of collective on the engine's core, among 4 and among 64 members, beside 1 and beside 4,000 requests
-//! that wait, and prints how many actions it took; or also times posts, steps (with their combinations), settling and
+//! Runs each kind of collective on the engine's core, among 4 and among 64 members, beside 1 and beside 4,000 pending requests,
+//! and prints how many actions it took; with times also those of posts, steps (with their combinations), settling and
 //! completions over 100 turns, in nanoseconds a call, or for each action.
 
 use crate::bench::Bench;
@@ -22,7 +22,7 @@ pub fn run(rt: &HostRuntime, is_timed: bool) -> anyhow::Result<()> {
     Ok(())
 }
 
-/// What the calls of some turns took, in nanoseconds.
+/// The time that the calls of some turns took, in nanoseconds.
 #[derive(Drop)]
 struct Times {
     post: u128,
@@ -56,7 +56,7 @@ fn show(rt: &HostRuntime, kind: Kind, members: u8, others: u32, turns: u32) -> a
     Ok(())
 }
 
-/// Runs that many turns: how many actions the last one took.
+/// Runs this number of turns. Returns how many actions the last one took.
 fn repeat(
     rt: &HostRuntime,
     kind: Kind,
@@ -88,7 +88,7 @@ fn turn(rt: &HostRuntime, bench: &mut Bench, times: &mut Times) -> anyhow::Resul
     Ok(steps)
 }
 
-/// Plans and posts at all members: what the posts took.
+/// Plans the collective and posts it at all members. Returns the nanoseconds of the posts alone.
 fn post(rt: &HostRuntime, bench: &mut Bench) -> anyhow::Result<u128> {
     bench.plan()?;
     let start = Instant::now(rt)?;
@@ -96,7 +96,7 @@ fn post(rt: &HostRuntime, bench: &mut Bench) -> anyhow::Result<u128> {
     Ok(start.elapsed(rt)?.as_nanos())
 }
 
-/// Completes all requests: what that took.
+/// Completes all requests. Returns the nanoseconds that this took.
 fn retire(rt: &HostRuntime, bench: &mut Bench) -> anyhow::Result<u128> {
     let start = Instant::now(rt)?;
     bench.retire()?;

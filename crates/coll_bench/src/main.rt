@@ -1,6 +1,6 @@
 //! Times what the engine is made of. A word on the command line names a part: `reductions` of rows of bytes, `calls` of the
 //! core, or `operations` over ports in threads; with a second word it is timed. Without a word each part is run once, and
-//! tells what it did.
+//! prints what it did.
 #![tactic(auto)]
 
 mod bench;
@@ -14,7 +14,7 @@ mod running;
 
 use std::env;
 
-/// Whether a part is to be run: it is named, or none is.
+/// Whether a part is to be run: the word names it, or there is no word.
 fn is_wanted(named: &Option<String>, part: &str) -> bool {
     match named {
         Some(word) => word.as_str() == part,

@@ -9,7 +9,7 @@ use std::fmt::Write;
 pub enum Measure {
     Barrier,
     SmallAllreduce,
-    /// Starts of one persistent allreduce.
+    /// Starts of one persistent allreduce, one after the other.
     Starts,
     /// Many allreduces that are posted before the first is waited for.
     Outstanding,
@@ -19,6 +19,7 @@ pub enum Measure {
 }
 
 impl Measure {
+    /// All measures, in the order in which they are run.
     pub const ALL: [Measure; 7] = [
         Measure::Barrier,
         Measure::SmallAllreduce,
@@ -29,7 +30,7 @@ impl Measure {
         Measure::LongAllreduce,
     ];
 
-    /// The collective.
+    /// The signature of the collective.
     pub fn signature(self) -> Signature {
         let (kind, ty, count) = match self {
             Measure::Barrier => (Kind::Barrier, Datatype::Byte, 0),
@@ -69,8 +70,8 @@ impl Measure {
         }
     }
 
-    /// How many slots the engine has: a few more than requests are live at one time, as one would open it for such a load.
-    /// Slots are given out in turn, so the more there are, the longer ago a request's memory was used last.
+    /// How many slots the engine has: a few more than there are live requests at one time, as a program with such a load would
+    /// open it. Slots are given out in turn, so the more there are, the longer ago a request's memory was used last.
     pub fn slots(self, ranks: u8) -> u32 {
         match self {
             Measure::Outstanding => 4_096,
@@ -78,7 +79,7 @@ impl Measure {
         }
     }
 
-    /// How many collectives a sample has. So many requests of all ranks may be live at one time.
+    /// How many collectives a sample has: each rank's live requests are at most this number at one time.
     pub fn turns(self, ranks: u8) -> u32 {
         match self {
             Measure::Barrier | Measure::SmallAllreduce | Measure::Starts => 200,

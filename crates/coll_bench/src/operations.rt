@@ -1,15 +1,15 @@
-//! Times collectives over the ports of a shared engine, a thread for each of 2, 4 and 8 ranks, with 0 and 2 progress
-//! threads, and prints the median of the first rank's samples in nanoseconds a collective; or makes each once, among 2 ranks,
-//! and prints what it made.
+//! Times collectives over the ports of a shared engine, a thread for each of 2, 4 and 8 ranks, with 0 and 2 progress threads,
+//! and prints the median of the first rank's samples in nanoseconds a collective; or runs each measure once, among 2 ranks, and
+//! prints how many samples it gave.
 
 use crate::measure::Measure;
-use crate::running::{Task, ThreadCounts, run_task};
+use crate::running::{Measurement, ThreadCounts, run_task};
 use std::alloc::Global;
 use std::rt::Clock;
 use std::sync::Wait;
 use std::thread::Threads;
 
-/// Prints a row: the median of a measure for each threads.
+/// Prints a row: the median of a measure for each number of ranks and of progress threads.
 fn row<R: Threads + Wait + Clock + Print + Sync>(
     rt: &R,
     alloc: Global,
@@ -18,7 +18,7 @@ fn row<R: Threads + Wait + Clock + Print + Sync>(
     print!(rt; "{measure}:")?;
     for workers in [0u8, 2] {
         for ranks in [2u8, 4, 8] {
-            let task = Task {
+            let task = Measurement {
                 measure,
                 samples: measure.samples(),
                 turns: measure.turns(ranks),
@@ -34,13 +34,13 @@ fn row<R: Threads + Wait + Clock + Print + Sync>(
     Ok(())
 }
 
-/// Makes a measure's collective once, among two ranks.
+/// Runs a measure's collective once, among two ranks.
 fn once<R: Threads + Wait + Clock + Print + Sync>(
     rt: &R,
     alloc: Global,
     measure: Measure,
 ) -> anyhow::Result<()> {
-    let task = Task {
+    let task = Measurement {
         measure,
         samples: 1,
         turns: 1,

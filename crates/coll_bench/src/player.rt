@@ -1,7 +1,7 @@
 //! What the thread of one rank does.
 
 use crate::measure::Measure;
-use crate::running::Task;
+use crate::running::Measurement;
 use coll_complete::Request;
 use coll_core::{Contribution, Offer};
 use coll_kinds::Refusal;
@@ -12,7 +12,7 @@ use std::rt::Clock;
 use std::sync::Wait;
 use std::time::Instant;
 
-/// What a rank gives in a turn: other bytes than the other ranks, and than in the turn before, as in programs.
+/// What a rank gives in a turn: other bytes than the other ranks and than in the turn before, as programs do.
 fn given(alloc: Global, rank: u8, turn: u32, len: usize) -> Result<Contribution, Refusal> {
     let byte = rank.wrapping_add((turn % 256) as u8);
     Ok(Contribution::new(vec![in alloc; byte; len]?))
@@ -61,7 +61,7 @@ fn start<L: Entries, R: Wait>(
     }
 }
 
-/// Waits for a request, which is active.
+/// Waits for an active request.
 fn wait<L: Entries, R: Wait>(
     rt: &R,
     port: &mut Port<L>,
@@ -74,7 +74,7 @@ fn wait<L: Entries, R: Wait>(
     Ok(())
 }
 
-/// One collective after the other.
+/// Posts and waits for one collective after the other.
 fn one_by_one<L: Entries, R: Wait>(
     rt: &R,
     alloc: Global,
@@ -89,7 +89,7 @@ fn one_by_one<L: Entries, R: Wait>(
     Ok(())
 }
 
-/// All are posted, and then all are waited for.
+/// Posts all collectives, and then waits for all.
 fn all_at_once<L: Entries, R: Wait>(
     rt: &R,
     alloc: Global,
@@ -107,7 +107,7 @@ fn all_at_once<L: Entries, R: Wait>(
     Ok(())
 }
 
-/// One start after the other.
+/// Starts and waits for the persistent collective, again and again.
 fn again_and_again<L: Entries, R: Wait>(
     rt: &R,
     alloc: Global,
@@ -124,7 +124,7 @@ fn again_and_again<L: Entries, R: Wait>(
     Ok(())
 }
 
-/// The collectives of one sample. `request` is the persistent one.
+/// Runs the collectives of one sample. `request` is the persistent one.
 fn sample<L: Entries, R: Wait>(
     rt: &R,
     alloc: Global,
@@ -140,19 +140,19 @@ fn sample<L: Entries, R: Wait>(
     }
 }
 
-/// Takes the samples, and answers what each took, in nanoseconds.
+/// Takes the samples, and returns the nanoseconds of each.
 ///
 /// # Errors
 ///
-/// The engine's first refusal; Torn where the clock can't be read.
+/// The engine's first refusal; `Torn` if the clock can't be read.
 pub fn play<L: Entries, R: Wait, C: Clock>(
     rt: &R,
     clock: &C,
     alloc: Global,
     port: &mut Port<L>,
-    task: Task,
+    task: Measurement,
 ) -> Result<Vec<u128>, Refusal> {
-    let Task {
+    let Measurement {
         measure,
         samples,
         turns,

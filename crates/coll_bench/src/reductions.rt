@@ -1,8 +1,8 @@
 //! Runs `combine` over every operation and type, on rows of 1 MiB, and prints a checksum of each result; or times 256 turns of
-//! each on rows of 64 KiB, in microseconds. `bench/combine.py` compares both with the same loops in C, whose checksums are
-//! also what is stored beside this program.
+//! each on rows of 64 KiB, in microseconds. `bench/combine.py` compares both with the same loops in C, whose checksums are also
+//! stored beside this program.
 
-use crate::rows::Rows;
+use crate::rows::MixedRows;
 use coll_kinds::{Datatype, Op};
 use std::time::Instant;
 
@@ -30,14 +30,14 @@ pub fn run(rt: &HostRuntime, is_timed: bool) -> anyhow::Result<()> {
 
 /// Prints the checksum of one combination of long rows.
 fn show(rt: &HostRuntime, op: Op, ty: Datatype) -> anyhow::Result<()> {
-    let checksum = Rows::new(rt.alloc(), LONG_BLOCKS)?.combine(op, ty);
+    let checksum = MixedRows::new(rt.alloc(), LONG_BLOCKS)?.combine(op, ty);
     println!(rt; "{op} {ty} {checksum}")?;
     Ok(())
 }
 
-/// Prints the checksum of one combination, the time of many, and the checksum behind them.
+/// Prints the checksum of one combination, the time of many, and the checksum after them.
 fn time(rt: &HostRuntime, op: Op, ty: Datatype) -> anyhow::Result<()> {
-    let mut rows = Rows::new(rt.alloc(), TIMED_BLOCKS)?;
+    let mut rows = MixedRows::new(rt.alloc(), TIMED_BLOCKS)?;
     let checksum = rows.combine(op, ty);
     let start = Instant::now(rt)?;
     for _ in 0..TURNS {

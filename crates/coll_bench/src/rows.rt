@@ -4,23 +4,23 @@ use std::alloc::{AllocError, Global};
 
 /// Two rows of bytes that are mixed well, and a third for their combination.
 #[derive(Drop)]
-pub(crate) struct Rows {
+pub(crate) struct MixedRows {
     left: Vec<u8>,
     right: Vec<u8>,
     out: Vec<u8>,
 }
 
-impl Rows {
-    /// Rows of so many blocks of eight bytes.
+impl MixedRows {
+    /// Rows of this number of blocks of eight bytes.
     pub(crate) fn new(alloc: Global, blocks: u32) -> Result<Self, AllocError> {
-        Ok(Rows {
+        Ok(MixedRows {
             left: row(alloc, blocks, 1)?,
             right: row(alloc, blocks, 2)?,
             out: row(alloc, blocks, 3)?,
         })
     }
 
-    /// Combines the rows once, and gives the checksum of the result.
+    /// Combines the rows once, and returns the checksum of the result.
     pub(crate) fn combine(&mut self, op: Op, ty: Datatype) -> u32 {
         self.turn(op, ty);
         self.checksum()
@@ -51,7 +51,7 @@ impl Rows {
     }
 }
 
-/// A row of so many blocks of eight bytes, made from the seed by a linear congruence.
+/// A row of this number of blocks of eight bytes, made from the seed by a linear congruence.
 fn row(alloc: Global, blocks: u32, seed: u64) -> Result<Vec<u8>, AllocError> {
     let mut row = Vec::new(alloc);
     let mut x = seed;

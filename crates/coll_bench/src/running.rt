@@ -1,4 +1,4 @@
-//! A thread for each rank that takes samples, and progress threads.
+//! Runs a measure: a thread for each rank, which takes samples, and progress threads.
 
 ghost use Rattle.std.specs.Prelude.{◌≡◌, IfOk, vec_len};
 
@@ -20,23 +20,23 @@ pub struct ThreadCounts {
     pub workers: u8,
 }
 
-/// What is measured, and by how many samples of how many collectives.
+/// What is measured, by how many samples, and how many collectives each sample has.
 #[derive(Clone, Copy, Debug)]
-pub struct Task {
+pub struct Measurement {
     pub measure: Measure,
     pub samples: u32,
     pub turns: u32,
 }
 
-/// What the samples of one rank took, in nanoseconds.
+/// The times of one rank's samples, in nanoseconds.
 type Times = Result<Vec<u128>, Refusal>;
 
-/// A rank that takes a task's samples by a clock.
+/// The program of a rank, which takes a task's samples by a clock.
 #[derive(Drop)]
 struct Sampling<'x, C> {
     clock: &'x C,
     alloc: Global,
-    task: Task,
+    task: Measurement,
 }
 
 impl<C: Clock> RankProgram<Times> for Sampling<'_, C> {
@@ -46,7 +46,7 @@ impl<C: Clock> RankProgram<Times> for Sampling<'_, C> {
     }
 }
 
-/// What the engine of a measure is opened with: one communicator of so many ranks.
+/// The configuration of a measure's engine: one communicator of this number of ranks.
 fn config_of(alloc: Global, ranks: u8, measure: Measure) -> Result<Config, Refusal>
     ensures { IfOk result (λ config. config.ranks ≡ ranks) }
 {
@@ -68,7 +68,7 @@ fn programs<C>(
     clock: &C,
     alloc: Global,
     ranks: u8,
-    task: Task,
+    task: Measurement,
 ) -> Result<Vec<Sampling<'_, C>>, Refusal>
     ensures { IfOk result (λ all. vec_len all ≡ ranks) }
 {
@@ -79,17 +79,17 @@ fn programs<C>(
     Ok(all)
 }
 
-/// Runs a task by threads: what the samples of the first rank took, in nanoseconds.
+/// Runs a task by threads. Returns the times of the first rank's samples, in nanoseconds.
 ///
 /// # Errors
 ///
-/// NoMemory where not all threads could be made; what a progress thread ended by; the engine's first refusal to the
-/// first rank.
+/// `NoMemory` if not all threads could be made; else the refusal with which a progress thread ended; else the engine's first
+/// refusal to the first rank.
 pub fn run_task<R: Threads + Wait + Clock + Sync>(
     rt: &R,
     alloc: Global,
     threads: ThreadCounts,
-    task: Task,
+    task: Measurement,
 ) -> Times {
     let ThreadCounts { ranks, workers } = threads;
     let config = config_of(alloc, ranks, task.measure)?;

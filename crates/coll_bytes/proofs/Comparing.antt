@@ -5,7 +5,7 @@ use Rattle.coll_sched.specs.declared.region.Region.{Region}
 use Rattle.coll_sched.specs.Regions.{read_of}
 use Rattle.coll_bytes.proofs.Parts.{read_read}
 
--- the part of a region behind so many of its bytes, and the same places of a row
+-- the part of a region after that many of its bytes, and the same places of a row
 module _ (buf bytes row : List ℕ) (from part : Region) (done : ℕ) (inside : from.at + from.len ≤ length buf) (within : done + part.len ≤ from.len)
     (at_is : part.at ≡ from.at + done) (row_is : row ≡ read_of bytes (record { at = done; len = part.len })) where
   part_is : read_of buf part ≡ take part.len (drop done (read_of buf from))

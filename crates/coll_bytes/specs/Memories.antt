@@ -12,7 +12,7 @@ bytes_in (InPlace len row) = take len row
 bytes_in (Owned block place) = read_of block.items place
 bytes_in (Shared block place) = read_of (arc_value block).items place
 
--- the row or the block has them, and what lies behind them has a number
+-- the row or the block has them, and what lies after them has a number
 abbrev pub IsPlaced : Memory → Type 0
 IsPlaced (InPlace len row) = (len ≤ FEW) × (len ≤ length row)
 IsPlaced (Owned block place) = Inside (length block.items) place × (place.at + place.len < 2 ^ 32)

@@ -64,7 +64,7 @@ fn composed_in(segments: &[Segment], size: u32, from: Region, room: Vec<u8>) -> 
     Bytes::from_vec(out)
 }
 
-// The part of a region of at most `FEW` bytes that begins behind so many of its bytes.
+// The part of a region of at most `FEW` bytes that begins after this many of its bytes.
 fn few_behind(from: Region, done: u32) -> Region
     requires low { done < from.len }
     requires fits { from.at + from.len < 2 ^ 32 }

@@ -1,6 +1,6 @@
 -- What is read decides how it is checked.
 use Rattle.std.proofs.Common.{◌≡◌, ℕ, List, take, Option, Some, None, sym, ap, subst, ◌∙◌}
-use Rattle.std.specs.Prelude.{IfSome, IsOk, MatchResult, Result, Ok, Err, true, false, is_ok}
+use Rattle.std.specs.Prelude.{IfOk, IfSome, IsOk, MatchResult, Result, Ok, Err, true, false, is_ok}
 use Rattle.coll_history.specs.declared.fault.Fault.{Fault}
 use Rattle.coll_script.specs.declared.fault.JobFault.{JobFault}
 use Rattle.coll_script.specs.declared.fault.JobFault.TheVariants.{Read, Write, Text, Stalled, Refused, Memory, NoThread, Torn}
@@ -8,7 +8,10 @@ use Rattle.coll_script.specs.Meaning.{meaning, HasMeaning}
 use Rattle.coll_script.specs.Plain.{IsFaultOf}
 use Rattle.coll_script.proofs.Answering.{meaning-read, HasMeaning-read}
 use Rattle.coll_diagnosis.specs.Verdicts.{IsStatus}
+use Rattle.coll_diagnosis.proofs.Meaning.{true-read}
+use Rattle.coll_check.specs.declared.checking.CheckForm.{CheckForm}
 use Rattle.coll_check.specs.Checked.{IsCheckStatus, IsCheckFaultOf, IsCheckFault}
+use Rattle.coll_check.specs.Says.{Says, TellsFault, TellsNone, explained_as}
 
 -- a text with a fault is told with status 2
 pub IsCheckStatus-fault : (text : List ℕ) (fault : Fault) (status : ℕ) → status ≡ 2 → meaning text ≡ Err fault → IsCheckStatus text status
@@ -50,3 +53,40 @@ IsCheckFault-read Stalled start text read means = HasMeaning-read start text rea
 IsCheckFault-read (Refused why) start text read means = HasMeaning-read start text read means
 IsCheckFault-read NoThread start text read means = HasMeaning-read start text read means
 IsCheckFault-read Torn start text read means = HasMeaning-read start text read means
+
+-- what is told of a fault is said of a text that has it
+pub Says-fault : (form : CheckForm) (name text : List ℕ) (status : ℕ) (fault : Fault) (lines : List ℕ) → meaning text ≡ Err fault → TellsFault form name fault lines
+    → Says form name text status lines
+Says-fault form name text status fault lines is tells =
+    subst (λ (m : Result (List ℕ) Fault). MatchResult m (λ outcomes. TellsNone form name text status lines) (λ fault. TellsFault form name fault lines)) (sym is) tells
+
+-- what is told of none, of one that has a meaning
+pub Says-none : (form : CheckForm) (name text : List ℕ) (status : ℕ) (lines : List ℕ) → HasMeaning text → TellsNone form name text status lines
+    → Says form name text status lines
+Says-none form name text status lines means tells = go (meaning text) means
+  where
+    go : (m : Result (List ℕ) Fault) → IsOk m → MatchResult m (λ outcomes. TellsNone form name text status lines) (λ fault. TellsFault form name fault lines)
+    go (Ok outcomes) ok = tells
+    go (Err fault) ok = absurd (let both : false ≡ true = ok in cc)
+
+pub Says-none-ok : {X E : Type 0} (bytes : X → List ℕ) (status : X → ℕ) (form : CheckForm) (name text : List ℕ) (r : Result X E) → HasMeaning text
+    → IfOk r (λ x. TellsNone form name text (status x) (bytes x)) → IfOk r (λ x. Says form name text (status x) (bytes x))
+Says-none-ok bytes status form name text (Ok x) means tells = Says-none form name text (status x) (bytes x) means tells
+Says-none-ok bytes status form name text (Err e) means tells = tt
+
+-- what is said of the text that was read is said of the whole
+pub Says-read : (form : CheckForm) (name : List ℕ) (start : Option (List ℕ)) (text : List ℕ) (status : ℕ) (lines : List ℕ)
+    → IfSome start (λ input. text ≡ take 1048577 input) → Says form name text status lines → IfSome start (λ input. Says form name input status lines)
+Says-read form name None text status lines read says = tt
+Says-read form name (Some input) text status lines read says =
+    subst (λ (m : Result (List ℕ) Fault). MatchResult m (λ outcomes. TellsNone form name input status lines) (λ fault. TellsFault form name fault lines))
+    (sym (meaning-read input text read))
+    (go (meaning text) says)
+  where
+    none : TellsNone form name text status lines → TellsNone form name input status lines
+    none tells = (tells.0, tells.1, true-read (Some input) text (explained_as form) status tells.0 read tells.2)
+
+    go : (m : Result (List ℕ) Fault) → MatchResult m (λ outcomes. TellsNone form name text status lines) (λ fault. TellsFault form name fault lines)
+        → MatchResult m (λ outcomes. TellsNone form name input status lines) (λ fault. TellsFault form name fault lines)
+    go (Ok outcomes) tells = none tells
+    go (Err fault) tells = tells

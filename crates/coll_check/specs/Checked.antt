@@ -1,6 +1,6 @@
 -- What checking a text may end in.
 use Rattle.std.specs.Prelude.{◌≡◌, ◌⊎◌, ℕ, List, Option, IfSome, MatchResult}
-use Rattle.std.specs.Io.KnownBytes.{Keeps}
+use Rattle.std.specs.Io.KnownBytes.{Appends, Keeps}
 use Rattle.coll_script.specs.declared.fault.JobFault.{JobFault}
 use Rattle.coll_script.specs.declared.fault.JobFault.TheVariants.{Read, Write, Text, Memory}
 use Rattle.coll_script.specs.Meaning.{meaning, HasMeaning}
@@ -36,3 +36,8 @@ IsCheckFault input fault = IfSome input HasMeaning
 abbrev pub KeepsLines : CheckForm → Option (List ℕ) → Option (List ℕ) → Type 0
 KeepsLines (form.Text colored) old new = Keeps old new
 KeepsLines form.Json old new = Unit {0}
+
+-- lines for a reader go to standard error, and JSON to standard output
+abbrev pub WritesLines : CheckForm → Option (List ℕ) → Option (List ℕ) → Option (List ℕ) → Option (List ℕ) → List ℕ → Type 0
+WritesLines (form.Text colored) old_output new_output old_errors new_errors lines = Appends old_errors new_errors lines
+WritesLines form.Json old_output new_output old_errors new_errors lines = Appends old_output new_output lines

@@ -1,93 +1,56 @@
-//! Faults as JSON, an object in each line.
+//! What is known of a fault as the fields of a JSON object.
 
 use crate::objects::{
-    Checked, Differing, Lacking, Member, OfLine, OfMismatch, OfMissingPlace, OfMissingStart,
-    Posted, Replaced, Started,
+    Differing, Lacking, Member, OfLine, OfMismatch, OfMissingPlace, OfMissingStart, PostedObject,
+    Replaced, Started,
 };
-use coll_diagnosis::{Source, push_object};
 use coll_faults::{
-    Detail, Faults, Finding, Marked, Mismatch, MissingPlace, MissingStart, PlaceFault, Standing,
+    Detail, Finding, Marked, Mismatch, MissingPlace, MissingStart, PlaceFault, PlacedRequest,
     Suggestion, shown,
 };
+use coll_page::Source;
 use coll_script::shown_as;
-use serde_json::Error;
+use serde::Serialize;
 use std::alloc::{AllocError, Global};
 
-/// An object for each fault, and one for their number.
-pub(crate) fn faults_json(
-    alloc: Global,
-    text: &[u8],
-    faults: &Faults,
-    status: u8,
-) -> Result<String, Error> {
-    let source = Source::new(alloc, text)?;
-    let mut out = String::new(alloc);
-    push_finding(alloc, &source, &faults.first, &mut out)?;
-    for finding in &faults.further {
-        push_finding(alloc, &source, finding, &mut out)?;
-    }
-    let checked = Checked {
-        reason: "checked",
-        faults: faults.count(),
-        cut: faults.is_cut,
-        status,
-    };
-    push_object(alloc, &checked, &mut out)?;
-    Ok(out)
-}
-
-/// The object that tells that there is none.
-pub(crate) fn faultless_json(alloc: Global, status: u8) -> Result<String, Error> {
-    let mut out = String::new(alloc);
-    let checked = Checked {
-        reason: "checked",
-        faults: 0,
-        cut: false,
-        status,
-    };
-    push_object(alloc, &checked, &mut out)?;
-    Ok(out)
-}
-
-fn push_finding(
+/// What is known of a fault: the fields after its line and its cause, and the brace that ends its object.
+pub(crate) fn known_fields(
     alloc: Global,
     source: &Source<'_>,
     finding: &Finding,
-    out: &mut String,
-) -> Result<(), Error> {
+) -> Result<String, AllocError> {
     match &finding.detail {
-        Detail::Words(marked) => push_words(alloc, source, finding, marked, out),
+        Detail::Words(marked) => words_fields(alloc, source, finding.fault.line, marked),
         Detail::Place { fault, suggestion } => match fault {
-            PlaceFault::Mismatch(mismatch) => {
-                push_mismatch(alloc, source, finding.fault.line, mismatch, out)
-            }
+            PlaceFault::Mismatch(mismatch) => mismatch_fields(alloc, source, mismatch),
             PlaceFault::MissingPlace(missing) => {
-                push_missing_place(alloc, source, finding.fault.line, missing, suggestion, out)
+                missing_place_fields(alloc, source, missing, suggestion)
             }
-            PlaceFault::MissingStart(missing) => {
-                push_missing_start(alloc, finding.fault.line, missing, out)
-            }
+            PlaceFault::MissingStart(missing) => missing_start_fields(alloc, missing),
         },
-        Detail::Bare => push_bare(alloc, finding, out),
+        Detail::Bare => bare_fields(alloc),
     }
 }
 
-fn push_words(
+/// The fields of an object, and the brace that ends it. The only error is refused memory.
+fn fields_of<T: Serialize>(alloc: Global, object: &T) -> Result<String, AllocError> {
+    let Ok(json) = serde_json::to_string(alloc, object) else {
+        return Err(AllocError);
+    };
+    String::from_str(alloc, json.as_str().trim_start_matches('{'))
+}
+
+fn words_fields(
     alloc: Global,
     source: &Source<'_>,
-    finding: &Finding,
+    line: u32,
     marked: &Marked,
-    out: &mut String,
-) -> Result<(), Error> {
-    let cause = format!(in alloc; "{}", finding.fault.cause)?;
-    let found = found(alloc, source.line(finding.fault.line), marked)?;
+) -> Result<String, AllocError> {
+    let found = found(alloc, source.line(line), marked)?;
     let notes = notes(alloc, marked)?;
     let help = help(alloc, &marked.suggestion)?;
     let replace = all_replaced(alloc, &marked.suggestion)?;
     let object = OfLine {
-        reason: "fault",
-        line: finding.fault.line,
-        cause: cause.as_str(),
         word: Some(marked.word),
         column: Some(marked.start.saturating_add(1)),
         length: Some(marked.len),
@@ -97,7 +60,21 @@ fn push_words(
         help,
         replace,
     };
-    push_object(alloc, &object, out)
+    fields_of(alloc, &object)
+}
+
+fn bare_fields(alloc: Global) -> Result<String, AllocError> {
+    let object = OfLine {
+        word: None,
+        column: None,
+        length: None,
+        found: None,
+        label: None,
+        notes: Vec::new(alloc),
+        help: Vec::new(alloc),
+        replace: Vec::new(alloc),
+    };
+    fields_of(alloc, &object)
 }
 
 fn notes<'e>(alloc: Global, marked: &'e Marked) -> Result<Vec<&'e str>, AllocError> {
@@ -108,25 +85,7 @@ fn notes<'e>(alloc: Global, marked: &'e Marked) -> Result<Vec<&'e str>, AllocErr
     Ok(notes)
 }
 
-fn push_bare(alloc: Global, finding: &Finding, out: &mut String) -> Result<(), Error> {
-    let cause = format!(in alloc; "{}", finding.fault.cause)?;
-    let object = OfLine {
-        reason: "fault",
-        line: finding.fault.line,
-        cause: cause.as_str(),
-        word: None,
-        column: None,
-        length: None,
-        found: None,
-        label: None,
-        notes: Vec::new(alloc),
-        help: Vec::new(alloc),
-        replace: Vec::new(alloc),
-    };
-    push_object(alloc, &object, out)
-}
-
-/// The words that are marked, as they are shown; none where a word is missing.
+/// The marked words as they are shown; empty if a word is missing.
 fn found(alloc: Global, line: &[u8], marked: &Marked) -> Result<String, AllocError> {
     let mut found = String::new(alloc);
     for byte in line.iter().skip(marked.start).take(marked.len) {
@@ -135,7 +94,7 @@ fn found(alloc: Global, line: &[u8], marked: &Marked) -> Result<String, AllocErr
     String::from_str(alloc, found.as_str().trim())
 }
 
-/// A list of what a user is told of a suggestion.
+/// The help of a suggestion, as a list; empty if there is no suggestion.
 fn help<'e>(alloc: Global, suggestion: &'e Option<Suggestion>) -> Result<Vec<&'e str>, AllocError> {
     let mut help = Vec::new(alloc);
     if let Some(suggestion) = suggestion {
@@ -144,7 +103,7 @@ fn help<'e>(alloc: Global, suggestion: &'e Option<Suggestion>) -> Result<Vec<&'e
     Ok(help)
 }
 
-/// Which lines it replaces by which.
+/// The lines that the suggestion replaces, each with those that take its place.
 fn all_replaced(
     alloc: Global,
     suggestion: &Option<Suggestion>,
@@ -167,26 +126,21 @@ fn all_replaced(
 
 /// A line of the text, as it is shown.
 fn line_of(alloc: Global, source: &Source<'_>, line: u32) -> Result<String, AllocError> {
-    let shown = source.shown(alloc, line)?;
-    String::from_str(alloc, shown.as_str().trim())
+    let excerpt = source.excerpt(alloc, line)?;
+    String::from_str(alloc, excerpt.words().trim_end())
 }
 
-fn push_mismatch(
+fn mismatch_fields(
     alloc: Global,
     source: &Source<'_>,
-    line: u32,
     mismatch: &Mismatch,
-    out: &mut String,
-) -> Result<(), Error> {
+) -> Result<String, AllocError> {
     let first = line_of(alloc, source, mismatch.first.line)?;
     let differs = line_of(alloc, source, mismatch.differs.line)?;
     let object = OfMismatch {
-        reason: "fault",
-        line,
-        cause: "place mismatch",
         comm: mismatch.comm,
         place: mismatch.place,
-        first: Posted {
+        first: PostedObject {
             rank: mismatch.first.rank,
             line: mismatch.first.line,
             text: first.as_str(),
@@ -207,10 +161,10 @@ fn push_mismatch(
             .map(|standing| as_member(*standing))
             .collect(alloc)?,
     };
-    push_object(alloc, &object, out)
+    fields_of(alloc, &object)
 }
 
-fn as_member(standing: Standing) -> Member {
+fn as_member(standing: PlacedRequest) -> Member {
     Member {
         rank: standing.rank,
         line: standing.line,
@@ -218,25 +172,20 @@ fn as_member(standing: Standing) -> Member {
     }
 }
 
-fn push_missing_place(
+fn missing_place_fields(
     alloc: Global,
     source: &Source<'_>,
-    line: u32,
     missing: &MissingPlace,
     suggestion: &Option<Suggestion>,
-    out: &mut String,
-) -> Result<(), Error> {
+) -> Result<String, AllocError> {
     let first = line_of(alloc, source, missing.first.line)?;
     let lacking = all_lacking(alloc, missing)?;
     let help = help(alloc, suggestion)?;
     let replace = all_replaced(alloc, suggestion)?;
     let object = OfMissingPlace {
-        reason: "fault",
-        line,
-        cause: "place missing",
         comm: missing.comm,
         place: missing.place,
-        first: Posted {
+        first: PostedObject {
             rank: missing.first.rank,
             line: missing.first.line,
             text: first.as_str(),
@@ -245,7 +194,7 @@ fn push_missing_place(
         help,
         replace,
     };
-    push_object(alloc, &object, out)
+    fields_of(alloc, &object)
 }
 
 fn all_lacking(alloc: Global, missing: &MissingPlace) -> Result<Vec<Lacking>, AllocError> {
@@ -259,21 +208,13 @@ fn all_lacking(alloc: Global, missing: &MissingPlace) -> Result<Vec<Lacking>, Al
     Ok(all)
 }
 
-fn push_missing_start(
-    alloc: Global,
-    line: u32,
-    missing: &MissingStart,
-    out: &mut String,
-) -> Result<(), Error> {
+fn missing_start_fields(alloc: Global, missing: &MissingStart) -> Result<String, AllocError> {
     let object = OfMissingStart {
-        reason: "fault",
-        line,
-        cause: "start missing",
         comm: missing.comm,
         place: missing.place,
         members: all_started(alloc, missing)?,
     };
-    push_object(alloc, &object, out)
+    fields_of(alloc, &object)
 }
 
 fn all_started<'e>(

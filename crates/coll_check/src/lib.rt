@@ -1,17 +1,19 @@
-//! A job text checked: its faults told to a reader, as lines or as JSON, or, where it has none, whether its runs stall.
+//! Checks a job text: reports its faults to a reader, as lines or as JSON, or, if it has none, whether its runs stall.
 //!
 //! | Module | Has |
 //! |---|---|
-//! | `excerpt`, `page`, `text_form` | faults as lines for a reader |
-//! | `objects`, `json_form` | faults as JSON |
+//! | `cause` | `words_of`, the words of a cause |
+//! | `text_form` | what is known of a fault as lines for a reader |
+//! | `objects`, `json_form` | the same as JSON |
+//! | `reporting` | the reports of all faults, and their number |
 //! | `checking` | `check_job`, from a reader to writers |
 #![tactic(auto)]
 
+mod cause;
 mod checking;
-mod excerpt;
 mod json_form;
 mod objects;
-mod page;
+mod reporting;
 mod text_form;
 
 pub use checking::{CheckForm, check_job};

@@ -1,13 +1,10 @@
-//! The JSON objects that tell faults, each with its fields in their order.
+//! What is known of faults, as objects of JSON, each with its fields in their order. They follow the line and the cause of a fault.
 
 use serde::Serialize;
 
 /// A fault of a line, or one of which nothing more is known.
 #[derive(Drop, Serialize)]
 pub(crate) struct OfLine<'e> {
-    pub reason: &'static str,
-    pub line: u32,
-    pub cause: &'e str,
     pub word: Option<usize>,
     pub column: Option<usize>,
     pub length: Option<usize>,
@@ -25,15 +22,12 @@ pub(crate) struct Replaced {
     pub by: Vec<String>,
 }
 
-/// A place whose requests differ.
+/// A place at which members have different requests.
 #[derive(Drop, Serialize)]
 pub(crate) struct OfMismatch<'e> {
-    pub reason: &'static str,
-    pub line: u32,
-    pub cause: &'static str,
     pub comm: usize,
     pub place: usize,
-    pub first: Posted<'e>,
+    pub first: PostedObject<'e>,
     pub differs: Differing<'e>,
     pub members: Vec<Member>,
 }
@@ -41,30 +35,24 @@ pub(crate) struct OfMismatch<'e> {
 /// A place that some members lack.
 #[derive(Drop, Serialize)]
 pub(crate) struct OfMissingPlace<'e> {
-    pub reason: &'static str,
-    pub line: u32,
-    pub cause: &'static str,
     pub comm: usize,
     pub place: usize,
-    pub first: Posted<'e>,
+    pub first: PostedObject<'e>,
     pub lacking: Vec<Lacking>,
     pub help: Vec<&'e str>,
     pub replace: Vec<Replaced>,
 }
 
-/// A place that is started differently often.
+/// A place whose members start it different numbers of times.
 #[derive(Drop, Serialize)]
 pub(crate) struct OfMissingStart<'e> {
-    pub reason: &'static str,
-    pub line: u32,
-    pub cause: &'static str,
     pub comm: usize,
     pub place: usize,
     pub members: Vec<Started<'e>>,
 }
 
 #[derive(Drop, Serialize)]
-pub(crate) struct Posted<'e> {
+pub(crate) struct PostedObject<'e> {
     pub rank: u8,
     pub line: u32,
     pub text: &'e str,
@@ -97,13 +85,4 @@ pub(crate) struct Started<'e> {
     pub rank: u8,
     pub line: u32,
     pub starts: &'e [u32],
-}
-
-/// The last line.
-#[derive(Drop, Serialize)]
-pub(crate) struct Checked {
-    pub reason: &'static str,
-    pub faults: usize,
-    pub cut: bool,
-    pub status: u8,
 }

@@ -1,92 +1,66 @@
-//! Faults as lines for a reader.
+//! What is known of a fault as lines for a reader.
 
-use crate::excerpt::Excerpt;
-use crate::page::{Page, Paint};
-use coll_diagnosis::{Source, digits};
 use coll_faults::{
-    Detail, Faults, Finding, Marked, Mismatch, MissingPlace, MissingStart, PlaceFault, Standing,
+    Detail, Finding, Marked, Mismatch, MissingPlace, MissingStart, PlaceFault, PlacedRequest,
     Suggestion,
 };
 use coll_kinds::MAX_TEXT;
+use coll_page::{Excerpt, Page, Paint, Source};
 use coll_script::Cause;
 use std::alloc::{AllocError, Global};
 
 /// The most ranks that are listed in one line.
 const LISTED: usize = 8;
 
-/// The lines that tell the faults of the text that has this name.
-pub(crate) fn faults_text(
+/// What is known of a fault of the text that has this name, as lines. `last_line` is the number of the text's last line.
+pub(crate) fn known_lines(
     alloc: Global,
     name: &str,
     is_colored: bool,
-    text: &[u8],
-    faults: &Faults,
+    source: &Source<'_>,
+    last_line: usize,
+    finding: &Finding,
 ) -> Result<String, AllocError> {
-    let source = Source::new(alloc, text)?;
-    let page = Page {
-        name,
-        is_colored,
-        width: digits(last_line(text)),
-        out: String::new(alloc),
-    };
-    let mut form = TextForm {
+    let page = Page::new(alloc, name, is_colored, last_line);
+    let mut form = FaultPage {
         alloc,
         source,
         page,
     };
-    form.tell(&faults.first)?;
-    for finding in &faults.further {
-        form.tell(finding)?;
-    }
-    form.tell_count(faults)?;
+    form.tell(finding)?;
     Ok(form.page.out)
-}
-
-/// The line that tells that there is none.
-pub(crate) fn faultless_text(alloc: Global, name: &str) -> Result<String, AllocError> {
-    format!(in alloc; "{name}: no fault\n")
-}
-
-fn last_line(text: &[u8]) -> usize {
-    coll_history::line_count(text)
 }
 
 /// The page so far, and what it is made from.
 #[derive(Drop)]
-struct TextForm<'e> {
+struct FaultPage<'e> {
     alloc: Global,
-    source: Source<'e>,
+    source: &'e Source<'e>,
     page: Page<'e>,
 }
 
-impl<'e> TextForm<'e> {
+impl<'e> FaultPage<'e> {
     fn tell(&mut self, finding: &Finding) -> Result<(), AllocError> {
         let fault = finding.fault;
-        self.page.begin(Paint::Fault)?;
-        write!(self.page.out, "{fault}")?;
-        self.page.end()?;
-        self.page.out.push('\n')?;
         match &finding.detail {
-            Detail::Words(marked) => self.tell_words(fault.line, marked)?,
+            Detail::Words(marked) => self.tell_words(fault.line, marked),
             Detail::Place {
                 fault: place,
                 suggestion,
             } => {
                 self.tell_place(place)?;
-                self.tell_suggestion(suggestion)?;
+                self.tell_suggestion(suggestion)
             }
-            Detail::Bare => self.tell_bare(fault.line, fault.cause)?,
+            Detail::Bare => self.tell_bare(fault.line, fault.cause),
         }
-        self.page.out.push('\n')?;
-        Ok(())
     }
 
-    /// Tells the words of a line that are meant.
+    /// Shows a line, and marks its words that are meant.
     fn tell_words(&mut self, line: u32, marked: &Marked) -> Result<(), AllocError> {
         self.page.arrow_into(line, marked.start.saturating_add(1))?;
         self.page.empty_line()?;
         let excerpt = Excerpt::of(self.alloc, self.source.line(line), marked.start, marked.len)?;
-        self.page.tell_line(line, &excerpt, Paint::Fault, '^')?;
+        self.page.marked_line(line, &excerpt, Paint::Fault, '^')?;
         self.page.label(Paint::Fault, marked.label.as_str())?;
         for note in &marked.notes {
             self.page.note("note", note.as_str())?;
@@ -118,8 +92,7 @@ impl<'e> TextForm<'e> {
         )?;
         self.tell_standing(*first, Paint::Other, '-', label.as_str())?;
         if differs.line > first.line.saturating_add(1) {
-            self.page.painted(Paint::Frame, "...")?;
-            self.page.out.push('\n')?;
+            self.page.gap()?;
         }
         let label = differences_of(self.alloc, mismatch)?;
         self.tell_standing(*differs, Paint::Fault, '^', label.as_str())?;
@@ -128,7 +101,7 @@ impl<'e> TextForm<'e> {
         self.tell_elsewhere(mismatch)
     }
 
-    /// Tells where the rank that differs has the signature of the earliest.
+    /// Notes where the rank that differs has the signature of the earliest.
     fn tell_elsewhere(&mut self, mismatch: &Mismatch) -> Result<(), AllocError> {
         let Some((at, line)) = mismatch.elsewhere else {
             return Ok(());
@@ -140,11 +113,11 @@ impl<'e> TextForm<'e> {
         self.page.note("note", note.as_str())
     }
 
-    /// Lists the members that agree with the earliest, or don't.
+    /// Lists the members that agree with the earliest, or those that don't.
     fn tell_members(
         &mut self,
         word: &str,
-        members: &[Standing],
+        members: &[PlacedRequest],
         agree: bool,
     ) -> Result<(), AllocError> {
         let mut list = String::new(self.alloc);
@@ -162,7 +135,7 @@ impl<'e> TextForm<'e> {
         if others > 0 {
             write!(list, " and {others} more")?;
         }
-        // The one that differs stands above.
+        // A single member that differs has been shown above.
         if agree || count > 1 {
             self.page.note(word, list.as_str())?;
         }
@@ -223,39 +196,20 @@ impl<'e> TextForm<'e> {
     /// Shows the line of a request, all of it marked.
     fn tell_standing(
         &mut self,
-        standing: Standing,
+        standing: PlacedRequest,
         paint: Paint,
         mark: char,
         label: &str,
     ) -> Result<(), AllocError> {
         let excerpt = Excerpt::whole(self.alloc, self.source.line(standing.line))?;
-        self.page.tell_line(standing.line, &excerpt, paint, mark)?;
+        self.page.marked_line(standing.line, &excerpt, paint, mark)?;
         self.page.label(paint, label)
     }
 
     fn tell_suggestion(&mut self, suggestion: &Option<Suggestion>) -> Result<(), AllocError> {
         match suggestion {
-            Some(suggestion) => {
-                self.page.frame(" = ")?;
-                self.page.painted(Paint::Help, "help")?;
-                writeln!(self.page.out, ": {}", suggestion.help())
-            }
+            Some(suggestion) => self.page.help(suggestion.help()),
             None => Ok(()),
-        }
-    }
-
-    /// Tells how many faults there are.
-    fn tell_count(&mut self, faults: &Faults) -> Result<(), AllocError> {
-        let count = faults.count();
-        let noun = if count == 1 { "fault" } else { "faults" };
-        let name = self.page.name;
-        if faults.is_cut {
-            writeln!(
-                self.page.out,
-                "{name}: {count} {noun}; the lines that follow weren't judged"
-            )
-        } else {
-            writeln!(self.page.out, "{name}: {count} {noun}")
         }
     }
 }
@@ -281,7 +235,7 @@ fn push_lines(note: &mut String, starts: &[u32]) -> Result<(), AllocError> {
     Ok(())
 }
 
-/// What the request that differs has in other fields than the earliest.
+/// The fields in which the request that differs and the earliest disagree, with both values.
 fn differences_of(alloc: Global, mismatch: &Mismatch) -> Result<String, AllocError> {
     let mut label = format!(in alloc; "rank {}: ", mismatch.differs.rank)?;
     let mut is_first = true;

@@ -23,7 +23,7 @@ or_none : (o : Option ℕ) → option_or o None ≡ o
 or_none None = refl
 or_none (Some k) = refl
 
--- behind the last request
+-- after the last request
 pub surveyed_done : (g : Setting) (m : Machine) (rank : ℕ) (list : List (Option Ticket)) (i : ℕ) (v : Survey)
     → Surveyed g m rank list (drop i list) i v → length list ≤ i → v.done ≡ position (is_done m) list
 surveyed_done g m rank list i v h le =

@@ -1,4 +1,4 @@
--- What a test for one request of a list tells (MPI 4.1, 3.7.5).
+-- What a test for one request of a list returns (MPI 4.1, 3.7.5).
 use Rattle.std.specs.Prelude.{Bool, true, false, ℕ, List, [], Option, Some, None, slice_index_or, slice_set}
 use Rattle.coll_kinds.specs.declared.ticket.Ticket.{Ticket}
 use Rattle.coll_machine.specs.States.{Machine}

@@ -34,7 +34,7 @@ pub record CompletesDone (g : Setting) (rank : ℕ) (list : List (Option Ticket)
   pub positions : map (λ out. out.0) outs ≡ done_positions m list
   pub runs : Runs g m (completions rank list outs) n
 
--- the same, where what was done is told by the calls with their answers
+-- the same, where what was done is given as the calls with their answers
 pub record CompletesBy (rank : ℕ) (list : List (Option Ticket)) (m : Machine) (Did : List Event → Type 0)
     (outs : List (ℕ × Outcome)) : Type 0 where
   pub positions : map (λ out. out.0) outs ≡ done_positions m list

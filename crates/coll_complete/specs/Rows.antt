@@ -73,7 +73,7 @@ none_active :
     × (list_any (is_active engine) (None ∷ at 0 ∷ at 1 ∷ []) ≡ true)
 none_active = (refl, refl)
 
--- the first bad ticket tells, and a null request isn't one
+-- the first bad ticket decides, and a null request isn't one
 first_bad :
     (list_refusal two_ranks engine.state 0 (at 4 ∷ stale ∷ []) ≡ Some NotYours)
     × (list_refusal two_ranks engine.state 0 (None ∷ at 1 ∷ stale ∷ at 4 ∷ []) ≡ Some Stale)

@@ -33,6 +33,6 @@ abbrev pub StartsAll : Setting → ℕ → Machine → List Begun → Machine �
 StartsAll g rank m [] n = m ≡ n
 StartsAll g rank m (b ∷ bs) n = (next : Machine) × StartsAt g rank m b next × StartsAll g rank next bs n
 
--- the lists of bytes, of which the first so many were used
+-- the lists of bytes, of which that many, the first ones, were used
 abbrev pub unused : ℕ → List (List ℕ) → List (List ℕ)
 unused i lists = replicate i [] ++ drop i lists

@@ -13,7 +13,7 @@ use crate::testing::complete;
 use coll_core::Outcome;
 use coll_kinds::Refusal;
 
-/// What a test of a list for one request tells (`MPI_Testany`; MPI 4.1, 3.7.5).
+/// The result of a test of a list for one request (`MPI_Testany`; MPI 4.1, 3.7.5).
 #[derive(Debug, Drop)]
 pub enum Any {
     /// No request of the list is active.

@@ -5,13 +5,13 @@
 //! | `requests` | `Requests`, an engine whose requests these calls are over: a core, or one that keeps more |
 //! | `core_calls` | the calls on a core alone: `test`, `test_any`, `test_all`, `test_some`, `request_free`, `start_all` |
 //! | `request` | `Request`, a caller's hold on a request: null, or a ticket |
-//! | `tested` | `Tested`, what the test of one request tells |
+//! | `tested` | `Tested`, the result of a test of one request |
 //! | `testing` | `test_on`, the test of one request on any engine |
 //! | `freeing` | `request_free_on` |
 //! | `distinct` | `are_distinct`, what `test_all` and `test_some` ask of a list |
 //! | `survey` | `Survey`, what a list of requests has |
 //! | `completing` | the completion of a list's requests |
-//! | `any` | `Any`, what the test of a list for one request tells, and `test_any_on` |
+//! | `any` | `Any`, the result of a test of a list for one request, and `test_any_on` |
 //! | `all` | `test_all_on` |
 //! | `some` | `test_some_on` |
 //! | `halted` | `Halted`, where the starts of a list stopped |

@@ -1,4 +1,4 @@
--- A request that is started once more.
+-- A request that is started again.
 use Rattle.std.proofs.Common.{◌≡◌, ◌∙◌, ℕ, true, List, Option, Some, ap, subst}
 use Rattle.std.specs.Prelude.{IfSome}
 use Rattle.coll_kinds.specs.declared.ticket.Ticket.{Ticket}

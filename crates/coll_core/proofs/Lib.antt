@@ -33,3 +33,4 @@ pub mod Committing
 pub mod Restarting
 pub mod NumberBytes
 pub mod Groups
+pub mod CombinedRows

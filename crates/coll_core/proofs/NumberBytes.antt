@@ -34,7 +34,7 @@ bytes-next read new z first behind rest all before first_is behind_is is more =
     rw (first_is, behind_is) (take-append-drop 4 rest) in
     ap (λ bytes. bytes ++ behind) split ∙ (append_assoc (number_bytes read) first behind ∙ (ap (λ bytes. number_bytes read ++ bytes) whole_rest ∙ before))
 
--- what is behind four bytes are bytes, too
+-- what is after four bytes are bytes, too
 pub bytes-behind : (rest behind : List ℕ) → behind ≡ drop 4 rest → ((i : ℕ) → get_or rest i 0 < 256) → (i : ℕ) → get_or behind i 0 < 256
 bytes-behind rest behind is all i = rw (is, get_or-drop 4 rest i 0) (all (4 + i))
 

@@ -98,7 +98,7 @@ past_free q rank rest e =
     (option_and_then (λ q. unless (mode_number q.mode == mode_number Persistent) NotPersistent) q)
     (option_and_then (λ q. unless (not q.active) Active) q) rest e
 
--- what is tested behind what a free tests
+-- what is tested after what a free tests
 abbrev pub own_refusal : Parts → Request → List ℕ → Option Refusal
 own_refusal p x bytes = option_or (wrong_length x.plan.sig x.plan.n x.plan.member bytes) (option_or (unless (nat_lt x.starts p.starts) StartsUsed) None)
 

@@ -1,5 +1,5 @@
 -- What a step answers.
-use Rattle.std.proofs.Common.{◌≡◌, ◌∙◌, Bool, true, false, [], inl, inr, Result, Ok, Err, ap, refl, sym, subst}
+use Rattle.std.proofs.Common.{◌≡◌, ◌==◌, ◌∙◌, ◌∷◌, ℕ, Bool, true, false, List, [], length, inl, inr, Result, Ok, Err, ap, arith, eqb-true, refl, sym, subst}
 use Rattle.std.proofs.lemmas.Bool.{false≢true}
 use Rattle.std.proofs.lemmas.Option.{none-some, same_Some}
 use Rattle.coll_kinds.specs.declared.ticket.Ticket.{Ticket}
@@ -11,7 +11,8 @@ use Rattle.coll_core.specs.declared.stepped.Stepped.TheVariants.{Quiet, Moved, F
 use Rattle.coll_core.specs.Cores.{Parts}
 use Rattle.coll_core.specs.declared.request.Request.{Request}
 use Rattle.coll_core.specs.Requests.{next_of, shown}
-use Rattle.coll_core.specs.Steps.{Acts, AwaitsWork, CombinesFirst, IsActing, IsWork, Steps, ready, stepped_by}
+use Rattle.coll_core.specs.Works.{IsShort}
+use Rattle.coll_core.specs.Steps.{Acts, AwaitsWork, CombinesFirst, CombinesShort, IsActing, IsWork, Steps, ready, stepped_by}
 use Rattle.coll_kinds.specs.declared.operation.Op.{Op}
 use Rattle.coll_kinds.specs.declared.datatype.Datatype.{Datatype}
 use Rattle.coll_sched.specs.declared.region.Region.{Region}
@@ -65,6 +66,27 @@ acts_first p t a f at acts h =
 pub acts_without_work : (p : Parts) (t : Ticket) (a : Action) → IsFirst p.arena 2 t → IsActing p t a → (IsCombine a → ⊥) → AwaitsWork p → ⊥
 acts_without_work p t a f at acts (inl none) = not_empty p t f none
 acts_without_work p t a f at acts (inr h) = acts_first p t a f at acts h
+
+-- ---- whether that combination is short
+
+pub short_first : (p : Parts) (t : Ticket) (a : Action) → IsFirst p.arena 2 t → IsActing p t a → IsShort a → CombinesShort p
+short_first p t a f at short = record { slot = t.slot; request = at.0; action = a; first = f.first; here = at.1.here; next_is = at.1.next_is; short = short }
+
+none_of : (xs : List ℕ) → length xs ≡ 0 → xs ≡ []
+none_of [] e = refl
+none_of (x ∷ rest) e = absurd (omega (arith, e))
+
+pub none_short : (p v : Parts) → p ≡ v → true ≡ (length (ready p) == 0) → CombinesShort v → ⊥
+none_short p v e none h =
+    let empty : ready v ≡ [] = ap ready (sym e) ∙ none_of (ready p) (eqb-true (length (ready p)) 0 (sym none)) in
+    none-some h.slot (sym (ap first_in empty) ∙ h.first)
+
+pub long_first : (p : Parts) (t : Ticket) (a : Action) → IsFirst p.arena 2 t → IsActing p t a → (IsShort a → ⊥) → CombinesShort p → ⊥
+long_first p t a f at long h =
+    let slot_is : h.slot ≡ t.slot = same_Some h.slot t.slot (sym h.first ∙ f.first) in
+    let request_is : h.request ≡ at.0 = same_Some h.request at.0 (sym h.here ∙ ap (record_in p.arena) slot_is ∙ at.1.here) in
+    let action_is : h.action ≡ a = same_Some h.action a (sym h.next_is ∙ ap (λ (r : Request). next_of (shown r)) request_is ∙ at.1.next_is) in
+    long (subst IsShort action_is h.short)
 
 pub steps_on : (p r : Parts) (finished : Bool) (s : Stepped) → s ≡ stepped_by finished → Acts p r finished → Steps p r s
 steps_on p r true s e acts = subst (λ (z : Stepped). Steps p r z) (sym e) acts

@@ -34,7 +34,7 @@ pub record HoldsValue (p : Parts) (slot : ℕ) (q : Asked) : Type 0 where
   pub value_is : read_of request.buffer (schedule (shown request)).output
       ≡ value sig (filled sig (size (setting p) q.comm) ((seen p).state.given (key_of q start))) q.member
 
--- what the list of a request tells of its schedule: which action is the next one, and whether that can be done
+-- what the list of a request says of its schedule: which action is the next one, and whether that can be done
 pub record Waits (p : Parts) (slot : ℕ) (r : Request) : Type 0 where
   pub ready : home p.arena slot ≡ number_of Ready
       → (a : Action) × (next_of (shown r) ≡ Some a) × Doable (mail p.matches (key (shown r))) (shown r) a
@@ -48,7 +48,7 @@ pub record Waits (p : Parts) (slot : ℕ) (r : Request) : Type 0 where
 
 pub record BetweenCalls (p : Parts) : Type 0 where
   -- each slot stands once on the list that is its home, and on no other: for a request that which its phase names, else
-  -- that of its age; since Done and Idle are told by the list, what ties a phase to what was given are `held` and `waits`
+  -- that of its age; since its list shows Done and Idle, what ties a phase to what was given are `held` and `waits`
   pub once : (slot list : ℕ) → list < length p.arena.lists → StandsAtHome p.arena slot list
   pub lists : (slot : ℕ) (q : Asked) → (seen p).state.request slot ≡ Some q
       → LiesBy q.active ((seen p).done slot) q.comm (home p.arena slot)
@@ -64,7 +64,7 @@ pub record BetweenCalls (p : Parts) : Type 0 where
       → q.comm ≡ r.comm → q.place ≡ r.place → q.member ≡ r.member → i ≡ j
   -- what is Done holds its value
   pub held : (slot : ℕ) (q : Asked) → (seen p).state.request slot ≡ Some q → (seen p).done slot ≡ true → HoldsValue p slot q
-  -- a list tells what its requests wait for
+  -- a list shows what its requests wait for
   pub waits : (slot : ℕ) (r : Request) → record_in p.arena slot ≡ Some r → Waits p slot r
   -- the sum that is kept of lent bytes is that over the active requests
   pub lent_is : lent p.arena ≡ lent_bytes (setting p) (seen p).state

@@ -9,7 +9,7 @@ abbrev pub bytes_of : Option (Box Long Global) → List ℕ → List ℕ
 bytes_of None own = own
 bytes_of (Some long) own = long.value.segments.bytes
 
--- memory for so many bytes
+-- memory for that many bytes
 pub record IsRoom (room : Vec ℕ Global) (len : ℕ) : Type 0 where
   pub empty : room.items ≡ []
   pub none : vec_len room ≡ 0
@@ -20,7 +20,7 @@ abbrev pub HasSpare : Option (Box Long Global) → Vec ℕ Global → Type 0
 HasSpare None own = Unit {0}
 HasSpare (Some long) own = IsRoom own (length long.value.segments.bytes)
 
--- there is memory for a copy of so many bytes, if they aren't a few
+-- there is memory for a copy of that many bytes, if they aren't a few
 pub record HasRoom (spare : Vec ℕ Global) (len : ℕ) : Type 0 where
   pub empty : spare.items ≡ []
   pub none : vec_len spare ≡ 0

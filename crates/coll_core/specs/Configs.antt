@@ -69,7 +69,7 @@ setting_by c = record {
 abbrev pub idle : Machine
 idle = phased nothing (λ slot. false)
 
--- the refusal tells that field
+-- the refusal names that field
 pub record IsRefused (c : Config) (why : Refusal) : Type 0 where
   pub field : ConfigField
   pub is : why ≡ BadConfig field

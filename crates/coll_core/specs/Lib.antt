@@ -1,4 +1,4 @@
--- an engine: how it is opened, what callers are told of it, and what each call does
+-- an engine: how it is opened, what callers learn of it, and what each call does
 pub mod Configs
 pub mod Communicators
 pub mod Cores

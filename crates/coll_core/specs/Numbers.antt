@@ -10,7 +10,7 @@ use Rattle.coll_kinds.specs.Elements.{whole, element_bytes}
 abbrev pub number_bytes : List ℤ → List ℕ
 number_bytes numbers = flat_map (λ z. element_bytes I32 (whole z)) numbers
 
--- so many bytes aren't numbers: the last one has less than four, and that is told
+-- that many bytes aren't numbers: the last one has less than four, and that number is returned
 pub record IsUneven (len : ℕ) (why : Refusal) : Type 0 where
   pub left : 0 < len % 4
   pub told : why ≡ BadLength 4 (len % 4)

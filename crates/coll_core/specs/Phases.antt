@@ -1,4 +1,4 @@
--- What callers are told of a request.
+-- What callers learn of a request.
 use Rattle.std.specs.Prelude.{◌≡◌, ◌≢◌, ◌<◌, ℕ, Bool, true, false, length, Option, Some, None}
 use Rattle.coll_lists.specs.Layouts.{sequence}
 use Rattle.coll_arena.specs.declared.list_name.ListName.TheVariants.{Ready, Running, Done as DoneList}

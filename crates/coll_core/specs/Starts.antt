@@ -21,7 +21,7 @@ use Rattle.coll_core.specs.Requests.{IsListOf, schedule, shown}
 abbrev pub next_instance : Request → Key
 next_instance x = at (shown x) x.starts
 
--- the request once more at the first point of its schedule
+-- the request again at the first point of its schedule
 pub record Begins (q r : Live) (buf : List ℕ) : Type 0 where
   pub is : r ≡ begun q (record { round = r.round; index = r.index; buf = buf })
   pub over : Over (schedule q) 0 0 r.round r.index

@@ -28,7 +28,7 @@ use Rattle.coll_core.specs.declared.stepped.Stepped.TheVariants.{Quiet, Moved, F
 use Rattle.coll_core.specs.Cores.{Parts, seen, setting, tables}
 use Rattle.coll_tables.specs.Requests.{advanced, key}
 use Rattle.coll_core.specs.Requests.{next_of, schedule, shown}
-use Rattle.coll_core.specs.Works.{Made, Piece, StandsAt}
+use Rattle.coll_core.specs.Works.{IsShort, Made, Piece, StandsAt}
 
 -- the actions that all requests have still to do
 abbrev pub left : Parts → ℕ
@@ -165,6 +165,16 @@ pub record CombinesFirst (p : Parts) : Type 0 where
   pub next_is : next_of (shown request) ≡ Some action
   pub combines : IsCombine action
 
+-- the next action of the first ready request is a combination of operands of up to eight bytes
+pub record CombinesShort (p : Parts) : Type 0 where
+  pub slot : ℕ
+  pub request : Request
+  pub action : Action
+  pub first : first_in (ready p) ≡ Some slot
+  pub here : record_in p.arena slot ≡ Some request
+  pub next_is : next_of (shown request) ≡ Some action
+  pub short : IsShort action
+
 -- nothing can be done without a combination
 abbrev pub AwaitsWork : Parts → Type 0
 AwaitsWork p = (ready p ≡ []) ⊎ CombinesFirst p
@@ -202,12 +212,12 @@ abbrev pub stepped_by : Bool → Stepped
 stepped_by true = Finished
 stepped_by false = Moved
 
--- so many steps were made, one after the other
+-- that many steps were made, one after the other
 pub data Makes (p : Parts) : ℕ → Parts → Type 0 where
   no_step : Makes p 0 p
   one_more : {n : ℕ} {mid r : Parts} (finished : Bool) → Makes p n mid → Acts mid r finished → Makes p (suc n) r
 
--- some actions were done, so many
+-- that many actions were done
 pub record Ran (p r : Parts) (steps : ℕ) : Type 0 where
   pub makes : Makes p steps r
   pub set : setting r ≡ setting p

@@ -1,16 +1,18 @@
 -- A combination that is handed out.
-use Rattle.std.specs.Prelude.{◌≡◌, ◌%◌, ℕ, List, length, IsTrue, Some}
+use Rattle.std.specs.Prelude.{◌≡◌, ◌≤◌, ◌%◌, ℕ, List, length, IsTrue, Some}
 use Rattle.coll_kinds.specs.declared.datatype.Datatype.{Datatype}
 use Rattle.coll_kinds.specs.declared.operation.Op.{Op}
 use Rattle.coll_kinds.specs.declared.ticket.Ticket.{Ticket}
 use Rattle.coll_kinds.specs.Checks.{allowed}
 use Rattle.coll_kinds.specs.Elements.{width}
 use Rattle.coll_ops.specs.Combinations.{combined}
-use Rattle.coll_sched.specs.declared.action.Action.TheVariants.{Combine}
+use Rattle.coll_sched.specs.declared.action.Action.{Action}
+use Rattle.coll_sched.specs.declared.action.Action.TheVariants.{Send, Copy, Combine, Recv}
 use Rattle.coll_sched.specs.declared.region.Region.{Region}
 use Rattle.coll_sched.specs.Regions.{read_of, written}
 use Rattle.coll_tables.specs.Requests.{Live, advanced}
 use Rattle.coll_core.specs.Requests.{next_of}
+use Rattle.coll_core.specs.declared.word.TheConstants.{WORD}
 
 -- the request's ticket, the action's round and index, its operation and type, and both operands
 pub record Piece : Type 0 where
@@ -39,6 +41,13 @@ pub record StandsAt (q : Live) (w : Piece) : Type 0 where
   pub left_is : read_of q.buf left ≡ w.left
   pub right_is : read_of q.buf right ≡ w.right
 
+-- a combination of operands of up to eight bytes
+abbrev pub IsShort : Action → Type 0
+IsShort (Combine op ty left right into) = left.len ≤ WORD
+IsShort (Send to from) = ⊥
+IsShort (Copy from into) = ⊥
+IsShort (Recv of into) = ⊥
+
 abbrev pub result_of : Piece → List ℕ
 result_of w = combined w.op w.ty w.left w.right
 
@@ -47,7 +56,7 @@ pub record Made : Type 0 where
   pub piece : Piece
   pub bytes : List ℕ
 
--- the request's next action is a Combine into a region of so many bytes
+-- the request's next action is a Combine into a region of that many bytes
 pub record Combines (q : Live) (len : ℕ) : Type 0 where
   pub op : Op
   pub ty : Datatype

@@ -1,4 +1,4 @@
-ghost use Rattle.std.specs.Prelude.{◌≡◌, ◌↔◌, ◌%◌, [], length, IfOk, IsOkUnless, IsTrue, OnErr, OnOk};
+ghost use Rattle.std.specs.Prelude.{◌≡◌, ◌≤◌, ◌↔◌, ◌%◌, [], length, IfOk, IsOkUnless, IsTrue, OnErr, OnOk};
 ghost use Rattle.coll_core.specs.Buffers.{HasRoom};
 ghost use Rattle.coll_kinds.specs.Checks.{allowed};
 ghost use Rattle.coll_kinds.specs.Elements.{width};
@@ -9,6 +9,7 @@ ghost use Rattle.coll_sched.specs.Regions.{Inside, read_of, written};
 
 use crate::combined::{combined, combined_few};
 use crate::contribution::Contribution;
+use crate::word::{WORD, Word};
 use coll_bytes::{Bytes, FEW, Segments, Shell};
 use coll_kinds::{Datatype, Op, Refusal};
 use coll_ops::are_same;
@@ -16,7 +17,7 @@ use coll_sched::{Action, Region, Round, Schedule};
 use std::alloc::Global;
 use std::marker::Model;
 
-/// Buffers of up to so many bytes lie together from the beginning: to share them costs more than to copy them.
+/// Buffers of up to this many bytes lie in one piece from the beginning: sharing them costs more than copying them.
 pub(crate) const SHORT: u32 = 1_024;
 
 /// What a long buffer has until its bytes lie together.
@@ -65,7 +66,7 @@ fn cut(buffer: Vec<u8>, region: Region) -> Vec<u8>
     bytes
 }
 
-/// Memory for a copy of up to so many bytes, where they aren't a few.
+/// Memory for a copy of up to this many bytes, unless they are few.
 fn spare(alloc: Global, len: usize) -> Result<Vec<u8>, Refusal>
     ensures room { IfOk result (λ spare. HasRoom spare len) }
     ensures refusal { IsOkUnless result Refusal.NoMemory }
@@ -196,6 +197,25 @@ impl Buffer {
         match &mut self.long {
             Some(long) => Ok(long.segments.part(alloc, from)?),
             None => Ok(Bytes::copy(alloc, from.read(&self.own))?),
+        }
+    }
+
+    /// The bytes of a region, up to eight of them. It takes no memory.
+    #[inline(always)]
+    pub(crate) fn word(&mut self, alloc: Global, from: Region) -> Word
+        requires inside { Inside (length self.old) from }
+        requires short { from.len ≤ WORD }
+        ensures word { result ≡ read_of self.old from }
+        ensures same { self.new ≡ self.old }
+    {
+        match &mut self.long {
+            Some(long) => {
+                let Ok(part) = long.segments.part(alloc, from) else {
+                    unreachable!()
+                };
+                Word::of(part.as_slice())
+            }
+            None => Word::of(from.read(&self.own)),
         }
     }
 

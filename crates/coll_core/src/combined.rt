@@ -1,4 +1,4 @@
-ghost use Rattle.std.specs.Prelude.{◌≡◌, ◌≤◌, ◌%◌, length, IfOk, IsOkUnless, IsTrue};
+ghost use Rattle.std.specs.Prelude.{◌≡◌, ◌≤◌, ◌%◌, ◌++◌, length, IfOk, IsOkUnless, IsTrue, OnOk};
 ghost use Rattle.coll_kinds.specs.Checks.{allowed};
 ghost use Rattle.coll_kinds.specs.Elements.{width};
 ghost use Rattle.coll_ops.specs.Combinations.{combined as combination};
@@ -6,8 +6,11 @@ ghost use Rattle.coll_ops.specs.Combinations.{combined as combination};
 use crate::buffer::SHORT;
 use coll_bytes::{Bytes, FEW};
 use coll_kinds::{Datatype, Op, Refusal};
-use coll_ops::{combine, combine_into};
-use std::alloc::Global;
+use coll_ops::combine_into;
+use std::alloc::{AllocError, Global};
+
+/// Long rows are combined in blocks of this many bytes (bench/RESULTS.md, "Memory").
+const BLOCK: usize = 8_192;
 
 /// The combination of two operands of a few bytes, `left` being the first. It takes no memory.
 #[inline(always)]
@@ -26,8 +29,52 @@ pub(crate) fn combined_few(op: Op, ty: Datatype, left: &[u8], right: &[u8]) -> B
     Bytes::few(out)
 }
 
-/// The combination of two operands, `left` being the first. Only NoMemory is refused; a few bytes take none. The block of a long one counts
-/// its owners: it is sent on, or it is the outcome.
+/// Appends the combination of two rows: the first is copied to the end, and combined with the second there.
+fn append_combination(
+    op: Op,
+    ty: Datatype,
+    left: &[u8],
+    right: &[u8],
+    row: &mut Vec<u8>,
+) -> Result<(), AllocError>
+    requires allowed { IsTrue (allowed op ty) }
+    requires whole { length left.now % width ty ≡ 0 }
+    requires same { length right.now ≡ length left.now }
+    ensures { OnOk result (row.new.items ≡ row.old.items ++ combination op ty left.now right.now) }
+{
+    let at = row.len();
+    row.extend_from_slice(left)?;
+    combine_into(op, ty, &mut row[at..], right);
+    Ok(())
+}
+
+/// The combination of two rows, made block by block: a block is still in the cache when it is combined after its copy, and no zeros are
+/// written before it.
+fn combined_row(
+    alloc: Global,
+    op: Op,
+    ty: Datatype,
+    left: &[u8],
+    right: &[u8],
+) -> Result<Vec<u8>, AllocError>
+    requires allowed { IsTrue (allowed op ty) }
+    requires whole { length left.now % width ty ≡ 0 }
+    requires same { length right.now ≡ length left.now }
+    ensures is { IfOk result (λ row. row.items ≡ combination op ty left.now right.now) }
+    ensures long { IfOk result (λ row. length row.items ≡ length left.now) }
+{
+    let mut row = Vec::with_capacity(alloc, left.len())?;
+    let mut done = 0;
+    while done < left.len() {
+        let end = done + (left.len() - done).min(BLOCK);
+        append_combination(op, ty, &left[done..end], &right[done..end], &mut row)?;
+        done = end;
+    }
+    Ok(row)
+}
+
+/// The combination of two operands, `left` being the first. Refuses NoMemory alone; a few bytes take no memory. The block of a long result
+/// counts its owners, since it is sent on or becomes the outcome.
 #[inline(always)]
 pub(crate) fn combined(
     alloc: Global,
@@ -47,9 +94,8 @@ pub(crate) fn combined(
     if len <= FEW {
         return Ok(combined_few(op, ty, left.as_slice(), right.as_slice()));
     }
-    let mut out = vec![in alloc; 0; len]?;
-    combine(op, ty, left.as_slice(), right.as_slice(), &mut out);
-    let mut result = Bytes::from_vec(out);
+    let row = combined_row(alloc, op, ty, left.as_slice(), right.as_slice())?;
+    let mut result = Bytes::from_vec(row);
     if len > SHORT as usize {
         result.count_owners(alloc)?;
     }

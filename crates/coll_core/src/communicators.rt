@@ -39,7 +39,7 @@ impl Model for Communicators {
     ghost invariant = { λ c. AreFew (groups_seen c.groups.items) };
 }
 
-/// The groups once more. Takes time and memory for each member.
+/// A copy of the groups. Takes time and memory for each member.
 ///
 /// # Errors
 ///
@@ -78,7 +78,7 @@ impl Communicators {
         Ok(Communicators { groups })
     }
 
-    /// These once more. Takes time and memory for each member.
+    /// A copy of these. Takes time and memory for each member.
     ///
     /// # Errors
     ///

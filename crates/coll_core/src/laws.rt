@@ -15,7 +15,7 @@ use crate::engine::Core;
 use coll_arena::{ListName, laws as arena_laws};
 use coll_lists::Columns;
 
-/// Between calls, in the words of the machine and of the lists: each slot stands once on one list, which tells its request's
+/// Between calls, in the words of the machine and of the lists: each slot stands once on one list, which names its request's
 /// phase and what that waits for; any two posting lists agree, and live requests stand for their entries; what is Done
 /// holds its value; and the sum of lent bytes is that over the active requests.
 pub fn between_calls(core: &Core)

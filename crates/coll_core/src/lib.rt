@@ -15,6 +15,8 @@
 //! | `shared_result` | results of long combinations that several members need |
 //! | `combined` | the combination of two operands, as `Bytes` |
 //! | `work` | `Work` and `DoneWork`, a combination that is computed outside the engine |
+//! | `short_work` | `ShortWork` and `DoneShortWork`, the same of a few bytes, by value |
+//! | `word` | `Word`, up to eight bytes |
 //! | `stepped` | `Stepped`, what a step did |
 //! | `engine` | `Core`, with its calls by what they do |
 //! | `laws` | what holds of an engine between its calls |
@@ -42,7 +44,9 @@ mod phase;
 mod request;
 mod sent;
 mod shared_result;
+mod short_work;
 mod stepped;
+mod word;
 mod work;
 
 pub use about::About;
@@ -54,5 +58,7 @@ pub use engine::Core;
 pub use offer::Offer;
 pub use outcome::Outcome;
 pub use phase::Phase;
+pub use short_work::{DoneShortWork, ShortWork};
 pub use stepped::Stepped;
+pub use word::WORD;
 pub use work::{DoneWork, Work};

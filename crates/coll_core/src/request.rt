@@ -9,11 +9,12 @@ ghost use Rattle.coll_tables.specs.Sound.{Stands};
 ghost use Rattle.coll_core.specs.Buffers.{HasRoom};
 ghost use Rattle.coll_core.specs.Requests.{PassesEnds, CanReceive, IsListOf, next_of, schedule, shown};
 ghost use Rattle.coll_core.specs.Advancing.{IsSent};
-ghost use Rattle.coll_core.specs.Works.{Combined, StandsAt};
+ghost use Rattle.coll_core.specs.Works.{Combined, IsShort, StandsAt, result_of};
 
 use crate::buffer::Buffer;
 use crate::sent::Sent;
 use crate::shared_result::{InstanceResults, LONG, share};
+use crate::short_work::{DoneShortWork, ShortWork};
 use crate::work::{DoneWork, Work};
 use coll_arena::{ListName, Ticket};
 use coll_bytes::Bytes;
@@ -55,7 +56,7 @@ impl Request {
         }
     }
 
-    /// The next action; none behind the last.
+    /// The next action; none after the last.
     pub(crate) fn next(&self) -> Option<Action>
         ensures is { result ≡ next_of (shown self.now) }
         ensures fits { IfSome result (λ action. Fits (schedule (shown self.now)).size action) }
@@ -87,7 +88,7 @@ impl Request {
         }
     }
 
-    /// Whether it waits for a message that is there. Where that is the one that was sent, no look-up is needed to tell so.
+    /// Whether it waits for a message that is there. For the message that was just sent no look-up is needed.
     pub(crate) fn can_receive(&self, matches: &Matches, sent: Sent) -> bool
         requires { IsSent matches.now sent }
         ensures { IsTrue result ↔ CanReceive (mail matches.now (key (shown self.now))) (shown self.now) }
@@ -166,6 +167,59 @@ impl Request {
         ))
     }
 
+    /// The combination that comes next, with its operands of up to eight bytes. It takes no memory.
+    #[inline(always)]
+    pub(crate) fn short_work(&mut self, alloc: Global, ticket: Ticket, action: Action) -> ShortWork
+        requires next { next_of (shown self.old) ≡ Some action }
+        requires short { IsShort action }
+        requires fits { Fits (schedule (shown self.old)).size action }
+        requires sized { length self.old.buffer ≡ (schedule (shown self.old)).size }
+        ensures same { self.new ≡ self.old }
+        ensures work { StandsAt (shown self.old) result }
+        ensures ticket { result.ticket ≡ ticket }
+    {
+        let Action::Combine {
+            op,
+            ty,
+            left,
+            right,
+            ..
+        } = action
+        else {
+            unreachable!()
+        };
+        let first = self.buffer.word(alloc, left);
+        let second = self.buffer.word(alloc, right);
+        ShortWork::new(ticket, self.round, self.index, op, ty, first, second)
+    }
+
+    /// The next action is the work's combination, with the same operands.
+    #[inline(always)]
+    pub(crate) fn stands_at_short(&self, work: &ShortWork) -> bool
+        requires { length self.now.buffer ≡ (schedule (shown self.now)).size }
+        ensures { IsTrue result ↔ StandsAt (shown self.now) work.now }
+    {
+        let Some(
+            Action::Combine {
+                op,
+                ty,
+                left,
+                right,
+                ..
+            },
+        ) = self.next()
+        else {
+            return false;
+        };
+        if self.round != work.round() || self.index != work.index() {
+            return false;
+        }
+        if !are_alike_short(op, ty, work) {
+            return false;
+        }
+        self.buffer.has(left, work.left()) && self.buffer.has(right, work.right())
+    }
+
     /// The next action is the work's combination, with the same operands.
     #[inline(always)]
     pub(crate) fn stands_at(&self, work: &Work) -> bool
@@ -205,6 +259,19 @@ impl Request {
         self.buffer.write(into, done.into_result());
     }
 
+    /// Writes the result of the combination that comes next.
+    pub(crate) fn write_short(&mut self, done: DoneShortWork)
+        requires stands { StandsAt (shown self.old) done.piece }
+        requires sized { length self.old.buffer ≡ (schedule (shown self.old)).size }
+        ensures wrote { Combined (shown self.old) (shown self.new) done.bytes }
+        ensures combined { done.bytes ≡ result_of done.piece }
+    {
+        let Some(Action::Combine { into, .. }) = self.next() else {
+            unreachable!()
+        };
+        self.buffer.write(into, done.into_result());
+    }
+
     /// Takes the outcome out of the buffer, with room for a copy of it, and goes back to the first round. The buffer is empty then.
     #[inline(always)]
     pub(crate) fn take_outcome(&mut self, alloc: Global) -> (Bytes, Vec<u8>)
@@ -218,6 +285,13 @@ impl Request {
         self.index = 0;
         self.buffer.take(alloc, output)
     }
+}
+
+/// Whether the work is of that operation and type.
+fn are_alike_short(op: Op, ty: Datatype, work: &ShortWork) -> bool
+    ensures { IsTrue result ↔ ((op ≡ work.now.op) × (ty ≡ work.now.ty)) }
+{
+    op == work.op() && ty == work.ty()
 }
 
 /// Whether the work is of that operation and type.

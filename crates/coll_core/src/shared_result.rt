@@ -14,10 +14,10 @@ use std::fmt::Write;
 use std::hint::spin_loop;
 use std::sync::Arc;
 
-/// A result is shared where it has at least so many bytes: the fewest with which that was measured to gain.
+/// A result of at least this many bytes is shared: the fewest for which a gain was measured.
 pub(crate) const LONG: u32 = 4_096;
 
-/// A member looks once for so many bytes whether another one has their result, before it computes that itself.
+/// The bytes of a result for which a member looks once whether another member has computed it, before it computes it itself.
 const BYTES_A_LOOK: usize = 64;
 
 /// A combination that was computed, with its operands.
@@ -73,7 +73,7 @@ impl SharedResult {
         known.result_of(op, ty, left, right)
     }
 
-    /// Looks so many times whether another member has computed the result.
+    /// Looks up to this many times whether another member has computed the result.
     fn await_known(&self, looks: usize) {
         for _look in 0..looks {
             if self.cell.get().is_some() {

@@ -1,2 +1,4 @@
 pub mod Answering
+pub mod Meaning
 pub mod Heading
+pub mod Cutting

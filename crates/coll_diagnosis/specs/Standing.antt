@@ -1,5 +1,5 @@
 -- What holds of a standstill that is reported, by the commands of the script and by the requests that they make.
-use Rattle.std.specs.Prelude.{◌≡◌, ℕ, ◌<◌, ◌==◌, nat_lt, Bool, true, false, not, ◌&&◌, ◌||◌, if◌then◌else◌, List, length, count_by, take, Option, Some, None, Vec, slice_get}
+use Rattle.std.specs.Prelude.{◌≡◌, ℕ, ◌==◌, nat_lt, Bool, true, false, not, ◌&&◌, ◌||◌, if◌then◌else◌, List, length, count_by, take, Option, Some, None, Vec, slice_get}
 use Rattle.std.specs.List.{list_any, list_all, range_with_len}
 use Rattle.std.specs.Global.{Global}
 use Rattle.std.specs.Str.{bytes_eq}
@@ -15,11 +15,10 @@ use Rattle.coll_history.specs.declared.request.Request.{Request}
 use Rattle.coll_history.specs.Code.{requests_view, rows_view}
 use Rattle.coll_history.specs.Histories.{History, is_persistent, starts}
 use Rattle.coll_history.specs.Requests.{requests}
-use Rattle.coll_diagnosis.specs.declared.cure.Move.{Move}
-use Rattle.coll_diagnosis.specs.declared.explanation.Shown.{Shown}
-use Rattle.coll_diagnosis.specs.declared.standstill.Lack.{Lack}
-use Rattle.coll_diagnosis.specs.declared.standstill.Pending.{Pending}
-use Rattle.coll_diagnosis.specs.declared.standstill.Stuck.{Stuck}
+use Rattle.coll_diagnosis.specs.declared.explanation.ShownStall.{ShownStall}
+use Rattle.coll_diagnosis.specs.declared.lack.Lack.{Lack}
+use Rattle.coll_diagnosis.specs.declared.pending.Pending.{Pending}
+use Rattle.coll_diagnosis.specs.declared.stuck.Stuck.{Stuck}
 use Rattle.coll_diagnosis.specs.declared.standstill.Standstill.{Standstill}
 
 -- ---- commands
@@ -48,6 +47,18 @@ awaits q (WaitAny qs) = is_among q qs
 awaits q (WaitSome qs) = is_among q qs
 awaits q (WaitAll qs) = is_among q qs
 
+-- it doesn't return before its request q is complete
+abbrev pub completes : ℕ → Command → Bool
+completes q (Post comm sig given) = false
+completes q (Init comm sig) = false
+completes q (Start other given) = false
+completes q (Wait other) = other == q
+completes q (Test other) = false
+completes q (Free other) = false
+completes q (WaitAny qs) = false
+completes q (WaitSome qs) = false
+completes q (WaitAll qs) = is_among q qs
+
 -- the rank waits in that line
 abbrev pub waits_in : ℕ → ℕ → IssuedCommand → Bool
 waits_in rank line t = t.line == line && t.rank == rank && waits t.command
@@ -63,6 +74,10 @@ starts_in rank line q t = t.line == line && t.rank == rank && starts q t.command
 -- it starts it before that line
 abbrev pub starts_before : ℕ → ℕ → ℕ → IssuedCommand → Bool
 starts_before rank line q t = nat_lt t.line line && t.rank == rank && starts q t.command
+
+-- after that line it starts it again, or a call of it doesn't return before the request is complete
+abbrev pub ends_after : ℕ → ℕ → ℕ → IssuedCommand → Bool
+ends_after rank line q t = nat_lt line t.line && t.rank == rank && (starts q t.command || completes q t.command)
 
 -- ---- requests of a rank, in the order in which it makes them
 
@@ -133,9 +148,10 @@ abbrev pub request_holds : List IssuedCommand → List (Vec Request Global) → 
 request_holds issued ranks groups rank own pending None = false
 request_holds issued ranks groups rank own pending (Some r) = fits issued rank own pending r && lacks_hold issued ranks groups pending r
 
--- the call in that line waits for the request, which was started before; no line is that of the unwritten waitall after all lines
+-- the call in that line waits for the request, which was started before; no line is that of the unwritten waitall after all lines, which
+-- waits for a request that no line ends after its start
 abbrev pub call_awaits : List IssuedCommand → ℕ → Option ℕ → Pending → Bool
-call_awaits issued rank None pending = true
+call_awaits issued rank None pending = not (list_any (ends_after rank pending.line pending.request) issued)
 call_awaits issued rank (Some line) pending =
     nat_lt pending.line line && list_any (awaits_in rank line pending.request) issued
 
@@ -200,10 +216,6 @@ IsStandstill h standstill =
     × (standstill_holds h.commands ranks groups standstill ≡ true)
 
 -- what is shown of a stall: where the ranks stand, and some of them that wait for one another
-pub record IsShown (h : History) (shown : Shown) : Type 0 where
+pub record IsShown (h : History) (shown : ShownStall) : Type 0 where
   pub standing : IsStandstill h shown.standstill
   pub ring : circle_holds shown.ring.items shown.standstill.stuck.items ≡ true
-
--- the line is moved behind a later one
-abbrev pub IsLater : Move → Type 0
-IsLater move = move.line < move.behind

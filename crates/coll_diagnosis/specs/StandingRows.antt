@@ -11,9 +11,10 @@ use Rattle.coll_kinds.specs.declared.signature.Signature.{Signature}
 use Rattle.coll_history.specs.declared.command.Command.TheVariants.{Post, Wait}
 use Rattle.coll_history.specs.declared.issued_command.IssuedCommand.{IssuedCommand}
 use Rattle.coll_history.specs.declared.request.Request.{Request}
-use Rattle.coll_diagnosis.specs.declared.standstill.Lack.{Lack}
-use Rattle.coll_diagnosis.specs.declared.standstill.Pending.{Pending}
-use Rattle.coll_diagnosis.specs.Standing.{behind_holds, call_awaits, lack_holds, need_holds, peer_holds, place_of, request_holds}
+use Rattle.coll_diagnosis.specs.declared.lack.Lack.{Lack}
+use Rattle.coll_diagnosis.specs.declared.pending.Pending.{Pending}
+use Rattle.coll_diagnosis.specs.declared.stuck.Stuck.{Stuck}
+use Rattle.coll_diagnosis.specs.Standing.{call_awaits, circle_holds, ends_hold, lack_holds, need_holds, peer_holds, place_of, request_holds}
 
 abbrev barrier : Signature
 barrier = record { kind = Barrier; mode = Once; root = 0; op = None; ty = Byte; count = 0; each = None }
@@ -69,6 +70,11 @@ place_of_the_second starts = refl
 awaited : (kind : Bor (List ℕ)) (lacks : Vec Lack Global) → call_awaits crossed 0 (Some 5) (waiting kind lacks 4 0 0 false) ≡ true
 awaited kind lacks = refl
 
+-- after its last line rank 1 waits for what it posted there
+awaited_at_the_end : (kind : Bor (List ℕ)) (lacks : Vec Lack Global)
+    → call_awaits crossed 1 None (record (waiting kind lacks 10 0 0 false) { request = 1 }) ≡ true
+awaited_at_the_end kind lacks = refl
+
 peer : (starts : Starts) (kind : Bor (List ℕ)) (lacks : Vec Lack Global)
     → peer_holds crossed (waiting kind lacks 4 0 0 false) (lacking 1 10 9 true) (of_rank_1 starts) (its_second (of_rank_1 starts)) ≡ true
 peer starts kind lacks = refl
@@ -78,6 +84,10 @@ peer starts kind lacks = refl
 -- another line of the call, in which the rank doesn't wait
 another_call : (kind : Bor (List ℕ)) (lacks : Vec Lack Global) → call_awaits crossed 0 (Some 6) (waiting kind lacks 4 0 0 false) ≡ false
 another_call kind lacks = refl
+
+-- the unwritten waitall, though the rank waits in line 5
+no_call : (kind : Bor (List ℕ)) (lacks : Vec Lack Global) → call_awaits crossed 0 None (waiting kind lacks 4 0 0 false) ≡ false
+no_call kind lacks = refl
 
 -- a request that the call doesn't name
 another_request : (kind : Bor (List ℕ)) (lacks : Vec Lack Global)
@@ -113,3 +123,11 @@ nothing_rests starts = refl
 -- a line of the lacking rank before that in which it waits
 too_early : (own : Request) (ranks : List (Vec Request Global)) (pending : Pending) → lack_holds crossed ranks 2 own pending (lacking 1 8 9 true) ≡ false
 too_early own ranks pending = refl
+
+-- nobody waits for another one, and no ring is shown
+no_ring : (stuck : List Stuck) → circle_holds [] stuck ≡ false
+no_ring stuck = refl
+
+-- a rank that is neither said to wait nor to have ended
+nowhere : ends_hold 1 [] [] ≡ false
+nowhere = refl

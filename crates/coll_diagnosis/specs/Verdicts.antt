@@ -1,7 +1,13 @@
--- The exit status of a verdict.
-use Rattle.std.specs.Prelude.{◌≡◌, ◌++◌, ℕ, ◌⊎◌, Bool, true, false, List, codes}
+-- What a verdict means, its exit status and its words.
+use Rattle.std.specs.Prelude.{◌≡◌, ◌++◌, ℕ, ◌⊎◌, Bool, true, false, List, Ok, codes}
+use Rattle.std.specs.Fmt.{decimal}
+use Rattle.std.specs.List.{list_any}
+use Rattle.coll_history.specs.Cutting.{is_line_feed}
+use Rattle.coll_history.specs.Histories.{History}
+use Rattle.coll_script.specs.Jobs.{script_of}
+use Rattle.coll_verdict.specs.Stalls.{StallsAlways, StallsNever}
 use Rattle.coll_diagnosis.specs.declared.explaining.ExplainOptions.{ExplainOptions}
-use Rattle.coll_diagnosis.specs.declared.explaining.Form.TheVariants.{Text}
+use Rattle.coll_diagnosis.specs.declared.explaining.Form.TheVariants.{Text, Json}
 use Rattle.coll_diagnosis.specs.declared.verdict.Verdict.{Verdict}
 use Rattle.coll_diagnosis.specs.declared.verdict.Verdict.TheVariants.{Never, NeverHere, Perhaps, AlwaysHere, Always}
 
@@ -23,24 +29,78 @@ is_always_here Perhaps = false
 is_always_here AlwaysHere = true
 is_always_here Always = true
 
+-- what a verdict means of all runs of a job, with every library and whatever its limits; of the others nothing is proved
+abbrev pub Means : Verdict → History → Type 0
+Means Never h = StallsNever h
+Means NeverHere h = Unit {0}
+Means Perhaps h = Unit {0}
+Means AlwaysHere h = Unit {0}
+Means Always h = StallsAlways h
+
+-- it means something, so it is proved
+abbrev pub is_proved : Verdict → Bool
+is_proved Never = true
+is_proved NeverHere = false
+is_proved Perhaps = false
+is_proved AlwaysHere = false
+is_proved Always = true
+
+-- the same of the job of a text
+abbrev pub MeansOf : List ℕ → Verdict → Type 0
+MeansOf text verdict = (h : History) → script_of text ≡ Ok h → Means verdict h
+
 -- the exit status of some verdict
 abbrev pub IsStatus : ℕ → Type 0
 IsStatus status = (status ≡ 0) ⊎ ((status ≡ 3) ⊎ (status ≡ 6))
 
--- the words of a verdict, with which lines for a reader begin
+-- the words of a verdict, with which lines for a reader begin: those of no other begin with them
 abbrev pub heading : Verdict → List ℕ
 heading Never = codes "never stalls"
 heading NeverHere = codes "warning: no run of this engine stalls"
 heading Perhaps = codes "warning: may stall"
-heading AlwaysHere = codes "stalled"
-heading Always = codes "stalled"
+heading AlwaysHere = codes "stalled in every run of this engine"
+heading Always = codes "stalled in every run, with every MPI library"
 
 -- the bytes begin with these
 abbrev pub Begins : List ℕ → List ℕ → Type 0
 Begins front bytes = (rest : List ℕ) × (bytes ≡ front ++ rest)
 
--- what an explanation says: the status is that of a verdict, and lines for a reader begin with the words of that verdict
+-- the verdict in a word of JSON
+abbrev pub word : Verdict → List ℕ
+word Never = codes "never"
+word NeverHere = codes "never here"
+word Perhaps = codes "perhaps"
+word AlwaysHere = codes "always here"
+word Always = codes "always"
+
+abbrev pub truth_word : Bool → List ℕ
+truth_word true = codes "true"
+truth_word false = codes "false"
+
+-- the object of JSON with a verdict, whether it is proved, the details, and the exit status
+abbrev pub explained_object : Verdict → List ℕ → ℕ → List ℕ
+explained_object verdict details status =
+    codes "{\"reason\":\"explained\",\"verdict\":\""
+    ++ (word verdict ++ (codes "\",\"proved\":" ++ (truth_word (is_proved verdict) ++ (codes "," ++ (details ++ (codes ",\"status\":" ++ (decimal status ++ codes "}\n")))))))
+
+-- the line is such an object, whose details are in one line
+abbrev pub IsExplained : Verdict → ℕ → List ℕ → Type 0
+IsExplained verdict status line =
+    (details : List ℕ) × (line ≡ explained_object verdict details status) × (list_any is_line_feed details ≡ false)
+
+-- JSON ends with such a line
+abbrev pub EndsExplained : Verdict → ℕ → List ℕ → Type 0
+EndsExplained verdict status lines = (objects line : List ℕ) × (lines ≡ objects ++ line) × IsExplained verdict status line
+
+-- what an explanation says: the status is that of a verdict, lines for a reader begin with the words of that verdict, and JSON
+-- ends with an object that names it
 pub record Says (options : ExplainOptions) (status : ℕ) (lines : List ℕ) : Type 0 where
   pub verdict : Verdict
   pub status_is : status ≡ status_of options.is_strict verdict
   pub words : options.form ≡ Text → Begins (heading verdict) lines
+  pub object : options.form ≡ Json → EndsExplained verdict status lines
+
+-- and the verdict is true of the text
+pub record IsTrueOf (text : List ℕ) (options : ExplainOptions) (status : ℕ) (lines : List ℕ) : Type 0 where
+  pub says : Says options status lines
+  pub means : MeansOf text says.verdict

@@ -1,11 +1,11 @@
-//! Who waits for themselves.
+//! The ranks that wait for themselves by way of others.
 
 use crate::members::Members;
-use crate::standstill::Stuck;
+use crate::stuck::Stuck;
 use coll_kinds::MAX_RANKS;
 use std::alloc::{AllocError, Global};
 
-/// The ranks, of those that wait, that wait for themselves by way of others, in rising order. Cubic in the ranks.
+/// The ranks that wait for themselves by way of others, in rising order, of those that wait at all. Cubic in the ranks.
 pub(crate) fn circle(alloc: Global, stuck: &[Stuck]) -> Result<Vec<u8>, AllocError> {
     let mut awaited = awaited(alloc, stuck)?;
     for by in 0..MAX_RANKS as u8 {
@@ -18,7 +18,7 @@ pub(crate) fn circle(alloc: Global, stuck: &[Stuck]) -> Result<Vec<u8>, AllocErr
         .collect(alloc)
 }
 
-/// For whom each rank waits.
+/// For each rank, the ranks for which it waits.
 pub(crate) fn awaited(alloc: Global, stuck: &[Stuck]) -> Result<Vec<Members>, AllocError> {
     let mut awaited = vec![in alloc; Members::NONE; MAX_RANKS]?;
     for stuck in stuck {
@@ -29,7 +29,7 @@ pub(crate) fn awaited(alloc: Global, stuck: &[Stuck]) -> Result<Vec<Members>, Al
     Ok(awaited)
 }
 
-/// Notes for whom a rank waits.
+/// Adds the ranks for which this rank waits.
 fn note(stuck: &Stuck, awaited: &mut Members) {
     for request in &stuck.requests {
         for lack in &request.lacks {
@@ -38,7 +38,7 @@ fn note(stuck: &Stuck, awaited: &mut Members) {
     }
 }
 
-/// Whoever waits for this rank waits for all for whom it waits.
+/// Adds, for each rank that waits for `by`, all ranks for which `by` waits.
 fn pass_on(by: u8, awaited: &mut [Members]) {
     let Some(further) = awaited.get(usize::from(by)).copied() else {
         return;

@@ -1,45 +1,48 @@
 use crate::job::Job;
 use crate::place::{Peer, Place};
-use crate::section::Made;
-use crate::step::{Act, Call, Step};
-use crate::waiting::Waiting;
+use crate::section::MadeRequest;
+use crate::step::{Act, Completes, Step};
+use crate::waiting::WaitsFor;
 use coll_kinds::MAX_RANKS;
 use coll_script::Named;
 use std::alloc::{AllocError, Global};
 
-/// What a call completes of several requests where that depends on time.
+/// Which of several requests a call completes if that depends on time.
 #[derive(Clone, Copy, Debug, PartialEq, Eq)]
 pub enum Choice {
-    /// Whatever hinders the ranks most: a rank goes on only where it does in every run.
+    /// The choice that hinders the ranks most: a rank goes on only if it does in every run. Where all members are waited for,
+    /// an initialisation waits for them too.
     Worst,
-    /// Whatever helps them most: a rank stands only where it does in every run.
+    /// The choice that helps the ranks most: a rank stands still only if it does in every run.
     Best,
-    /// Of those that are done the one that is named first, as in some run.
+    /// The first named of the requests that are done, as in some run.
     First,
-    /// Of those that are done the one that is named last, as in some run.
+    /// The last named of the requests that are done, as in some run.
     Last,
 }
 
-/// How far the ranks of a job come, each of which goes on while it can.
+/// How far the ranks of a job come if each goes on while it can.
 #[derive(Debug, Drop)]
 pub struct Course<'j> {
     job: &'j Job,
-    waiting: Waiting,
+    waiting: WaitsFor,
     choice: Choice,
     stands: Vec<Stand>,
+    /// The ranks that passed a step, in the order in which they did.
+    order: Vec<u8>,
 }
 
 /// How far a rank has come.
 #[derive(Debug, Drop)]
 struct Stand {
-    /// The steps behind it.
+    /// The number of steps that it has passed.
     at: usize,
-    requests: Vec<Standing>,
+    requests: Vec<RequestStanding>,
 }
 
 /// What a rank has done with a request.
 #[derive(Clone, Copy, Debug, PartialEq, Eq)]
-struct Standing {
+struct RequestStanding {
     starts: u32,
     activity: Activity,
 }
@@ -48,29 +51,29 @@ struct Standing {
 enum Activity {
     Inactive,
     Active,
-    /// A call may have completed it or not.
+    /// A call may have completed it, or may not.
     Unsure,
 }
 
-/// What a call finds of the requests that it names.
+/// What a call finds about the requests that it names.
 #[derive(Clone, Copy, Debug)]
 struct Found {
-    /// Some are active, or may be.
+    /// Some are active, or may be. The fields below speak of these.
     any_live: bool,
-    /// Some of these are done.
+    /// Some of the active ones are done.
     any_done: bool,
-    /// All of these are done.
+    /// All of the active ones are done.
     all_done: bool,
-    /// Some are surely active, and done.
+    /// Some are surely active and are done.
     any_sure: bool,
 }
 
 impl<'j> Course<'j> {
-    /// Lets all ranks go on until none can. The cost is at most quadratic in the steps, and of most texts linear.
+    /// Lets all ranks go on until none can. The cost is at most quadratic in the steps, and linear for most texts.
     pub fn of(
         alloc: Global,
         job: &'j Job,
-        waiting: Waiting,
+        waiting: WaitsFor,
         choice: Choice,
     ) -> Result<Course<'j>, AllocError> {
         let mut course = Course {
@@ -78,28 +81,41 @@ impl<'j> Course<'j> {
             waiting,
             choice,
             stands: stands(alloc, job)?,
+            order: Vec::new(alloc),
         };
         for _ in 0..=job.step_count() {
-            if !course.advance_all() {
+            if !course.advance_all()? {
                 break;
             }
         }
         Ok(course)
     }
 
+    /// The job whose ranks go on.
     pub fn job(&self) -> &'j Job {
         self.job
     }
 
-    pub fn waiting(&self) -> Waiting {
+    /// For which members completions wait in this course.
+    pub fn waiting(&self) -> WaitsFor {
         self.waiting
     }
 
-    /// The step that a rank hasn't passed; none at its end.
+    /// The step that a rank hasn't passed; None at its end.
     pub fn step_of(&self, rank: u8) -> Option<&'j Step> {
         let section = self.job.sections.get(usize::from(rank))?;
         let stand = self.stands.get(usize::from(rank))?;
         section.steps.get(stand.at)
+    }
+
+    /// How many steps each rank has passed.
+    pub fn stands(&self, alloc: Global) -> Result<Vec<usize>, AllocError> {
+        self.stands.iter().map(|stand| stand.at).collect(alloc)
+    }
+
+    /// The ranks in the order in which they passed their steps: each as often as it passed one.
+    pub fn order(&self) -> &[u8] {
+        &self.order
     }
 
     /// Whether some rank hasn't come to its end.
@@ -111,7 +127,7 @@ impl<'j> Course<'j> {
             .any(|(section, stand)| stand.at < section.steps.len())
     }
 
-    /// The number of the start that a request is active with; none of one that surely isn't active.
+    /// The number of the start with which a request is active; None if it surely isn't active.
     pub fn start_of(&self, rank: u8, request: usize) -> Option<u32> {
         let standing = self.standing(rank, request)?;
         if standing.activity == Activity::Inactive {
@@ -120,49 +136,78 @@ impl<'j> Course<'j> {
         standing.starts.checked_sub(1)
     }
 
-    /// Whether a member at a place waits for another one to join so many starts, and that one hasn't.
+    /// Whether `member` waits at this place for `other` to join the start of that number, and `other`, whose request is `peer`,
+    /// hasn't joined it yet.
     pub fn lacks(&self, place: &Place, start: u32, member: u8, other: u8, peer: Peer) -> bool {
         place.waits_for(self.waiting, member, other) && !self.has_joined(peer, start)
     }
 
-    /// Whether each rank has come as far as it can: no step could be passed.
-    fn advance_all(&mut self) -> bool {
+    /// Lets each rank go on while it can. Returns whether some rank passed a step.
+    fn advance_all(&mut self) -> Result<bool, AllocError> {
         let mut has_moved = false;
         for rank in 0..self.job.ranks {
-            has_moved = self.advance(rank) || has_moved;
+            has_moved = self.advance(rank)? || has_moved;
         }
-        has_moved
+        Ok(has_moved)
     }
 
-    /// Lets a rank go on while it can. Tells whether it could.
-    fn advance(&mut self, rank: u8) -> bool {
+    /// Lets a rank go on while it can. Returns whether it passed a step.
+    fn advance(&mut self, rank: u8) -> Result<bool, AllocError> {
         let mut has_moved = false;
         for _ in 0..self.job.step_count() {
-            if !self.pass(rank) {
+            if !self.pass(rank)? {
                 break;
             }
             has_moved = true;
         }
-        has_moved
+        Ok(has_moved)
     }
 
-    /// Lets a rank pass one step, if it can.
-    fn pass(&mut self, rank: u8) -> bool {
+    /// Lets a rank pass one step, if it can, and notes it. Returns whether it did.
+    fn pass(&mut self, rank: u8) -> Result<bool, AllocError> {
         let Some(step) = self.step_of(rank) else {
-            return false;
+            return Ok(false);
         };
         match &step.act {
             Act::Still => {}
+            Act::Make(request) => {
+                if !self.makes(rank, *request) {
+                    return Ok(false);
+                }
+            }
             Act::Give(request) => self.give(rank, *request),
             Act::Complete { call, requests } => {
                 if !self.ends(rank, *call, requests) {
-                    return false;
+                    return Ok(false);
                 }
                 self.complete(rank, *call, requests);
             }
         }
         self.step_over(rank);
-        true
+        self.order.push(rank)?;
+        Ok(true)
+    }
+
+    /// Whether an initialisation returns: MPI lets a library wait in it until all members have come to it (MPI 4.1, 6.13).
+    fn makes(&self, rank: u8, request: usize) -> bool {
+        if self.waiting != WaitsFor::All || self.choice != Choice::Worst {
+            return true;
+        }
+        match self.made(rank, request) {
+            Some((_, place)) => place.peers.iter().all(|peer| self.has_come(*peer)),
+            None => true,
+        }
+    }
+
+    /// Whether a rank has made its request, or makes it next.
+    fn has_come(&self, peer: Peer) -> bool {
+        let Some((made, _)) = self.made(peer.rank, peer.request) else {
+            return false;
+        };
+        let Some(stand) = self.stands.get(usize::from(peer.rank)) else {
+            return false;
+        };
+        made.step <= stand.at
     }
 
     fn step_over(&mut self, rank: u8) {
@@ -178,14 +223,14 @@ impl<'j> Course<'j> {
         }
     }
 
-    /// Whether the call of a rank ends.
-    fn ends(&self, rank: u8, call: Call, requests: &Named) -> bool {
+    /// Whether the call of a rank returns.
+    fn ends(&self, rank: u8, call: Completes, requests: &Named) -> bool {
         let found = self.found(rank, requests);
         match call {
-            Call::Test => true,
-            Call::All => found.all_done,
-            Call::Any | Call::Some if !found.any_live => true,
-            Call::Any | Call::Some => match self.choice {
+            Completes::Test => true,
+            Completes::All => found.all_done,
+            Completes::Any | Completes::Some if !found.any_live => true,
+            Completes::Any | Completes::Some => match self.choice {
                 Choice::Worst => found.any_sure || found.all_done,
                 Choice::Best | Choice::First | Choice::Last => found.any_done,
             },
@@ -205,7 +250,7 @@ impl<'j> Course<'j> {
         found
     }
 
-    /// The activity of a request, and whether it is done.
+    /// Whether a request is active, and whether it is done.
     fn look(&self, rank: u8, request: usize) -> (Activity, bool) {
         match self.standing(rank, request) {
             Some(standing) if standing.activity != Activity::Inactive => (
@@ -216,8 +261,8 @@ impl<'j> Course<'j> {
         }
     }
 
-    /// Notes what a call that ends has done to the requests that it names.
-    fn complete(&mut self, rank: u8, call: Call, requests: &Named) {
+    /// Notes what a call that returns has done to the requests that it names.
+    fn complete(&mut self, rank: u8, call: Completes, requests: &Named) {
         let picked = self.picked(rank, requests);
         for index in 0..requests.len() {
             let request = requests.get(index);
@@ -228,23 +273,23 @@ impl<'j> Course<'j> {
         }
     }
 
-    /// How active a request is behind a call that names it, which may take this one of several that are done.
+    /// How active a request is after a call that names it. `picked` is the one that the call completes if it completes one alone.
     fn activity_behind(
         &self,
         rank: u8,
-        call: Call,
+        call: Completes,
         request: usize,
         picked: Option<usize>,
     ) -> Activity {
         let (activity, is_done) = self.look(rank, request);
-        if activity == Activity::Inactive || call == Call::All {
+        if activity == Activity::Inactive || call == Completes::All {
             return Activity::Inactive;
         }
         if self.choice == Choice::Worst || self.choice == Choice::Best {
             return Activity::Unsure;
         }
         let is_completed = match call {
-            Call::Any => picked == Some(request),
+            Completes::Any => picked == Some(request),
             _ => is_done,
         };
         if is_completed {
@@ -254,7 +299,7 @@ impl<'j> Course<'j> {
         }
     }
 
-    /// The one of these requests that a call for one of them completes.
+    /// Of these requests, the one that a call for one of them completes.
     fn picked(&self, rank: u8, requests: &Named) -> Option<usize> {
         let mut picked = None;
         for index in 0..requests.len() {
@@ -267,7 +312,7 @@ impl<'j> Course<'j> {
         picked
     }
 
-    /// Whether an active request is done: all for whom its completion waits have joined.
+    /// Whether an active request is done: all members for which its completion waits have joined.
     fn is_done(&self, rank: u8, request: usize) -> bool {
         let Some((made, place)) = self.made(rank, request) else {
             return false;
@@ -280,7 +325,7 @@ impl<'j> Course<'j> {
     }
 
     /// A request of a rank, and its place.
-    pub fn made(&self, rank: u8, request: usize) -> Option<(&'j Made, &'j Place)> {
+    pub fn made(&self, rank: u8, request: usize) -> Option<(&'j MadeRequest, &'j Place)> {
         let section = self.job.sections.get(usize::from(rank))?;
         let made = section.requests.get(request)?;
         let place = self.job.places.get(made.place)?;
@@ -295,19 +340,19 @@ impl<'j> Course<'j> {
         }
     }
 
-    fn standing(&self, rank: u8, request: usize) -> Option<Standing> {
+    fn standing(&self, rank: u8, request: usize) -> Option<RequestStanding> {
         let stand = self.stands.get(usize::from(rank))?;
         stand.requests.get(request).copied()
     }
 
-    fn standing_mut(&mut self, rank: u8, request: usize) -> Option<&mut Standing> {
+    fn standing_mut(&mut self, rank: u8, request: usize) -> Option<&mut RequestStanding> {
         let stand = self.stands.get_mut(usize::from(rank))?;
         stand.requests.get_mut(request)
     }
 }
 
 impl Found {
-    /// Notes one more request: how active it is, and whether it is done.
+    /// Takes in one more request: how active it is, and whether it is done.
     fn note(&mut self, (activity, is_done): (Activity, bool)) {
         if activity == Activity::Inactive {
             return;
@@ -319,11 +364,11 @@ impl Found {
     }
 }
 
-/// All ranks at their beginnings.
+/// The state of all ranks at the beginning.
 fn stands(alloc: Global, job: &Job) -> Result<Vec<Stand>, AllocError> {
     let mut stands = Vec::new(alloc);
     for section in &job.sections {
-        let standing = Standing {
+        let standing = RequestStanding {
             starts: 0,
             activity: Activity::Inactive,
         };

@@ -1,13 +1,16 @@
 //! An explanation as a graph in the language of Graphviz.
 
-use crate::explanation::{Explanation, Shown};
+use crate::explanation::{Explanation, ShownStall};
+use crate::lack::Lack;
 use crate::members::Members;
-use crate::source::Source;
-use crate::standstill::{Lack, Pending, Standstill, Stuck};
+use crate::pending::Pending;
+use crate::standstill::Standstill;
+use crate::stuck::Stuck;
+use coll_page::Source;
 use std::alloc::{AllocError, Global};
 
-/// A graph with an arrow from each rank of a shortest circle to each one of it that it lacks; of the whole, those of all ranks that wait.
-/// An arrow is dashed where the outcome doesn't rest on what the lacking one gives.
+/// A graph with an arrow from each rank of a shortest circle to each rank of the circle that it lacks; if the whole is wanted,
+/// the arrows of all ranks that wait. An arrow is dashed if the outcome doesn't need what the lacking member gives.
 pub(crate) fn dot_form(
     alloc: Global,
     is_whole: bool,
@@ -26,8 +29,8 @@ pub(crate) fn dot_form(
     Ok(out)
 }
 
-/// The ranks that are drawn, of those that wait.
-fn drawn(shown: &Shown, is_whole: bool) -> Members {
+/// The ranks that may be drawn: all if the whole is wanted, else those of the shortest circle.
+fn drawn(shown: &ShownStall, is_whole: bool) -> Members {
     if is_whole {
         Members::ALL
     } else {
@@ -35,8 +38,8 @@ fn drawn(shown: &Shown, is_whole: bool) -> Members {
     }
 }
 
-/// Says what isn't drawn.
-fn push_left_out(shown: &Shown, is_whole: bool, out: &mut String) -> Result<(), AllocError> {
+/// Writes a comment if some rank that waits isn't drawn.
+fn push_left_out(shown: &ShownStall, is_whole: bool, out: &mut String) -> Result<(), AllocError> {
     let waiting = shown.standstill.stuck.len();
     if is_whole || shown.ring.len() == waiting {
         return Ok(());
@@ -71,8 +74,8 @@ fn push_rank(
     let rank = stuck.rank;
     match stuck.line {
         Some(line) => {
-            let shown = source.shown(alloc, line)?;
-            let command = shown.as_str().trim_start();
+            let excerpt = source.excerpt(alloc, line)?;
+            let command = excerpt.words();
             writeln!(
                 out,
                 "  {rank} [label=\"rank {rank}\\nline {line}: {command}\"];"

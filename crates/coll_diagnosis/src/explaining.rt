@@ -1,18 +1,19 @@
-//! From a reader to a writer: a text explained.
+//! Explains a text, from a reader to a writer.
 
 ghost use Rattle.std.specs.Prelude.{◌≡◌, ◌≢◌, ℕ, List, IfOk, IfErr, IfSome, OnOk, IsOkUnless};
 ghost use Rattle.std.specs.Io.KnownBytes.{Appends, Keeps};
 ghost use Rattle.std.specs.String.{string_bytes};
 ghost use Rattle.coll_script.specs.Meaning.{HasMeaning};
 ghost use Rattle.coll_script.specs.Plain.{HasCause, IsFaultOf, IsInputFault};
-ghost use Rattle.coll_diagnosis.specs.Verdicts.{Begins, IsStatus, Says, heading};
+ghost use Rattle.coll_diagnosis.specs.Unstalled.{IsNoStall};
+ghost use Rattle.coll_diagnosis.specs.Verdicts.{Begins, EndsExplained, IsStatus, IsTrueOf, MeansOf, Says, heading};
 
 use crate::dot_form::dot_form;
 use crate::explanation::Explanation;
 use crate::json_form::json_form;
 use crate::text_form::text_form;
 use coll_kinds::Refusal;
-use coll_script::{Counted, JobFault, Script, Witnessed, read_text, write_lines};
+use coll_script::{CountedReader, JobFault, Script, Witnessed, read_text, write_lines};
 use std::alloc::Global;
 use std::io::{Read, Write};
 
@@ -22,8 +23,10 @@ pub struct ExplainOptions {
     pub form: Form,
     /// Whether a stall with another library counts.
     pub is_strict: bool,
-    /// Whether lines and a graph have every rank that waits in full, and not a shortest circle alone.
+    /// Whether lines and a graph show every rank that waits in full, in place of a shortest circle alone.
     pub is_whole: bool,
+    /// Whether lines for a reader have colours.
+    pub is_colored: bool,
 }
 
 /// What an explanation is written as.
@@ -33,24 +36,29 @@ pub enum Form {
     Text,
     /// JSON, an object in each line.
     Json,
-    /// A graph of who waits for whom.
+    /// A graph with an arrow from each rank that waits to the ranks for which it waits.
     Dot,
 }
 
-/// An explanation as it is written, and the exit status of its verdict.
+/// An explanation as it is written, with the exit status of its verdict.
 #[derive(Debug, Drop)]
 pub struct ExplainedText {
     pub lines: String,
     pub status: u8,
 }
 
-/// Reads the text that has this name, and writes who waits for whom in it. Answers the exit status of its verdict. At a
-/// fault nothing is written, but at a write fault.
+/// Reads the text that has this name, and writes which rank waits for which. Returns the exit status of its verdict. If it
+/// returns a fault, nothing was written, except at a write fault.
+///
+/// # Errors
+///
+/// `Read` if the reader failed, `Text` if the text has a fault, `Write` if the writer failed, and `Memory` if memory was
+/// refused. `Torn` or `Refused` if the text can't be explained, which doesn't happen.
 pub fn explain_job<R: Read, W: Write>(
     alloc: Global,
     name: &str,
     options: ExplainOptions,
-    reader: &mut Counted<'_, R>,
+    reader: &mut CountedReader<'_, R>,
     writer: &mut Witnessed<'_, W>,
 ) -> Result<u8, JobFault>
     requires unread { reader.old.reads ≡ 0 }
@@ -59,9 +67,12 @@ pub fn explain_job<R: Read, W: Write>(
     ensures status { IfOk result IsStatus }
     // What was written, and nothing else, is an explanation with that status.
     ensures said { IfOk result (λ status. (lines : List ℕ) × Says options status lines × Appends (W.contents writer.old.stream.now) (W.contents writer.new.stream.now) lines) }
-    // The fault of a text is the one that its definition gives.
+    // The same, and the verdict that it names is true of the text.
+    ensures verdict { IfOk result (λ status. (lines : List ℕ) × IfSome (R.remaining reader.old.reader.now) (λ text. IsTrueOf text options status lines) × Appends (W.contents writer.old.stream.now) (W.contents writer.new.stream.now) lines) }
+    // The fault of a text is the one that the definition of a text's meaning gives.
     ensures faults { IfErr result (IsInputFault (R.remaining reader.old.reader.now)) }
-    // A read fault is answered only where the reader failed, and a write fault only where the writer did.
+    ensures unstalled { IfErr result IsNoStall }
+    // The result is a read fault only if the reader failed, and a write fault only if the writer did.
     ensures cause { IfErr result (λ fault. HasCause fault reader.new.failed writer.new.failed) }
     ensures same_writer { writer.new.stream.ghost_name ≡ writer.old.stream.ghost_name }
     ensures unwritten { IfErr result (λ fault. fault ≢ JobFault.Write → Keeps (W.contents writer.old.stream.now) (W.contents writer.new.stream.now)) }
@@ -72,7 +83,12 @@ pub fn explain_job<R: Read, W: Write>(
     Ok(explained.status)
 }
 
-/// Who waits for whom in the text that has this name, written.
+/// The explanation of the text that has this name, as it is written.
+///
+/// # Errors
+///
+/// `Text` if the text has a fault, and `Memory` if memory was refused. `Torn` or `Refused` if the text can't be explained,
+/// which doesn't happen.
 pub fn explain_text(
     alloc: Global,
     name: &str,
@@ -82,7 +98,10 @@ pub fn explain_text(
     ensures meaning { OnOk result (HasMeaning text.now) }
     ensures status { IfOk result (λ explained. IsStatus explained.status) }
     ensures said { IfOk result (λ explained. Says options explained.status (string_bytes explained.lines)) }
+    // And the verdict that it names is true of the text.
+    ensures verdict { IfOk result (λ explained. IsTrueOf text.now options explained.status (string_bytes explained.lines)) }
     ensures faults { IfErr result (IsFaultOf text.now) }
+    ensures unstalled { IfErr result IsNoStall }
 {
     let explanation = explained(alloc, text)?;
     let status = explanation.verdict.status(options.is_strict);
@@ -90,10 +109,12 @@ pub fn explain_text(
     Ok(ExplainedText { lines, status })
 }
 
-/// Who waits for whom in a text.
+/// The explanation of a text.
 fn explained(alloc: Global, text: &[u8]) -> Result<Explanation, JobFault>
     ensures meaning { OnOk result (HasMeaning text.now) }
+    ensures means { IfOk result (λ explanation. MeansOf text.now explanation.verdict) }
     ensures faults { IfErr result (IsFaultOf text.now) }
+    ensures unstalled { IfErr result IsNoStall }
 {
     let script = Script::read(alloc, text)?;
     match Explanation::of(alloc, text, &script) {
@@ -104,7 +125,7 @@ fn explained(alloc: Global, text: &[u8]) -> Result<Explanation, JobFault>
     }
 }
 
-/// The explanation in that form. Refuses [`JobFault::Memory`] alone.
+/// The explanation in that form. The only fault is [`JobFault::Memory`].
 fn written(
     alloc: Global,
     name: &str,
@@ -115,12 +136,12 @@ fn written(
 ) -> Result<String, JobFault>
     ensures refusal { IsOkUnless result JobFault.Memory }
     ensures words { IfOk result (λ lines. options.form ≡ Form.Text → Begins (heading explanation.now.verdict) (string_bytes lines)) }
+    ensures object { IfOk result (λ lines. options.form ≡ Form.Json → EndsExplained explanation.now.verdict status (string_bytes lines)) }
 {
-    let is_whole = options.is_whole;
     let lines = match options.form {
-        Form::Text => text_form(alloc, name, is_whole, text, explanation).ok(),
+        Form::Text => text_form(alloc, name, options, text, explanation).ok(),
         Form::Json => json_form(alloc, text, explanation, status).ok(),
-        Form::Dot => dot_form(alloc, is_whole, text, explanation).ok(),
+        Form::Dot => dot_form(alloc, options.is_whole, text, explanation).ok(),
     };
     lines.ok_or(JobFault::Memory)
 }

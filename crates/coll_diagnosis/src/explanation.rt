@@ -3,65 +3,72 @@ ghost use Rattle.coll_diagnosis.specs.Standing.{IsShown, IsStandstill};
 
 use crate::course::{Choice, Course};
 use crate::cure::{Move, cure};
+use crate::facts::Facts;
 use crate::job::Job;
 use crate::ring::shortest_ring;
-use crate::source::Source;
-use crate::standstill::{Facts, Standstill};
+use crate::standstill::Standstill;
 use crate::verdict::Verdict;
-use crate::waiting::Waiting;
+use crate::waiting::WaitsFor;
 use coll_kinds::Refusal;
 use coll_script::Script;
 use std::alloc::Global;
 
-/// Whether the runs of a text stall, and who then waits for whom.
+/// Whether the runs of a text stall, and which rank then waits for which.
 #[derive(Debug, Drop)]
 pub struct Explanation {
     pub verdict: Verdict,
-    /// Where the ranks stand, if some course of them shows a stall.
-    pub shown: Option<Shown>,
-    /// What makes a text that stalls in every run of this engine one that never does.
+    /// Where the ranks stand, if some course of theirs stalls.
+    pub shown: Option<ShownStall>,
+    /// A move that makes a text which stalls in every run of this engine one that never stalls.
     pub cure: Option<Move>,
 }
 
-/// A stall that some course of the ranks shows.
+/// A stall that some course of the ranks reaches.
 #[derive(Debug, Drop)]
-pub struct Shown {
-    /// Whom completions wait for in that course.
-    pub waiting: Waiting,
-    /// What calls choose in it.
+pub struct ShownStall {
+    /// For whom completions wait in that course.
+    pub waiting: WaitsFor,
+    /// What calls choose in that course.
     pub choice: Choice,
     pub standstill: Standstill,
-    /// The fewest ranks that wait for one another, in the order in which each waits for the next.
+    /// The fewest ranks that wait for one another: each waits for the next, and the last for the first.
     pub ring: Vec<u8>,
 }
 
 impl Explanation {
-    ghost use Rattle.std.specs.Prelude.{◌≡◌, false, None, IfOk, IfSome};
+    ghost use Rattle.std.specs.Prelude.{◌≡◌, false, true, None, IfOk, IfSome, IsSome};
     ghost use Rattle.coll_diagnosis.specs.declared.verdict.Verdict.TheVariants.{Never};
-    ghost use Rattle.coll_diagnosis.specs.Standing.{IsLater, IsShown};
-    ghost use Rattle.coll_diagnosis.specs.Verdicts.{is_always_here};
+    ghost use Rattle.coll_diagnosis.specs.Cures.{IsTried};
+    ghost use Rattle.coll_diagnosis.specs.Standing.{IsShown};
+    ghost use Rattle.coll_diagnosis.specs.Verdicts.{is_always_here, Means};
 
-    /// Judges a text without a fault. No run is searched for: each course lets all ranks go on while they can.
+    /// Judges a text without a fault. It searches no runs: each course lets all ranks go on while they can.
+    ///
+    /// # Errors
+    ///
+    /// `NoMemory`; `Torn` if a stall that it found isn't true of the script, which doesn't happen.
     pub fn of(alloc: Global, text: &[u8], script: &Script) -> Result<Explanation, Refusal>
         // What is shown is true of the commands of the text.
         ensures shown { IfOk result (λ e. IfSome e.shown (IsShown script.now)) }
+        // No run stalls, or every run does, with every library, where the verdict says so.
+        ensures means { IfOk result (λ e. Means e.verdict script.now) }
         ensures never { IfOk result (λ e. e.verdict ≡ Never → e.shown ≡ None) }
-        ensures cure { IfOk result (λ e. IfSome e.cure IsLater) }
+        ensures standing { IfOk result (λ e. is_always_here e.verdict ≡ true → IsSome e.shown) }
+        // A cure was tried: no run of the text with that line moved stalls.
+        ensures cure { IfOk result (λ e. IfSome e.cure (IsTried text.now)) }
         ensures uncured { IfOk result (λ e. is_always_here e.verdict ≡ false → e.cure ≡ None) }
     {
         let job = Job::of(alloc, script)?;
-        let verdict = Verdict::of(alloc, &job)?;
+        let verdict = Verdict::of(alloc, script, &job)?;
         let shown = match verdict {
             Verdict::Never => None,
-            Verdict::NeverHere => stall_among(alloc, script, &job, Waiting::All)?,
-            Verdict::Perhaps | Verdict::AlwaysHere | Verdict::Always => {
-                stall_among(alloc, script, &job, Waiting::Heard)?
-            }
+            Verdict::NeverHere => stall_among(alloc, script, &job, WaitsFor::All)?,
+            Verdict::Perhaps => stall_among(alloc, script, &job, WaitsFor::Heard)?,
+            Verdict::AlwaysHere | Verdict::Always => Some(stall_here(alloc, script, &job)?),
         };
         let cure = match &shown {
             Some(shown) if verdict.is_always_here() => {
-                let source = Source::new(alloc, text)?;
-                cure(alloc, &job, &source, &shown.standstill)?
+                cure(alloc, &job, text, &shown.standstill)?
             }
             _ => None,
         };
@@ -73,14 +80,24 @@ impl Explanation {
     }
 }
 
-/// A stall of every course with that waiting, or of one of two courses of which runs may be. Refuses [`Refusal::Torn`] where
-/// it isn't true of the script, which doesn't happen.
+/// Where the ranks stand in every run of this engine. Refuses [`Refusal::Torn`] if they come to their ends, which doesn't happen.
+fn stall_here(alloc: Global, script: &Script, job: &Job) -> Result<ShownStall, Refusal>
+    ensures { IfOk result (IsShown script.now) }
+{
+    match stall_among(alloc, script, job, WaitsFor::Heard)? {
+        Some(shown) => Ok(shown),
+        None => Err(Refusal::Torn),
+    }
+}
+
+/// A stall with that waiting: of the course that helps the ranks most, and so of every run; else of one of the two courses that
+/// a run may take. Refuses [`Refusal::Torn`] if the stall isn't true of the script, which doesn't happen.
 fn stall_among(
     alloc: Global,
     script: &Script,
     job: &Job,
-    waiting: Waiting,
-) -> Result<Option<Shown>, Refusal>
+    waiting: WaitsFor,
+) -> Result<Option<ShownStall>, Refusal>
     ensures { IfOk result (λ found. IfSome found (IsShown script.now)) }
 {
     for choice in [Choice::Best, Choice::First, Choice::Last] {
@@ -91,7 +108,7 @@ fn stall_among(
             if !standstill.is_circle(&ring) {
                 return Err(Refusal::Torn);
             }
-            return Ok(Some(Shown {
+            return Ok(Some(ShownStall {
                 waiting,
                 choice,
                 standstill,
@@ -102,7 +119,7 @@ fn stall_among(
     Ok(None)
 }
 
-/// Where the ranks of a course stand. Refuses [`Refusal::Torn`] where that isn't true of the script, which doesn't happen.
+/// Where the ranks of a course stand. Refuses [`Refusal::Torn`] if that isn't true of the script, which doesn't happen.
 fn true_standstill(
     alloc: Global,
     script: &Script,

@@ -1,4 +1,4 @@
-//! From whom a schedule hears.
+//! From which members a schedule hears.
 
 ghost use Rattle.std.specs.Prelude.{◌<◌, ◌≤◌};
 
@@ -8,9 +8,9 @@ use coll_plans::{Plan, plan};
 use coll_sched::{Action, Round};
 use std::alloc::{AllocError, Global};
 
-/// For each of `n` members, the members from whom it has heard at the end of its schedule, directly or by way of others,
-/// itself among them: its part of the collective is done once they have joined, and not before. Linear in the actions of
-/// all members' schedules.
+/// For each of `n` members, the members from which it has heard at the end of its schedule, directly or by way of others,
+/// itself among them. Its part of the collective is done once they have joined, and not before. Linear in the actions of all
+/// members' schedules.
 pub(crate) fn heard(alloc: Global, sig: Signature, n: u8) -> Result<Vec<Members>, Refusal>
     requires { n ≤ 64 }
 {
@@ -25,12 +25,12 @@ pub(crate) fn heard(alloc: Global, sig: Signature, n: u8) -> Result<Vec<Members>
     Ok(heard)
 }
 
-/// Each of `n` members has heard from itself.
+/// For each of `n` members, that member alone.
 fn alone(alloc: Global, n: u8) -> Result<Vec<Members>, AllocError> {
     (0..n).map(Members::one).collect(alloc)
 }
 
-/// The rounds of one schedule: all members' have as many.
+/// The number of rounds, which all members' schedules have in common.
 fn round_count(plans: &[Plan]) -> usize {
     match plans.first() {
         Some(plan) => plan.schedule().rounds().len(),
@@ -38,7 +38,7 @@ fn round_count(plans: &[Plan]) -> usize {
     }
 }
 
-/// From whom each member has heard behind the round, where it had heard from these before.
+/// For each member, the members from which it has heard after the round. `before` has those before the round.
 fn behind_round(
     alloc: Global,
     plans: &[Plan],
@@ -56,7 +56,7 @@ fn behind_round(
     Ok(behind)
 }
 
-/// Takes in what the messages of a round tell: all that their senders had heard before it.
+/// Adds, for each message that the round receives, all members from which its sender had heard before the round.
 fn hear(round: &Round, before: &[Members], heard: &mut Members) {
     for action in round.actions() {
         if let Action::Recv { of, .. } = action {

@@ -1,24 +1,24 @@
 use crate::place::{Peer, Place};
-use crate::section::Section;
+use crate::section::RankSection;
 use coll_history::Request;
 use coll_kinds::{MAX_COMMUNICATORS, MAX_RANKS, Refusal};
 use coll_script::Script;
 use std::alloc::{AllocError, Global};
 
-/// The job of a script, laid out to be gone through.
+/// The job of a script, as the courses go through it.
 #[derive(Debug, Drop)]
 pub struct Job {
     /// How many ranks there are.
     pub ranks: u8,
-    /// What each rank says.
-    pub sections: Vec<Section>,
+    /// The commands and requests of each rank.
+    pub sections: Vec<RankSection>,
     /// The places of all communicators.
     pub places: Vec<Place>,
 }
 
 impl Job {
-    /// Linear in the commands, in the actions of all requests' schedules, and for each communicator in the requests of its
-    /// members.
+    /// Lays a script out. Linear in the commands, in the actions of all requests' schedules, and for each communicator in the
+    /// requests of its members.
     pub fn of(alloc: Global, script: &Script) -> Result<Job, Refusal> {
         let mut job = Job {
             ranks: script.history().ranks(),
@@ -32,7 +32,7 @@ impl Job {
         Ok(job)
     }
 
-    /// How many steps there are in all, at least.
+    /// How many steps all ranks have together.
     pub fn step_count(&self) -> usize {
         let mut count: usize = 0;
         for section in &self.sections {
@@ -41,12 +41,12 @@ impl Job {
         count
     }
 
-    /// Whether which requests some call completes depends on time.
+    /// Whether it depends on time which requests some call completes.
     pub fn is_open(&self) -> bool {
         self.sections.iter().any(|section| section.steps.iter().any(|step| step.act.is_open()))
     }
 
-    /// Finds the places of a communicator, and lays each member's requests there.
+    /// Finds the places of a communicator, and adds each member's requests to them.
     fn lay_out(
         &mut self,
         alloc: Global,
@@ -69,7 +69,7 @@ impl Job {
         Ok(())
     }
 
-    /// Lays the requests of one member at the places of its communicator, which begin with that index.
+    /// Adds the requests of one member to the places of its communicator, which begin at that index.
     fn lay_out_member(
         &mut self,
         alloc: Global,
@@ -92,7 +92,7 @@ impl Job {
         Ok(())
     }
 
-    /// Lays one request of a rank at its place.
+    /// Adds one request of a rank to its place.
     fn lay(&mut self, place: usize, index: usize, lot: Lot) -> Result<(), AllocError> {
         if let Some(place) = self.places.get_mut(place) {
             place.peers.push(Peer {
@@ -119,11 +119,11 @@ struct Lot {
     rank: u8,
 }
 
-/// What each rank says.
-fn sections(alloc: Global, script: &Script) -> Result<Vec<Section>, AllocError> {
+/// The section of each rank.
+fn sections(alloc: Global, script: &Script) -> Result<Vec<RankSection>, AllocError> {
     let mut sections = Vec::new(alloc);
     for _ in 0..script.history().ranks() {
-        sections.push(Section::new(alloc))?;
+        sections.push(RankSection::new(alloc))?;
     }
     for issued in script.history().commands() {
         if let Some(section) = sections.get_mut(usize::from(issued.rank)) {
@@ -134,7 +134,7 @@ fn sections(alloc: Global, script: &Script) -> Result<Vec<Section>, AllocError> 
     Ok(sections)
 }
 
-fn end_all(sections: &mut [Section]) -> Result<(), AllocError> {
+fn end_all(sections: &mut [RankSection]) -> Result<(), AllocError> {
     for section in sections.iter_mut() {
         section.end()?;
     }

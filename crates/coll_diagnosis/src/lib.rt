@@ -1,23 +1,25 @@
-//! Why a job text stalls: who waits in which line for whom, in every run, in those of this engine alone, or perhaps.
+//! Why a job text stalls: which rank waits in which line for which, in every run, in those of this engine alone, or perhaps.
 //!
-//! A job is gone through without an engine. Each rank goes on while it can, until none can; this is done for several
-//! readings of whom a completion waits for and of what a call completes where that depends on time, and the verdict is
-//! by which of them the ranks come to their ends.
+//! A job is gone through without an engine. Each rank goes on while it can, until none can. This is done for several readings
+//! of which members a completion waits for, and of what a call completes if that depends on time. The readings in which all
+//! ranks come to their ends give the verdict.
 //!
 //! | Module | Has |
 //! |---|---|
 //! | `members` | `Members`, a set of members or ranks |
-//! | `waiting` | `Waiting`, whom the completion of a collective waits for |
-//! | `hearing` | from whom the schedule of each member hears |
-//! | `step`, `section`, `place`, `job` | `Job`, what the ranks of a script say, laid out to be gone through |
+//! | `waiting` | `WaitsFor`, the members for which the completion of a collective waits |
+//! | `hearing` | from which members the schedule of each member hears |
+//! | `step`, `section`, `place`, `job` | `Job`, the commands and requests of the ranks of a script |
 //! | `course` | `Course`, how far the ranks come |
 //! | `verdict` | `Verdict`, whether runs stall, and its exit status |
-//! | `circle`, `standstill` | `Standstill`, who waits for whom where no rank can go on |
+//! | `circle`, `standstill` | `Standstill`, which rank waits for which if no rank can go on |
+//! | `stuck`, `pending`, `lack` | `Stuck`, a rank that waits; `Pending`, a request that it waits for; `Lack`, a member that the request lacks |
+//! | `facts` | what of a script a standstill is compared with |
 //! | `ring` | the fewest ranks that wait for one another |
-//! | `source` | `Source`, the lines of a text, shown and moved |
 //! | `cure` | `Move`, a line that is moved so that the text never stalls |
+//! | `cured_text` | a text with one line moved |
 //! | `explanation` | `Explanation`, all of this of one text |
-//! | `ranges`, `text_form` | an explanation as lines for a reader |
+//! | `text_form` | an explanation as lines for a reader |
 //! | `json_form`, `dot_form` | an explanation as JSON, and as a graph |
 //! | `explaining` | `explain_job`, from a reader to a writer |
 #![tactic(auto)]
@@ -25,20 +27,23 @@
 mod circle;
 mod course;
 mod cure;
+mod cured_text;
 mod dot_form;
 mod explaining;
 mod explanation;
+mod facts;
 mod hearing;
 mod job;
 mod json_form;
+mod lack;
 mod members;
+mod pending;
 mod place;
-mod ranges;
 mod ring;
 mod section;
-mod source;
 mod standstill;
 mod step;
+mod stuck;
 mod text_form;
 mod verdict;
 mod waiting;
@@ -46,15 +51,15 @@ mod waiting;
 pub use course::{Choice, Course};
 pub use cure::Move;
 pub use explaining::{ExplainOptions, ExplainedText, Form, explain_job, explain_text};
-pub use explanation::{Explanation, Shown};
+pub use explanation::{Explanation, ShownStall};
 pub use job::Job;
-pub use json_form::push_object;
+pub use lack::Lack;
 pub use members::Members;
+pub use pending::Pending;
 pub use place::{Peer, Place};
-pub use section::{Made, Section};
-pub use source::Source;
-pub use standstill::{Lack, Pending, Standstill, Stuck};
-pub use step::{Act, Call, Step};
-pub use text_form::digits;
+pub use section::{MadeRequest, RankSection};
+pub use standstill::Standstill;
+pub use step::{Act, Completes, Step};
+pub use stuck::Stuck;
 pub use verdict::Verdict;
-pub use waiting::Waiting;
+pub use waiting::WaitsFor;

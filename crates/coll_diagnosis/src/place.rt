@@ -1,6 +1,6 @@
 use crate::hearing::heard;
 use crate::members::Members;
-use crate::waiting::Waiting;
+use crate::waiting::WaitsFor;
 use coll_history::Request;
 use coll_kinds::{MAX_RANKS, Refusal, Signature};
 use std::alloc::Global;
@@ -12,21 +12,21 @@ pub struct Peer {
     pub request: usize,
 }
 
-/// What the members of a communicator have at one place: requests that belong together.
+/// The requests that the members of a communicator have at one place, which belong together.
 #[derive(Debug, Drop)]
 pub struct Place {
     pub comm: u8,
-    /// The number among the places of the communicator, from 0 on.
+    /// The place's number in the communicator, from 0 on.
     pub number: usize,
     pub sig: Signature,
     /// The members' requests, in the order of the members.
     pub peers: Vec<Peer>,
-    /// From whom each member hears before it is done.
+    /// For each member, the members from which it hears before it is done.
     heard: Vec<Members>,
 }
 
 impl Place {
-    /// The place that this request is the first to have, among `n` members.
+    /// A place among `n` members, for the first request that has it.
     pub(crate) fn new(
         alloc: Global,
         number: usize,
@@ -43,21 +43,21 @@ impl Place {
         })
     }
 
-    /// Whether the outcome of a member rests on what another one gives.
+    /// Whether the outcome of `member` needs what `other` gives.
     pub fn needs(&self, member: u8, other: u8) -> bool {
         let n = self.peers.len().min(MAX_RANKS) as u8;
         self.sig.needs(n, member, other)
     }
 
-    /// Whether a member's completion waits for another one to join.
-    pub fn waits_for(&self, waiting: Waiting, member: u8, other: u8) -> bool {
+    /// Whether the completion of `member` waits for `other` to join.
+    pub fn waits_for(&self, waiting: WaitsFor, member: u8, other: u8) -> bool {
         match waiting {
-            Waiting::Needed => self.needs(member, other),
-            Waiting::Heard => match self.heard.get(usize::from(member)) {
+            WaitsFor::Needed => self.needs(member, other),
+            WaitsFor::Heard => match self.heard.get(usize::from(member)) {
                 Some(heard) => heard.contains(other),
                 None => false,
             },
-            Waiting::All => true,
+            WaitsFor::All => true,
         }
     }
 }

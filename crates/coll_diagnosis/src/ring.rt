@@ -1,13 +1,13 @@
-//! The fewest ranks that wait for one another in turn.
+//! The fewest ranks that wait for one another in a ring.
 
 use crate::circle::awaited;
 use crate::members::Members;
-use crate::standstill::Stuck;
+use crate::stuck::Stuck;
 use coll_kinds::MAX_RANKS;
 use std::alloc::{AllocError, Global};
 
-/// The ranks of a shortest circle: each waits for the next one, and the last for the first. Of several the one with the lowest rank; none
-/// where no rank waits for itself by way of others.
+/// The ranks of a shortest circle: each waits for the next one, and the last for the first. If there are several, the one with
+/// the lowest rank; empty if no rank waits for itself by way of others.
 pub(crate) fn shortest_ring(alloc: Global, stuck: &[Stuck]) -> Result<Vec<u8>, AllocError> {
     let awaited = awaited(alloc, stuck)?;
     let mut shortest = Vec::new(alloc);
@@ -21,8 +21,8 @@ pub(crate) fn shortest_ring(alloc: Global, stuck: &[Stuck]) -> Result<Vec<u8>, A
     Ok(shortest)
 }
 
-/// For whom a rank waits by way of none, of one rank, of two and so on, itself first; the last are those that wait for it. None where
-/// there are more than `most`.
+/// Level 0 is `rank` itself; each further level has the ranks for which those of the level before wait. The last level has a
+/// rank that waits for `rank`. None if there would be more than `most` levels.
 fn levels(
     alloc: Global,
     awaited: &[Members],
@@ -41,7 +41,7 @@ fn levels(
     Ok(None)
 }
 
-/// For whom some of these ranks wait.
+/// The ranks for which some of these ranks wait.
 fn awaited_by(awaited: &[Members], ranks: &Members) -> Members {
     let mut all = Members::NONE;
     for (rank, awaited) in (0..MAX_RANKS as u8).zip(awaited) {
@@ -52,7 +52,7 @@ fn awaited_by(awaited: &[Members], ranks: &Members) -> Members {
     all
 }
 
-/// A rank of each level that waits for that of the next one, and of the last for this rank.
+/// One rank of each level: each waits for that of the next level, and the last one for `rank`.
 fn ring_of(
     alloc: Global,
     awaited: &[Members],
@@ -69,7 +69,7 @@ fn ring_of(
     Ok(ring)
 }
 
-/// The lowest of these ranks that waits for that one.
+/// The lowest of these ranks that waits for `awaited_rank`.
 fn waits_for(awaited: &[Members], ranks: &Members, awaited_rank: u8) -> u8 {
     let found = (0..MAX_RANKS as u8).zip(awaited).find(|(rank, awaited)| {
         ranks.contains(*rank) && awaited.contains(awaited_rank)

@@ -30,7 +30,7 @@ pub list_any_members-more : (p : ℕ → Bool) (c : ℕ) → list_any p (members
 list_any_members-more p c =
     rw members-more (list_any-append p (members 0 c) ((0 + c) ∷ []) ∙ ap (λ (b : Bool). list_any p (members 0 c) || b) (or-false (p (0 + c)) ∙ ap p (zero-add c)))
 
--- the same behind what stood there before
+-- the same after what stood there before
 pub flat_map_members-push : {X : Type 0} (f : ℕ → List X) (c : ℕ) (before now next : List X) → now ≡ before ++ flat_map f (members 0 c) → next ≡ now ++ f c
     → next ≡ before ++ flat_map f (members 0 (c + 1))
 flat_map_members-push {X} f c before now next so_far pushed =

@@ -3,7 +3,7 @@ use Rattle.std.specs.Prelude.{◌≡◌, ℕ, Bool, true, false, count_by, sum_b
 use Rattle.coll_sched.specs.declared.action.Action.{Action}
 use Rattle.coll_sched.specs.declared.action.Action.TheVariants.{Send, Copy, Combine, Recv}
 use Rattle.coll_sched.specs.Families.{Family, is_send, family_exchanges}
-use Rattle.coll_draw.specs.declared.totals.Totals.{Totals}
+use Rattle.coll_draw.specs.declared.totals.DrawingTotals.{DrawingTotals}
 use Rattle.coll_draw.specs.Drawings.{rounds_of, steps}
 
 -- the action is a Combine
@@ -21,7 +21,7 @@ sent_len (Combine op ty left right into) = 0
 sent_len (Recv of into) = 0
 
 -- all counts of a family of n members
-pub record Counts (n : ℕ) (f : Family) (totals : Totals) : Type 0 where
+pub record Counts (n : ℕ) (f : Family) (totals : DrawingTotals) : Type 0 where
   pub rounds_are : totals.rounds ≡ rounds_of f
   pub exchanges_are : totals.exchanges ≡ family_exchanges n f
   pub messages_are : totals.messages ≡ count_by (λ step. is_send step.action) (steps n f)

@@ -8,10 +8,10 @@ use Rattle.coll_sched.specs.Families.{Family, actions_at, members, family_exchan
 use Rattle.coll_plans.specs.Plans.{family}
 use Rattle.coll_draw.specs.declared.arrow.Arrow.{Arrow}
 use Rattle.coll_draw.specs.declared.mark.Mark.{Mark}
-use Rattle.coll_draw.specs.declared.step.Step.{Step}
+use Rattle.coll_draw.specs.declared.step.DrawnAction.{DrawnAction}
 
 -- an action of a member in a round
-abbrev pub step_of : ℕ → ℕ → Action → Step
+abbrev pub step_of : ℕ → ℕ → Action → DrawnAction
 step_of round member action = record { round = round; member = member; action = action }
 
 -- how many rounds the schedules of a family have
@@ -19,11 +19,11 @@ abbrev pub rounds_of : Family → ℕ
 rounds_of f = length (f 0).rounds
 
 -- the actions of n members in round j, member by member
-abbrev pub round_steps : ℕ → Family → ℕ → List Step
+abbrev pub round_steps : ℕ → Family → ℕ → List DrawnAction
 round_steps n f j = flat_map (λ r. map (step_of j r) (actions_at f j r)) (members 0 n)
 
 -- the actions of n members, round by round
-abbrev pub steps : ℕ → Family → List Step
+abbrev pub steps : ℕ → Family → List DrawnAction
 steps n f = flat_map (round_steps n f) (members 0 (rounds_of f))
 
 -- the message of a Send
@@ -34,7 +34,7 @@ sent_by round member (Copy from into) = None
 sent_by round member (Combine op ty left right into) = None
 sent_by round member (Recv of into) = None
 
-abbrev pub arrow_of : Step → Option Arrow
+abbrev pub arrow_of : DrawnAction → Option Arrow
 arrow_of step = sent_by step.round step.member step.action
 
 -- a Combine
@@ -45,7 +45,7 @@ combined_by round member (Combine op ty left right into) =
     Some (record { round = round; member = member; len = into.len })
 combined_by round member (Recv of into) = None
 
-abbrev pub combination_of : Step → Option Mark
+abbrev pub combination_of : DrawnAction → Option Mark
 combination_of step = combined_by step.round step.member step.action
 
 -- a Copy
@@ -55,7 +55,7 @@ copied_by round member (Copy from into) = Some (record { round = round; member =
 copied_by round member (Combine op ty left right into) = None
 copied_by round member (Recv of into) = None
 
-abbrev pub copy_of : Step → Option Mark
+abbrev pub copy_of : DrawnAction → Option Mark
 copy_of step = copied_by step.round step.member step.action
 
 -- all messages, combinations and copies of n members

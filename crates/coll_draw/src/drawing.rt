@@ -5,15 +5,15 @@ ghost use Rattle.coll_draw.specs.Drawings.{arrow_of, combination_of, copy_of};
 
 use crate::arrow::Arrow;
 use crate::mark::Mark;
-use crate::plans::Plans;
-use crate::step::Step;
-use crate::totals::Totals;
+use crate::plans::MemberPlans;
+use crate::step::DrawnAction;
+use crate::totals::DrawingTotals;
 use coll_kinds::{Refusal, Signature};
 use std::alloc::{AllocError, Global};
 use std::marker::Model;
 
-/// The schedules of one collective of MPI (MPI 4.1, 6.12), for all members of a communicator, as what can be drawn of
-/// them. Only [`Drawing::of`] makes one, so it shows the family of plans that an engine executes.
+/// The schedules of one collective of MPI (MPI 4.1, 6.12), for all members of a communicator, as they can be drawn. Only
+/// [`Drawing::of`] makes one, so it shows the family of plans that an engine executes.
 #[derive(Debug, Drop)]
 pub struct Drawing {
     sig: Signature,
@@ -41,8 +41,8 @@ impl Drawing {
     ghost use Rattle.coll_draw.specs.Counts.{Counts};
     ghost use Rattle.coll_draw.specs.Laws.{IsMessage};
 
-    /// Draws a collective among `n` members. Refuses [`Refusal::BadSignature`] exactly as [`Signature::check`] does, with
-    /// its cause, and else [`Refusal::NoMemory`] alone. The cost is linear in the actions of all members' schedules.
+    /// Draws a collective among `n` members. Refuses [`Refusal::BadSignature`] exactly if [`Signature::check`] does, with its
+    /// cause; the only other refusal is [`Refusal::NoMemory`]. The cost is linear in the actions of all members' schedules.
     pub fn of(alloc: Global, sig: Signature, n: u8) -> Result<Drawing, Refusal>
         requires not_none { 0 < n }
         requires few { n ≤ 64 }
@@ -53,7 +53,7 @@ impl Drawing {
             (λ cause. IsErrOf result (Refusal.BadSignature cause)) }
     {
         sig.check(n)?;
-        let plans = Plans::of(alloc, sig, n)?;
+        let plans = MemberPlans::of(alloc, sig, n)?;
         let steps = plans.steps(alloc)?;
         Ok(Drawing {
             sig,
@@ -83,8 +83,8 @@ impl Drawing {
         self.n
     }
 
-    /// All messages, in the order of their rounds, and in each round of their senders: each Send of the family is one
-    /// arrow, and each arrow is a Send and its Recv.
+    /// All messages, in the order of their rounds, and within a round in the order of their senders. Each Send of the family is
+    /// one arrow, and each arrow is a Send with its Recv.
     pub fn arrows(&self) -> &[Arrow]
         ensures arrows { result.now ≡ arrows self.now.n (family self.now.sig self.now.n) }
         ensures messages { AllByRecursion (IsMessage self.now.n (family self.now.sig self.now.n)) result.now }
@@ -92,25 +92,25 @@ impl Drawing {
         self.arrows.as_slice()
     }
 
-    /// All combinations, in the order of their rounds, and in each round of their members.
+    /// All combinations, in the order of their rounds, and within a round in the order of their members.
     pub fn combinations(&self) -> &[Mark]
         ensures { result.now ≡ combinations self.now.n (family self.now.sig self.now.n) }
     {
         self.combinations.as_slice()
     }
 
-    /// All copies within a member's buffer, in the same order.
+    /// All copies within a member's buffer, in the same order as the combinations.
     pub fn copies(&self) -> &[Mark]
         ensures { result.now ≡ copies self.now.n (family self.now.sig self.now.n) }
     {
         self.copies.as_slice()
     }
 
-    /// How much there is of each. The cost is linear in the arrows.
-    pub fn totals(&self) -> Totals
+    /// How many rounds, exchanges, messages, bytes and combinations there are. The cost is linear in the arrows.
+    pub fn totals(&self) -> DrawingTotals
         ensures { Counts self.now.n (family self.now.sig self.now.n) result }
     {
-        Totals {
+        DrawingTotals {
             rounds: self.round_count,
             exchanges: self.exchange_count,
             messages: self.arrows.len(),
@@ -120,13 +120,13 @@ impl Drawing {
     }
 }
 
-fn arrows_of(alloc: Global, steps: &[Step]) -> Result<Vec<Arrow>, AllocError>
+fn arrows_of(alloc: Global, steps: &[DrawnAction]) -> Result<Vec<Arrow>, AllocError>
     ensures { IfOk result (λ made. made.items ≡ filter_map arrow_of steps.now) }
 {
     steps.iter().filter_map(|step| step.arrow()).collect(alloc)
 }
 
-fn combinations_of(alloc: Global, steps: &[Step]) -> Result<Vec<Mark>, AllocError>
+fn combinations_of(alloc: Global, steps: &[DrawnAction]) -> Result<Vec<Mark>, AllocError>
     ensures { IfOk result (λ made. made.items ≡ filter_map combination_of steps.now) }
 {
     steps
@@ -135,13 +135,13 @@ fn combinations_of(alloc: Global, steps: &[Step]) -> Result<Vec<Mark>, AllocErro
         .collect(alloc)
 }
 
-fn copies_of(alloc: Global, steps: &[Step]) -> Result<Vec<Mark>, AllocError>
+fn copies_of(alloc: Global, steps: &[DrawnAction]) -> Result<Vec<Mark>, AllocError>
     ensures { IfOk result (λ made. made.items ≡ filter_map copy_of steps.now) }
 {
     steps.iter().filter_map(|step| step.copy()).collect(alloc)
 }
 
-/// The bytes of all these messages.
+/// The number of bytes of all these messages.
 fn bytes_of(arrows: &[Arrow]) -> u128
     ensures { result ≡ sum_by (λ arrow. arrow.len) arrows.now }
 {

@@ -1,4 +1,4 @@
-//! Drawings of collectives: which member sends what to whom in which round, and where it combines and copies.
+//! Drawings of collectives: which member sends what to which member in which round, and where it combines and copies.
 //!
 //! A [`Drawing`] shows the schedules of all members of a plan's family: [`Drawing::arrows`] are its messages,
 //! [`Drawing::combinations`] and [`Drawing::copies`] what members do in their own buffers, and [`Drawing::totals`] counts
@@ -6,11 +6,11 @@
 //!
 //! | Module | Has |
 //! |---|---|
-//! | `step` | `Step`, an action with its round and its member |
+//! | `step` | `DrawnAction`, an action with its round and its member |
 //! | `arrow`, `mark` | `Arrow`, a message; `Mark`, what a member does by itself |
 //! | `plans` | all members' plans, and their steps |
 //! | `drawing` | `Drawing`, what is drawn of one collective |
-//! | `totals` | `Totals`, how many of each there are |
+//! | `totals` | `DrawingTotals`, how many rounds, messages, bytes and combinations there are |
 //! | `laws` | that each arrow is a message which is sent and received |
 //! | `line`, `layout` | where the arrows of a round lie, so that none covers another |
 //! | `geometry` | where the parts of a picture lie |
@@ -35,7 +35,7 @@ mod totals;
 pub use arrow::Arrow;
 pub use drawing::Drawing;
 pub use mark::Mark;
-pub use step::Step;
+pub use step::DrawnAction;
 pub use svg_form::svg_picture;
 pub use text_form::text_lines;
-pub use totals::Totals;
+pub use totals::DrawingTotals;

@@ -1,8 +1,8 @@
 use crate::arrow::Arrow;
 
-/// What is drawn between the columns of two members: a message, or two of one length that go opposite ways.
+/// What is drawn between the columns of two members: a message, or two messages of one length that go opposite ways.
 #[derive(Clone, Copy, Debug, PartialEq, Eq)]
-pub(crate) struct Line {
+pub(crate) struct Link {
     /// The lower member's number.
     pub low: u8,
     /// The higher member's number.
@@ -13,11 +13,11 @@ pub(crate) struct Line {
     pub len: u32,
 }
 
-impl Line {
+impl Link {
     /// The line of one message.
-    pub(crate) fn of(arrow: &Arrow) -> Line {
+    pub(crate) fn of(arrow: &Arrow) -> Link {
         let is_down = arrow.receiver <= arrow.sender;
-        Line {
+        Link {
             low: arrow.receiver.min(arrow.sender),
             high: arrow.receiver.max(arrow.sender),
             reaches_low: is_down,
@@ -31,8 +31,8 @@ impl Line {
         self.high.saturating_sub(self.low)
     }
 
-    /// Whether the two go opposite ways between the same members, with as many bytes.
-    pub(crate) fn is_opposite(&self, other: &Line) -> bool {
+    /// Whether the two go opposite ways between the same members, with the same number of bytes.
+    pub(crate) fn is_opposite(&self, other: &Link) -> bool {
         self.low == other.low
             && self.high == other.high
             && self.len == other.len
@@ -40,26 +40,26 @@ impl Line {
             && self.reaches_high != other.reaches_high
     }
 
-    /// The line of this message and of its opposite.
-    pub(crate) fn both_ways(&self) -> Line {
-        Line {
+    /// The line of this message and of the one that goes the opposite way.
+    pub(crate) fn both_ways(&self) -> Link {
+        Link {
             reaches_low: true,
             reaches_high: true,
             ..*self
         }
     }
 
-    /// Whether both cover the space between some two columns. Lines that only meet at a column don't.
-    pub(crate) fn overlaps(&self, other: &Line) -> bool {
+    /// Whether both lines cover the space between the same two columns. Lines that only meet at a column don't.
+    pub(crate) fn overlaps(&self, other: &Link) -> bool {
         self.low < other.high && other.low < self.high
     }
 
-    /// Whether it covers the space behind a member's column.
+    /// Whether the line covers the space to the right of a member's column.
     pub(crate) fn covers(&self, member: u8) -> bool {
         self.low <= member && member < self.high
     }
 
-    /// Whether it begins or ends at a member's column.
+    /// Whether the line begins or ends at a member's column.
     pub(crate) fn touches(&self, member: u8) -> bool {
         self.low == member || self.high == member
     }

@@ -4,7 +4,7 @@ ghost use Rattle.coll_kinds.specs.Checks.{broken};
 ghost use Rattle.coll_sched.specs.Schedules.{has_peer};
 ghost use Rattle.coll_draw.specs.Drawings.{step_of};
 
-use crate::step::Step;
+use crate::step::DrawnAction;
 use coll_kinds::{Refusal, Signature};
 use coll_plans::{Plan, plan};
 use coll_sched::Action;
@@ -13,13 +13,13 @@ use std::marker::Model;
 
 /// All members' plans of one collective.
 #[derive(Debug, Drop)]
-pub(crate) struct Plans {
+pub(crate) struct MemberPlans {
     sig: Signature,
     n: u8,
     plans: Vec<Plan>,
 }
 
-impl Model for Plans {
+impl Model for MemberPlans {
     ghost use Rattle.coll_draw.specs.Code.{Collective, ArePlans};
 
     ghost Value = { Collective };
@@ -29,13 +29,13 @@ impl Model for Plans {
     ghost invariant = { λ p. ArePlans p.sig p.n p.plans.items };
 }
 
-impl Plans {
+impl MemberPlans {
     ghost use Rattle.coll_sched.specs.Families.{actions_at, is_exchange, family_exchanges};
     ghost use Rattle.coll_plans.specs.Plans.{family};
     ghost use Rattle.coll_draw.specs.Drawings.{rounds_of, round_steps, steps};
 
-    /// The plans of a checked signature. Refuses [`Refusal::NoMemory`] alone.
-    pub(crate) fn of(alloc: Global, sig: Signature, n: u8) -> Result<Plans, Refusal>
+    /// The plans of a checked signature. The only refusal is [`Refusal::NoMemory`].
+    pub(crate) fn of(alloc: Global, sig: Signature, n: u8) -> Result<MemberPlans, Refusal>
         requires checked { broken sig n ≡ None }
         requires not_none { 0 < n }
         requires few { n ≤ 64 }
@@ -43,7 +43,7 @@ impl Plans {
         ensures refusal { IsOkUnless result Refusal.NoMemory }
     {
         let plans = plans_of(alloc, sig, n)?;
-        Ok(Plans { sig, n, plans })
+        Ok(MemberPlans { sig, n, plans })
     }
 
     /// How many rounds each member's schedule has.
@@ -56,7 +56,7 @@ impl Plans {
         }
     }
 
-    /// What a member does in a round.
+    /// The actions of a member in a round.
     fn actions(&self, round: usize, member: u8) -> &[Action]
         requires { member < self.now.n }
         ensures { result.now ≡ actions_at (family self.now.sig self.now.n) round member }
@@ -93,8 +93,8 @@ impl Plans {
         found
     }
 
-    /// All actions, in the order of their rounds, and in each round of their members.
-    pub(crate) fn steps(&self, alloc: Global) -> Result<Vec<Step>, AllocError>
+    /// All actions, in the order of their rounds, and within a round in the order of their members.
+    pub(crate) fn steps(&self, alloc: Global) -> Result<Vec<DrawnAction>, AllocError>
         ensures { IfOk result (λ all. all.items ≡ steps self.now.n (family self.now.sig self.now.n)) }
     {
         let mut all = Vec::new(alloc);
@@ -104,7 +104,7 @@ impl Plans {
         Ok(all)
     }
 
-    fn push_round(&self, round: usize, all: &mut Vec<Step>) -> Result<(), AllocError>
+    fn push_round(&self, round: usize, all: &mut Vec<DrawnAction>) -> Result<(), AllocError>
         ensures { OnOk result (all.new.items ≡ all.old.items ++ round_steps self.now.n (family self.now.sig self.now.n) round) }
     {
         for member in 0..self.n {
@@ -132,12 +132,12 @@ fn push_steps(
     round: usize,
     member: u8,
     actions: &[Action],
-    all: &mut Vec<Step>,
+    all: &mut Vec<DrawnAction>,
 ) -> Result<(), AllocError>
     ensures { OnOk result (all.new.items ≡ all.old.items ++ map (step_of round member) actions.now) }
 {
     for action in actions {
-        all.push(Step {
+        all.push(DrawnAction {
             round,
             member,
             action: *action,

@@ -6,7 +6,7 @@ use coll_sched::Action;
 
 /// An action of a schedule, with its round and its member.
 #[derive(Clone, Copy, Debug, PartialEq, Eq)]
-pub struct Step {
+pub struct DrawnAction {
     /// The round, from 0 on.
     pub round: usize,
     /// The member's number.
@@ -14,10 +14,10 @@ pub struct Step {
     pub action: Action,
 }
 
-impl Step {
+impl DrawnAction {
     ghost use Rattle.coll_draw.specs.Drawings.{arrow_of, combination_of, copy_of};
 
-    /// The message of a Send. That of a Recv is the sender's.
+    /// The message, if the action is a Send. That of a Recv is drawn at its sender.
     pub fn arrow(&self) -> Option<Arrow>
         ensures { result ≡ arrow_of self.now }
     {
@@ -32,7 +32,7 @@ impl Step {
         }
     }
 
-    /// A Combine.
+    /// The mark, if the action is a Combine.
     pub fn combination(&self) -> Option<Mark>
         ensures { result ≡ combination_of self.now }
     {
@@ -46,7 +46,7 @@ impl Step {
         }
     }
 
-    /// A Copy.
+    /// The mark, if the action is a Copy.
     pub fn copy(&self) -> Option<Mark>
         ensures { result ≡ copy_of self.now }
     {

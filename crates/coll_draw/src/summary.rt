@@ -4,20 +4,20 @@ use crate::arrow::Arrow;
 use crate::drawing::Drawing;
 use std::alloc::AllocError;
 
-/// The collective, its members, and the totals.
+/// Writes the collective, its members, and the totals.
 pub(crate) fn push_totals(out: &mut String, drawing: &Drawing) -> Result<(), AllocError> {
     push_title(out, drawing)?;
     out.push_str(": ")?;
     push_counts(out, drawing)
 }
 
-/// The collective and its members.
+/// Writes the collective and its members.
 pub(crate) fn push_title(out: &mut String, drawing: &Drawing) -> Result<(), AllocError> {
     write!(out, "{}, ", drawing.sig())?;
     push_count(out, u128::from(drawing.n()), "member")
 }
 
-/// The totals.
+/// Writes the totals.
 pub(crate) fn push_counts(out: &mut String, drawing: &Drawing) -> Result<(), AllocError> {
     let totals = drawing.totals();
     push_count(out, totals.rounds as u128, "round")?;
@@ -31,13 +31,13 @@ pub(crate) fn push_counts(out: &mut String, drawing: &Drawing) -> Result<(), All
     push_count(out, totals.combinations as u128, "combination")
 }
 
-/// A number of things that have this name.
+/// Writes a number with its noun, in the singular or the plural.
 fn push_count(out: &mut String, count: u128, noun: &str) -> Result<(), AllocError> {
     let ending = if count == 1 { "" } else { "s" };
     write!(out, "{count} {noun}{ending}")
 }
 
-/// How many messages a round has, and of how many bytes they are.
+/// Writes how many messages a round has, and of how many bytes they are.
 pub(crate) fn push_messages(
     out: &mut String,
     arrows: &[Arrow],

@@ -1,9 +1,9 @@
 //! A drawing as a vector picture.
 
 use crate::drawing::Drawing;
-use crate::geometry::{Columns, text_width};
-use crate::layout::{Row, has_marks, mark_count, rows_of};
-use crate::line::Line;
+use crate::geometry::{MemberColumns, text_width};
+use crate::layout::{SideBySide, has_marks, mark_count, rows_of};
+use crate::line::Link;
 use crate::mark::Mark;
 use crate::summary::{push_counts, push_messages, push_title};
 use std::alloc::{AllocError, Global};
@@ -49,10 +49,10 @@ text { font-family: Helvetica, Arial, 'Liberation Sans', sans-serif; fill: #000;
 </style>
 ";
 
-/// A drawing as SVG, black on white: a title, a column for each member, a band for each round, and the totals below.
-/// Messages are arrows, with their bytes where they fit; a combination is a plus in a circle, a copy within a member's
-/// buffer a square, each with its number where a member makes several of them. The cost grows with the square of the
-/// messages of a round.
+/// A drawing as SVG, black on white: a title, a column for each member, a band for each round, and the totals below. Messages
+/// are arrows, with their bytes if these fit; a combination is a plus in a circle, a copy within a member's buffer a square,
+/// each with its number if a member makes several of them. The cost grows with the square of the messages of a round. The only
+/// error is refused memory.
 pub fn svg_picture(alloc: Global, drawing: &Drawing) -> Result<String, AllocError> {
     let mut form = SvgForm::new(alloc, drawing)?;
     for round in 0..drawing.totals().rounds {
@@ -66,24 +66,24 @@ pub fn svg_picture(alloc: Global, drawing: &Drawing) -> Result<String, AllocErro
 struct SvgForm<'d> {
     alloc: Global,
     drawing: &'d Drawing,
-    columns: Columns,
+    columns: MemberColumns,
     /// The collective and its members.
     title: String,
-    /// What stands below the rounds.
+    /// The text below the rounds.
     totals: String,
     width: u32,
     /// Where the next part begins.
     y: u32,
-    /// The rounds' arrows and marks.
+    /// The arrows and marks of the rounds.
     body: String,
-    /// What lies behind them.
+    /// What lies underneath the arrows and marks.
     lives: String,
 }
 
 impl<'d> SvgForm<'d> {
-    /// No rounds so far.
+    /// A picture without rounds so far.
     fn new(alloc: Global, drawing: &'d Drawing) -> Result<SvgForm<'d>, AllocError> {
-        let columns = Columns::of(drawing.n());
+        let columns = MemberColumns::of(drawing.n());
         let mut title = String::new(alloc);
         push_title(&mut title, drawing)?;
         let mut totals = String::new(alloc);
@@ -105,7 +105,7 @@ impl<'d> SvgForm<'d> {
         })
     }
 
-    /// A band with the messages of a round, and below them what its members do by themselves.
+    /// Draws a band with the messages of a round, and below them what its members do by themselves.
     fn write_round(&mut self, round: usize) -> Result<(), AllocError> {
         let drawing = self.drawing;
         let shade = if round % 2 == 0 { "#f1f1f1" } else { "#ffffff" };
@@ -128,7 +128,7 @@ impl<'d> SvgForm<'d> {
         self.write_band(round, begin, shade)
     }
 
-    /// The ground of a round, and its number.
+    /// Draws the ground of a round, and its number.
     fn write_band(&mut self, round: usize, begin: u32, shade: &str) -> Result<(), AllocError> {
         let height = self.y.saturating_sub(begin);
         writeln!(
@@ -145,7 +145,7 @@ impl<'d> SvgForm<'d> {
         )
     }
 
-    /// What messages a round has, beside its first arrows. The picture is so wide that it has room.
+    /// Writes which messages a round has, beside its first arrows. The picture is made wide enough for this.
     fn write_aside(&mut self, round: usize, y: u32) -> Result<(), AllocError> {
         let mut text = String::new(self.alloc);
         push_messages(&mut text, self.drawing.arrows(), round)?;
@@ -160,7 +160,7 @@ impl<'d> SvgForm<'d> {
         )
     }
 
-    fn write_row(&mut self, row: &Row, shade: &str) -> Result<(), AllocError> {
+    fn write_row(&mut self, row: &SideBySide, shade: &str) -> Result<(), AllocError> {
         for line in &row.lines {
             self.write_arrow(line)?;
             self.write_label(line, shade)?;
@@ -169,8 +169,8 @@ impl<'d> SvgForm<'d> {
         Ok(())
     }
 
-    /// An arrow from member to member, with a head at each receiver and a dot at a sender alone.
-    fn write_arrow(&mut self, line: &Line) -> Result<(), AllocError> {
+    /// Draws an arrow from member to member, with a head at each receiver, and a dot at a member that only sends.
+    fn write_arrow(&mut self, line: &Link) -> Result<(), AllocError> {
         let low = self.columns.x(line.low);
         let high = self.columns.x(line.high);
         let y = self.y.saturating_add(LINE / 2).saturating_add(3);
@@ -202,9 +202,9 @@ impl<'d> SvgForm<'d> {
         }
     }
 
-    /// The bytes of a message above its arrow: in the middlemost space between columns, else over all of the arrow, else
-    /// not at all.
-    fn write_label(&mut self, line: &Line, shade: &str) -> Result<(), AllocError> {
+    /// Writes the bytes of a message above its arrow: in the middlemost space between columns if they fit there, else over the
+    /// whole arrow if they fit, else not at all.
+    fn write_label(&mut self, line: &Link, shade: &str) -> Result<(), AllocError> {
         let text = format!(in self.alloc; "{} B", line.len)?;
         let low = self.columns.x(line.low);
         let high = self.columns.x(line.high);
@@ -224,7 +224,7 @@ impl<'d> SvgForm<'d> {
         )
     }
 
-    /// The marks of a round, if it has some.
+    /// Draws the marks of a round, if it has some.
     fn write_signs(&mut self, sign: Sign, marks: &[Mark], round: usize) -> Result<(), AllocError> {
         if !has_marks(marks, round) {
             return Ok(());
@@ -272,7 +272,7 @@ impl<'d> SvgForm<'d> {
         Ok(out)
     }
 
-    /// The members' numbers and columns.
+    /// Draws the members' numbers and columns.
     fn write_columns(&self, out: &mut String) -> Result<(), AllocError> {
         out.push_str("<text class=\"round\" x=\"16\" y=\"54\">member</text>\n")?;
         for member in 0..self.columns.n {
@@ -290,7 +290,7 @@ impl<'d> SvgForm<'d> {
         Ok(())
     }
 
-    /// The totals, and what the signs mean.
+    /// Writes the totals and the meaning of the signs.
     fn write_legend(&self, out: &mut String) -> Result<(), AllocError> {
         let totals = self.totals.as_str();
         let y = self.y.saturating_add(24);
@@ -332,7 +332,7 @@ fn write_sign(out: &mut String, sign: Sign, x: u32, y: u32) -> Result<(), AllocE
     }
 }
 
-/// How often the sign is meant, where it isn't once.
+/// Writes how many times the sign is meant, unless it is once.
 fn write_sign_count(out: &mut String, count: usize, x: u32, y: u32) -> Result<(), AllocError> {
     if count == 1 {
         return Ok(());
@@ -345,7 +345,7 @@ fn write_sign_count(out: &mut String, count: usize, x: u32, y: u32) -> Result<()
     )
 }
 
-/// A sign with its meaning. Answers where the next one stands.
+/// Draws a sign with its meaning. Returns where the next one begins.
 fn write_meaning(
     out: &mut String,
     sign: Sign,

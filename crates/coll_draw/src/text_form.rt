@@ -1,20 +1,20 @@
 //! A drawing as lines for a terminal.
 
 use crate::drawing::Drawing;
-use crate::layout::{Row, has_marks, mark_count, rows_of};
+use crate::layout::{SideBySide, has_marks, mark_count, rows_of};
 use crate::mark::Mark;
 use crate::summary::{push_messages, push_totals};
 use std::alloc::{AllocError, Global};
 
-/// What stands at the left of a member's column.
+/// The word before the number of the first round.
 const ROUND: &str = "round ";
 
-/// A drawing as text: a line of totals, and below it the rounds downwards and the members across. `o` is a member that
-/// sends or receives, and the head of an arrow is at its receiver; `+` is a combination, `=` a copy within a member's
-/// buffer, each with its number where a member makes several of them. The cost grows with the square of the messages of a
-/// round.
+/// A drawing as text: a line of totals, and below it the rounds from top to bottom and the members from left to right. `o` is a
+/// member that sends or receives, and the head of an arrow is at its receiver; `+` is a combination, `=` a copy within a
+/// member's buffer, each with its number if a member makes several of them. The cost grows with the square of the messages of a
+/// round. The only error is refused memory.
 pub fn text_lines(alloc: Global, drawing: &Drawing) -> Result<String, AllocError> {
-    let mut form = TextForm {
+    let mut form = TextDrawing {
         alloc,
         drawing,
         step: step_of(drawing.n()),
@@ -28,7 +28,7 @@ pub fn text_lines(alloc: Global, drawing: &Drawing) -> Result<String, AllocError
     Ok(form.out)
 }
 
-/// The characters from a member's column to the next one.
+/// The number of characters from a member's column to the next one.
 fn step_of(n: u8) -> usize {
     match n {
         0..=10 => 7,
@@ -46,18 +46,18 @@ fn digits(count: usize) -> usize {
 
 /// The lines so far, and what they are made from.
 #[derive(Drop)]
-struct TextForm<'d> {
+struct TextDrawing<'d> {
     alloc: Global,
     drawing: &'d Drawing,
-    /// The characters from a member's column to the next one.
+    /// The number of characters from a member's column to the next one.
     step: usize,
-    /// The digits of the last round's number.
+    /// The number of digits of the last round's number.
     digits: usize,
     out: String,
 }
 
-impl<'d> TextForm<'d> {
-    /// The totals, and the members' numbers.
+impl<'d> TextDrawing<'d> {
+    /// Writes the totals, and the members' numbers.
     fn write_head(&mut self) -> Result<(), AllocError> {
         let drawing = self.drawing;
         push_totals(&mut self.out, drawing)?;
@@ -76,12 +76,12 @@ impl<'d> TextForm<'d> {
         Ok(())
     }
 
-    /// The characters before the first member's column.
+    /// The number of characters before the first member's column.
     fn margin(&self) -> usize {
         ROUND.len().saturating_add(self.digits).saturating_add(2)
     }
 
-    /// The messages of a round, and then what its members do by themselves.
+    /// Writes the messages of a round, and then what its members do by themselves.
     fn write_round(&mut self, round: usize) -> Result<(), AllocError> {
         let drawing = self.drawing;
         let rows = rows_of(self.alloc, drawing.arrows(), round)?;
@@ -100,7 +100,7 @@ impl<'d> TextForm<'d> {
         is_begun = self.write_marks('+', drawing.combinations(), round, is_begun)?;
         if !is_begun {
             self.begin_line(round, is_begun)?;
-            self.write_row(&Row {
+            self.write_row(&SideBySide {
                 lines: Vec::new(self.alloc),
             })?;
             self.out.push('\n')?;
@@ -108,7 +108,7 @@ impl<'d> TextForm<'d> {
         Ok(())
     }
 
-    /// The number of a round, before the first of its lines.
+    /// Writes the number of a round before the first of its lines, and blanks before the others.
     fn begin_line(&mut self, round: usize, is_begun: bool) -> Result<(), AllocError> {
         let margin = self.margin();
         if is_begun {
@@ -119,8 +119,8 @@ impl<'d> TextForm<'d> {
         write!(self.out, "{word}{round:>width$}  ")
     }
 
-    /// Lines between members, and the columns of those that they leave alone.
-    fn write_row(&mut self, row: &Row) -> Result<(), AllocError> {
+    /// Writes the lines between members, and the columns of the members that they leave alone.
+    fn write_row(&mut self, row: &SideBySide) -> Result<(), AllocError> {
         let n = self.drawing.n();
         for member in 0..n {
             let is_crossed = row.line_behind(member).is_some();
@@ -136,8 +136,8 @@ impl<'d> TextForm<'d> {
         Ok(())
     }
 
-    /// What lies between a member's column and the next one.
-    fn write_space(&mut self, row: &Row, member: u8) -> Result<(), AllocError> {
+    /// Writes what lies between a member's column and the next one.
+    fn write_space(&mut self, row: &SideBySide, member: u8) -> Result<(), AllocError> {
         let width = self.step.saturating_sub(3);
         let Some(line) = row.line_behind(member) else {
             return write!(self.out, "{:width$}  ", "");
@@ -150,7 +150,7 @@ impl<'d> TextForm<'d> {
         Ok(())
     }
 
-    /// Marks of a round, if it has some. Answers whether a line of the round stands now.
+    /// Writes the marks of a round, if it has some. Returns whether the round has a line now.
     fn write_marks(
         &mut self,
         sign: char,
@@ -169,7 +169,7 @@ impl<'d> TextForm<'d> {
         Ok(true)
     }
 
-    /// A member's mark in its column, with its number where there are several.
+    /// Writes a member's mark in its column, with its number if there are several.
     fn write_mark(&mut self, sign: char, count: usize, member: u8) -> Result<(), AllocError> {
         let is_last = member.saturating_add(1) >= self.drawing.n();
         let width = if is_last {

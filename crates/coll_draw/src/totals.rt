@@ -1,6 +1,6 @@
-/// How much there is in a drawing.
+/// How many rounds, exchanges, messages, bytes and combinations a drawing has.
 #[derive(Clone, Copy, Debug, PartialEq, Eq)]
-pub struct Totals {
+pub struct DrawingTotals {
     pub rounds: usize,
     /// The rounds in which some member sends or receives.
     pub exchanges: usize,

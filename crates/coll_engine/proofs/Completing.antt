@@ -61,7 +61,7 @@ left_undone : (m : Machine) (r : Option Ticket) → is_done m r ≡ false → le
 left_undone m None e = refl
 left_undone m (Some t) e = ap (λ b. if b then hold_after m.state t else Some t) e
 
--- ---- what is written: the memory before the span, the span, and what lies behind it
+-- ---- what is written: the memory before the span, the span, and what lies after it
 
 pub completed : (g : Setting) (rank : ℕ) (m n : Machine) (p q : Part) (held left : Option Ticket) (old sub sub_old : List ℕ)
     (b e count : ℕ)

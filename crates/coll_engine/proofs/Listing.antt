@@ -115,7 +115,7 @@ length-noted : (i : ℕ) (o : Option Outcome) (b : Bool) → b ≡ is_some o →
 length-noted i None b e = ap (λ b. cond b 1 0) (sym e)
 length-noted i (Some o) b e = ap (λ b. cond b 1 0) (sym e)
 
--- ---- the parts below position i are done with, and so many requests were completed
+-- ---- the parts below position i are done with, and that many requests were completed
 
 pub record Going (g : Setting) (rank : ℕ) (m n : Machine) (was now : List Part) (old new : List ℕ) (i many : ℕ) : Type 0 where
   pub outcomes : List (ℕ × Outcome)
@@ -237,7 +237,7 @@ going_more g h rank m n k was now old new next i many more p q set distinct fits
         (λ z. go.told z ++ completed_from (e z) (q ∷ []))
         ∙ ap (λ ps. counts_of go.outcomes ++ ps) (completed_one i q c.outcome c.completed c.count_is)
 
--- behind the last
+-- after the last
 pub going_done : (g : Setting) (rank : ℕ) (m n : Machine) (was now : List Part) (old new : List ℕ) (i many : ℕ)
     → i ≡ length was → Going g rank m n was now old new i many → CompletesParts g rank m n was now old new
 going_done g rank m n was now old new i many end go =

@@ -83,7 +83,7 @@ about_at m (Some t) = about_in m t
 abbrev pub Fills : List ℕ → List ℕ → List ℕ → Type 0
 Fills old new bytes = new ≡ bytes ++ drop (length bytes) old
 
--- the request was completed, and its outcome is so many bytes, which stand in the memory
+-- the request was completed, and its outcome is that many bytes, which stand in the memory
 pub record Completes (g : Setting) (m : Machine) (rank : ℕ) (r : Option Ticket) (old : List ℕ) (count : ℕ) (new : List ℕ)
     (n : Machine) : Type 0 where
   pub outcome : Outcome

@@ -26,7 +26,7 @@ pub record AreMeasured (g : Setting) (s : State) (lengths : List ℕ) : Type 0 w
   pub enough : length lengths ≡ g.slots
   pub each : (slot : ℕ) (q : Request) → s.request slot ≡ Some q → IsMeasured g s lengths slot q
 
--- the request that a ticket names has an outcome of so many bytes
+-- the request that a ticket names has an outcome of that many bytes
 pub record IsOutcomeLength (g : Setting) (s : State) (t : Ticket) (len : ℕ) : Type 0 where
   pub request : Request
   pub sig : Signature

@@ -3,7 +3,7 @@ use Rattle.std.specs.Prelude.{◌≡◌, ◌+◌, ℕ}
 use Rattle.coll_core.specs.Cores.{Parts, seen, setting}
 use Rattle.coll_core.specs.Steps.{Finishings, left}
 
--- so many actions were done: some requests became Done, and nothing else changed that callers see
+-- that many actions were done: some requests became Done, and nothing else changed that callers see
 pub record Advances (p r : Parts) (actions : ℕ) : Type 0 where
   pub set : setting r ≡ setting p
   pub finishes : Finishings (setting p) (seen p) (seen r)

@@ -1,4 +1,4 @@
--- What the test of one request tells.
+-- What a test of one request returns.
 use Rattle.std.specs.Prelude.{ℕ, Bool, true, false}
 use Rattle.coll_engine.specs.declared.test.Test.{Test}
 use Rattle.coll_engine.specs.declared.test.Test.TheVariants.{Completed, Inactive, Pending}
@@ -14,7 +14,7 @@ is_unfinished Inactive = false
 is_unfinished Pending = true
 is_unfinished (Completed count) = false
 
--- where the request was completed, so many bytes are as is said
+-- where the request was completed, that many bytes are as is said
 abbrev pub IfCompleted : (ℕ → Type 0) → Test → Type 0
 IfCompleted P Inactive = Unit {0}
 IfCompleted P Pending = Unit {0}

@@ -1,4 +1,4 @@
-/// What a test of a list for one request tells (`MPI_Testany`; MPI 4.1, 3.7.5).
+/// The result of a test of a list for one request (`MPI_Testany`; MPI 4.1, 3.7.5).
 #[derive(Clone, Copy, Debug, PartialEq, Eq)]
 pub enum First {
     /// No request of the list is active.

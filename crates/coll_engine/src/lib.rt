@@ -4,10 +4,10 @@
 //! | Module | Has |
 //! |---|---|
 //! | `combination` | `Combination`, one that is computed outside the engine |
-//! | `test` | `Test`, what the test of one request tells |
+//! | `test` | `Test`, the result of a test of one request |
 //! | `part` | `Part`, a request of a list with its span of the list's memory |
 //! | `distinct` | `are_distinct`, what the tests of lists ask of a list |
-//! | `first` | `First`, what the test of a list for one request tells |
+//! | `first` | `First`, the result of a test of a list for one request |
 //! | `stopped` | `Stopped`, where the starts of a list stopped |
 //! | `threads` | which values may go from one thread to another |
 //! | `engine` | `Engine`, with its calls by what they do |

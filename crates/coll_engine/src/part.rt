@@ -59,7 +59,7 @@ impl Part {
         })
     }
 
-    /// Where its span begins and ends in memory that has so many bytes.
+    /// Where its span begins and ends in memory of this many bytes.
     pub(crate) fn span(&self, len: usize) -> (usize, usize)
         ensures begin { result.0 ≡ len - (len - self.now.at) }
         ensures end { result.1 ≡ result.0 + span_len self.now len }

@@ -1,7 +1,7 @@
 ghost use Rattle.std.specs.Prelude.{◌≡◌, false, not};
 ghost use Rattle.coll_engine.specs.Tests.{is_completed, is_unfinished};
 
-/// What a test of one request tells (`MPI_Test`; MPI 4.1, 3.7.3).
+/// The result of a test of one request (`MPI_Test`; MPI 4.1, 3.7.3).
 #[derive(Clone, Copy, Debug, PartialEq, Eq)]
 pub enum Test {
     /// The request is null or Idle: MPI's flag is true, and there is no outcome.

@@ -7,7 +7,7 @@ use coll_history::{History, ScriptFault};
 use coll_kinds::MAX_TEXT;
 use std::alloc::{AllocError, Global};
 
-/// What the lines of a text say, if none of them has a fault. Linear in the text.
+/// The history of a text, if none of its lines has a fault. Linear in the text.
 pub(crate) fn accepted(alloc: Global, text: &[u8]) -> Result<Option<History>, AllocError>
     ensures { IfOk result (λ said. OnSome said (is_accepted text.now ≡ true)) }
 {

@@ -5,68 +5,35 @@ use std::alloc::{AllocError, Global};
 #[derive(Debug, Drop)]
 pub struct Difference {
     pub field: &'static str,
-    /// What the later one has.
+    /// The value in the later request.
     pub here: String,
-    /// What the earliest one has.
+    /// The value in the earliest request.
     pub there: String,
 }
 
-/// In which fields two signatures differ. Where the collectives do, nothing else is compared.
+/// The fields in which two signatures differ. If the collectives differ, nothing else is compared.
 pub(crate) fn differences(
     alloc: Global,
     here: &Signature,
     there: &Signature,
 ) -> Result<Vec<Difference>, AllocError> {
     let mut all = Vec::new(alloc);
-    if here.mode != there.mode {
-        push(
-            &mut all,
-            "mode",
-            word(alloc, mode(here))?,
-            word(alloc, mode(there))?,
-        )?;
-    }
+    compare_words(alloc, &mut all, "mode", mode(here), mode(there))?;
+    compare_words(alloc, &mut all, "kind", here.kind.word(), there.kind.word())?;
     if here.kind != there.kind {
-        push(
-            &mut all,
-            "kind",
-            word(alloc, here.kind.word())?,
-            word(alloc, there.kind.word())?,
-        )?;
         return Ok(all);
     }
-    if here.root != there.root {
-        push(
-            &mut all,
-            "root",
-            number(alloc, u32::from(here.root))?,
-            number(alloc, u32::from(there.root))?,
-        )?;
-    }
-    if operation(here) != operation(there) {
-        push(
-            &mut all,
-            "operation",
-            word(alloc, operation(here))?,
-            word(alloc, operation(there))?,
-        )?;
-    }
-    if here.ty != there.ty {
-        push(
-            &mut all,
-            "type",
-            word(alloc, here.ty.word())?,
-            word(alloc, there.ty.word())?,
-        )?;
-    }
-    if here.count != there.count {
-        push(
-            &mut all,
-            "count",
-            number(alloc, here.count)?,
-            number(alloc, there.count)?,
-        )?;
-    }
+    let (root, other_root) = (u32::from(here.root), u32::from(there.root));
+    compare_numbers(alloc, &mut all, "root", root, other_root)?;
+    compare_words(
+        alloc,
+        &mut all,
+        "operation",
+        operation(here),
+        operation(there),
+    )?;
+    compare_words(alloc, &mut all, "type", here.ty.word(), there.ty.word())?;
+    compare_numbers(alloc, &mut all, "count", here.count, there.count)?;
     if here.each != there.each {
         push(
             &mut all,
@@ -76,6 +43,34 @@ pub(crate) fn differences(
         )?;
     }
     Ok(all)
+}
+
+/// Notes a field whose words differ.
+fn compare_words(
+    alloc: Global,
+    all: &mut Vec<Difference>,
+    field: &'static str,
+    here: &str,
+    there: &str,
+) -> Result<(), AllocError> {
+    if here == there {
+        return Ok(());
+    }
+    push(all, field, word(alloc, here)?, word(alloc, there)?)
+}
+
+/// Notes a field whose numbers differ.
+fn compare_numbers(
+    alloc: Global,
+    all: &mut Vec<Difference>,
+    field: &'static str,
+    here: u32,
+    there: u32,
+) -> Result<(), AllocError> {
+    if here == there {
+        return Ok(());
+    }
+    push(all, field, number(alloc, here)?, number(alloc, there)?)
 }
 
 fn push(

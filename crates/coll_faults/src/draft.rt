@@ -1,9 +1,9 @@
 use crate::patch::{Patch, copied};
 use std::alloc::{AllocError, Global};
 
-/// A text whose faulty lines are mended one after another, so that the lines behind them can be judged.
+/// A text whose faulty lines are mended one after another, so that the lines after them can be judged.
 #[derive(Drop)]
-pub(crate) struct Draft<'t> {
+pub(crate) struct MendedText<'t> {
     lines: Vec<Line<'t>>,
 }
 
@@ -14,9 +14,9 @@ enum Line<'t> {
     Mended(Vec<u8>),
 }
 
-impl<'t> Draft<'t> {
-    /// Linear in the text.
-    pub(crate) fn new(alloc: Global, text: &'t [u8]) -> Result<Draft<'t>, AllocError> {
+impl<'t> MendedText<'t> {
+    /// Takes the lines of a text. Linear in the text.
+    pub(crate) fn new(alloc: Global, text: &'t [u8]) -> Result<MendedText<'t>, AllocError> {
         let body = match text {
             [body @ .., b'\n'] => body,
             _ => text,
@@ -25,7 +25,7 @@ impl<'t> Draft<'t> {
         for line in body.split(|b| *b == b'\n') {
             lines.push(Line::Written(line))?;
         }
-        Ok(Draft { lines })
+        Ok(MendedText { lines })
     }
 
     /// How many lines the text has.
@@ -37,7 +37,7 @@ impl<'t> Draft<'t> {
         last
     }
 
-    /// What stands in the line of that number, from 1 on.
+    /// The bytes of the line of that number, from 1 on, as mended; empty if there is none.
     pub(crate) fn line(&self, number: u32) -> &[u8] {
         let Some(index) = (number as usize).checked_sub(1) else {
             return b"";
@@ -48,12 +48,12 @@ impl<'t> Draft<'t> {
         }
     }
 
-    /// All lines.
+    /// All lines as one text.
     pub(crate) fn text(&self, alloc: Global) -> Result<Vec<u8>, AllocError> {
         self.front(alloc, self.last(), &[])
     }
 
-    /// The lines up to that number, with these patches.
+    /// The lines up to that number as one text, with these patches.
     pub(crate) fn front(
         &self,
         alloc: Global,
@@ -83,18 +83,22 @@ impl<'t> Draft<'t> {
         }
     }
 
-    /// The same lines with these patches.
-    pub(crate) fn with(&self, alloc: Global, patches: &[Patch]) -> Result<Draft<'_>, AllocError> {
+    /// A copy of the draft, with these patches.
+    pub(crate) fn with(
+        &self,
+        alloc: Global,
+        patches: &[Patch],
+    ) -> Result<MendedText<'_>, AllocError> {
         let mut lines = Vec::new(alloc);
         for line in &self.lines {
             lines.push(Line::Written(line.bytes()))?;
         }
-        let mut draft = Draft { lines };
+        let mut draft = MendedText { lines };
         draft.mend(copied(alloc, patches)?);
         Ok(draft)
     }
 
-    /// In whose place each line of the draft stands. Linear in the text.
+    /// For each line of the mended text, the line of the original text in whose place it stands. Linear in the text.
     pub(crate) fn written(&self, alloc: Global) -> Result<Written, AllocError> {
         let mut numbers = Vec::new(alloc);
         let mut number: u32 = 0;
@@ -108,14 +112,14 @@ impl<'t> Draft<'t> {
     }
 }
 
-/// For each line of a draft the line of the text in whose place it stands.
+/// For each line of the mended text, the line of the original text in whose place it stands.
 #[derive(Drop)]
 pub(crate) struct Written {
     numbers: Vec<u32>,
 }
 
 impl Written {
-    /// The line of the text for the line of the draft that has that number, from 1 on.
+    /// The original line of the mended text's line `number`, both from 1 on.
     pub(crate) fn of(&self, number: u32) -> u32 {
         let index = (number as usize).saturating_sub(1);
         match self.numbers.get(index) {
@@ -134,7 +138,7 @@ impl<'t> Line<'t> {
     }
 }
 
-/// Lines with a line feed behind each.
+/// Lines as one text, with a line feed after each.
 fn joined(alloc: Global, lines: &[&[u8]]) -> Result<Vec<u8>, AllocError> {
     let mut text = Vec::new(alloc);
     for line in lines {

@@ -1,6 +1,6 @@
-//! A fault of a line, examined: which words are meant, what may be meant, and how lines behind it can be judged.
+//! Examines a fault of a line: which words are meant, what may be meant by them, and how the lines after it can be judged.
 
-use crate::draft::Draft;
+use crate::draft::MendedText;
 use crate::finding::{Detail, Marked};
 use crate::line_faults::remark_of;
 use crate::mending::{Mending, first_accepted, mendings};
@@ -12,17 +12,17 @@ use crate::trying::suggested;
 use coll_script::Cause;
 use std::alloc::{AllocError, Global};
 
-/// What is known of the fault, and by which patches the text can be read past it.
+/// What is known of the fault, and the patches by which the text can be read past it.
 #[derive(Drop)]
 pub(crate) struct Examined {
     pub detail: Detail,
     pub mending: Option<Mending>,
 }
 
-/// Examines a line of the draft, none before which has a fault.
+/// Examines a line of the draft; no line before it has a fault.
 pub(crate) fn examine(
     alloc: Global,
-    draft: &Draft<'_>,
+    draft: &MendedText<'_>,
     line: u32,
     cause: Cause,
 ) -> Result<Examined, AllocError> {
@@ -58,7 +58,7 @@ pub(crate) fn examine(
     })
 }
 
-/// The words that a remark speaks of, and what it proposes.
+/// The words of a remark as they are marked, and the remark's proposals.
 fn marked(site: &Site<'_>, remark: Remark) -> (Marked, Vec<Proposal>) {
     let Remark {
         word,

@@ -1,5 +1,5 @@
 use crate::accepting::accepted;
-use crate::draft::Draft;
+use crate::draft::MendedText;
 use crate::examining::{Examined, examine};
 use crate::finding::{Detail, Finding};
 use crate::patch::Patch;
@@ -9,25 +9,25 @@ use crate::words::{push_word, shown, words_of};
 use coll_script::{Cause, Fault, Script, ScriptFault};
 use std::alloc::{AllocError, Global};
 
-/// All faults of a text that has one.
+/// All faults of a text that has at least one.
 #[derive(Debug, Drop)]
 pub struct Faults {
-    /// The fault of the text.
+    /// The text's first fault.
     pub first: Finding,
-    /// The first fault of the text in which that is mended, and so on; or what else is wrong after the last line.
+    /// The first fault of the text in which `first` is mended, and so on; after the last line, all other faults of the requests.
     pub further: Vec<Finding>,
-    /// Whether lines behind the last of them weren't judged: there are too many, or its line can't be mended.
+    /// Whether lines after the last of these faults weren't judged: there are too many faults, or its line can't be mended.
     pub is_cut: bool,
 }
 
-/// The most faults that are told of the lines of a text.
+/// The most faults that are reported of the lines of a text.
 pub const MOST_FAULTS: u32 = 64;
 
 impl Faults {
     ghost use Rattle.std.specs.Prelude.{◌≡◌, Err, IfOk, IfSome, IfNone};
     ghost use Rattle.coll_script.specs.Meaning.{meaning, HasMeaning};
 
-    /// The faults of a text; nothing where it has none. For each fault the text is read again several times.
+    /// The faults of a text; None if it has none. For each fault the text is read again several times. The only error is refused memory.
     pub fn of(alloc: Global, text: &[u8]) -> Result<Option<Faults>, AllocError>
         ensures none { IfOk result (λ found. IfNone found (HasMeaning text.now)) }
         ensures first { IfOk result (λ found. IfSome found (λ faults. meaning text.now ≡ Err faults.first.fault)) }
@@ -46,7 +46,7 @@ impl Faults {
     {
         let mut search = Search {
             alloc,
-            draft: Draft::new(alloc, text)?,
+            draft: MendedText::new(alloc, text)?,
             is_sure: true,
             goes_on: true,
             is_cut: false,
@@ -62,7 +62,7 @@ impl Faults {
         })
     }
 
-    /// How many there are.
+    /// The number of faults.
     pub fn count(&self) -> usize {
         self.further.len().saturating_add(1)
     }
@@ -72,18 +72,18 @@ impl Faults {
 #[derive(Drop)]
 struct Search<'t> {
     alloc: Global,
-    draft: Draft<'t>,
+    draft: MendedText<'t>,
     /// Whether each mended line still posts and starts what it was meant to.
     is_sure: bool,
     /// Whether there may be further faults.
     goes_on: bool,
-    /// Whether the last line that was judged couldn't be mended, and lines follow it.
+    /// Whether the last line that was judged couldn't be mended, and other lines follow it.
     is_cut: bool,
     further: Vec<Finding>,
 }
 
 impl<'t> Search<'t> {
-    /// Finds the faults behind the first one.
+    /// Finds the faults after the first one.
     fn find_further(&mut self) -> Result<(), AllocError> {
         for _ in 1..MOST_FAULTS {
             if !self.goes_on {
@@ -111,7 +111,7 @@ impl<'t> Search<'t> {
                 };
                 let at = self.further.len();
                 let detail = self.detail(fault)?;
-                // Those that were found with it stand behind it.
+                // The faults of requests that were found with it stand after it.
                 let at = at.min(self.further.len());
                 self.further.insert(at, Finding { fault, detail })?;
             }
@@ -119,7 +119,7 @@ impl<'t> Search<'t> {
         Ok(())
     }
 
-    /// What is known of a fault of the draft. Its line is mended.
+    /// What is known of a fault of the draft. Mends the fault's line, if it can be mended.
     fn detail(&mut self, fault: Fault) -> Result<Detail, AllocError> {
         if is_of_all(fault.cause) {
             self.goes_on = false;
@@ -148,7 +148,7 @@ impl<'t> Search<'t> {
         Ok(detail)
     }
 
-    /// What is known of a fault that is judged after the last line. The others are put to the further ones.
+    /// What is known of a fault that is judged after the last line. The other faults that are found with it go to `further`.
     fn place_detail(&mut self, fault: Fault) -> Result<Detail, AllocError> {
         let text = self.draft.text(self.alloc)?;
         let Some(history) = accepted(self.alloc, &text)? else {
@@ -180,7 +180,7 @@ impl<'t> Search<'t> {
         Ok(found)
     }
 
-    /// A line that a rank lacks, added behind the last one.
+    /// The suggestion to add a line that a rank lacks, after the last line.
     fn addition(&self, place: &PlaceFault) -> Result<Option<Suggestion>, AllocError> {
         let PlaceFault::MissingPlace(missing) = place else {
             return Ok(None);
@@ -198,7 +198,7 @@ impl<'t> Search<'t> {
         Ok(None)
     }
 
-    /// The line of another rank's request, added to the section of a rank, with its values or without.
+    /// The suggestion to add the line of another rank's request to the section of a rank, with its values or without.
     fn added(
         &self,
         rank: u8,
@@ -230,7 +230,7 @@ impl<'t> Search<'t> {
     }
 }
 
-/// Whether a fault is one of the requests of all ranks.
+/// Whether a fault concerns the requests of all ranks.
 fn is_of_all(cause: Cause) -> bool {
     matches!(
         cause,

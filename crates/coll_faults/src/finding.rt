@@ -12,25 +12,25 @@ pub struct Finding {
 /// What is known of a fault.
 #[derive(Debug, Drop)]
 pub enum Detail {
-    /// Which words of its line break the rule.
+    /// The words of its line that break the rule.
     Words(Marked),
-    /// Which requests at one place don't belong together.
+    /// Requests at one place that don't belong together.
     Place {
         fault: PlaceFault,
         suggestion: Option<Suggestion>,
     },
-    /// Nothing more.
+    /// Nothing more is known.
     Bare,
 }
 
 /// Words of a line that break a rule.
 #[derive(Debug, Drop)]
 pub struct Marked {
-    /// The index of the first of them; that behind the last word where one is missing.
+    /// The index of the first of them; if a word is missing, the index after the last word.
     pub word: usize,
-    /// The bytes before it in its line.
+    /// The number of bytes before it in its line.
     pub start: usize,
-    /// The bytes from there to the end of the last of them.
+    /// The number of bytes from there to the end of the last of them.
     pub len: usize,
     /// What is known of them.
     pub label: String,

@@ -1,19 +1,19 @@
-//! All faults of a job text at once: where each stands, what is known there, and what may be meant.
+//! Finds all faults of a job text at once: where each stands, what is known of it, and what may be meant.
 //!
-//! The first fault is that of [`coll_script::Script::read`]. Then its line is mended, so that the text can be read past it, and
-//! the next fault is the first one of the mended text. A suggestion is told only where the lines of the changed text were read
-//! and have no fault, up to the one for which it is made.
+//! The first fault is that of [`coll_script::Script::read`]. Its line is then mended, so that the text can be read past it, and
+//! the next fault is the first one of the mended text. A suggestion is made only if the lines of the changed text, up to the
+//! one for which it is made, were read and have no fault.
 //!
 //! | Module | Has |
 //! |---|---|
-//! | `words`, `patch`, `draft` | words of lines; `Patch`, lines in place of one; `Draft`, a text with patches |
+//! | `words`, `patch`, `draft` | words of lines; `Patch`, lines in place of one; `MendedText`, a text with patches |
 //! | `accepting` | whether lines have a fault |
-//! | `scene`, `site` | what the lines before a faulty one have said; `Site`, the faulty line among them |
+//! | `scene`, `site` | what the lines before a faulty one have said; `Site`, the faulty line after them |
 //! | `vocabulary` | the words of the format, and what other words may be meant to be |
 //! | `remark` | `Remark`, what is known of a faulty line |
 //! | `signature_faults`, `value_faults`, `request_faults`, `line_faults` | remarks by the rule that is broken |
 //! | `suggestion`, `trying` | `Suggestion`, a change that was tried; how proposals for a line are tried |
-//! | `mending` | what stands in place of a faulty line while those behind it are judged |
+//! | `mending` | what stands in place of a faulty line while those after it are judged |
 //! | `postings`, `difference`, `place_faults` | requests at one place that don't belong together |
 //! | `finding`, `examining`, `faults` | `Faults`, all that is found in one text |
 #![tactic(auto)]
@@ -44,6 +44,6 @@ pub use difference::Difference;
 pub use faults::{Faults, MOST_FAULTS};
 pub use finding::{Detail, Finding, Marked};
 pub use patch::Patch;
-pub use place_faults::{Mismatch, MissingPlace, MissingStart, PlaceFault, Standing};
+pub use place_faults::{Mismatch, MissingPlace, MissingStart, PlaceFault, PlacedRequest};
 pub use suggestion::Suggestion;
 pub use words::shown;

@@ -12,7 +12,7 @@ use coll_kinds::{MAX_COMMUNICATORS, MAX_RANKS, read_number};
 use coll_script::Cause;
 use std::alloc::AllocError;
 
-/// What is known of the line, which breaks that rule.
+/// The remark on the line, which breaks that rule.
 pub(crate) fn remark_of(site: &Site<'_>, cause: Cause) -> Result<Option<Remark>, AllocError> {
     let remark = match cause {
         Cause::MissingRanks => missing_ranks(site)?,
@@ -36,7 +36,7 @@ pub(crate) fn remark_of(site: &Site<'_>, cause: Cause) -> Result<Option<Remark>,
     Ok(Some(remark))
 }
 
-/// The least number of ranks with which no `rank` line names one too many, at least two.
+/// The least number of ranks, at least two, with which every `rank` line names a rank of the job.
 pub(crate) fn guessed_ranks(site: &Site<'_>) -> u128 {
     let mut ranks: u128 = 2;
     for number in 1..=site.draft.last() {
@@ -118,7 +118,7 @@ fn out_of_place(site: &Site<'_>) -> Result<Remark, AllocError> {
     Ok(remark)
 }
 
-/// A communicator behind the first `rank` line, which can be moved up.
+/// The remark on a communicator after the first `rank` line, which can be moved up.
 fn late_communicator(site: &Site<'_>) -> Result<Remark, AllocError> {
     let alloc = site.alloc;
     let text = "communicators stand before the first `rank` line";
@@ -142,7 +142,7 @@ fn late_communicator(site: &Site<'_>) -> Result<Remark, AllocError> {
     Ok(remark)
 }
 
-/// What a line lacks that has no word behind its first.
+/// What a line lacks that has no word after its first one.
 fn missing(site: &Site<'_>) -> &'static str {
     if site.begins("ranks") {
         "the number of ranks is missing here"
@@ -175,7 +175,7 @@ fn bad_words(site: &Site<'_>) -> Result<Option<Remark>, AllocError> {
     }
 }
 
-/// Words behind the end of what a line says.
+/// The remark on words after the end of a line's command.
 fn too_many(site: &Site<'_>, at: usize) -> Result<Remark, AllocError> {
     let alloc = site.alloc;
     let count = site.words.len().saturating_sub(at);
@@ -256,7 +256,7 @@ fn bad_rank(site: &Site<'_>) -> Result<Remark, AllocError> {
     Ok(remark)
 }
 
-/// A rank that isn't a member of its communicator.
+/// The remark on a rank that isn't a member of its communicator.
 fn stranger(site: &Site<'_>) -> Result<Remark, AllocError> {
     let alloc = site.alloc;
     let comm = site.number(1).unwrap_or(0);

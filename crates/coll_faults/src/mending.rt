@@ -1,7 +1,7 @@
-//! How lines behind a faulty one can be judged: what stands in its place.
+//! How lines after a faulty one can be judged: what stands in its place.
 
 use crate::accepting::accepted;
-use crate::draft::Draft;
+use crate::draft::MendedText;
 use crate::line_faults::guessed_ranks;
 use crate::patch::Patch;
 use crate::site::{Site, last_signed};
@@ -15,14 +15,14 @@ use std::alloc::{AllocError, Global};
 #[derive(Drop)]
 pub(crate) struct Mending {
     pub patches: Vec<Patch>,
-    /// Whether the line still posts and starts what it was surely meant to.
+    /// Whether it is sure that the line posts and starts what it was meant to.
     pub is_sure: bool,
 }
 
-/// The most values that are written in place of wrong ones.
+/// The most values that are written in place of faulty ones.
 const MOST_VALUES: usize = 65_536;
 
-/// What may stand in place of the line, the likeliest first. Nothing where no line behind it can be judged.
+/// What may stand in place of the line, the likeliest first; empty if no line after it can be judged.
 pub(crate) fn mendings(site: &Site<'_>, cause: Cause) -> Result<Vec<Mending>, AllocError> {
     let mut all = Vec::new(site.alloc);
     match cause {
@@ -46,7 +46,7 @@ fn push(all: &mut Vec<Mending>, patches: Vec<Patch>, is_sure: bool) -> Result<()
     Ok(())
 }
 
-/// What may stand in place of a line with that first word.
+/// Adds what may stand in place of a line, by its first word.
 fn by_command(site: &Site<'_>, all: &mut Vec<Mending>) -> Result<(), AllocError> {
     if site.begins("post") || site.begins("init") {
         push_same(site, all)?;
@@ -87,7 +87,8 @@ fn by_command(site: &Site<'_>, all: &mut Vec<Mending>) -> Result<(), AllocError>
     push(all, site.dropped()?, is_sure)
 }
 
-/// Posts that make one request, as the line was meant to; where it is sure that it wasn't, none.
+/// Adds posts that make one request, as the line was meant to, unless it is sure that it wasn't; and after these the patch that
+/// leaves the line out.
 fn push_posts(
     site: &Site<'_>,
     verb: &str,
@@ -105,7 +106,7 @@ fn push_posts(
     push(all, site.dropped()?, false)
 }
 
-/// The same signature with other values.
+/// Adds a line with the same signature and other values.
 fn push_same(site: &Site<'_>, all: &mut Vec<Mending>) -> Result<(), AllocError> {
     let Some((end, history)) = site.signed()? else {
         return Ok(());
@@ -124,7 +125,7 @@ fn push_same(site: &Site<'_>, all: &mut Vec<Mending>) -> Result<(), AllocError> 
     push(all, site.patch(line)?, true)
 }
 
-/// A start of the same request with other values.
+/// Adds a start of the same request with other values.
 fn push_start(site: &Site<'_>, all: &mut Vec<Mending>) -> Result<(), AllocError> {
     let made = site.made()?;
     let request = site
@@ -140,7 +141,7 @@ fn push_start(site: &Site<'_>, all: &mut Vec<Mending>) -> Result<(), AllocError>
     Ok(())
 }
 
-/// Puts a colon and values behind a line.
+/// Adds a colon and this number of zeros to a line.
 fn push_zeros(line: &mut Vec<u8>, values: usize, ty: Datatype) -> Result<(), AllocError> {
     if values > 0 {
         push_word(line, b":")?;
@@ -152,7 +153,7 @@ fn push_zeros(line: &mut Vec<u8>, values: usize, ty: Datatype) -> Result<(), All
     Ok(())
 }
 
-/// A communicator of all ranks.
+/// The line of a communicator of all ranks.
 fn all_ranks(site: &Site<'_>) -> Result<Vec<u8>, AllocError> {
     let mut line = Vec::from_slice(site.alloc, b"comm")?;
     for rank in 0..site.scene.ranks() {
@@ -162,7 +163,7 @@ fn all_ranks(site: &Site<'_>) -> Result<Vec<u8>, AllocError> {
     Ok(line)
 }
 
-/// The section that begins here is left out.
+/// The patches that leave out the section that begins here.
 fn section(site: &Site<'_>) -> Result<Vec<Patch>, AllocError> {
     let mut patches = site.dropped()?;
     for number in site.line.saturating_add(1)..=site.draft.last() {
@@ -200,7 +201,7 @@ fn names_collective(site: &Site<'_>) -> Result<bool, AllocError> {
 /// The first of these mendings that is accepted.
 pub(crate) fn first_accepted(
     alloc: Global,
-    draft: &Draft<'_>,
+    draft: &MendedText<'_>,
     line: u32,
     mendings: Vec<Mending>,
 ) -> Result<Option<Mending>, AllocError> {

@@ -5,12 +5,12 @@ use std::alloc::{AllocError, Global};
 pub struct Patch {
     /// The line of the text, from 1 on.
     pub line: u32,
-    /// The lines in its place, with a line feed between two.
+    /// The lines in its place, with line feeds between them.
     pub block: Vec<u8>,
 }
 
 impl Patch {
-    /// The same patch once more.
+    /// A copy of the patch.
     pub fn copied(&self, alloc: Global) -> Result<Patch, AllocError> {
         Ok(Patch {
             line: self.line,
@@ -19,7 +19,7 @@ impl Patch {
     }
 }
 
-/// The same patches once more.
+/// A copy of the patches.
 pub(crate) fn copied(alloc: Global, patches: &[Patch]) -> Result<Vec<Patch>, AllocError> {
     let mut copies = Vec::new(alloc);
     for patch in patches {

@@ -2,34 +2,34 @@
 
 use crate::difference::{Difference, differences};
 use crate::draft::Written;
-use crate::postings::{List, Posted, all_postings};
+use crate::postings::{ComparedRequest, PostingList, all_postings};
 use coll_history::History;
 use coll_kinds::Signature;
 use coll_script::Cause;
 use std::alloc::{AllocError, Global};
 
-/// A request of a member that stands at a place.
+/// A request that a member has at a place.
 #[derive(Clone, Copy, Debug)]
-pub struct Standing {
+pub struct PlacedRequest {
     pub rank: u8,
     pub line: u32,
     /// Whether it has the signature of the earliest one.
     pub agrees: bool,
 }
 
-/// Requests at one place with different signatures.
+/// Requests at one place that have different signatures.
 #[derive(Debug, Drop)]
 pub struct Mismatch {
     pub comm: usize,
     pub place: usize,
-    /// The earliest at the place.
-    pub first: Standing,
-    /// The one whose line is the fault's.
-    pub differs: Standing,
+    /// The earliest request at the place.
+    pub first: PlacedRequest,
+    /// The request whose line is the fault's.
+    pub differs: PlacedRequest,
     pub fields: Vec<Difference>,
-    /// All at the place, in member order.
-    pub members: Vec<Standing>,
-    /// Where the rank that differs has the signature of the earliest: the place and the line.
+    /// All requests at the place, in member order.
+    pub members: Vec<PlacedRequest>,
+    /// The place and the line at which the rank that differs has the signature of the earliest, if it has it at another place.
     pub elsewhere: Option<(usize, u32)>,
 }
 
@@ -38,18 +38,18 @@ pub struct Mismatch {
 pub struct MissingPlace {
     pub comm: usize,
     pub place: usize,
-    /// The earliest request there.
-    pub first: Standing,
-    /// The ranks that lack it, and how many places each of them has.
+    /// The earliest request at the place.
+    pub first: PlacedRequest,
+    /// The ranks that lack the place, and how many places each of them has.
     pub lacking: Vec<(u8, usize)>,
 }
 
-/// A place whose requests are started differently often.
+/// A place whose members start it different numbers of times.
 #[derive(Debug, Drop)]
 pub struct MissingStart {
     pub comm: usize,
     pub place: usize,
-    /// Each rank with the line that made its request, and those of its starts.
+    /// Each rank with the line that made its request, and the lines of its starts.
     pub members: Vec<(u8, u32, Vec<u32>)>,
 }
 
@@ -71,7 +71,7 @@ impl PlaceFault {
         }
     }
 
-    /// The line of the fault; none where that is the text's last one.
+    /// The line of the fault; None if it is the text's last one.
     pub fn line(&self) -> Option<u32> {
         match self {
             PlaceFault::Mismatch(mismatch) => Some(mismatch.differs.line),
@@ -80,8 +80,8 @@ impl PlaceFault {
     }
 }
 
-/// The faults of the requests of a text, first those of signatures in the order of their lines, then those of places, then
-/// those of starts. Of each communicator one is told: what is behind it may follow from it.
+/// The faults of a text's requests: first those of signatures in the order of their lines, then those of places, then those of
+/// starts. Only one is reported for each communicator, since later ones may follow from it.
 pub(crate) fn place_faults(
     alloc: Global,
     written: &Written,
@@ -109,7 +109,7 @@ pub(crate) fn place_faults(
     Ok(faults)
 }
 
-/// Puts a mismatch behind those of earlier lines.
+/// Inserts a mismatch after those of earlier lines.
 fn push_by_line(mismatches: &mut Vec<Mismatch>, mismatch: Mismatch) -> Result<(), AllocError> {
     let mut at: usize = 0;
     for other in mismatches.iter() {
@@ -124,19 +124,23 @@ fn push_by_line(mismatches: &mut Vec<Mismatch>, mismatch: Mismatch) -> Result<()
 
 /// A request at a place, as far as it is compared with the others there.
 #[derive(Clone, Copy)]
-struct Seat {
+struct PlaceRequest {
     rank: u8,
     line: u32,
     sig: Signature,
     starts: usize,
 }
 
-/// The request at a place of each member that has one.
-fn at_place(alloc: Global, lists: &[List], place: usize) -> Result<Vec<Seat>, AllocError> {
+/// The requests at a place, of the members that have one.
+fn at_place(
+    alloc: Global,
+    lists: &[PostingList],
+    place: usize,
+) -> Result<Vec<PlaceRequest>, AllocError> {
     let mut seats = Vec::new(alloc);
     for list in lists {
         if let Some(posted) = list.posted.get(place) {
-            seats.push(Seat {
+            seats.push(PlaceRequest {
                 rank: posted.rank,
                 line: posted.line,
                 sig: posted.sig,
@@ -147,9 +151,9 @@ fn at_place(alloc: Global, lists: &[List], place: usize) -> Result<Vec<Seat>, Al
     Ok(seats)
 }
 
-/// The one of these in the earliest line.
-fn earliest(seats: &[Seat]) -> Option<Seat> {
-    let mut earliest: Option<Seat> = None;
+/// The request in the earliest line.
+fn earliest(seats: &[PlaceRequest]) -> Option<PlaceRequest> {
+    let mut earliest: Option<PlaceRequest> = None;
     for seat in seats {
         let is_earlier = match earliest {
             Some(first) => seat.line < first.line,
@@ -162,8 +166,8 @@ fn earliest(seats: &[Seat]) -> Option<Seat> {
     earliest
 }
 
-/// How many places some member has.
-fn places(lists: &[List]) -> usize {
+/// The greatest number of places that a member has.
+fn places(lists: &[PostingList]) -> usize {
     let mut places: usize = 0;
     for list in lists {
         places = places.max(list.posted.len());
@@ -171,17 +175,20 @@ fn places(lists: &[List]) -> usize {
     places
 }
 
-fn standing_of(written: &Written, seat: Seat, first: Seat) -> Standing {
-    Standing {
+fn standing_of(written: &Written, seat: PlaceRequest, first: PlaceRequest) -> PlacedRequest {
+    PlacedRequest {
         rank: seat.rank,
         line: written.of(seat.line),
         agrees: seat.sig == first.sig,
     }
 }
 
-/// The request of the least line, of those that differ from the earliest at their places, with its place.
-fn first_to_differ(alloc: Global, lists: &[List]) -> Result<Option<(usize, Seat)>, AllocError> {
-    let mut least: Option<(usize, Seat)> = None;
+/// The request in the earliest line, of those that differ from the earliest request at their place, with that place.
+fn first_to_differ(
+    alloc: Global,
+    lists: &[PostingList],
+) -> Result<Option<(usize, PlaceRequest)>, AllocError> {
+    let mut least: Option<(usize, PlaceRequest)> = None;
     for place in 0..places(lists) {
         let seats = at_place(alloc, lists, place)?;
         if let Some(first) = earliest(&seats) {
@@ -191,13 +198,13 @@ fn first_to_differ(alloc: Global, lists: &[List]) -> Result<Option<(usize, Seat)
     Ok(least)
 }
 
-/// The one of these, and of the requests at a place that differ from the earliest there, whose line is least.
+/// The request in the earliest line: `least`, or one of this place that differs from the earliest request there.
 fn lesser(
-    least: Option<(usize, Seat)>,
+    least: Option<(usize, PlaceRequest)>,
     place: usize,
-    first: Seat,
-    seats: &[Seat],
-) -> Option<(usize, Seat)> {
+    first: PlaceRequest,
+    seats: &[PlaceRequest],
+) -> Option<(usize, PlaceRequest)> {
     let mut least = least;
     for seat in seats {
         let is_lesser = match least {
@@ -211,12 +218,12 @@ fn lesser(
     least
 }
 
-/// The mismatch of a communicator in the earliest line.
+/// The mismatch of a communicator, by the request in the earliest line that differs.
 fn mismatch_on(
     alloc: Global,
     written: &Written,
     comm: usize,
-    lists: &[List],
+    lists: &[PostingList],
 ) -> Result<Option<Mismatch>, AllocError> {
     let Some((place, differs)) = first_to_differ(alloc, lists)? else {
         return Ok(None);
@@ -240,12 +247,12 @@ fn mismatch_on(
     }))
 }
 
-/// Where the rank of a request has the signature of another.
+/// The place and the line at which the rank of `differs` has the signature of `first`.
 fn elsewhere(
     written: &Written,
-    lists: &[List],
-    differs: Seat,
-    first: Seat,
+    lists: &[PostingList],
+    differs: PlaceRequest,
+    first: PlaceRequest,
 ) -> Option<(usize, u32)> {
     let list = lists.iter().find(|list| list.rank == differs.rank)?;
     for (place, posted) in list.posted.iter().enumerate() {
@@ -261,7 +268,7 @@ fn missing_place(
     alloc: Global,
     written: &Written,
     comm: usize,
-    lists: &[List],
+    lists: &[PostingList],
 ) -> Result<Option<MissingPlace>, AllocError> {
     let mut least = places(lists);
     for list in lists {
@@ -285,12 +292,12 @@ fn missing_place(
     }))
 }
 
-/// The first place whose requests are started differently often.
+/// The first place whose members start it different numbers of times.
 fn missing_start(
     alloc: Global,
     written: &Written,
     comm: usize,
-    lists: &[List],
+    lists: &[PostingList],
 ) -> Result<Option<MissingStart>, AllocError> {
     for place in 0..places(lists) {
         let seats = at_place(alloc, lists, place)?;
@@ -309,7 +316,7 @@ fn missing_start(
 fn all_started(
     alloc: Global,
     written: &Written,
-    lists: &[List],
+    lists: &[PostingList],
     place: usize,
 ) -> Result<Vec<(u8, u32, Vec<u32>)>, AllocError> {
     let mut members = Vec::new(alloc);
@@ -321,11 +328,11 @@ fn all_started(
     Ok(members)
 }
 
-/// The rank of a request, its line, and those of its starts.
+/// The rank of a request, its line, and the lines of its starts.
 fn started(
     alloc: Global,
     written: &Written,
-    posted: &Posted,
+    posted: &ComparedRequest,
 ) -> Result<(u8, u32, Vec<u32>), AllocError> {
     let mut starts = Vec::new(alloc);
     for line in &posted.starts {
@@ -334,7 +341,7 @@ fn started(
     Ok((posted.rank, written.of(posted.line), starts))
 }
 
-fn are_started_alike(seats: &[Seat]) -> bool {
+fn are_started_alike(seats: &[PlaceRequest]) -> bool {
     match seats.first() {
         Some(first) => seats.iter().all(|seat| seat.starts == first.starts),
         None => true,

@@ -4,27 +4,27 @@ use coll_history::{Command, History};
 use coll_kinds::Signature;
 use std::alloc::{AllocError, Global};
 
-/// A request, as it is compared with those of other members at its place.
+/// A request with all that is compared with the requests of other members at its place.
 #[derive(Drop)]
-pub(crate) struct Posted {
+pub(crate) struct ComparedRequest {
     pub rank: u8,
     /// The line that made it.
     pub line: u32,
     comm: u8,
     pub sig: Signature,
-    /// The lines that started it; that of a post, too.
+    /// The lines that started it; for a once request the line of its post.
     pub starts: Vec<u32>,
 }
 
 /// The posting list of a member.
 #[derive(Drop)]
-pub(crate) struct List {
+pub(crate) struct PostingList {
     pub rank: u8,
-    pub posted: Vec<Posted>,
+    pub posted: Vec<ComparedRequest>,
 }
 
-/// The requests of all ranks, in the order of their lines.
-fn all_posted(alloc: Global, history: &History) -> Result<Vec<Vec<Posted>>, AllocError> {
+/// The requests of each rank, in the order of their lines.
+fn all_posted(alloc: Global, history: &History) -> Result<Vec<Vec<ComparedRequest>>, AllocError> {
     let mut ranks = Vec::new(alloc);
     for _ in 0..history.ranks() {
         ranks.push(Vec::new(alloc))?;
@@ -37,10 +37,10 @@ fn all_posted(alloc: Global, history: &History) -> Result<Vec<Vec<Posted>>, Allo
     Ok(ranks)
 }
 
-/// Notes what a line makes or starts.
+/// Takes in what a line makes or starts.
 fn note(
     alloc: Global,
-    posted: &mut Vec<Posted>,
+    posted: &mut Vec<ComparedRequest>,
     rank: u8,
     line: u32,
     command: &Command,
@@ -60,7 +60,7 @@ fn note(
     if is_started {
         starts.push(line)?;
     }
-    posted.push(Posted {
+    posted.push(ComparedRequest {
         rank,
         line,
         comm,
@@ -72,13 +72,16 @@ fn note(
 
 /// The posting lists of each communicator, in member order. Linear in the commands, and for each communicator in the
 /// requests.
-pub(crate) fn all_postings(alloc: Global, history: &History) -> Result<Vec<Vec<List>>, AllocError> {
+pub(crate) fn all_postings(
+    alloc: Global,
+    history: &History,
+) -> Result<Vec<Vec<PostingList>>, AllocError> {
     let ranks = all_posted(alloc, history)?;
     let mut all = Vec::new(alloc);
     for group in history.groups() {
         let mut lists = Vec::new(alloc);
         for rank in group {
-            lists.push(List {
+            lists.push(PostingList {
                 rank: *rank,
                 posted: Vec::new(alloc),
             })?;
@@ -91,8 +94,8 @@ pub(crate) fn all_postings(alloc: Global, history: &History) -> Result<Vec<Vec<L
     Ok(all)
 }
 
-/// Lays the requests of a rank into the lists of their communicators.
-fn lay(all: &mut Vec<Vec<List>>, posted: Vec<Posted>) -> Result<(), AllocError> {
+/// Adds the requests of a rank to the posting lists of their communicators.
+fn lay(all: &mut Vec<Vec<PostingList>>, posted: Vec<ComparedRequest>) -> Result<(), AllocError> {
     for request in posted {
         if let Some(lists) = all.get_mut(usize::from(request.comm)) {
             for list in lists.iter_mut() {

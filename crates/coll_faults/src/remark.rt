@@ -4,7 +4,7 @@ use std::alloc::{AllocError, Global};
 /// What is known of a faulty line.
 #[derive(Drop)]
 pub(crate) struct Remark {
-    /// The index of the first word that is meant; that behind the last word where one is missing.
+    /// The index of the first word that is meant; if a word is missing, the index after the last word.
     pub word: usize,
     /// How many words are meant.
     pub count: usize,
@@ -19,12 +19,12 @@ pub(crate) struct Remark {
 pub(crate) struct Proposal {
     pub help: String,
     pub patches: Vec<Patch>,
-    /// Whether it only makes the line one that can be read, and the line may be meant otherwise.
+    /// Whether it only makes the line readable, and may not be what was meant.
     pub is_guess: bool,
 }
 
 impl Remark {
-    /// Speaks of one word.
+    /// A remark on one word.
     pub(crate) fn new(alloc: Global, word: usize, label: String) -> Remark {
         Remark {
             word,
@@ -35,7 +35,7 @@ impl Remark {
         }
     }
 
-    /// The same, with a label that stands fast.
+    /// A remark on one word, with a constant label.
     pub(crate) fn of(alloc: Global, word: usize, label: &str) -> Result<Remark, AllocError> {
         Ok(Remark::new(alloc, word, String::from_str(alloc, label)?))
     }
@@ -54,7 +54,7 @@ impl Remark {
         Ok(())
     }
 
-    /// Proposes what only makes the line one that can be read.
+    /// Proposes a change that only makes the line readable.
     pub(crate) fn guess(&mut self, help: String, patches: Vec<Patch>) -> Result<(), AllocError> {
         self.proposals.push(Proposal {
             help,
@@ -66,7 +66,7 @@ impl Remark {
 }
 
 impl Proposal {
-    /// The same proposal once more.
+    /// A copy of the proposal.
     pub(crate) fn copied(&self, alloc: Global) -> Result<Proposal, AllocError> {
         Ok(Proposal {
             help: String::from_str(alloc, self.help.as_str())?,
@@ -75,7 +75,7 @@ impl Proposal {
         })
     }
 
-    /// Whether another line stands in place of that one, and all other lines stay.
+    /// Whether the proposal replaces that line by one line, and changes no other.
     pub(crate) fn changes_alone(&self, line: u32) -> bool {
         match self.patches.as_slice() {
             [patch] => patch.line == line && !patch.block.contains(&b'\n'),

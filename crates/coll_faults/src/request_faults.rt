@@ -5,7 +5,7 @@ use crate::site::Site;
 use coll_kinds::{MAX_REQUESTS, read_number};
 use std::alloc::AllocError;
 
-/// The first request that the section hasn't made.
+/// The remark on the first request that the section hasn't made.
 pub(crate) fn unknown_request(site: &Site<'_>) -> Result<Remark, AllocError> {
     let alloc = site.alloc;
     let count = site.made()?.len();
@@ -25,7 +25,7 @@ pub(crate) fn unknown_request(site: &Site<'_>) -> Result<Remark, AllocError> {
     Ok(Remark::new(alloc, at, label))
 }
 
-/// The first request that stands a second time on its line.
+/// The remark on the first request that is named a second time on its line.
 pub(crate) fn named_twice(site: &Site<'_>) -> Result<Remark, AllocError> {
     let alloc = site.alloc;
     let mut at: usize = 1;
@@ -43,7 +43,7 @@ pub(crate) fn named_twice(site: &Site<'_>) -> Result<Remark, AllocError> {
     Ok(remark)
 }
 
-/// Whether the number of a word stands among those of the line before it.
+/// Whether a word before that one on the line names the same number.
 fn stands_before(site: &Site<'_>, at: usize) -> bool {
     let number = site.number(at);
     let before = site.words.iter().take(at).skip(1);
@@ -52,7 +52,7 @@ fn stands_before(site: &Site<'_>, at: usize) -> bool {
         .any(|other| other == number)
 }
 
-/// Why a request can't be started or freed.
+/// The remark on a request that can't be started or freed.
 pub(crate) fn not_startable(site: &Site<'_>) -> Result<Remark, AllocError> {
     let alloc = site.alloc;
     let made = site.made()?;

@@ -1,5 +1,5 @@
 use crate::accepting::accepted;
-use crate::draft::Draft;
+use crate::draft::MendedText;
 use crate::words::{first_word, words_of};
 use coll_history::{Command, History};
 use coll_kinds::{Mode, Signature, read_number};
@@ -9,13 +9,13 @@ use std::alloc::{AllocError, Global};
 #[derive(Drop)]
 pub(crate) struct Scene {
     history: History,
-    /// The rank whose section stands open.
+    /// The rank whose section is open.
     rank: Option<u8>,
 }
 
-/// A request of the rank whose section stands open.
+/// A request of the rank whose section is open.
 #[derive(Drop)]
-pub(crate) struct Made<'s> {
+pub(crate) struct SectionRequest<'s> {
     /// The line that made it, in the mended text.
     pub line: u32,
     pub comm: u8,
@@ -27,10 +27,10 @@ pub(crate) struct Made<'s> {
 }
 
 impl Scene {
-    /// What the lines before that one have said; nothing where one of them has a fault.
+    /// What the lines before that one have said; None if one of them has a fault.
     pub(crate) fn before(
         alloc: Global,
-        draft: &Draft<'_>,
+        draft: &MendedText<'_>,
         line: u32,
     ) -> Result<Option<Scene>, AllocError> {
         let front = draft.front(alloc, line.saturating_sub(1), &[])?;
@@ -59,7 +59,7 @@ impl Scene {
         self.history.groups()
     }
 
-    /// The members of a communicator; none of one that isn't known.
+    /// The members of a communicator; empty if it isn't known.
     pub(crate) fn group(&self, comm: u128) -> &[u8] {
         match usize::try_from(comm)
             .ok()
@@ -70,9 +70,9 @@ impl Scene {
         }
     }
 
-    /// The requests of the rank whose section stands open. Linear in the commands, and for each wait for several in the
-    /// requests that it names.
-    pub(crate) fn made(&self, alloc: Global) -> Result<Vec<Made<'_>>, AllocError> {
+    /// The requests of the rank whose section is open. Linear in the commands, and for each wait for several requests in those
+    /// that it names.
+    pub(crate) fn made(&self, alloc: Global) -> Result<Vec<SectionRequest<'_>>, AllocError> {
         let mut made = Vec::new(alloc);
         for issued in self.history.commands() {
             if self.rank == Some(issued.rank) {
@@ -83,22 +83,28 @@ impl Scene {
     }
 }
 
-impl<'s> Made<'s> {
+impl<'s> SectionRequest<'s> {
     pub(crate) fn is_persistent(&self) -> bool {
         self.sig.mode == Mode::Persistent
     }
 }
 
-/// Notes what a line says of the requests of its rank.
-fn note<'s>(made: &mut Vec<Made<'s>>, line: u32, command: &'s Command) -> Result<(), AllocError> {
+/// Takes in what a line says about the requests of its rank.
+fn note<'s>(
+    made: &mut Vec<SectionRequest<'s>>,
+    line: u32,
+    command: &'s Command,
+) -> Result<(), AllocError> {
     match command {
-        Command::Post { comm, sig, .. } | Command::Init { comm, sig } => made.push(Made {
-            line,
-            comm: *comm,
-            sig: sig.sig(),
-            active: None,
-            freed: None,
-        })?,
+        Command::Post { comm, sig, .. } | Command::Init { comm, sig } => made.push(
+            SectionRequest {
+                line,
+                comm: *comm,
+                sig: sig.sig(),
+                active: None,
+                freed: None,
+            },
+        )?,
         Command::Start { req, .. } => {
             if let Some(request) = made.get_mut(*req as usize) {
                 request.active = Some(line);
@@ -121,13 +127,13 @@ fn note<'s>(made: &mut Vec<Made<'s>>, line: u32, command: &'s Command) -> Result
 }
 
 /// Notes that a request is surely inactive.
-fn rest(made: &mut [Made<'_>], request: usize) {
+fn rest(made: &mut [SectionRequest<'_>], request: usize) {
     if let Some(request) = made.get_mut(request) {
         request.active = None;
     }
 }
 
-/// The rank whose section stands open behind these lines, none of which has a fault.
+/// The rank whose section is open after these lines, none of which has a fault.
 fn opened(alloc: Global, front: &[u8]) -> Result<Option<u8>, AllocError> {
     let mut rank = None;
     for line in front.split(|b| *b == b'\n') {

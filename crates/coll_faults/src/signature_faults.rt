@@ -19,11 +19,11 @@ struct Fields {
     root: Option<(usize, u128)>,
     op: Option<(usize, Op)>,
     ty: Option<(usize, Datatype)>,
-    /// Where the counts begin.
+    /// The index of the word at which the counts begin.
     count: usize,
 }
 
-/// The first word of a signature that breaks a rule.
+/// The remark on the first word of a signature that breaks a rule.
 pub(crate) fn bad_signature(site: &Site<'_>) -> Result<Remark, AllocError> {
     let Some(kind) = Kind::from_word(site.word(KIND)) else {
         return unknown_kind(site);
@@ -124,7 +124,7 @@ fn unknown_type(site: &Site<'_>, at: usize) -> Result<Remark, AllocError> {
     Ok(remark)
 }
 
-/// Of a signature whose words can be read, what is wrong with them.
+/// The remark on a signature whose words can be read.
 fn checked(site: &Site<'_>, fields: &Fields) -> Result<Remark, AllocError> {
     let alloc = site.alloc;
     if fields.kind.has_counts() {
@@ -157,7 +157,7 @@ fn checked(site: &Site<'_>, fields: &Fields) -> Result<Remark, AllocError> {
     Ok(Remark::new(alloc, fields.count, size(site, fields)?))
 }
 
-/// What is known of a signature that isn't complete.
+/// The remark on a signature that isn't complete.
 pub(crate) fn incomplete(site: &Site<'_>) -> Result<Remark, AllocError> {
     let ty = KIND.saturating_add(1);
     let has_counts = Kind::from_word(site.word(KIND)).is_some_and(|kind| kind.has_counts());
@@ -167,7 +167,7 @@ pub(crate) fn incomplete(site: &Site<'_>) -> Result<Remark, AllocError> {
     Ok(Remark::of(site.alloc, site.words.len(), "the signature goes on here")?)
 }
 
-/// The first of the members' counts that breaks a rule.
+/// The remark on the first of the members' counts that breaks a rule.
 fn bad_counts(site: &Site<'_>, first: usize) -> Result<Remark, AllocError> {
     let alloc = site.alloc;
     let members = site.scene.group(site.number(1).unwrap_or(0)).len();
@@ -188,7 +188,7 @@ fn bad_counts(site: &Site<'_>, first: usize) -> Result<Remark, AllocError> {
     Ok(remark)
 }
 
-/// What stands in the place of a member's count.
+/// The remark on the word in the place of a member's count.
 fn member_count_due(
     site: &Site<'_>,
     at: usize,
@@ -212,7 +212,7 @@ fn member_count_due(
     Ok(remark)
 }
 
-/// What a count breaks that is a number.
+/// What is wrong with a count that is a number.
 fn size(site: &Site<'_>, fields: &Fields) -> Result<String, AllocError> {
     let alloc = site.alloc;
     if site.number(fields.count).unwrap_or(0) > u128::from(MAX_COUNT) {

@@ -1,8 +1,8 @@
 use crate::accepting::accepted;
-use crate::draft::Draft;
+use crate::draft::MendedText;
 use crate::patch::Patch;
 use crate::remark::Remark;
-use crate::scene::{Made, Scene};
+use crate::scene::{Scene, SectionRequest};
 use crate::words::{Word, push_word, shown, spliced, words_of};
 use coll_history::{Command, History};
 use coll_kinds::{Signature, member_of, read_number};
@@ -14,11 +14,11 @@ pub(crate) struct Site<'s> {
     pub alloc: Global,
     pub line: u32,
     pub words: Vec<Word<'s>>,
-    pub draft: &'s Draft<'s>,
+    pub draft: &'s MendedText<'s>,
     pub scene: &'s Scene,
 }
 
-/// What a signature asks of the rank whose line has it.
+/// What a signature requires of the rank whose line has it.
 #[derive(Clone, Copy)]
 pub(crate) struct Due<'h> {
     pub sig: &'h Signature,
@@ -31,7 +31,7 @@ pub(crate) struct Due<'h> {
 impl<'s> Site<'s> {
     pub(crate) fn new(
         alloc: Global,
-        draft: &'s Draft<'s>,
+        draft: &'s MendedText<'s>,
         scene: &'s Scene,
         line: u32,
     ) -> Result<Site<'s>, AllocError> {
@@ -44,7 +44,7 @@ impl<'s> Site<'s> {
         })
     }
 
-    /// The bytes of a word; none where there is no such word.
+    /// The bytes of a word; empty if there is no such word.
     pub(crate) fn word(&self, index: usize) -> &'s [u8] {
         match self.words.get(index) {
             Some(word) => word.bytes,
@@ -57,17 +57,17 @@ impl<'s> Site<'s> {
         shown(self.alloc, self.word(index))
     }
 
-    /// The number that a word is.
+    /// The value of a word that is a number.
     pub(crate) fn number(&self, index: usize) -> Option<u128> {
         read_number(self.word(index))
     }
 
-    /// The first word is this one.
+    /// Whether the first word is this one.
     pub(crate) fn begins(&self, word: &str) -> bool {
         self.word(0) == word.as_bytes()
     }
 
-    /// The patch that puts this in place of the line.
+    /// The patch that puts these lines in place of the line.
     pub(crate) fn patch(&self, block: Vec<u8>) -> Result<Vec<Patch>, AllocError> {
         let mut patches = Vec::new(self.alloc);
         patches.push(Patch {
@@ -100,7 +100,7 @@ impl<'s> Site<'s> {
         self.patch(spliced(self.alloc, &self.words, at, removed, by.as_bytes())?)
     }
 
-    /// Proposes a word in place of another one.
+    /// Proposes a word in place of others.
     pub(crate) fn propose(
         &self,
         remark: &mut Remark,
@@ -113,18 +113,18 @@ impl<'s> Site<'s> {
     }
 
     /// The requests of the section's rank.
-    pub(crate) fn made(&self) -> Result<Vec<Made<'s>>, AllocError> {
+    pub(crate) fn made(&self) -> Result<Vec<SectionRequest<'s>>, AllocError> {
         self.scene.made(self.alloc)
     }
 
-    /// What the lines before this one and such a line say, if that has no fault.
+    /// What the lines before this one say together with `line` in its place, if none of them has a fault.
     pub(crate) fn with_line(&self, line: Vec<u8>) -> Result<Option<History>, AllocError> {
         let front = self.draft.front(self.alloc, self.line, &self.patch(line)?)?;
         accepted(self.alloc, &front)
     }
 
-    /// The number of words up to the end of the signature of a `post` or an `init`, with what these lines say that have an
-    /// `init` of that signature here. Of one whose signature can't be read there is none.
+    /// The number of words up to the end of the signature of a `post` or an `init`, and the history of the lines up to here
+    /// with an `init` of that signature in place of this line. None if the signature can't be read.
     pub(crate) fn signed(&self) -> Result<Option<(usize, History)>, AllocError> {
         let mut line = Vec::from_slice(self.alloc, b"init")?;
         let mut end: usize = 1;
@@ -144,7 +144,7 @@ impl<'s> Site<'s> {
         Ok(None)
     }
 
-    /// What a signature on a communicator asks of the section's rank.
+    /// What a signature on a communicator requires of the section's rank.
     pub(crate) fn due<'h>(&self, comm: u8, sig: &'h Signature) -> Due<'h> {
         let group = self.scene.group(u128::from(comm));
         let rank = self.scene.rank().unwrap_or(0);
@@ -161,7 +161,7 @@ impl<'s> Site<'s> {
 /// The most words up to the end of a signature.
 const LONGEST: usize = 80;
 
-/// What the last command asks, where it is an `init`.
+/// The communicator and the signature of the last command, if it is an `init`.
 pub(crate) fn last_signed(history: &History) -> Option<(u8, &Signature)> {
     match &history.commands().last()?.command {
         Command::Init { comm, sig } => Some((*comm, sig.sig())),

@@ -2,11 +2,11 @@ ghost use Rattle.std.specs.Prelude.{◌≡◌, true};
 ghost use Rattle.coll_faults.specs.Accepting.{is_accepted};
 
 use crate::accepting::accepted;
-use crate::draft::Draft;
+use crate::draft::MendedText;
 use crate::patch::Patch;
 use std::alloc::{AllocError, Global};
 
-/// A change of a text that was tried: the lines of the changed text have no fault, up to the one for which it is made.
+/// A change of a text that was tried: no line of the changed text has a fault, up to the line for which the change is made.
 #[derive(Debug, Drop)]
 pub struct Suggestion {
     help: String,
@@ -16,10 +16,10 @@ pub struct Suggestion {
 }
 
 impl Suggestion {
-    /// Tries the change for a line of the draft.
+    /// Tries the change for a line of the draft. Returns None if a line up to it has a fault then.
     pub(crate) fn tried(
         alloc: Global,
-        draft: &Draft<'_>,
+        draft: &MendedText<'_>,
         line: u32,
         help: String,
         patches: Vec<Patch>,
@@ -35,17 +35,17 @@ impl Suggestion {
         }))
     }
 
-    /// What a user is told.
+    /// The words that describe the change to a user.
     pub fn help(&self) -> &str {
         self.help.as_str()
     }
 
-    /// What stands in place of which lines.
+    /// The lines that are replaced, with those in their place.
     pub fn patches(&self) -> &[Patch] {
         &self.patches
     }
 
-    /// The changed text up to the line for which the change is made. Faulty lines before that one are mended in it.
+    /// The changed text up to the line for which the change is made. Faulty lines before it are mended in it.
     pub fn front(&self) -> &[u8]
         ensures tried { is_accepted result.now ≡ true }
     {

@@ -1,6 +1,6 @@
-//! Proposals for a line are tried. Where a line has several mistakes, that of each one is put upon that of the one before.
+//! Tries proposals for a line. If a line has several mistakes, the proposal for each is applied on top of that for the one before.
 
-use crate::draft::Draft;
+use crate::draft::MendedText;
 use crate::line_faults::remark_of;
 use crate::patch::copied;
 use crate::remark::{Proposal, Remark};
@@ -12,8 +12,9 @@ use coll_kinds::MAX_TEXT;
 use coll_script::Cause;
 use std::alloc::{AllocError, Global};
 
-/// The first of the proposals that is accepted, by itself or with those for the further mistakes of the line, and whether some of it is a
-/// guess. Where there is none, what is proposed for the first mistakes goes to the notes, with what is known of the next one.
+/// The first proposal that is accepted, by itself or together with proposals for the line's further mistakes, and whether some
+/// part of it is a guess. If there is none, the proposals for the first mistakes and what is known of the next one go to the
+/// notes.
 pub(crate) fn suggested(
     site: &Site<'_>,
     proposals: Vec<Proposal>,
@@ -30,14 +31,14 @@ pub(crate) fn suggested(
     Ok(None)
 }
 
-/// What became of proposals.
+/// The outcome of proposals.
 #[derive(Drop)]
 enum Trial {
-    /// One was accepted, which may be a guess.
+    /// A proposal was accepted; the flag says whether it is a guess.
     Accepted(Suggestion, bool),
-    /// None was, and this is the first that changes the line alone.
+    /// No proposal was accepted; this is the first that changes the line alone.
     Refused(Proposal),
-    /// There is none that changes the line alone.
+    /// No proposal was accepted, and none changes the line alone.
     Nothing,
 }
 
@@ -62,8 +63,8 @@ fn tried(site: &Site<'_>, proposals: Vec<Proposal>) -> Result<Trial, AllocError>
     Ok(first)
 }
 
-/// Tries what is proposed for the next mistake of a line in which this proposal mends the mistakes before. Where nothing is, the notes
-/// get what is known.
+/// Tries the proposals for the next mistake of a line in which `done` mends the mistakes before it. If there are none, the
+/// notes get what is known of that mistake.
 fn further(site: &Site<'_>, done: Proposal, notes: &mut Vec<String>) -> Result<Trial, AllocError> {
     let draft = site.draft.with(site.alloc, &done.patches)?;
     let Some(remark) = next_remark(site.alloc, &draft, site.scene, site.line)? else {
@@ -82,10 +83,10 @@ fn further(site: &Site<'_>, done: Proposal, notes: &mut Vec<String>) -> Result<T
     Ok(found)
 }
 
-/// What is known of the line of the draft, none before which has a fault.
+/// The remark on a line of the draft; no line before it has a fault.
 fn next_remark(
     alloc: Global,
-    draft: &Draft<'_>,
+    draft: &MendedText<'_>,
     scene: &Scene,
     line: u32,
 ) -> Result<Option<Remark>, AllocError> {
@@ -95,8 +96,12 @@ fn next_remark(
     }
 }
 
-/// The rule that the line of the draft breaks, none before which does.
-fn next_cause(alloc: Global, draft: &Draft<'_>, line: u32) -> Result<Option<Cause>, AllocError> {
+/// The rule that a line of the draft breaks; no line before it breaks one.
+fn next_cause(
+    alloc: Global,
+    draft: &MendedText<'_>,
+    line: u32,
+) -> Result<Option<Cause>, AllocError> {
     let front = draft.front(alloc, line, &[])?;
     if front.len() > MAX_TEXT {
         return Ok(None);
@@ -108,7 +113,7 @@ fn next_cause(alloc: Global, draft: &Draft<'_>, line: u32) -> Result<Option<Caus
     }
 }
 
-/// Proposals for a line that another proposal has changed already.
+/// Proposals for a line that another proposal has already changed, each combined with that one.
 fn upon(
     alloc: Global,
     done: &Proposal,

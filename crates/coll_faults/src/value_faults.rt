@@ -1,4 +1,4 @@
-//! What stands behind a signature or a request: the colon and the values.
+//! The words after a signature or a request: the colon and the values.
 
 use crate::remark::Remark;
 use crate::site::{Due, Site, last_signed};
@@ -9,22 +9,22 @@ use std::alloc::{AllocError, Global};
 
 /// Where the values of a line begin, and what is due there.
 #[derive(Clone, Copy)]
-struct Values<'h> {
+struct ValuesDue<'h> {
     /// The index of the colon.
     colon: usize,
     due: Due<'h>,
 }
 
-/// What is due behind the signature of a `post`, whose words end there.
-fn of_post<'h>(site: &Site<'_>, end: usize, history: &'h History) -> Option<Values<'h>> {
+/// Where the values of a `post` begin, whose signature ends before word `end`, and what is due there.
+fn of_post<'h>(site: &Site<'_>, end: usize, history: &'h History) -> Option<ValuesDue<'h>> {
     let (comm, sig) = last_signed(history)?;
-    Some(Values {
+    Some(ValuesDue {
         colon: end,
         due: site.due(comm, sig),
     })
 }
 
-/// Speaks of the values of a `post` or a `start`.
+/// The remark on the values of a `post` or a `start`.
 pub(crate) fn of_values(site: &Site<'_>, speak: ValueFault) -> Result<Option<Remark>, AllocError> {
     if site.begins("start") {
         let made = site.made()?;
@@ -34,7 +34,7 @@ pub(crate) fn of_values(site: &Site<'_>, speak: ValueFault) -> Result<Option<Rem
         let Some(request) = request.and_then(|request| made.get(request)) else {
             return Ok(None);
         };
-        let values = Values {
+        let values = ValuesDue {
             colon: 2,
             due: site.due(request.comm, request.sig),
         };
@@ -49,19 +49,19 @@ pub(crate) fn of_values(site: &Site<'_>, speak: ValueFault) -> Result<Option<Rem
     }
 }
 
-/// What is wrong with the values of a line.
+/// Which part of a line's values is wrong.
 #[derive(Clone, Copy)]
 pub(crate) enum ValueFault {
     /// The colon.
     Colon,
-    /// How many they are.
+    /// The number of values.
     Count,
-    /// One of them.
+    /// One of the values.
     Value,
 }
 
 impl ValueFault {
-    fn remark(self, site: &Site<'_>, values: &Values<'_>) -> Result<Remark, AllocError> {
+    fn remark(self, site: &Site<'_>, values: &ValuesDue<'_>) -> Result<Remark, AllocError> {
         match self {
             ValueFault::Colon => colon_due(site, values),
             ValueFault::Count => wrong_count(site, values),
@@ -76,7 +76,7 @@ fn counted(alloc: Global, count: usize, ty: Datatype) -> Result<String, AllocErr
     format!(in alloc; "{count} value{s} of {ty}")
 }
 
-fn colon_due(site: &Site<'_>, values: &Values<'_>) -> Result<Remark, AllocError> {
+fn colon_due(site: &Site<'_>, values: &ValuesDue<'_>) -> Result<Remark, AllocError> {
     let alloc = site.alloc;
     let at = values.colon;
     if at >= site.words.len() {
@@ -99,7 +99,7 @@ fn colon_due(site: &Site<'_>, values: &Values<'_>) -> Result<Remark, AllocError>
     Ok(remark)
 }
 
-/// How many numbers stand before the colon from that word on; 0 where no colon stands behind them.
+/// How many numbers stand from that word on up to the colon; 0 if no colon follows them.
 fn further_numbers(site: &Site<'_>, at: usize) -> usize {
     let words = site.words.iter().skip(at);
     let count = words
@@ -112,7 +112,7 @@ fn further_numbers(site: &Site<'_>, at: usize) -> usize {
     }
 }
 
-/// Speaks of counts behind those of all members.
+/// The remark on counts after those of all members.
 fn too_many_counts(site: &Site<'_>, at: usize, further: usize) -> Result<Remark, AllocError> {
     let alloc = site.alloc;
     let members = site.scene.group(site.number(1).unwrap_or(0)).len();
@@ -130,7 +130,7 @@ fn too_many_counts(site: &Site<'_>, at: usize, further: usize) -> Result<Remark,
     Ok(remark)
 }
 
-/// Whether the word begins a comment; then it is proposed that it stands on a line of its own.
+/// Whether the word begins a comment. If so, proposes to put it on a line of its own.
 pub(crate) fn leave_comment(
     site: &Site<'_>,
     remark: &mut Remark,
@@ -145,7 +145,7 @@ pub(crate) fn leave_comment(
     Ok(true)
 }
 
-/// Proposes spaces round a colon that stands in a longer word.
+/// Proposes spaces around a colon that stands within a longer word.
 pub(crate) fn space_colon(
     site: &Site<'_>,
     remark: &mut Remark,
@@ -160,7 +160,7 @@ pub(crate) fn space_colon(
     Ok(())
 }
 
-fn wrong_count(site: &Site<'_>, values: &Values<'_>) -> Result<Remark, AllocError> {
+fn wrong_count(site: &Site<'_>, values: &ValuesDue<'_>) -> Result<Remark, AllocError> {
     let alloc = site.alloc;
     let Due {
         sig,
@@ -196,7 +196,7 @@ fn wrong_count(site: &Site<'_>, values: &Values<'_>) -> Result<Remark, AllocErro
     Ok(remark)
 }
 
-/// Proposes that the first comment behind values stands on a line of its own.
+/// Proposes to put the first comment after the values on a line of its own.
 fn leave_later_comment(
     site: &Site<'_>,
     remark: &mut Remark,
@@ -213,8 +213,8 @@ fn leave_later_comment(
     Ok(())
 }
 
-/// Proposes the numbers of the values parted as the type asks, where they are as many as are due: by spaces, and in a pair by a comma.
-fn part(site: &Site<'_>, remark: &mut Remark, values: &Values<'_>) -> Result<(), AllocError> {
+/// If there are as many numbers as are due, proposes to separate them as the type requires: by spaces, and within a pair by a comma.
+fn part(site: &Site<'_>, remark: &mut Remark, values: &ValuesDue<'_>) -> Result<(), AllocError> {
     let first = values.colon.saturating_add(1);
     let is_pair = values.due.sig.ty.is_pair();
     let parted = parted_from(site, first, is_pair)?;
@@ -232,14 +232,14 @@ fn part(site: &Site<'_>, remark: &mut Remark, values: &Values<'_>) -> Result<(),
     site.propose(remark, help, first, count, by)
 }
 
-/// Numbers as words of values.
+/// Numbers, written as the words of values.
 #[derive(Drop)]
 struct Parted {
     words: String,
     numbers: usize,
 }
 
-/// What stands between commas and spaces from a word on, in pairs or each by itself.
+/// The numbers between commas and spaces from a word on, written in pairs or one by one.
 fn parted_from(site: &Site<'_>, first: usize, is_pair: bool) -> Result<Parted, AllocError> {
     let mut parted = Parted {
         words: String::new(site.alloc),
@@ -270,7 +270,7 @@ fn push_numbers(
     Ok(())
 }
 
-fn bad_value(site: &Site<'_>, values: &Values<'_>) -> Result<Remark, AllocError> {
+fn bad_value(site: &Site<'_>, values: &ValuesDue<'_>) -> Result<Remark, AllocError> {
     let alloc = site.alloc;
     let ty = values.due.sig.ty;
     let mut at = values.colon.saturating_add(1);
@@ -297,7 +297,7 @@ fn bad_value(site: &Site<'_>, values: &Values<'_>) -> Result<Remark, AllocError>
     Ok(remark)
 }
 
-/// What a value of a type is.
+/// The values that a type has, in words.
 fn range(alloc: Global, ty: Datatype) -> Result<String, AllocError> {
     if ty.is_pair() {
         return format!(in alloc;
@@ -313,7 +313,7 @@ fn range(alloc: Global, ty: Datatype) -> Result<String, AllocError> {
     }
 }
 
-/// The number that a word has after `0x`.
+/// The value of a word that is a hexadecimal number, as `0x1f`.
 fn hexadecimal(word: &[u8]) -> Option<u64> {
     let [b'0', b'x' | b'X', digits @ ..] = word else {
         return None;

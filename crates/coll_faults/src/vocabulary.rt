@@ -54,7 +54,7 @@ static FRACTIONS: [&str; 8] = [
 /// The most bytes of a word that others are compared with.
 const LONGEST: usize = 32;
 
-/// What a word may be meant to be, and what a user is told of it.
+/// The word that another word may be meant to be, and the help for a user.
 #[derive(Drop)]
 pub(crate) struct Meant {
     pub word: &'static str,
@@ -75,13 +75,13 @@ fn lowered(alloc: Global, word: &[u8]) -> Result<String, AllocError> {
     Ok(lowered)
 }
 
-/// A name of MPI's without what stands round it: `MPI_`, `_init`.
+/// A name of MPI's, in small letters, without `mpi_` before and `_init` after it.
 fn bare(name: &str) -> &str {
     let name = name.strip_prefix("mpi_").unwrap_or(name);
     name.strip_suffix("_init").unwrap_or(name)
 }
 
-/// The one of these words that a word is MPI's name of.
+/// The one of these words that stands here for MPI's name.
 fn of_mpi(name: &str, words: &[&'static str]) -> Option<&'static str> {
     let name = bare(name);
     let without = name.strip_prefix("i").unwrap_or(name);

@@ -6,19 +6,19 @@ use std::alloc::{AllocError, Global};
 /// A word of a line.
 #[derive(Clone, Copy)]
 pub(crate) struct Word<'l> {
-    /// The bytes before it in its line.
+    /// The number of bytes before it in its line.
     pub start: usize,
     pub bytes: &'l [u8],
 }
 
 impl<'l> Word<'l> {
-    /// The bytes up to its end.
+    /// The number of bytes of its line up to the word's end.
     pub(crate) fn end(self) -> usize {
         self.start.saturating_add(self.bytes.len())
     }
 }
 
-/// The words of a line, which spaces, tabs and carriage returns cut.
+/// The words of a line, separated by spaces, tabs and carriage returns.
 pub(crate) fn words_of<'l>(alloc: Global, line: &'l [u8]) -> Result<Vec<Word<'l>>, AllocError> {
     let mut words = Vec::new(alloc);
     let mut start: usize = 0;
@@ -31,7 +31,7 @@ pub(crate) fn words_of<'l>(alloc: Global, line: &'l [u8]) -> Result<Vec<Word<'l>
     Ok(words)
 }
 
-/// The first word of a line; empty where there is none.
+/// The first word of a line; empty if there is none.
 pub(crate) fn first_word(line: &[u8]) -> &[u8] {
     let mut words = line.split(|b| matches!(*b, b' ' | b'\t' | b'\r'));
     match words.find(|word| !word.is_empty()) {
@@ -40,7 +40,7 @@ pub(crate) fn first_word(line: &[u8]) -> &[u8] {
     }
 }
 
-/// Puts a word behind those of a line.
+/// Adds a word after those of a line.
 pub(crate) fn push_word(line: &mut Vec<u8>, word: &[u8]) -> Result<(), AllocError> {
     if !line.is_empty() {
         line.push(b' ')?;
@@ -48,8 +48,7 @@ pub(crate) fn push_word(line: &mut Vec<u8>, word: &[u8]) -> Result<(), AllocErro
     line.extend_from_slice(word)
 }
 
-/// The words of a line, with `removed` words from index `at` on replaced by one, which may be several words long, or
-/// by none where it is empty.
+/// The words of a line, with `removed` words from index `at` on replaced by `by`, which may be several words, or empty.
 pub(crate) fn spliced(
     alloc: Global,
     words: &[Word<'_>],

@@ -164,7 +164,7 @@ other-number : (ty : Datatype) (z : ℤ) → in_range ty z ≡ true → list_all
 other-number ty (pos n) is = other-digits (decimal n) (digits_decimal numerals n (small-positive ty n is))
 other-number ty (negsuc n) is = other-digits (decimal (suc n)) (digits_decimal numerals (suc n) (small-negative ty n is))
 
--- the first comma stands behind a text that has none
+-- the first comma stands after a text that has none
 first-comma : (text behind : List ℕ) → list_all is_other text ≡ true → position_or_len (λ c. eqb c 44) (text ++ 44 ∷ behind) ≡ length text
 first-comma [] behind others = refl
 first-comma (c ∷ text) behind others =

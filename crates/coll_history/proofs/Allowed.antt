@@ -76,7 +76,7 @@ length-bytes ty (w ∷ words) =
     ap length (flat_map-cons (bytes_of ty) w words) ∙ length-append (bytes_of ty w) (flat_map (bytes_of ty) words)
     ∙ omega (arith, length-element_bytes ty (unwrap_or (value_of ty w) (whole (pos 0))), length-bytes ty words)
 
--- the bytes of so many values
+-- the bytes of that many values
 pub values-length : (count : ℕ) (ty : Datatype) (words : List (List ℕ)) (a : List ℕ × List (List ℕ)) → values count ty words ≡ Ok a → length a.0 ≡ count * width ty
 unfolding values
 values-length count ty words a e =

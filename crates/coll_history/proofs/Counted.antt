@@ -5,7 +5,7 @@ use Rattle.coll_kinds.specs.Limits.{max_ranks}
 use Rattle.coll_history.specs.declared.cause.Cause.{Cause}
 use Rattle.coll_history.specs.Lines.{next, count_in, counts_from, counts}
 
--- the first i of n counts are read, and 0 stands behind them
+-- the first i of n counts are read, and 0 stands after them
 pub record AreCounted (n i : ℕ) (row : List ℕ) (left words : List (List ℕ)) : Type 0 where
   pub so_far : List ℕ
   pub count : length so_far ≡ i

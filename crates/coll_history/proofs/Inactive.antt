@@ -1,4 +1,4 @@
--- A request is surely inactive exactly where behind each of its starts stands a wait that names it.
+-- A request is surely inactive exactly where after each of its starts stands a wait that names it.
 use Rattle.std.proofs.Common.{◌≡◌, ℕ, Bool, true, false, not, ◌&&◌, ◌||◌, List, [], ◌∷◌, refl}
 use Rattle.std.specs.Prelude.{fold}
 use Rattle.std.specs.List.{list_any}

@@ -41,7 +41,7 @@ judged-stops (fault.Broken cause) number h n lines bytes total lt is fails so_fa
     let step : judged number h (bytes ∷ drop (n + 1) lines) ≡ Err (record { line = number; cause = cause }) = rw fails refl in
     sym so_far ∙ ap (judged number h) (drop-more lines n bytes lt is) ∙ step
 
--- behind the last line the history is that of the text
+-- after the last line the history is that of the text
 pub judged-ends : (number : ℕ) (h : History) (n : ℕ) (lines : List (List ℕ)) (total : Result History Fault)
     → length lines ≤ n → judged number h (drop n lines) ≡ total → total ≡ Ok h
 judged-ends number h n lines total le so_far = sym so_far ∙ ap (judged number h) (drop-past lines n le)

@@ -11,7 +11,7 @@ use Rattle.std.proofs.lemmas.List.Folds.{list_any-append}
 use Rattle.std.proofs.lemmas.List.Elements.{filter-append, filter_map-append}
 use Rattle.coll_history.specs.declared.command.Command.{Command}
 use Rattle.coll_history.specs.declared.command.Command.TheVariants.{Post, Init, Start, Wait, Test, Free, WaitAny, WaitSome, WaitAll}
-use Rattle.coll_history.specs.declared.section.Entry.{Entry}
+use Rattle.coll_history.specs.declared.section.SectionEntry.{SectionEntry}
 use Rattle.coll_history.specs.declared.section.Section.{Section}
 use Rattle.coll_kinds.specs.Groups.{is_among}
 use Rattle.coll_history.specs.Histories.{Posting, posting, postings, issued_by, starts, frees, waits_for, may_be_active}
@@ -67,7 +67,7 @@ active-same q commands c says = active-more q commands c ∙ rw (says.starts, sa
 freed-same : (q : ℕ) (commands : List Command) (c : Command) → frees q c ≡ false → list_any (frees q) (commands ++ c ∷ []) ≡ list_any (frees q) commands
 freed-same q commands c none = freed-more q commands c ∙ rw none (or-false (list_any (frees q) commands))
 
-later : (next waited q : ℕ) (commands : List Command) (c : Command) (p : Entry) → SaysNothing q c → IsKeptOf next waited commands q p → IsKeptOf (next + 1) waited (commands ++ c ∷ []) q p
+later : (next waited q : ℕ) (commands : List Command) (c : Command) (p : SectionEntry) → SaysNothing q c → IsKeptOf next waited commands q p → IsKeptOf (next + 1) waited (commands ++ c ∷ []) q p
 later next waited q commands c p says is = record {
   earlier = omega (arith, is.earlier);
   active = is.active ∙ sym (active-same q commands c says);
@@ -114,15 +114,15 @@ unmade-more : (n : ℕ) (commands : List Command) (c : Command) → ((q : ℕ) �
 unmade-more n commands c says unmade q le = (active-same q commands c (says q le) ∙ (unmade q le).0, freed-same q commands c (says q le).frees ∙ (unmade q le).1)
 
 -- what an entry becomes: only since may change
-pub record Becomes (old new : Entry) (line : ℕ) : Type 0 where
+pub record Becomes (old new : SectionEntry) (line : ℕ) : Type 0 where
   pub same : posting_view new ≡ posting_view old
   pub freed : new.freed ≡ old.freed
   pub since : new.since ≡ line
 
-module _ (line q : ℕ) (commands : List Command) (section new : Section) (p d : Entry) (lt : q < length section.entries.items) (is : IsKept line commands section) (waited : new.waited ≡ section.waited) (items : new.entries.items ≡ set section.entries.items q p) where
+module _ (line q : ℕ) (commands : List Command) (section new : Section) (p d : SectionEntry) (lt : q < length section.entries.items) (is : IsKept line commands section) (waited : new.waited ≡ section.waited) (items : new.entries.items ≡ set section.entries.items q p) where
   -- one entry is changed, by a command that says nothing of other requests
   one-kept : (c : Command) → posting c ≡ None → ((j : ℕ) → j ≢ q → SaysNothing j c) → posting_view p ≡ posting_view (get_or section.entries.items q d)
-      → ((x : Entry) → slice_get section.entries.items q ≡ Some x → IsKeptOf line section.waited commands q x → IsKeptOf (line + 1) section.waited (commands ++ c ∷ []) q p)
+      → ((x : SectionEntry) → slice_get section.entries.items q ≡ Some x → IsKeptOf line section.waited commands q x → IsKeptOf (line + 1) section.waited (commands ++ c ∷ []) q p)
       → IsKept (line + 1) (commands ++ c ∷ []) new
   one-kept c none says same here = record {
     posted = ap (map posting_view) items ∙ map-set_same posting_view section.entries.items q p d lt same ∙ is.posted ∙ sym (posted-more commands c none);
@@ -145,7 +145,7 @@ module _ (line q : ℕ) (commands : List Command) (section new : Section) (p d :
       record {
         earlier = omega (arith, becomes.since);
         active = above ∙ sym started;
-        freed = becomes.freed ∙ ap (λ (z : Entry). z.freed) (get_or_from_slice_get section.entries.items q x d at) ∙ kept.freed ∙ sym (freed-same q commands (Start q given) refl);
+        freed = becomes.freed ∙ ap (λ (z : SectionEntry). z.freed) (get_or_from_slice_get section.entries.items q x d at) ∙ kept.freed ∙ sym (freed-same q commands (Start q given) refl);
       })
 
   pub wait-kept : Becomes (get_or section.entries.items q d) p 0 → IsKept (line + 1) (commands ++ Wait q ∷ []) new
@@ -157,14 +157,14 @@ module _ (line q : ℕ) (commands : List Command) (section new : Section) (p d :
       record {
         earlier = omega (arith, becomes.since);
         active = below ∙ sym waited_for;
-        freed = becomes.freed ∙ ap (λ (z : Entry). z.freed) (get_or_from_slice_get section.entries.items q x d at) ∙ kept.freed ∙ sym (freed-same q commands (Wait q) refl);
+        freed = becomes.freed ∙ ap (λ (z : SectionEntry). z.freed) (get_or_from_slice_get section.entries.items q x d at) ∙ kept.freed ∙ sym (freed-same q commands (Wait q) refl);
       })
 
   pub free-kept : posting_view p ≡ posting_view (get_or section.entries.items q d) → p.since ≡ (get_or section.entries.items q d).since → p.freed ≡ true → IsKept (line + 1) (commands ++ Free q ∷ []) new
   free-kept same since freed =
       one-kept (Free q) refl (λ j ne. Free-others q j ne) same
       (λ x at kept.
-      let old : p.since ≡ x.since = since ∙ ap (λ (z : Entry). z.since) (get_or_from_slice_get section.entries.items q x d at) in
+      let old : p.since ≡ x.since = since ∙ ap (λ (z : SectionEntry). z.since) (get_or_from_slice_get section.entries.items q x d at) in
       record {
         earlier = omega (arith, old, kept.earlier);
         active = ap (λ n. nat_lt section.waited n) old ∙ kept.active ∙ sym (active-more q commands (Free q) ∙ and-true (may_be_active q commands));
@@ -237,7 +237,7 @@ each-push P Q [] y weaker here each (suc i) = tt
 each-push P Q (x ∷ xs) y weaker here each zero = weaker 0 x (each 0)
 each-push P Q (x ∷ xs) y weaker here each (suc i) = each-push (λ k. P (suc k)) (λ k. Q (suc k)) xs y (λ k z p. weaker (suc k) z p) here (λ k. each (suc k)) i
 
-pub made-kept : (line : ℕ) (commands : List Command) (section new : Section) (c : Command) (p : Entry) → posting c ≡ Some (posting_view p) → p.since ≡ 0 → p.freed ≡ false → new.waited ≡ section.waited → new.entries.items ≡ section.entries.items ++ p ∷ []
+pub made-kept : (line : ℕ) (commands : List Command) (section new : Section) (c : Command) (p : SectionEntry) → posting c ≡ Some (posting_view p) → p.since ≡ 0 → p.freed ≡ false → new.waited ≡ section.waited → new.entries.items ≡ section.entries.items ++ p ∷ []
     → IsKept line commands section → IsKept (line + 1) (commands ++ c ∷ []) new
 made-kept line commands section new c p posts since freed waited items is =
     let n = length section.entries.items in
@@ -260,15 +260,15 @@ made-kept line commands section new c p posts since freed waited items is =
 
 -- ---- a wait for several requests
 
--- an entry behind a wait for these requests
-abbrev pub waited_by : List ℕ → ℕ → Entry → Entry
+-- an entry after a wait for these requests
+abbrev pub waited_by : List ℕ → ℕ → SectionEntry → SectionEntry
 waited_by qs q p = cond (is_among q qs) (record p { since = 0 }) p
 
--- the entries behind a wait for these requests
-abbrev pub AreWaited : List ℕ → List Entry → List Entry → Type 0
+-- the entries after a wait for these requests
+abbrev pub AreWaited : List ℕ → List SectionEntry → List SectionEntry → Type 0
 AreWaited qs old new = (length new ≡ length old) × ((q : ℕ) → slice_get new q ≡ option_map (waited_by qs q) (slice_get old q))
 
-waited-posting : (b : Bool) (p : Entry) → posting_view (cond b (record p { since = 0 }) p) ≡ posting_view p
+waited-posting : (b : Bool) (p : SectionEntry) → posting_view (cond b (record p { since = 0 }) p) ≡ posting_view p
 waited-posting true p = refl
 waited-posting false p = refl
 
@@ -284,7 +284,7 @@ map-pointwise {X} {Y} view f (x ∷ old) (y ∷ new) same each =
 WaitAll-says : (q : ℕ) (qs : List ℕ) → is_among q qs ≡ false → SaysNothing q (WaitAll qs)
 WaitAll-says q qs none = record { starts = refl; waits = none; frees = refl }
 
-waited-entry : (line waited q : ℕ) (commands : List Command) (qs : List ℕ) (p : Entry) (b : Bool) → is_among q qs ≡ b → IsKeptOf line waited commands q p → IsKeptOf (line + 1) waited (commands ++ WaitAll qs ∷ []) q (cond b (record p { since = 0 }) p)
+waited-entry : (line waited q : ℕ) (commands : List Command) (qs : List ℕ) (p : SectionEntry) (b : Bool) → is_among q qs ≡ b → IsKeptOf line waited commands q p → IsKeptOf (line + 1) waited (commands ++ WaitAll qs ∷ []) q (cond b (record p { since = 0 }) p)
 waited-entry line waited q commands qs p true named kept = record {
   earlier = omega arith;
   active = le-ltb waited 0 (omega arith) ∙ sym (active-more q commands (WaitAll qs) ∙ rw named (and-false (may_be_active q commands)));

@@ -16,7 +16,7 @@ use Rattle.coll_history.specs.Histories.{History, Posting, posting, postings, is
 use Rattle.coll_history.specs.Reading.{◌>>=◌, give, must}
 use Rattle.coll_history.specs.Lines.{next, request_in, made, startable, issue}
 use Rattle.coll_history.specs.declared.cause.Cause.TheVariants.{NotStartable}
-use Rattle.coll_history.specs.declared.section.Entry.{Entry}
+use Rattle.coll_history.specs.declared.section.SectionEntry.{SectionEntry}
 use Rattle.coll_history.proofs.Allowed.{next-is, request-below}
 use Rattle.coll_history.specs.Sound.{MayIssue, IsHistory}
 use Rattle.coll_history.specs.Code.{history_of, begun, posting_view, IsKeptOf, IsKept, AreStamps, IsReader, IsStamped, SameButStamps, rows_view}
@@ -120,7 +120,7 @@ pub startable-reads : (h : History) (rank : ℕ) (words : List (List ℕ)) (q : 
 unfolding startable
 startable-reads h rank words q left p read there = rw (read, there) (ask (is_startable q p (issued_by rank h.commands)) q p left)
 
-pub entry-posted : (number rank : ℕ) (h : History) (section : Section) (q : ℕ) (entry : Entry) → IsKept number (issued_by rank h.commands) section → slice_get section.entries.items q ≡ Some entry → slice_get (made h rank) q ≡ Some (posting_view entry)
+pub entry-posted : (number rank : ℕ) (h : History) (section : Section) (q : ℕ) (entry : SectionEntry) → IsKept number (issued_by rank h.commands) section → slice_get section.entries.items q ≡ Some entry → slice_get (made h rank) q ≡ Some (posting_view entry)
 entry-posted number rank h section q entry is at = ap (λ (ps : List Posting). slice_get ps q) (sym is.posted) ∙ slice_get-map posting_view section.entries.items q ∙ ap (option_map posting_view) at
 
 pub startable-not : (number rank : ℕ) (h : History) (section : Section) (words : List (List ℕ)) (q : ℕ) (left : List (List ℕ)) → IsKept number (issued_by rank h.commands) section → next (request_in (length section.entries.items)) words ≡ Ok (q, left)
@@ -133,7 +133,7 @@ startable-not number rank h section words q left is read none =
     let there = entry-posted number rank h section q entry.0 is entry.1 in
     startable-reads h rank words q left (posting_view entry.0) read_there there ∙ ap (λ b. cond b (Ok ((q, posting_view entry.0), left)) (Err NotStartable)) (sym (none (posting_view entry.0) there))
 
-pub startable-is_read : (number rank : ℕ) (h : History) (section : Section) (words : List (List ℕ)) (q : ℕ) (left : List (List ℕ)) (entry : Entry) → IsKept number (issued_by rank h.commands) section → next (request_in (length section.entries.items)) words ≡ Ok (q, left)
+pub startable-is_read : (number rank : ℕ) (h : History) (section : Section) (words : List (List ℕ)) (q : ℕ) (left : List (List ℕ)) (entry : SectionEntry) → IsKept number (issued_by rank h.commands) section → next (request_in (length section.entries.items)) words ≡ Ok (q, left)
     → slice_get section.entries.items q ≡ Some entry → ((p : Posting) → slice_get (made h rank) q ≡ Some p → true ≡ is_startable q p (issued_by rank h.commands)) → startable h rank words ≡ Ok ((q, posting_view entry), left)
 startable-is_read number rank h section words q left entry is read at fits =
     let same : length section.entries.items ≡ length (made h rank) = length-entries number rank h.commands section is in

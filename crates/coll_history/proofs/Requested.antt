@@ -1,4 +1,4 @@
--- The requests of a rank behind one more line, and what holds of them.
+-- The requests of a rank after one more line, and what holds of them.
 use Rattle.std.proofs.Common.{◌≡◌, ◌≢◌, ℕ, zero, suc, ◌<◌, eqb, List, [], ◌∷◌, ◌++◌, length, map, get_or, set, refl, sym, ap, ◌∙◌, arith}
 use Rattle.std.specs.Prelude.{filter, fold}
 use Rattle.std.proofs.lemmas.Bool.{eq-eqb, ne_eqb}

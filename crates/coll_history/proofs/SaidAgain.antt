@@ -19,7 +19,7 @@ use Rattle.coll_history.specs.Lines.{communicator, signature, due, made, post, i
 use Rattle.coll_history.specs.Writing.{AreValues, value_words, signature_words, members, MayPost, MayStart, IsMade, MayName, IsSome, Writes}
 use Rattle.coll_history.proofs.Again.{number-again, request-again, numbers-again, values-again, signature-again}
 
--- what the words behind the first one are read as, a line is read as
+-- what the words after the first one are read as, a line is read as
 module _ (number rank n : ℕ) (h : History) (ranks : h.ranks ≡ Some n) (opened : h.opened ≡ Some rank) where
   pub wait-line : (q : ℕ) → IsMade h rank q → line number h (codes "wait" ∷ decimal q ∷ []) ≡ Ok (issue number rank (Wait q) h)
   unfolding line command

@@ -62,7 +62,7 @@ ok-some None cause a e = absurd cc
 pub number-within : (low limit : ℕ) (cause : Cause) (w : List ℕ) (n : ℕ) → ok_or (number_within low limit w) cause ≡ Ok n → (low ≤ n) × (n < limit)
 number-within low limit cause w n e = within-some low limit (number_of w) n (ok-some (number_within low limit w) cause n e)
 
--- numbers that were read, behind those before
+-- numbers that were read, after those before
 pub record AreRead (P : ℕ → Type 0) (before all : List ℕ) : Type 0 where
   pub more : List ℕ
   pub parts : all ≡ before ++ more
@@ -199,7 +199,7 @@ count-is : (b : Bool) (words : List (List ℕ)) (a : ℕ × List (List ℕ)) →
 count-is true words a e = cc
 count-is false words a e = let read = next-is count_in words a e in (number-within 0 (2 ^ 32) BadSignature read.0 a.0 read.1).1
 
--- so many counts that were read, behind those before
+-- that many counts that were read, after those before
 record AreMore (k : ℕ) (before all : List ℕ) : Type 0 where
   pub more : List ℕ
   pub parts : all ≡ before ++ more

@@ -138,7 +138,7 @@ IsHistory-sound h is =
 
 -- ---- one line after another
 
--- the next command may be issued, and so may those behind it
+-- the next command may be issued, and so may those after it
 pub next-allowed : (n : ℕ) (groups : List (List ℕ)) (issued : List IssuedCommand) (i : ℕ) (t : IssuedCommand) → i < length issued → t ≡ get_or issued i t → AreAllowed n groups (take i issued) (drop i issued)
     → ((t.rank < n) × MayIssue groups t.rank (issued_by t.rank (take i issued)) t.command) × AreAllowed n groups (take i issued ++ t ∷ []) (drop (i + 1) issued)
 next-allowed n groups issued i t lt is allowed = subst (AreAllowed n groups (take i issued)) (drop-more issued i t lt is) allowed

@@ -1,4 +1,4 @@
--- Entries behind a wait for several requests, one after another.
+-- Entries after a wait for several requests, one after another.
 use Rattle.std.proofs.Common.{◌≡◌, ◌≢◌, ℕ, zero, suc, ◌<◌, Bool, true, false, cond, ◌||◌, eqb, List, [], ◌∷◌, ◌++◌, length, get_or, set, Option, Some, None, refl, sym, ap, ◌∙◌, arith, inl, inr}
 use Rattle.std.specs.Prelude.{slice_get}
 use Rattle.std.specs.Option.{option_map}
@@ -7,7 +7,7 @@ use Rattle.std.proofs.lemmas.Bool.{cases_eq, eq-eqb, ne_eqb, or_right}
 use Rattle.std.proofs.lemmas.List.{length-set}
 use Rattle.std.proofs.lemmas.Option.{slice_get-get_or, same_Some}
 use Rattle.coll_kinds.specs.Groups.{is_among}
-use Rattle.coll_history.specs.declared.section.Entry.{Entry}
+use Rattle.coll_history.specs.declared.section.SectionEntry.{SectionEntry}
 use Rattle.coll_history.proofs.Numbers.{is_among-push}
 use Rattle.coll_history.proofs.Keeping.{waited_by, AreWaited}
 
@@ -23,26 +23,26 @@ slice-set_other (x ∷ xs) zero (suc j) y ne = refl
 slice-set_other (x ∷ xs) (suc k) zero y ne = refl
 slice-set_other (x ∷ xs) (suc k) (suc j) y ne = slice-set_other xs k j y (λ e. ne (ap suc e))
 
-idle : (b : Bool) (x : Entry) → record (cond b (record x { since = 0 }) x) { since = 0 } ≡ record x { since = 0 }
+idle : (b : Bool) (x : SectionEntry) → record (cond b (record x { since = 0 }) x) { since = 0 } ≡ record x { since = 0 }
 idle true x = refl
 idle false x = refl
 
-here_waited : (named : List ℕ) (q : ℕ) (o : Option Entry) (p d : Entry) → Some d ≡ option_map (waited_by named q) o → p ≡ record d { since = 0 } → Some p ≡ option_map (waited_by (named ++ q ∷ []) q) o
+here_waited : (named : List ℕ) (q : ℕ) (o : Option SectionEntry) (p d : SectionEntry) → Some d ≡ option_map (waited_by named q) o → p ≡ record d { since = 0 } → Some p ≡ option_map (waited_by (named ++ q ∷ []) q) o
 here_waited named q None p d at is = absurd cc
 here_waited named q (Some x) p d at is =
     let same : d ≡ waited_by named q x = same_Some d (waited_by named q x) at in
     let named_now : is_among q (named ++ q ∷ []) ≡ true = is_among-push q q named ∙ or_right (is_among q named) (eqb q q) (eq-eqb q q refl) in
-    let out : p ≡ record x { since = 0 } = is ∙ ap (λ (z : Entry). record z { since = 0 }) same ∙ idle (is_among q named) x in
+    let out : p ≡ record x { since = 0 } = is ∙ ap (λ (z : SectionEntry). record z { since = 0 }) same ∙ idle (is_among q named) x in
     rw named_now (ap Some out)
 
-same_map : (o : Option Entry) → o ≡ option_map (λ p. p) o
+same_map : (o : Option SectionEntry) → o ≡ option_map (λ p. p) o
 same_map None = refl
 same_map (Some p) = refl
 
-pub AreWaited-none : (old : List Entry) → AreWaited [] old old
+pub AreWaited-none : (old : List SectionEntry) → AreWaited [] old old
 AreWaited-none old = (refl, λ q. same_map (slice_get old q))
 
-pub AreWaited-more : (named : List ℕ) (q : ℕ) (old new : List Entry) (p d : Entry) → q < length old → AreWaited named old new → p ≡ record (get_or new q d) { since = 0 } → AreWaited (named ++ q ∷ []) old (set new q p)
+pub AreWaited-more : (named : List ℕ) (q : ℕ) (old new : List SectionEntry) (p d : SectionEntry) → q < length old → AreWaited named old new → p ≡ record (get_or new q d) { since = 0 } → AreWaited (named ++ q ∷ []) old (set new q p)
 AreWaited-more named q old new p d lt are is = (
   length-set new q p ∙ are.0,
   λ j. elim (cases_eq j q) [
@@ -51,6 +51,6 @@ AreWaited-more named q old new p d lt are is = (
         rw e (slice-set_same new q p within ∙ here_waited named q (slice_get old q) p (get_or new q d) (sym (slice_get-get_or new q d within) ∙ are.1 q) is)
     | inr ne ↦
         let other : is_among j (named ++ q ∷ []) ≡ is_among j named = is_among-push j q named ∙ ap (λ b. is_among j named || b) (ne_eqb q j (λ e. ne (sym e))) ∙ or-false (is_among j named) in
-        slice-set_other new q j p ne ∙ are.1 j ∙ ap (λ b. option_map (λ (z : Entry). cond b (record z { since = 0 }) z) (slice_get old j)) (sym other)
+        slice-set_other new q j p ne ∙ are.1 j ∙ ap (λ b. option_map (λ (z : SectionEntry). cond b (record z { since = 0 }) z) (slice_get old j)) (sym other)
   ],
 )

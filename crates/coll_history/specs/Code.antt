@@ -14,7 +14,7 @@ use Rattle.coll_history.specs.declared.fault.ScriptFault.{ScriptFault}
 use Rattle.coll_history.specs.declared.fault.ScriptFault.TheVariants as script
 use Rattle.coll_history.specs.declared.reader.Reader.{Reader}
 use Rattle.coll_history.specs.declared.request.Request as rust_request
-use Rattle.coll_history.specs.declared.section.Entry.{Entry}
+use Rattle.coll_history.specs.declared.section.SectionEntry.{SectionEntry}
 use Rattle.coll_history.specs.declared.section.Section.{Section}
 use Rattle.coll_history.specs.Histories.{History, Posting, postings, issued_by, may_be_active, frees, total}
 use Rattle.coll_history.specs.Requests.{Request}
@@ -47,7 +47,7 @@ abbrev pub requests_view : List (Vec rust_request.Request Global) → List (List
 requests_view ranks = map (λ requests. map request_view requests.items) ranks
 
 -- what was posted, of a request that is kept
-abbrev pub posting_view : Entry → Posting
+abbrev pub posting_view : SectionEntry → Posting
 posting_view p = record { comm = p.comm; sig = p.sig }
 
 -- the history that a reader has read: its counters and stamps are left out
@@ -138,7 +138,7 @@ begun n h = record h { ranks = Some n; groups = range_with_len 0 n ∷ [] }
 
 -- ---- counters
 
--- the requests that a command names are among so many
+-- the requests that a command names are among that many
 abbrev pub IsNamed : ℕ → Command → Type 0
 IsNamed count (Start q given) = q < count
 IsNamed count (Wait q) = q < count
@@ -147,7 +147,7 @@ IsNamed count (WaitAll qs) = AllByRecursion (λ q. q < count) qs
 IsNamed count command = Unit {0}
 
 -- what is kept of request q of a section, before the line of that number is read
-pub record IsKeptOf (next waited : ℕ) (commands : List Command) (q : ℕ) (p : Entry) : Type 0 where
+pub record IsKeptOf (next waited : ℕ) (commands : List Command) (q : ℕ) (p : SectionEntry) : Type 0 where
   pub earlier : p.since < next
   pub active : nat_lt waited p.since ≡ may_be_active q commands
   pub freed : p.freed ≡ list_any (frees q) commands

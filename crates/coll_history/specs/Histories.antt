@@ -60,7 +60,7 @@ abbrev pub frees : ℕ → Command → Bool
 frees q (Free other) = other == q
 frees q command = false
 
--- whether it is a wait behind which request q is surely inactive
+-- whether it is a wait after which request q is surely inactive
 abbrev pub waits_for : ℕ → Command → Bool
 waits_for q (Wait other) = other == q
 waits_for q (WaitAll qs) = is_among q qs
@@ -93,7 +93,7 @@ is_startable q p commands =
     && not (list_any (frees q) commands)
     && not (may_be_active q commands)
 
--- the commands of a rank, and behind the last line of its section an unwritten `waitall` of all its requests
+-- the commands of a rank, and after the last line of its section an unwritten `waitall` of all its requests
 abbrev pub commands_of : History → ℕ → List Command
 commands_of h rank = issued_by rank h.commands ++ WaitAll (range_with_len 0 (length (postings (issued_by rank h.commands)))) ∷ []
 

@@ -14,7 +14,7 @@ abbrev pub in_line : {A : Type 0} → ℕ → Result A Cause → Result A Fault
 in_line number (Ok x) = Ok x
 in_line number (Err cause) = fault_at number cause
 
--- the history behind these lines, of which the first has that number
+-- the history after these lines, of which the first has that number
 abbrev pub judged : ℕ → History → List (List ℕ) → Result History Fault
 judged number h [] = Ok h
 judged number h (bytes ∷ lines) =

@@ -26,7 +26,7 @@ pub record CanBeSaid (h : History) : Type 0 where
   pub tells : Tells 1 beginning (first ∷ others) h
   pub reads : judged 1 beginning (lines_of (text_of (first ∷ others))) ≡ Ok h
 
--- request q is surely inactive behind these commands: behind each start of it stands a wait that names it
+-- request q is surely inactive after these commands: after each start of it stands a wait that names it
 abbrev pub EachStartIsOver : ℕ → List Command → Type 0
 EachStartIsOver q [] = Unit {0}
 EachStartIsOver q (command ∷ commands) =

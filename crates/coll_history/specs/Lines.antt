@@ -39,7 +39,7 @@ number_within low limit w = option_and_then (λ n. if nat_le low n && nat_lt n l
 abbrev pub rank_in : ℕ → List ℕ → Result ℕ Cause
 rank_in n w = ok_or (number_within 0 n w) BadRank
 
--- Q, of so many requests
+-- Q, of that many requests
 abbrev pub request_in : ℕ → List ℕ → Result ℕ Cause
 request_in count w =
     and_then (ok_or (number_of w) BadNumber) (λ q. if nat_lt q count then Ok q else Err UnknownRequest)
@@ -66,12 +66,12 @@ some_operation w = and_then (ok_or (operation_of w) BadSignature) (λ op. Ok (So
 abbrev pub count_in : List ℕ → Result ℕ Cause
 count_in w = ok_or (number_within 0 (2 ^ 32) w) BadSignature
 
--- so many counts, behind those read before
+-- that many counts, after those read before
 abbrev pub counts_from : List ℕ → ℕ → Reading (List ℕ)
 counts_from before zero = give before
 counts_from before (suc k) = next count_in >>= λ c. counts_from (before ++ c ∷ []) k
 
--- C0 .. C(n-1): a count for each of n members, and 0 behind them
+-- C0 .. C(n-1): a count for each of n members, and 0 after them
 abbrev pub counts : ℕ → Reading (List ℕ)
 counts n = counts_from [] n >>= λ read. give (read ++ replicate (max_ranks - n) 0)
 
@@ -79,7 +79,7 @@ counts n = counts_from [] n >>= λ read. give (read ++ replicate (max_ranks - n)
 abbrev pub some_counts : ℕ → Reading (Option (List ℕ))
 some_counts n = counts n >>= λ all. give (Some all)
 
--- what stands behind the word of a kind, for n members; a barrier has type byte and count 0, and where each member's
+-- what stands after the word of a kind, for n members; a barrier has type byte and count 0, and where each member's
 -- elements are counted there is no count of all
 unfoldable pub fields : Mode → ℕ → Kind → Reading Signature
 fields mode n kind = do
@@ -104,12 +104,12 @@ due groups rank comm sig =
     let group = group_of groups comm in
     given_len sig (length group) (unwrap_or (member_of rank group) 0)
 
--- the words behind the colon, which may be left out where none are due
+-- the words after the colon, which may be left out where none are due
 abbrev pub colon : ℕ → Reading (List (List ℕ))
 colon count [] = if count == 0 then Ok ([], []) else Err BadWords
 colon count (w ∷ words) = if bytes_eq w (codes ":") then Ok (words, []) else Err BadWords
 
--- : v ..: the bytes of so many values
+-- : v ..: the bytes of that many values
 unfoldable pub values : ℕ → Datatype → Reading (List ℕ)
 values count ty = do
   words ← colon count
@@ -211,7 +211,7 @@ command_of w =
     else (if bytes_eq w (codes "waitall") then Some waitall
     else None))))))))
 
--- ---- lines, each by the history that begins with it and gives the one behind it
+-- ---- lines, each by the history that begins with it and gives the one after it
 
 -- ranks N: the job has 1 to 64 ranks, and communicator 0 has them all as its members
 unfoldable pub ranks : History → Reading History
@@ -247,7 +247,7 @@ command number first h = do
   issued ← read h rank
   give (issue number rank issued h)
 
--- a line behind the first one that says anything, where there are n ranks
+-- a line after the first one that says anything, where there are n ranks
 abbrev pub later : ℕ → ℕ → List ℕ → History → Reading History
 later number n first h =
     if bytes_eq first (codes "ranks") then fault OutOfPlace

@@ -1,4 +1,4 @@
--- Reading a line from its left: a step takes words, and gives a value and the words behind it, or the line's fault.
+-- Reading a line from its left: a step takes words, and gives a value and the words after it, or the line's fault.
 -- Steps stand in the order in which rules are judged, so the first rule that is broken is the fault.
 use Rattle.std.specs.Prelude.{ℕ, Bool, cond, List, [], ◌∷◌, ◌++◌, Option, Some, None, Result, Ok, Err, if◌then◌else◌}
 use Rattle.coll_kinds.specs.Groups.{is_among}
@@ -46,7 +46,7 @@ abbrev pub end : Reading (Unit {0})
 end [] = Ok (tt, [])
 end (w ∷ words) = Err BadWords
 
--- the number that each word names, behind those named before; none may be named twice
+-- the number that each word names, after those named before; none may be named twice
 abbrev pub numbers_from : (List ℕ → Result ℕ Cause) → Cause → List ℕ → List (List ℕ) → Result (List ℕ) Cause
 numbers_from read twice before [] = Ok before
 numbers_from read twice before (w ∷ words) =

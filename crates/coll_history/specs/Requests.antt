@@ -36,7 +36,7 @@ changed_at (suc k) f (x ∷ xs) = x ∷ changed_at k f xs
 abbrev pub started : List ℕ → Request → Request
 started given p = record p { starts = p.starts ++ given ∷ [] }
 
--- the requests of a rank behind a command of it, in that line
+-- the requests of a rank after a command of it, in that line
 abbrev pub requests_after : List (List ℕ) → ℕ → ℕ → Command → List Request → List Request
 requests_after groups line rank (Post comm sig given) requests =
     requests ++ request groups line rank comm sig (given ∷ []) ∷ []
@@ -46,7 +46,7 @@ requests_after groups line rank (Start q given) requests =
     changed_at q (started given) requests
 requests_after groups line rank command requests = requests
 
--- the requests of one rank behind all its commands
+-- the requests of one rank after all its commands
 abbrev pub requests_of : List (List ℕ) → ℕ → List IssuedCommand → List Request
 requests_of groups rank issued =
     fold (λ requests t. requests_after groups t.line t.rank t.command requests) [] (filter (λ t. t.rank == rank) issued)

@@ -36,7 +36,7 @@ fault number cause = Some (number, cause)
 abbrev Row : Type 0
 Row = List ℕ × Option (ℕ × Cause)
 
--- behind these lines each row's line has the fault that stands beside it
+-- after these lines each row's line has the fault that stands beside it
 abbrev HaveFaults : List (List ℕ) → List Row → Type 0
 HaveFaults before rows = map (λ row. fault_in (before ++ row.0 ∷ [])) rows ≡ map (λ row. row.1) rows
 
@@ -235,7 +235,7 @@ request_named_twice :
 unfolding line ranks comm section command post init start startable free signature fields values
 request_named_twice = refl
 
--- a start of a request that was started, and these commands behind it
+-- a start of a request that was started, and these commands after it
 abbrev started_and : List (List ℕ) → Option (ℕ × Cause)
 started_and lines = fault_in (codes "ranks 1" ∷ codes "rank 0" ∷ codes "init 0 barrier" ∷ codes "start 0" ∷ lines)
 
@@ -259,7 +259,7 @@ start_while_active :
 unfolding line ranks comm section command post init start startable free signature fields values
 start_while_active = refl
 
--- ---- what lines tell
+-- ---- what lines say
 
 abbrev sum : Signature
 sum = record { kind = Allreduce; mode = Persistent; root = 0; op = Some Sum; ty = I8; count = 2; each = None }

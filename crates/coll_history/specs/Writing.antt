@@ -46,7 +46,7 @@ signature_words n sig =
 abbrev pub value_words : List Element → List (List ℕ)
 value_words elements = codes ":" ∷ map element_text elements
 
--- the values of a type, so many, whose bytes are these
+-- that many values of a type, whose bytes are these
 abbrev pub AreValues : Datatype → ℕ → List Element → List ℕ → Type 0
 AreValues ty count elements given =
     (length elements ≡ count)
@@ -58,7 +58,7 @@ abbrev pub AreDue : History → ℕ → ℕ → Signature → List Element → L
 AreDue h rank comm sig elements given =
     AreValues sig.ty (due h.groups rank comm sig / width sig.ty) elements given
 
--- counts of n members, and 0 behind them
+-- counts of n members, and 0 after them
 pub record AreCounts (n : ℕ) (each : Option (List ℕ)) : Type 0 where
   pub counts : List ℕ
   pub count : length counts ≡ n
@@ -219,6 +219,6 @@ spaced [] = []
 spaced (w ∷ []) = w
 spaced (w ∷ v ∷ words) = w ++ 32 ∷ spaced (v ∷ words)
 
--- lines with a line feed behind each
+-- lines with a line feed after each
 abbrev pub text_of : List (List (List ℕ)) → List ℕ
 text_of lines = flat_map (λ words. spaced words ++ 10 ∷ []) lines

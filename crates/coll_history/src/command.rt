@@ -1,23 +1,33 @@
 ghost use Rattle.std.specs.Prelude.{◌≡◌, ◌∷◌, [], length, is_some, IfOk};
 ghost use Rattle.coll_history.specs.Histories.{posting, postings, is_start};
 
-use crate::given::Given;
+use crate::given::GivenBytes;
 use crate::named::Named;
-use crate::posted::Posted;
+use crate::posted::OwnSignature;
 use std::alloc::{AllocError, Global};
 
-/// What a line of a section says.
+/// The command of a line in a rank's section.
 #[derive(Debug, Drop)]
 pub enum Command {
     /// A nonblocking collective on a communicator, with what the rank gives.
-    Post { comm: u8, sig: Posted, given: Given },
+    Post {
+        comm: u8,
+        sig: OwnSignature,
+        given: GivenBytes,
+    },
     /// A persistent collective on a communicator.
-    Init { comm: u8, sig: Posted },
-    /// The start of a persistent request, with what the rank gives this time.
-    Start { req: u32, given: Given },
+    Init {
+        comm: u8,
+        sig: OwnSignature,
+    },
+    /// The start of a persistent request, with what the rank gives to this start.
+    Start {
+        req: u32,
+        given: GivenBytes,
+    },
     /// Completion of one request.
     Wait(u32),
-    /// A look whether one request is complete.
+    /// A test whether one request is complete.
     Test(u32),
     /// The end of a persistent request.
     Free(u32),
@@ -30,7 +40,7 @@ pub enum Command {
 }
 
 impl Command {
-    /// The same command once more. Linear in what it gives and in the requests that it names one by one.
+    /// A copy of the command. Linear in the bytes that it gives, and in the requests that it names one by one.
     pub fn copied(&self, alloc: Global) -> Result<Command, AllocError>
         ensures { IfOk result (λ command. command ≡ self.now) }
     {
@@ -57,21 +67,21 @@ impl Command {
         }
     }
 
-    /// Whether it makes a request.
+    /// Whether the command makes a request.
     pub fn is_posting(&self) -> bool
         ensures { result ≡ is_some (posting self.now) }
     {
         matches!(self, Command::Post { .. } | Command::Init { .. })
     }
 
-    /// Whether it is a start.
+    /// Whether the command is a start.
     pub fn is_start(&self) -> bool
         ensures { result ≡ is_start self.now }
     {
         matches!(self, Command::Start { .. })
     }
 
-    /// How many requests it makes.
+    /// How many requests the command makes: 1 or 0.
     pub(crate) fn made(&self) -> u32
         ensures { result ≡ length (postings (self.now ∷ [])) }
     {

@@ -9,12 +9,12 @@ use crate::cause::Cause;
 use crate::command::Command;
 use crate::communicators::{communicator, group_of, values_due};
 use crate::fault::LineFault;
-use crate::given::Given;
+use crate::given::GivenBytes;
 use crate::named::Named;
-use crate::posted::Posted;
+use crate::posted::OwnSignature;
 use crate::reader::Reader;
 use crate::requests::{one, requests, startable};
-use crate::section::Entry;
+use crate::section::SectionEntry;
 use crate::signatures::signature;
 use crate::values::values;
 use crate::verb::Verb;
@@ -22,8 +22,7 @@ use crate::words::Words;
 use coll_kinds::{MAX_REQUESTS, Mode};
 use std::alloc::Global;
 
-/// What the words behind the first one say in the section of `rank`, in the line of that number. Linear
-/// in the line.
+/// The command that begins with `verb` and goes on with `words`, in the section of `rank`, in the line of that number. Linear in the line.
 pub(crate) fn command(
     alloc: Global,
     reader: &mut Reader,
@@ -73,8 +72,8 @@ fn post(
     room(reader, number)?;
     Ok(Command::Post {
         comm,
-        sig: Posted::new(alloc, sig)?,
-        given: Given::from_vec(given),
+        sig: OwnSignature::new(alloc, sig)?,
+        given: GivenBytes::from_vec(given),
     })
 }
 
@@ -97,11 +96,11 @@ fn init(
     room(reader, number)?;
     Ok(Command::Init {
         comm,
-        sig: Posted::new(alloc, sig)?,
+        sig: OwnSignature::new(alloc, sig)?,
     })
 }
 
-/// Asks that there is room for one more request.
+/// Checks that there is room for one more request.
 fn room(reader: &Reader, number: u32) -> Result<(), Cause>
     requires { IsReader number reader.now }
     ensures { Asks result (room (history_of reader.now)) }
@@ -131,7 +130,7 @@ fn start(
     let given = values(alloc, count, entry.sig.ty, words)?;
     Ok(Command::Start {
         req,
-        given: Given::from_vec(given),
+        given: GivenBytes::from_vec(given),
     })
 }
 
@@ -147,7 +146,7 @@ fn free(reader: &Reader, number: u32, rank: u8, words: &mut Words) -> Result<Com
     Ok(Command::Free(req))
 }
 
-/// The one request that is named.
+/// The one request that the words name.
 fn one_of(reader: &Reader, number: u32, rank: u8, words: &mut Words) -> Result<u32, Cause>
     requires reader { IsReader number reader.now }
     requires rank { rank < unwrap_or reader.now.ranks 0 }
@@ -165,8 +164,8 @@ fn all(reader: &Reader, number: u32, rank: u8) -> Named
     Named::first(reader.sections[rank as usize].entries.len() as u32)
 }
 
-/// The requests that are named, at least one and none twice. Linear in the line, and in the requests that
-/// are new since the rank last named some.
+/// The requests that the words name, at least one and none twice. Linear in the line, and in the requests that the rank has
+/// made since it last named several.
 fn some(
     alloc: Global,
     reader: &mut Reader,
@@ -193,7 +192,7 @@ fn startable_of<'r>(
     number: u32,
     rank: u8,
     words: &mut Words,
-) -> Result<(u32, &'r Entry), Cause>
+) -> Result<(u32, &'r SectionEntry), Cause>
     requires reader { IsReader number reader.now }
     requires rank { rank < unwrap_or reader.now.ranks 0 }
     ensures { Reads (λ p. (p.0, posting_view p.1.now)) result words.new (startable (history_of reader.now) rank words.old) }

@@ -16,7 +16,7 @@ use crate::words::{Words, rank_in};
 use coll_kinds::{MAX_RANKS, Signature, member_of};
 use std::alloc::Global;
 
-/// The members of a further communicator of a job of `n` ranks that has these. Linear in the line.
+/// The members of one more communicator, in a job of `n` ranks. Linear in the line.
 pub(crate) fn group(alloc: Global, n: u8, words: &mut Words) -> Result<Vec<u8>, LineFault>
     requires { n ≤ 64 }
     ensures read { ReadsSo (λ group. group.items) result words.new (numbers (rank_in n) BadRank words.old) }
@@ -38,7 +38,7 @@ pub(crate) fn group(alloc: Global, n: u8, words: &mut Words) -> Result<Vec<u8>, 
     Ok(members)
 }
 
-/// The communicator of the next word, of which `rank` is a member.
+/// The communicator that the next word names; `rank` is one of its members.
 pub(crate) fn communicator(groups: &[Vec<u8>], rank: u8, words: &mut Words) -> Result<u8, Cause>
     requires { length groups.now ≤ 16 }
     ensures { Reads (λ comm. comm) result words.new (communicator (rows_view groups.now) rank words.old) }
@@ -63,7 +63,7 @@ fn known_group(groups: &[Vec<u8>], comm: u128) -> Result<&[u8], Cause>
     Ok(&groups[comm as usize])
 }
 
-/// The members of a communicator; none of one that isn't known.
+/// The members of a communicator; empty if it isn't known.
 pub(crate) fn group_of(groups: &[Vec<u8>], comm: u8) -> &[u8]
     requires { AllByRecursion (λ group. length group ≤ 64) (rows_view groups.now) }
     ensures is { result.now ≡ group_of (rows_view groups.now) comm }
@@ -83,7 +83,7 @@ pub(crate) fn values_due(groups: &[Vec<u8>], rank: u8, comm: u8, sig: &Signature
     due(groups, rank, comm, sig) / sig.ty.width()
 }
 
-/// How many bytes these are.
+/// How many bytes the rank gives.
 fn due(groups: &[Vec<u8>], rank: u8, comm: u8, sig: &Signature) -> usize
     requires { AllByRecursion (λ group. length group ≤ 64) (rows_view groups.now) }
     ensures { result ≡ due (rows_view groups.now) rank comm sig.now }

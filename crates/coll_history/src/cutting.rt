@@ -1,4 +1,4 @@
-//! How a text is cut into lines, and a line into words, without a copy of its bytes.
+//! Cuts a text into lines, and a line into words, without a copy of its bytes.
 
 ghost use Rattle.std.specs.Prelude.{◌≡◌, length, OnOk};
 ghost use Rattle.coll_history.specs.Cutting.{body_of, lines_of, words_of};
@@ -6,8 +6,7 @@ ghost use Rattle.coll_history.specs.Code.{texts};
 
 use std::alloc::AllocError;
 
-/// The text without the line feed that it ends in, so that what is left between line feeds are its
-/// lines.
+/// The text without the line feed at its end. The parts between line feeds are then its lines.
 pub(crate) fn body(text: &[u8]) -> &[u8]
     ensures { result.now ≡ body_of text.now }
 {
@@ -17,8 +16,8 @@ pub(crate) fn body(text: &[u8]) -> &[u8]
     }
 }
 
-/// Puts the words of a line in place of those that `words` has. Linear in the line; the room of earlier lines is used
-/// again, so that mostly no memory is asked for.
+/// Replaces the words in `words` by those of a line. Linear in the line. It uses the memory of earlier lines again, so it
+/// mostly needs no more.
 pub(crate) fn cut<'a>(line: &'a [u8], words: &mut Vec<&'a [u8]>) -> Result<(), AllocError>
     ensures { OnOk result (texts words.new.items ≡ words_of line.now) }
 {

@@ -45,7 +45,7 @@ pub(crate) enum LineFault {
 impl LineFault {
     ghost use Rattle.coll_history.specs.Code.{fault_in_line};
 
-    /// The fault of a text that has this one in the line of that number.
+    /// The fault of the text, whose line of that number has this fault.
     pub(crate) fn in_line(self, line: u32) -> ScriptFault
         ensures { result ≡ fault_in_line line self }
     {

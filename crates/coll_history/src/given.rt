@@ -5,11 +5,11 @@ use std::marker::Model;
 
 /// The bytes that a rank gives to a request.
 #[derive(Debug, Drop)]
-pub struct Given {
+pub struct GivenBytes {
     bytes: Vec<u8>,
 }
 
-impl Model for Given {
+impl Model for GivenBytes {
     ghost use Rattle.std.specs.Prelude.{ℕ, List};
 
     ghost Value = { List ℕ };
@@ -17,28 +17,29 @@ impl Model for Given {
     ghost view = { λ v. v.bytes.items };
 }
 
-impl Given {
-    /// Takes no memory.
-    pub fn from_vec(bytes: Vec<u8>) -> Given
+impl GivenBytes {
+    /// The contribution of these bytes. Needs no memory.
+    pub fn from_vec(bytes: Vec<u8>) -> GivenBytes
         ensures { result ≡ bytes.items }
     {
-        Given { bytes }
+        GivenBytes { bytes }
     }
 
+    /// The bytes.
     pub fn as_slice(&self) -> &[u8]
         ensures { result.now ≡ self.now }
     {
         &self.bytes
     }
 
-    /// The same bytes once more. Linear in the bytes.
-    pub fn copied(&self, alloc: Global) -> Result<Given, AllocError>
+    /// A copy of the bytes. Linear in the bytes.
+    pub fn copied(&self, alloc: Global) -> Result<GivenBytes, AllocError>
         ensures { IfOk result (λ given. given ≡ self.now) }
     {
-        Ok(Given::from_vec(Vec::from_slice(alloc, &self.bytes)?))
+        Ok(GivenBytes::from_vec(Vec::from_slice(alloc, &self.bytes)?))
     }
 
-    /// Takes no memory.
+    /// The bytes themselves. Needs no memory.
     pub fn into_vec(self) -> Vec<u8>
         ensures { result.items ≡ self }
     {

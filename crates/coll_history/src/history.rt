@@ -18,8 +18,7 @@ use crate::request::{Request, note};
 use std::alloc::{AllocError, Global};
 use std::marker::Model;
 
-/// What the lines of a text have said: the ranks, their communicators, and the commands in the order of
-/// their lines.
+/// What the lines of a text have said: the number of ranks, their communicators, and the commands in the order of their lines.
 #[derive(Debug, Drop)]
 pub struct History {
     ranks: Option<u8>,
@@ -41,10 +40,12 @@ impl Model for History {
 }
 
 impl History {
-    /// The history that a text of at most [`coll_kinds::MAX_TEXT`] bytes tells, or its first fault of a line. Linear
-    /// in the text. What is judged after the last line is left to the caller.
+    /// Reads a text of at most [`coll_kinds::MAX_TEXT`] bytes: its history, or the first fault of a line. Linear in the text.
+    /// What is judged after the last line is left to the caller.
     ///
-    /// A fault is [`ScriptFault::Text`], or [`ScriptFault::NoMemory`] where memory was refused.
+    /// # Errors
+    ///
+    /// [`ScriptFault::Text`] is a fault of a line; [`ScriptFault::NoMemory`] means that memory was refused.
     pub fn read(alloc: Global, text: &[u8]) -> Result<History, ScriptFault>
         requires { length text.now ≤ max_text }
         ensures { MatchResult result
@@ -68,14 +69,14 @@ impl History {
         })
     }
 
-    /// Whether the text says how many ranks there are.
+    /// Whether the text states the number of ranks.
     pub fn has_ranks(&self) -> bool
         ensures { result ≡ is_some self.now.ranks }
     {
         self.ranks.is_some()
     }
 
-    /// How many ranks there are; 0 where the text doesn't say it.
+    /// The number of ranks; 0 if the text doesn't state it.
     pub fn ranks(&self) -> u8
         ensures { result ≡ unwrap_or self.now.ranks 0 }
     {
@@ -97,8 +98,8 @@ impl History {
         &self.commands
     }
 
-    /// The commands of a rank, in the order of their lines, and behind them the unwritten `waitall` of all its requests.
-    /// Linear in all commands, and in what those of the rank give.
+    /// The commands of a rank, in the order of their lines, and after them the unwritten `waitall` of all its requests. Linear
+    /// in all commands, and in the bytes that those of the rank give.
     pub fn commands_of(&self, alloc: Global, rank: u8) -> Result<Vec<Command>, AllocError>
         ensures { IfOk result (λ commands. commands.items ≡ commands_of self.now rank) }
     {
@@ -132,7 +133,7 @@ impl History {
     }
 }
 
-/// No requests of `n` ranks.
+/// An empty list of requests for each of `n` ranks.
 fn none<'a>(alloc: Global, n: u8) -> Result<Vec<Vec<Request<'a>>>, AllocError>
     ensures count { IfOk result (λ ranks. length ranks.items ≡ n) }
     ensures none { IfOk result (λ ranks. AllByRecursion (λ requests. requests ≡ []) (requests_view ranks.items)) }

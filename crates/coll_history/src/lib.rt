@@ -1,10 +1,8 @@
-//! The lines of a job text, read one after another up to the history that they tell: the ranks, their
-//! communicators, and the commands of each rank.
+//! Reads the lines of a job text, one after another, into a history: the ranks, their communicators, and the commands of each rank.
 //!
-//! A line is judged from its left, by the history of the lines before it, so the first rule that it
-//! breaks is its fault. Both are defined in `specs/Judging.antt` as a function of the bytes.
-//! [`History::read`] answers the fault of the first such line, or the history of all lines. Whether the
-//! requests of different ranks belong together is judged above this crate.
+//! A line is judged from its left, by the history of the lines before it; the first rule that it breaks is its fault. Both are
+//! defined in `specs/Judging.antt` as functions of the bytes. [`History::read`] returns the fault of the first such line, or
+//! the history of all lines. Whether the requests of different ranks belong together is judged above this crate.
 //!
 //! | Module | Has |
 //! |---|---|
@@ -15,9 +13,9 @@
 //! | `issued_command` | `IssuedCommand`, a command with its line and its rank |
 //! | `signatures`, `communicators`, `values`, `requests` | readers of a line's words, from the left |
 //! | `verb`, `commands`, `lines` | what a line says |
-//! | `section`, `reader` | what is kept of a section and of a text while its lines are read |
+//! | `section`, `reader` | what is kept of a section and of a text while their lines are read |
 //! | `history`, `request` | `History`, what the lines have said, and `Request` |
-//! | `laws` | what holds of all texts |
+//! | `laws` | laws of all texts |
 #![tactic(auto)]
 
 mod cause;
@@ -46,9 +44,9 @@ pub use cause::Cause;
 pub use command::Command;
 pub use cutting::line_count;
 pub use fault::{Fault, ScriptFault};
-pub use given::Given;
+pub use given::GivenBytes;
 pub use history::History;
 pub use issued_command::IssuedCommand;
 pub use named::Named;
-pub use posted::Posted;
+pub use posted::OwnSignature;
 pub use request::Request;

@@ -17,12 +17,12 @@ use crate::words::{Words, rank_in, verb_of};
 use coll_kinds::MAX_COMMUNICATORS;
 use std::alloc::{AllocError, Global};
 
-/// The number above the greatest number of ranks.
+/// The least number that is too great for a number of ranks.
 const RANKS_LIMIT: u64 = 65;
 
 impl Reader {
-    /// Reads the line of that number. Linear in the line, and for the first one in the number of ranks. Its words are
-    /// left in `words`, whose room the next line uses again.
+    /// Reads the line of that number. Linear in the line, and for the first one in the number of ranks. The line's words are
+    /// left in `words`, whose memory the next line uses again.
     pub(crate) fn read_line<'a>(
         &mut self,
         alloc: Global,
@@ -121,7 +121,7 @@ impl Reader {
         Ok(())
     }
 
-    /// Reads a line behind the first one that says anything, where there are `n` ranks.
+    /// Reads a line after the first one that says anything, in a job of `n` ranks.
     fn later(
         &mut self,
         alloc: Global,
@@ -151,7 +151,7 @@ impl Reader {
         }
     }
 
-    /// Reads the members of a further communicator.
+    /// Reads the members of one more communicator.
     #[tactic(auto, unfolding(crate::specs::Lines::comm))]
     fn comm(
         &mut self,
@@ -178,7 +178,7 @@ impl Reader {
         Ok(())
     }
 
-    /// Reads whose section stands open.
+    /// Reads the rank whose section begins.
     #[tactic(auto, unfolding(crate::specs::Lines::section))]
     fn section(&mut self, number: u32, n: u8, words: &mut Words) -> Result<(), Cause>
         requires reader { IsReader number self.old }
@@ -194,7 +194,7 @@ impl Reader {
         Ok(())
     }
 
-    /// Reads a command of the section that stands open.
+    /// Reads a command of the section that is open.
     #[tactic(auto, unfolding(crate::specs::Lines::command))]
     fn command(
         &mut self,
@@ -225,7 +225,7 @@ fn all_ranks(alloc: Global, n: u8) -> Result<Vec<u8>, AllocError>
     (0..n).collect(alloc)
 }
 
-/// The sections of `n` ranks, which have said nothing.
+/// The sections of `n` ranks, without commands.
 fn sections(alloc: Global, n: u8) -> Result<Vec<Section>, AllocError>
     ensures count { IfOk result (λ sections. length sections.items ≡ n) }
     ensures kept { IfOk result (λ sections. AllByRecursion (IsKept 1 []) sections.items) }
@@ -240,7 +240,7 @@ fn sections(alloc: Global, n: u8) -> Result<Vec<Section>, AllocError>
     Ok(sections)
 }
 
-/// The stamps of `n` ranks, which have said nothing.
+/// The stamps of `n` ranks, without requests.
 fn stamps(alloc: Global, n: u8) -> Result<Vec<Vec<u32>>, AllocError>
     ensures count { IfOk result (λ stamps. length stamps.items ≡ n) }
     ensures none { IfOk result (λ stamps. AllByRecursion (λ s. s ≡ []) (rows_view stamps.items)) }

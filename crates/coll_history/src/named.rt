@@ -12,10 +12,10 @@ pub struct Named {
 
 #[derive(Debug, Drop)]
 enum Which {
-    /// Most commands name one request: it takes no memory of its own.
+    /// One request, which most commands name: it takes no memory of its own.
     One(u32),
     These(Vec<u32>),
-    /// The first requests of the section, so many of them: all that a `waitall` without words can see.
+    /// The first requests of the section, this number of them: all that a `waitall` without words can see.
     First(u32),
 }
 
@@ -30,7 +30,7 @@ impl Model for Named {
 }
 
 impl Named {
-    /// Takes no memory.
+    /// One request. Needs no memory.
     pub fn one(request: u32) -> Named
         ensures { result ≡ request ∷ [] }
     {
@@ -39,7 +39,7 @@ impl Named {
         }
     }
 
-    /// Takes no memory.
+    /// These requests, in this order. Needs no memory.
     pub fn these(requests: Vec<u32>) -> Named
         ensures { result ≡ requests.items }
     {
@@ -48,7 +48,7 @@ impl Named {
         }
     }
 
-    /// The requests below `count`. Constant time, and takes no memory.
+    /// The requests below `count`. Constant time, and needs no memory.
     pub fn first(count: u32) -> Named
         ensures { result ≡ range_with_len 0 count }
     {
@@ -57,7 +57,7 @@ impl Named {
         }
     }
 
-    /// How many requests these are.
+    /// The number of requests.
     pub fn len(&self) -> usize
         ensures { result ≡ length self.now }
     {
@@ -80,7 +80,7 @@ impl Named {
         }
     }
 
-    /// Whether they were given as the first `count` requests.
+    /// Whether these are the first `count` requests, given by their number.
     pub(crate) fn is_first(&self, count: usize) -> bool
         ensures { IsTrue result → self.now ≡ range_with_len 0 count }
     {
@@ -91,7 +91,7 @@ impl Named {
         }
     }
 
-    /// The same requests once more. Linear in the requests that were given one by one.
+    /// A copy of the requests. Linear in the requests that were given one by one.
     pub fn copied(&self, alloc: Global) -> Result<Named, AllocError>
         ensures { IfOk result (λ named. named ≡ self.now) }
     {

@@ -4,13 +4,13 @@ use coll_kinds::Signature;
 use std::alloc::{AllocError, Global};
 use std::marker::Model;
 
-/// The signature that a command has, in memory of its own: so a command that has none stays short.
+/// The signature of a command, in memory of its own, so that a command without one stays small.
 #[derive(Debug, Drop)]
-pub struct Posted {
+pub struct OwnSignature {
     sig: Box<Signature>,
 }
 
-impl Model for Posted {
+impl Model for OwnSignature {
     ghost use Rattle.coll_kinds.specs.declared.signature.Signature.{Signature};
 
     ghost Value = { Signature };
@@ -18,25 +18,27 @@ impl Model for Posted {
     ghost view = { λ p. p.sig.value };
 }
 
-impl Posted {
-    pub fn new(alloc: Global, sig: Signature) -> Result<Posted, AllocError>
+impl OwnSignature {
+    /// Puts a signature into memory of its own. The only error is refused memory.
+    pub fn new(alloc: Global, sig: Signature) -> Result<OwnSignature, AllocError>
         ensures { IfOk result (λ posted. posted ≡ sig) }
     {
-        Ok(Posted {
+        Ok(OwnSignature {
             sig: Box::new(alloc, sig)?,
         })
     }
 
+    /// The signature.
     pub fn sig(&self) -> &Signature
         ensures { result.now ≡ self.now }
     {
         &self.sig
     }
 
-    /// The same signature once more.
-    pub fn copied(&self, alloc: Global) -> Result<Posted, AllocError>
+    /// A copy of the signature.
+    pub fn copied(&self, alloc: Global) -> Result<OwnSignature, AllocError>
         ensures { IfOk result (λ posted. posted ≡ self.now) }
     {
-        Posted::new(alloc, *self.sig())
+        OwnSignature::new(alloc, *self.sig())
     }
 }

@@ -9,27 +9,27 @@ use crate::issued_command::IssuedCommand;
 use crate::section::Section;
 use std::alloc::{AllocError, Global};
 
-/// What is kept of a text while its lines are read: the history, and beside it counters.
+/// What is kept of a text while its lines are read: the history, and counters beside it.
 #[derive(Debug, Drop)]
 pub(crate) struct Reader {
     /// The number of ranks, from 1 to 64, once it is known.
     pub(crate) ranks: Option<u8>,
     /// The ranks that are the members of each communicator, in the order of their member numbers.
     pub(crate) groups: Vec<Vec<u8>>,
-    /// The rank whose section stands open.
+    /// The rank whose section is open.
     pub(crate) opened: Option<u8>,
     /// The commands so far, in the order of their lines.
     pub(crate) commands: Vec<IssuedCommand>,
     /// What is kept of each rank's section; empty until the number of ranks is known.
     pub(crate) sections: Vec<Section>,
-    /// For each rank, and some of its first requests, the last line that named the request among others.
+    /// For each rank and some of its first requests, the last line that named the request among several.
     pub(crate) stamps: Vec<Vec<u32>>,
-    /// How many requests there are in all.
+    /// The number of requests of all ranks.
     pub(crate) total: u32,
 }
 
 impl Reader {
-    /// No line is read.
+    /// The state before the first line.
     pub(crate) fn new(alloc: Global) -> Reader
         ensures begun { history_of result ≡ beginning }
         ensures reader { IsReader 1 result }
@@ -46,7 +46,7 @@ impl Reader {
         }
     }
 
-    /// Takes a command that a rank issues in the line of that number. The cost is that of the line.
+    /// Adds a command that a rank issues in the line of that number. The cost is linear in the line.
     pub(crate) fn issue(
         &mut self,
         number: u32,

@@ -14,9 +14,9 @@ use std::alloc::{AllocError, Global};
 pub struct Request<'a> {
     /// The number, from 1 on, of the line that made it.
     pub line: u32,
-    /// The communicator that it is on: 0 for the one of all ranks, then in the order of their lines.
+    /// The communicator that it is on: 0 for that of all ranks, then in the order of the `comm` lines.
     pub comm: u8,
-    /// The number that the rank has within the communicator, from 0 on.
+    /// The rank's member number in the communicator, from 0 on.
     pub member: u8,
     /// The signature, with the mode.
     pub sig: Signature,
@@ -25,7 +25,7 @@ pub struct Request<'a> {
 }
 
 impl<'a> Request<'a> {
-    /// A request of a rank that a line makes. It has had no start.
+    /// The request that a line makes, without a start.
     fn new(
         alloc: Global,
         groups: &[Vec<u8>],
@@ -47,7 +47,7 @@ impl<'a> Request<'a> {
         }
     }
 
-    /// The same request once more. Linear in its starts.
+    /// A copy of the request. Linear in its starts.
     pub fn copied(&self, alloc: Global) -> Result<Request<'a>, AllocError>
         ensures { IfOk result (λ request. request_view request ≡ request_view self.now) }
     {
@@ -60,7 +60,7 @@ impl<'a> Request<'a> {
         })
     }
 
-    /// Notes a start with these bytes.
+    /// Adds a start with these bytes.
     fn start(&mut self, given: &'a [u8]) -> Result<(), AllocError>
         ensures { OnOk result (request_view self.new ≡ started given.now (request_view self.old)) }
     {
@@ -69,7 +69,7 @@ impl<'a> Request<'a> {
     }
 }
 
-/// Takes what a line says of the requests of its rank. The cost is that of the line.
+/// Takes in what a line says about the requests of its rank. The cost is linear in the line.
 pub(crate) fn note<'a>(
     alloc: Global,
     groups: &[Vec<u8>],

@@ -10,11 +10,11 @@ ghost use Rattle.coll_history.specs.Code.{texts, posting_view, IsKept, Reads, Re
 use crate::cause::Cause;
 use crate::fault::LineFault;
 use crate::named::Named;
-use crate::section::{Entry, Section};
+use crate::section::{Section, SectionEntry};
 use crate::words::{Words, request_in};
 use std::alloc::Global;
 
-/// The one request that the words name, of `count` requests.
+/// The one request that the words name, below `count`.
 pub(crate) fn one(count: usize, words: &mut Words) -> Result<u32, Cause>
     requires { count ≤ 4096 }
     ensures { (h : History) (rank : ℕ) → length (made h rank) ≡ count → Reads (λ q. q) result words.new (one h rank words.old) }
@@ -24,9 +24,8 @@ pub(crate) fn one(count: usize, words: &mut Words) -> Result<u32, Cause>
     Ok(q)
 }
 
-/// The requests that the words name, at least one and none twice. `stamps` has for each request of the
-/// section the last line that named it among others, each before this one. Linear in the line; where it names one
-/// request no memory is asked for.
+/// The requests that the words name, at least one and none twice. `stamps` has for each request of the section the last line
+/// that named it among several, each before this one. Linear in the line; if the line names one request, it needs no memory.
 pub(crate) fn requests(
     alloc: Global,
     stamps: &mut [u32],
@@ -45,7 +44,7 @@ pub(crate) fn requests(
     }
 }
 
-/// The requests that these words name, none twice.
+/// The requests that these words name, none of them twice.
 fn several(
     alloc: Global,
     stamps: &mut [u32],
@@ -70,12 +69,12 @@ fn several(
     Ok(named)
 }
 
-/// The request of the next word, which a start or a free may name, and its number.
+/// The request that the next word names, which a start or a free may name, and its number.
 #[tactic(auto, unfolding(crate::specs::Lines::startable))]
 pub(crate) fn startable<'s>(
     section: &'s Section,
     words: &mut Words,
-) -> Result<(u32, &'s Entry), Cause>
+) -> Result<(u32, &'s SectionEntry), Cause>
     requires { length section.now.entries.items ≤ 4096 }
     ensures { (next : ℕ) (h : History) (rank : ℕ) → IsKept next (issued_by rank h.commands) section.now
         → Reads (λ p. (p.0, posting_view p.1.now)) result words.new (startable h rank words.old) }

@@ -13,7 +13,7 @@ use std::alloc::AllocError;
 
 /// What is kept of a request while its section is read.
 #[derive(Debug, Drop)]
-pub(crate) struct Entry {
+pub(crate) struct SectionEntry {
     pub(crate) comm: u8,
     pub(crate) sig: Signature,
     /// The line of its last start; 0 if there was none, or a wait has named the request since.
@@ -25,7 +25,7 @@ pub(crate) struct Entry {
 /// What is kept of a section while it is read.
 #[derive(Debug, Drop)]
 pub(crate) struct Section {
-    pub(crate) entries: Vec<Entry>,
+    pub(crate) entries: Vec<SectionEntry>,
     /// The line of the last `waitall` without words; 0 if there was none.
     pub(crate) waited: u32,
 }
@@ -41,7 +41,7 @@ impl Section {
         is_persistent(entry.sig.mode) && !entry.freed && entry.since <= self.waited
     }
 
-    /// Notes what is said in the line of that number. The cost is that of the line.
+    /// Takes in a command of the line of that number. The cost is linear in the line.
     pub(crate) fn note(&mut self, line: u32, command: &Command) -> Result<(), AllocError>
         requires { IsNamed (length self.old.entries.items) command.now }
         ensures { OnOk result ((commands : List Command) → IsKept line commands self.old
@@ -61,12 +61,12 @@ impl Section {
         Ok(())
     }
 
-    /// Notes a request that is made.
+    /// Adds a request.
     fn make(&mut self, comm: u8, sig: Signature) -> Result<(), AllocError>
         ensures { OnOk result ((line : ℕ) (commands : List Command) (c : Command) → IsKept line commands self.old
             → posting c ≡ Some (record { comm = comm; sig = sig }) → IsKept (line + 1) (commands ++ c ∷ []) self.new) }
     {
-        self.entries.push(Entry {
+        self.entries.push(SectionEntry {
             comm,
             sig,
             since: 0,
@@ -102,7 +102,7 @@ impl Section {
         self.entries[q as usize].freed = true;
     }
 
-    /// Notes a wait for all these requests. Constant time where they are all that there are.
+    /// Notes a wait for these requests. Constant time if they are all requests so far.
     fn wait_for(&mut self, line: u32, named: &Named)
         requires { AllByRecursion (λ q. q < length self.old.entries.items) named.now }
         ensures { (commands : List Command) → IsKept line commands self.old
@@ -123,7 +123,7 @@ impl Section {
         self.waited = line;
     }
 
-    /// Notes a wait for these requests, one after another.
+    /// Notes a wait for each of these requests, one after another.
     fn wait_each(&mut self, named: &Named)
         requires { AllByRecursion (λ q. q < length self.old.entries.items) named.now }
         ensures { (line : ℕ) (commands : List Command) → IsKept line commands self.old

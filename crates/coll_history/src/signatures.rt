@@ -13,11 +13,11 @@ use crate::cause::Cause;
 use crate::words::Words;
 use coll_kinds::{Datatype, Kind, MAX_RANKS, Mode, Op, Signature};
 
-/// The number above the greatest count that a field has.
+/// The least number that is too great for a count.
 const COUNT_LIMIT: u64 = 1 << 32;
 
-/// A signature that `n` members may use, for a request of that mode. Of the rules that the words break it
-/// tells the first.
+/// The signature that the words say, for a request of that mode, which `n` members may use. The fault is the first rule that
+/// the words break.
 #[tactic(auto, unfolding(crate::specs::Lines::signature))]
 pub(crate) fn signature(mode: Mode, n: u8, words: &mut Words) -> Result<Signature, Cause>
     requires { n ≤ 64 }
@@ -29,7 +29,7 @@ pub(crate) fn signature(mode: Mode, n: u8, words: &mut Words) -> Result<Signatur
     Ok(sig)
 }
 
-/// Asks that `n` members may use the signature.
+/// Checks that `n` members may use the signature.
 fn check(sig: &Signature, n: u8) -> Result<(), Cause>
     ensures { Asks result (must (is_none (broken sig.now n)) BadSignature) }
 {
@@ -39,7 +39,7 @@ fn check(sig: &Signature, n: u8) -> Result<(), Cause>
     }
 }
 
-/// What stands behind the word of a kind, for `n` members.
+/// The signature by the words after that of the kind, for `n` members.
 #[tactic(auto, unfolding(crate::specs::Lines::fields))]
 fn fields(mode: Mode, n: u8, kind: Kind, words: &mut Words) -> Result<Signature, Cause>
     requires { n ≤ 64 }
@@ -108,7 +108,7 @@ fn each(has_counts: bool, n: u8, words: &mut Words) -> Result<Option<[u32; MAX_R
     Ok(Some(counts(n, words)?))
 }
 
-/// The counts of `n` members, and 0 behind them.
+/// The counts of `n` members, and 0 after them.
 fn counts(n: u8, words: &mut Words) -> Result<[u32; MAX_RANKS], Cause>
     requires { n ≤ 64 }
     ensures { Reads (λ counts. counts) result words.new (counts n words.old) }

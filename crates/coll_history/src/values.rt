@@ -10,7 +10,7 @@ use crate::words::Words;
 use coll_kinds::{Datatype, read_element};
 use std::alloc::Global;
 
-/// The bytes of `count` values, which stand behind a colon. Linear in the line.
+/// The bytes of `count` values, which stand after a colon. Linear in the line.
 #[tactic(auto, unfolding(crate::specs::Lines::values))]
 pub(crate) fn values(
     alloc: Global,
@@ -28,7 +28,7 @@ pub(crate) fn values(
     bytes(alloc, ty, values)
 }
 
-/// Takes the colon, which may be left out where no values are due.
+/// Takes the colon, which may be left out if no values are due.
 fn colon(count: usize, words: &mut Words) -> Result<(), Cause>
     ensures ok { OnOk result (colon count words.old ≡ Ok (words.new, [])) }
     ensures err { IfErr result (λ cause. colon count words.old ≡ Err cause) }
@@ -43,7 +43,7 @@ fn colon(count: usize, words: &mut Words) -> Result<(), Cause>
     }
 }
 
-/// The bytes of the values, one behind another.
+/// The bytes of the values, one after another.
 fn bytes(alloc: Global, ty: Datatype, words: &[&[u8]]) -> Result<Vec<u8>, LineFault>
     ensures { FindsSo (λ bytes. bytes.items) result (valued ty (texts words.now)) }
 {

@@ -1,4 +1,4 @@
-/// What a line of a section does.
+/// The first word of a command.
 #[derive(Clone, Copy, Debug)]
 pub(crate) enum Verb {
     Post,

@@ -13,7 +13,7 @@ use crate::verb::Verb;
 use coll_kinds::read_number;
 use std::marker::Model;
 
-/// The words of a line that are still to be read. A clause sees the list of their bytes.
+/// The words of a line that haven't been read yet. A clause sees the list of their bytes.
 #[derive(Debug, Drop)]
 pub(crate) struct Words<'w, 'a> {
     rest: &'w [&'a [u8]],
@@ -56,7 +56,7 @@ impl<'w, 'a> Words<'w, 'a> {
         read_number(word).ok_or(Cause::BadNumber)
     }
 
-    /// Asks that no word is left.
+    /// Checks that no word is left.
     pub(crate) fn end(&self) -> Result<(), Cause>
         ensures { Reads (λ _. tt) result self.now (end self.now) }
     {
@@ -83,7 +83,7 @@ impl<'w, 'a> Words<'w, 'a> {
         rest
     }
 
-    /// Takes a number from `low` on and below `limit`; any other word is that fault.
+    /// Takes a number from `low` on and below `limit`. Any other word has the fault `cause`.
     pub(crate) fn number_within(&mut self, low: u32, limit: u64, cause: Cause) -> Result<u32, Cause>
         requires { limit ≤ 2 ^ 32 }
         ensures { Reads (λ n. n) result self.new (next (λ w. ok_or (number_within low limit w) cause) self.old) }
@@ -102,7 +102,7 @@ impl<'w, 'a> Words<'w, 'a> {
     }
 }
 
-/// The number of one of `count` requests.
+/// The request that a word names, one of `count` requests.
 pub(crate) fn request_in(count: usize, word: &[u8]) -> Result<u32, Cause>
     requires { count ≤ 4096 }
     ensures given { result ≡ request_in count word.now }
@@ -116,7 +116,7 @@ pub(crate) fn request_in(count: usize, word: &[u8]) -> Result<u32, Cause>
     }
 }
 
-/// A number from `low` on and below `limit`.
+/// The number that a word is, if it is from `low` on and below `limit`.
 fn number_within(low: u32, limit: u64, word: &[u8]) -> Option<u32>
     requires { limit ≤ 2 ^ 32 }
     ensures { result ≡ number_within low limit word.now }
@@ -129,7 +129,7 @@ fn number_within(low: u32, limit: u64, word: &[u8]) -> Option<u32>
     }
 }
 
-/// A rank of a job of `n` ranks.
+/// The rank that a word names, in a job of `n` ranks.
 pub(crate) fn rank_in(n: u8, word: &[u8]) -> Result<u8, Cause>
     requires { n ≤ 64 }
     ensures given { result ≡ rank_in n word.now }
@@ -141,7 +141,7 @@ pub(crate) fn rank_in(n: u8, word: &[u8]) -> Result<u8, Cause>
     }
 }
 
-/// What the first word of a command stands for.
+/// The command for which a first word stands.
 pub(crate) fn verb_of(word: &[u8]) -> Option<Verb>
     ensures { option_map read_by result ≡ command_of word.now }
 {

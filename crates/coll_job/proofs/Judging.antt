@@ -1,16 +1,25 @@
 -- What a task ends in tells whether its text has a fault.
-use Rattle.std.proofs.Common.{◌≡◌, ◌≢◌, ◌⊎◌, ℕ, List, take, Option, Some, None, Result, Ok, Err, true, false, refl, sym, ap, ◌∙◌, arith, inl, inr}
-use Rattle.std.specs.Prelude.{◌==◌, IfErr, IfOk, IfSome, IsOk, MatchResult}
+use Rattle.std.proofs.Common.{◌≡◌, ◌≢◌, ◌⊎◌, ℕ, List, take, Option, Some, None, Result, Ok, Err, true, false, refl, sym, ap, subst, ◌∙◌, arith, inl, inr}
+use Rattle.std.specs.Prelude.{◌==◌, ◌≤◌, ◌||◌, Bool, IfErr, IfNone, IfOk, IfSome, IsOk, MatchResult, OnOk}
+use Rattle.std.specs.Io.KnownBytes.{Appends}
 use Rattle.coll_history.specs.declared.fault.Fault.{Fault}
 use Rattle.coll_script.specs.declared.fault.JobFault.{JobFault}
 use Rattle.coll_script.specs.declared.fault.JobFault.TheVariants.{Read, Write, Text, Stalled, Refused, Memory, NoThread, Torn}
 use Rattle.coll_script.specs.Faults.{status_of}
 use Rattle.coll_script.specs.Meaning.{meaning, HasMeaning}
-use Rattle.coll_script.specs.Plain.{IsPlainFault, IsFaultOf, IsInputFault, WritesMeaning}
+use Rattle.coll_script.specs.Plain.{HasCause, IsPlainFault, IsFaultOf, IsInputFault, IsReadFault, WritesMeaning}
 use Rattle.coll_script.proofs.Answering.{meaning-read}
 use Rattle.coll_diagnosis.specs.Verdicts.{IsStatus}
+use Rattle.coll_diagnosis.specs.Verdicts as verdicts
 use Rattle.coll_check.specs.Checked.{IsCheckFault, IsCheckStatus}
-use Rattle.coll_job.specs.Tasks.{IsTextStatus}
+use Rattle.coll_diagnosis.specs.Unstalled.{IsNoStall}
+use Rattle.coll_diagnosis.specs.declared.explaining.ExplainOptions.{ExplainOptions}
+use Rattle.coll_check.specs.declared.checking.CheckForm.{CheckForm}
+use Rattle.coll_job.specs.declared.task.Way.{Way}
+use Rattle.coll_job.specs.declared.task.Way.TheVariants.{Plain, Run, Explain, Check, Draw, DrawRun}
+use Rattle.coll_check.specs.Checked.{WritesLines}
+use Rattle.coll_check.specs.Says as checks
+use Rattle.coll_job.specs.Tasks.{is_answer, AnswersText, IsAnswer, IsStatusOf, IsTextStatus}
 
 -- what a text with that meaning may be answered with
 abbrev IsTold : Result (List ℕ) Fault → ℕ → Type 0
@@ -169,3 +178,231 @@ pub answered-read : (r : Result ℕ JobFault) (start : Option (List ℕ)) (text 
 answered-read (Ok status) None text old new read writes = λ is. tt
 answered-read (Ok status) (Some input) text old new read writes = λ is. ((writes is).0, meaning-read input text read ∙ (writes is).1, (writes is).2)
 answered-read (Err fault) start text old new read writes = tt
+
+-- ---- the status of a fault is that of no answer
+
+pub unanswered-zero : (fault : JobFault) → status_of fault == 0 ≡ false
+unanswered-zero Read = refl
+unanswered-zero Write = refl
+unanswered-zero (Text fault) = refl
+unanswered-zero Stalled = refl
+unanswered-zero (Refused why) = refl
+unanswered-zero Memory = refl
+unanswered-zero NoThread = refl
+unanswered-zero Torn = refl
+
+-- of a run
+pub unanswered-run : {T : Type 0} (r : Result T JobFault) → IfErr r (λ fault. status_of fault == 0 ≡ false)
+unanswered-run (Ok status) = tt
+unanswered-run (Err fault) = unanswered-zero fault
+
+unanswered-by-explain : (options : ExplainOptions) (fault : JobFault) → IsNoStall fault → is_answer (Explain options) (status_of fault) ≡ false
+unanswered-by-explain options Read other = refl
+unanswered-by-explain options Write other = refl
+unanswered-by-explain options (Text fault) other = refl
+unanswered-by-explain options Stalled other = absurd (let both : true ≡ false = other in cc)
+unanswered-by-explain options (Refused why) other = refl
+unanswered-by-explain options Memory other = refl
+unanswered-by-explain options NoThread other = refl
+unanswered-by-explain options Torn other = refl
+
+-- of an explanation
+pub unanswered-explain : {T : Type 0} (options : ExplainOptions) (r : Result T JobFault) → IfErr r IsNoStall
+    → IfErr r (λ fault. is_answer (Explain options) (status_of fault) ≡ false)
+unanswered-explain options (Ok status) other = tt
+unanswered-explain options (Err fault) other = unanswered-by-explain options fault other
+
+unanswered-by-check : (form : CheckForm) (start : Option (List ℕ)) (fault : JobFault) → IsCheckFault start fault → IsNoStall fault
+    → is_answer (Check form) (status_of fault) ≡ false
+unanswered-by-check form start Read fails other = refl
+unanswered-by-check form start Write fails other = refl
+unanswered-by-check form start (Text fault) fails other = absurd fails
+unanswered-by-check form start Stalled fails other = absurd (let both : true ≡ false = other in cc)
+unanswered-by-check form start (Refused why) fails other = refl
+unanswered-by-check form start Memory fails other = refl
+unanswered-by-check form start NoThread fails other = refl
+unanswered-by-check form start Torn fails other = refl
+
+-- of a check
+pub unanswered-check : {T : Type 0} (form : CheckForm) (start : Option (List ℕ)) (r : Result T JobFault) → IfErr r (IsCheckFault start) → IfErr r IsNoStall
+    → IfErr r (λ fault. is_answer (Check form) (status_of fault) ≡ false)
+unanswered-check form start (Ok status) fails other = tt
+unanswered-check form start (Err fault) fails other = unanswered-by-check form start fault fails other
+
+-- of a drawing
+pub unanswered-drawing : {T : Type 0} (r : Result T JobFault) → IfErr r (λ fault. ◌≡◌ {A = Bool} false false)
+unanswered-drawing (Ok status) = tt
+unanswered-drawing (Err fault) = refl
+
+-- ---- what is written is the answer
+
+-- a text is checked by its name
+pub answered-check : (form : CheckForm) (name other : List ℕ) (start old new old_errors new_errors : Option (List ℕ)) (r : Result ℕ JobFault) → name ≡ other
+    → IfOk r (λ status. (lines : List ℕ) × IfSome start (λ text. checks.Says form name text status lines) × WritesLines form old new old_errors new_errors lines)
+    → IfOk r (λ status. IsAnswer (Check form) other status start old new old_errors new_errors)
+answered-check form name other start old new old_errors new_errors r is said =
+    subst
+    (λ (n : List ℕ). IfOk r (λ status. (lines : List ℕ) × IfSome start (λ text. checks.Says form n text status lines) × WritesLines form old new old_errors new_errors lines))
+    is
+    said
+
+-- of an explanation more is known where the text's bytes are
+pub answered-explain : (options : ExplainOptions) (name : List ℕ) (start old new old_errors new_errors : Option (List ℕ)) (r : Result ℕ JobFault)
+    → IfOk r (λ status. (lines : List ℕ) × verdicts.Says options status lines × Appends old new lines)
+    → IfOk r (λ status. (lines : List ℕ) × IfSome start (λ text. verdicts.IsTrueOf text options status lines) × Appends old new lines)
+    → IfOk r (λ status. IsAnswer (Explain options) name status start old new old_errors new_errors)
+answered-explain options name None old new old_errors new_errors (Ok status) said is = said
+answered-explain options name (Some text) old new old_errors new_errors (Ok status) said is = is
+answered-explain options name start old new old_errors new_errors (Err fault) said is = tt
+
+-- a task that ends with the status of an answer was answered with it, and nothing was told after that
+pub answered-task : (way : Way) (name : List ℕ) (answer : Result ℕ JobFault) (status : ℕ) (start old new old_errors early last : Option (List ℕ))
+    → MatchResult answer (λ s. status ≡ s) (λ fault. status ≡ status_of fault) → OnOk answer (last ≡ early)
+    → IfOk answer (λ s. IsAnswer way name s start old new old_errors early) → IfErr answer (λ fault. is_answer way (status_of fault) ≡ false)
+    → is_answer way status ≡ true → IsAnswer way name status start old new old_errors last
+answered-task way name (Ok s) status start old new old_errors early last is same answers unanswered ends =
+    subst (λ (n : ℕ). IsAnswer way name n start old new old_errors last) (sym is)
+    (subst (λ (bytes : Option (List ℕ)). IsAnswer way name s start old new old_errors bytes) (sym same) answers)
+answered-task way name (Err fault) status start old new old_errors early last is same answers unanswered ends =
+    absurd (let both : true ≡ false = sym ends ∙ (ap (is_answer way) is ∙ unanswered) in cc)
+
+-- where no file is named
+pub given-none : {X : Type 0} (file : Option X) (P : Type 0) → P → IfNone file P
+given-none None P p = p
+given-none (Some name) P p = tt
+
+pub given-some : {X : Type 0} (file : Option X) (P : Type 0) → P → IfSome file (λ name. P)
+given-some None P p = tt
+given-some (Some name) P p = p
+
+-- ---- the statuses of faults
+
+few : (fault : JobFault) → status_of fault ≤ 5
+few Read = omega arith
+few Write = omega arith
+few (Text fault) = omega arith
+few Stalled = omega arith
+few (Refused why) = omega arith
+few Memory = omega arith
+few NoThread = omega arith
+few Torn = omega arith
+
+-- of a run or a drawing, and of an explanation or a check
+pub few-run : {T : Type 0} (r : Result T JobFault) → IfErr r (λ fault. status_of fault ≤ 5)
+few-run (Ok status) = tt
+few-run (Err fault) = few fault
+
+pub few-explain : {T : Type 0} (r : Result T JobFault) → IfErr r (λ fault. status_of fault ≤ 6)
+few-explain (Ok status) = tt
+few-explain (Err fault) = let most = few fault in omega arith
+
+-- of a plain answer
+pub plain-ends : (fault : JobFault) (start : Option (List ℕ)) → IsPlainFault start fault → (status_of fault ≤ 2) ⊎ (status_of fault ≡ 5)
+plain-ends Read start fails = inl (omega arith)
+plain-ends Write start fails = inl (omega arith)
+plain-ends (Text fault) start fails = inl (omega arith)
+plain-ends Stalled start fails = absurd fails
+plain-ends (Refused why) start fails = absurd fails
+plain-ends Memory start fails = inr refl
+plain-ends NoThread start fails = absurd fails
+plain-ends Torn start fails = absurd fails
+
+-- a task that ends so, whatever it is
+ends-with-one : (way : Way) → IsStatusOf way 1
+ends-with-one Plain = inl (omega arith)
+ends-with-one (Run options) = omega arith
+ends-with-one (Explain options) = omega arith
+ends-with-one (Check form) = omega arith
+ends-with-one (Draw draft) = omega arith
+ends-with-one (DrawRun workers file) = omega arith
+
+ends-with-five : (way : Way) → IsStatusOf way 5
+ends-with-five Plain = inr refl
+ends-with-five (Run options) = omega arith
+ends-with-five (Explain options) = omega arith
+ends-with-five (Check form) = omega arith
+ends-with-five (Draw draft) = omega arith
+ends-with-five (DrawRun workers file) = omega arith
+
+unanswered-one : (way : Way) → is_answer way 1 ≡ false
+unanswered-one Plain = refl
+unanswered-one (Run options) = refl
+unanswered-one (Explain options) = refl
+unanswered-one (Check form) = refl
+unanswered-one (Draw draft) = refl
+unanswered-one (DrawRun workers file) = refl
+
+unanswered-five : (way : Way) → is_answer way 5 ≡ false
+unanswered-five Plain = refl
+unanswered-five (Run options) = refl
+unanswered-five (Explain options) = refl
+unanswered-five (Check form) = refl
+unanswered-five (Draw draft) = refl
+unanswered-five (DrawRun workers file) = refl
+
+-- a text that isn't read
+pub status-unread : (way : Way) (fault : JobFault) → IsReadFault fault → IsStatusOf way (status_of fault)
+status-unread way Read fails = ends-with-one way
+status-unread way Write fails = absurd fails
+status-unread way (Text fault) fails = absurd fails
+status-unread way Stalled fails = absurd fails
+status-unread way (Refused why) fails = absurd fails
+status-unread way Memory fails = ends-with-five way
+status-unread way NoThread fails = absurd fails
+status-unread way Torn fails = absurd fails
+
+pub unanswered-unread : (way : Way) (fault : JobFault) → IsReadFault fault → is_answer way (status_of fault) ≡ false
+unanswered-unread way Read fails = unanswered-one way
+unanswered-unread way Write fails = absurd fails
+unanswered-unread way (Text fault) fails = absurd fails
+unanswered-unread way Stalled fails = absurd fails
+unanswered-unread way (Refused why) fails = absurd fails
+unanswered-unread way Memory fails = unanswered-five way
+unanswered-unread way NoThread fails = absurd fails
+unanswered-unread way Torn fails = absurd fails
+
+-- a status that comes from an answer
+pub status-ended : (way : Way) (answer : Result ℕ JobFault) (status : ℕ) → MatchResult answer (λ s. status ≡ s) (λ fault. status ≡ status_of fault)
+    → IfOk answer (IsStatusOf way) → IfErr answer (λ fault. IsStatusOf way (status_of fault)) → IsStatusOf way status
+status-ended way (Ok s) status is ends fails = subst (IsStatusOf way) (sym is) ends
+status-ended way (Err fault) status is ends fails = subst (IsStatusOf way) (sym is) fails
+
+-- ---- a text that was read is answered
+
+-- a file that can't be opened isn't answered
+pub answers-unopened : (way : Way) (name : List ℕ) (old new old_errors new_errors : Option (List ℕ)) → AnswersText way name 1 old new old_errors new_errors
+answers-unopened way name old new old_errors new_errors = λ ends. absurd (let both : true ≡ false = sym ends ∙ unanswered-one way in cc)
+
+pub answers-text : {E : Type 0} (r : Result ℕ E) (way : Way) (name text : List ℕ) (old new old_errors new_errors : Option (List ℕ))
+    → IfOk r (λ s. IsAnswer way name s (Some text) old new old_errors new_errors) → IfOk r (λ s. AnswersText way name s old new old_errors new_errors)
+answers-text (Ok s) way name text old new old_errors new_errors answers = λ ends. (text, answers)
+answers-text (Err why) way name text old new old_errors new_errors answers = tt
+
+-- nothing was told after it
+pub answers-ended : (way : Way) (name : List ℕ) (answer : Result ℕ JobFault) (status : ℕ) (old new old_errors early last : Option (List ℕ))
+    → MatchResult answer (λ s. status ≡ s) (λ fault. status ≡ status_of fault) → OnOk answer (last ≡ early)
+    → IfOk answer (λ s. AnswersText way name s old new old_errors early) → IfErr answer (λ fault. is_answer way (status_of fault) ≡ false)
+    → AnswersText way name status old new old_errors last
+answers-ended way name (Ok s) status old new old_errors early last is same answers unanswered =
+    subst (λ (n : ℕ). AnswersText way name n old new old_errors last) (sym is)
+    (subst (λ (bytes : Option (List ℕ)). AnswersText way name s old new old_errors bytes) (sym same) answers)
+answers-ended way name (Err fault) status old new old_errors early last is same answers unanswered =
+    λ ends. absurd (let both : true ≡ false = sym ends ∙ (ap (is_answer way) is ∙ unanswered) in cc)
+
+-- ---- a reader that failed is heeded
+
+heeded : (fault : JobFault) (before reader all writer : Bool) → all ≡ (before || reader) → HasCause fault reader false → HasCause fault all writer
+heeded Read true reader all writer is cause = is
+heeded Read false reader all writer is cause = is ∙ cause
+heeded Write before reader all writer is cause = absurd (let both : false ≡ true = cause in cc)
+heeded (Text fault) before reader all writer is cause = tt
+heeded Stalled before reader all writer is cause = tt
+heeded (Refused why) before reader all writer is cause = tt
+heeded Memory before reader all writer is cause = tt
+heeded NoThread before reader all writer is cause = tt
+heeded Torn before reader all writer is cause = tt
+
+pub cause-heeded : {T : Type 0} (r : Result T JobFault) (before reader all writer : Bool) → all ≡ (before || reader)
+    → IfErr r (λ fault. HasCause fault reader false) → IfErr r (λ fault. HasCause fault all writer)
+cause-heeded (Ok text) before reader all writer is cause = tt
+cause-heeded (Err fault) before reader all writer is cause = heeded fault before reader all writer is cause

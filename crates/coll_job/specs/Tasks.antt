@@ -1,9 +1,14 @@
 -- What the words of a command line ask for, and how that ends.
-use Rattle.std.specs.Prelude.{◌≡◌, ◌≢◌, ℕ, ◌≤◌, ◌⊎◌, ◌==◌, ◌||◌, nat_le, Bool, true, false, List, Option, IfSome, MatchResult}
+use denote.Ref.{Bor}
+use Rattle.std.specs.Prelude.{◌≡◌, ◌≢◌, ℕ, ◌≤◌, ◌⊎◌, ◌==◌, ◌||◌, nat_le, Bool, true, false, List, Option, Some, None, IfSome, MatchOption, MatchResult, codes}
+use Rattle.std.specs.Io.KnownBytes.{Appends}
 use Rattle.clap.specs.declared.error.kind.ErrorKind.{ErrorKind}
 use Rattle.clap.specs.declared.error.kind.ErrorKind.TheVariants.{DisplayHelp, DisplayVersion, OutOfMemory}
 use Rattle.coll_script.specs.Meaning.{meaning}
 use Rattle.coll_script.specs.Plain.{WritesMeaning}
+use Rattle.coll_diagnosis.specs.Verdicts as verdicts
+use Rattle.coll_check.specs.Checked.{WritesLines}
+use Rattle.coll_check.specs.Says as checks
 use Rattle.coll_check.specs.declared.checking.CheckForm.{CheckForm}
 use Rattle.coll_check.specs.declared.checking.CheckForm.TheVariants.{Text, Json}
 use Rattle.coll_job.specs.declared.task.Way.{Way}
@@ -20,7 +25,7 @@ workers_of (DrawRun workers file) = workers
 
 -- a status with which a job that is answered ends, and one that isn't
 abbrev pub IsStatusOf : Way → ℕ → Type 0
-IsStatusOf Plain status = status ≤ 5
+IsStatusOf Plain status = (status ≤ 2) ⊎ (status ≡ 5)
 IsStatusOf (Run options) status = status ≤ 5
 IsStatusOf (Explain options) status = status ≤ 6
 IsStatusOf (Check form) status = status ≤ 6
@@ -39,15 +44,45 @@ may_write (Check Json) status = nat_le status 3 || status == 6
 may_write (Draw draft) status = nat_le status 1
 may_write (DrawRun workers file) status = nat_le status 1
 
--- a task that ends with status 0 is answered: what standard output got is the meaning of the text, where the text's bytes are known.
--- The old and the new bytes of standard output come last
-abbrev pub IsAnswered : Way → ℕ → Option (List ℕ) → Option (List ℕ) → Option (List ℕ) → Type 0
-IsAnswered Plain status input old new = status ≡ 0 → IfSome input (λ text. WritesMeaning text old new)
-IsAnswered (Run options) status input old new = status ≡ 0 → IfSome input (λ text. WritesMeaning text old new)
-IsAnswered (Explain options) status input old new = Unit {0}
-IsAnswered (Check form) status input old new = Unit {0}
-IsAnswered (Draw draft) status input old new = Unit {0}
-IsAnswered (DrawRun workers file) status input old new = Unit {0}
+-- how a text is named where it is shown
+abbrev pub name_of : Option (Bor (List ℕ)) → List ℕ
+name_of None = codes "<stdin>"
+name_of (Some name) = name.now
+
+-- a task that ends with that status is answered; nothing is said of drawings
+abbrev pub is_answer : Way → ℕ → Bool
+is_answer Plain status = status == 0
+is_answer (Run options) status = status == 0
+is_answer (Explain options) status = status == 0 || (status == 3 || status == 6)
+is_answer (Check form) status = status == 0 || (status == 2 || (status == 3 || status == 6))
+is_answer (Draw draft) status = false
+is_answer (DrawRun workers file) status = false
+
+-- what is written where a task is answered with that status: the text's meaning; what an explanation says that has the status, and whose
+-- verdict is true of the text; what is said of a text of that name that is checked with it. Where the text's bytes are known: they come after
+-- the status, and then the old and the new bytes of standard output, and those of standard error
+abbrev pub IsAnswer : Way → List ℕ → ℕ → Option (List ℕ) → Option (List ℕ) → Option (List ℕ) → Option (List ℕ) → Option (List ℕ) → Type 0
+IsAnswer Plain name status input old new old_errors new_errors = status ≡ 0 → IfSome input (λ text. WritesMeaning text old new)
+IsAnswer (Run options) name status input old new old_errors new_errors = status ≡ 0 → IfSome input (λ text. WritesMeaning text old new)
+IsAnswer (Explain options) name status input old new old_errors new_errors =
+    (lines : List ℕ)
+    × MatchOption input (verdicts.Says options status lines) (λ text. verdicts.IsTrueOf text options status lines)
+    × Appends old new lines
+IsAnswer (Check form) name status input old new old_errors new_errors =
+    (lines : List ℕ)
+    × IfSome input (λ text. checks.Says form name text status lines)
+    × WritesLines form old new old_errors new_errors lines
+IsAnswer (Draw draft) name status input old new old_errors new_errors = Unit {0}
+IsAnswer (DrawRun workers file) name status input old new old_errors new_errors = Unit {0}
+
+abbrev pub IsAnswered : Way → List ℕ → ℕ → Option (List ℕ) → Option (List ℕ) → Option (List ℕ) → Option (List ℕ) → Option (List ℕ) → Type 0
+IsAnswered way name status input old new old_errors new_errors =
+    is_answer way status ≡ true → IsAnswer way name status input old new old_errors new_errors
+
+-- the same of a text that was read, whatever that is
+abbrev pub AnswersText : Way → List ℕ → ℕ → Option (List ℕ) → Option (List ℕ) → Option (List ℕ) → Option (List ℕ) → Type 0
+AnswersText way name status old new old_errors new_errors =
+    is_answer way status ≡ true → (text : List ℕ) × IsAnswer way name status (Some text) old new old_errors new_errors
 
 -- how a text may be answered: with status 2 exactly where it has a fault, unless a stream failed or memory was refused before that
 -- was told

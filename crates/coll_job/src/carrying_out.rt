@@ -1,4 +1,4 @@
-//! A job text carried out by threads, and what is told of it.
+//! Runs a job text by threads, and writes what is reported of the run.
 
 ghost use Rattle.std.specs.Prelude.{◌≡◌, ◌≢◌, ◌<◌, ◌≤◌, true, false, IfOk, IfErr, IfSome, Ok};
 ghost use Rattle.std.specs.Io.KnownBytes.{Keeps};
@@ -7,16 +7,17 @@ ghost use Rattle.coll_script.specs.Meaning.{meaning};
 ghost use Rattle.coll_script.specs.Plain.{HasCause, IsFaultOf, WritesMeaning};
 ghost use Rattle.coll_job.specs.Tasks.{IsTextStatus};
 
+use crate::answering::name_of;
 use crate::host::Host;
 use crate::keeping::{UNWRITTEN, is_kept, put};
-use crate::progress::Progress;
+use crate::progress::ProgressLine;
 use crate::screen::Screen;
 use crate::task::RunOptions;
-use crate::tasks::{name_of, told};
+use crate::tasks::told;
 use crate::viewing::{keep_views, picture_of};
 use coll_diagnosis::{ExplainOptions, Form, explain_text};
 use coll_run::{NoWatch, Recording, recorded_job, threaded_job};
-use coll_script::{Counted, JobFault, Witnessed, read_text, write_lines};
+use coll_script::{CountedReader, JobFault, Witnessed, read_text, write_lines};
 use std::alloc::Global;
 use std::fs::Files;
 use std::io::{Read, Write};
@@ -29,10 +30,11 @@ const EXPLAINED: ExplainOptions = ExplainOptions {
     form: Form::Text,
     is_strict: false,
     is_whole: false,
+    is_colored: false,
 };
 
-/// Has a text carried out, writes the files on what the run did, and then the values. Answers the exit status. `file` is that of
-/// the text.
+/// Runs a text by threads, writes the files on what the run did, and then the values. Returns the exit status. `file` is the
+/// name of the text's file.
 pub(crate) fn run_text<
     M: Threads + Wait + Sync + Files + Clock,
     S: Screen + Sync,
@@ -45,7 +47,7 @@ pub(crate) fn run_text<
     screen: &S,
     options: RunOptions<'_>,
     file: Option<&str>,
-    reader: &mut Counted<'_, R>,
+    reader: &mut CountedReader<'_, R>,
     output: &mut Witnessed<'_, W>,
     errors: &mut E,
 ) -> Result<u8, JobFault>
@@ -73,7 +75,7 @@ pub(crate) fn run_text<
     )
 }
 
-/// Has a text carried out, with all that is told of the run beside its values.
+/// Runs a text by threads, with all that is reported of the run beside its values.
 fn run_recorded<M: Threads + Wait + Sync + Files + Clock, S: Screen + Sync, W: Write, E: Write>(
     host: &mut Host<'_, M>,
     alloc: Global,
@@ -110,7 +112,7 @@ fn run_recorded<M: Threads + Wait + Sync + Files + Clock, S: Screen + Sync, W: W
     Ok(0)
 }
 
-/// Has a text carried out, and shows how far it is where somebody looks.
+/// Runs a text by threads, and shows how far the run is if `is_shown`.
 fn watched_job<M: Threads + Wait + Sync + Clock, S: Screen + Sync>(
     machine: &M,
     alloc: Global,
@@ -130,7 +132,7 @@ fn watched_job<M: Threads + Wait + Sync + Clock, S: Screen + Sync>(
     }
 }
 
-/// Has a text carried out, and shows how far it is.
+/// Runs a text by threads, and shows how far the run is.
 fn shown_job<M: Threads + Wait + Sync + Clock, S: Screen + Sync>(
     machine: &M,
     alloc: Global,
@@ -142,19 +144,19 @@ fn shown_job<M: Threads + Wait + Sync + Clock, S: Screen + Sync>(
     ensures meaning { IfOk result (λ done. meaning text.now ≡ Ok done.lines.items) }
     ensures faults { IfErr result (IsFaultOf text.now) }
 {
-    let progress = Progress::new(machine, alloc, screen);
+    let progress = ProgressLine::new(machine, alloc, screen);
     let recorded = recorded_job(machine, alloc, text, workers, &progress);
     progress.clear();
     recorded
 }
 
-/// Has a text carried out, and draws what the run did. Answers the exit status.
+/// Runs a text by threads, and draws what the run did. Returns the exit status.
 pub(crate) fn draw_run<M: Threads + Wait + Sync + Files + Clock, R: Read, W: Write, E: Write>(
     host: &mut Host<'_, M>,
     alloc: Global,
     workers: u8,
     file: Option<&str>,
-    reader: &mut Counted<'_, R>,
+    reader: &mut CountedReader<'_, R>,
     output: &mut Witnessed<'_, W>,
     errors: &mut E,
 ) -> Result<u8, JobFault>
@@ -173,7 +175,7 @@ pub(crate) fn draw_run<M: Threads + Wait + Sync + Files + Clock, R: Read, W: Wri
     draw_recorded(host, alloc, workers, file, &text, output, errors)
 }
 
-/// Has a text carried out, and draws what the run did.
+/// Runs a text by threads, and draws what the run did.
 fn draw_recorded<M: Threads + Wait + Sync + Files + Clock, W: Write, E: Write>(
     host: &mut Host<'_, M>,
     alloc: Global,
@@ -198,7 +200,8 @@ fn draw_recorded<M: Threads + Wait + Sync + Files + Clock, W: Write, E: Write>(
     put(host, alloc, file, &picture, output, errors)
 }
 
-/// Whether the file got why the runs of a text stall. If not, the stall and the fault of the file are told.
+/// Writes why the runs of a text stall to the file `explanation`. Returns whether that succeeded; if not, the stall and the
+/// fault of the file go to `errors`.
 fn is_explained<F: Files, E: Write>(
     host: &mut Host<'_, F>,
     alloc: Global,

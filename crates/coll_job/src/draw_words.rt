@@ -1,9 +1,9 @@
-//! The words behind `draw`.
+//! The words after `draw`.
 
 ghost use Rattle.std.specs.Prelude.{◌≤◌, IfOk};
 ghost use Rattle.coll_job.specs.Tasks.{workers_of};
 
-use crate::drawing::{Draft, DrawForm};
+use crate::drawing::{DrawForm, DrawingTask};
 use crate::task::{Task, Way};
 use crate::words::{all_ranks, is_whole, task_on, text_file, workers_argument, workers_in};
 use clap::builder::ValueParser;
@@ -23,7 +23,7 @@ const DOT: &str = "dot";
 
 const OUT: &str = "out";
 
-/// The command that draws a collective, and below it those that draw a run or waits.
+/// The command that draws a collective, with subcommands that draw a run or waits.
 pub(crate) fn draw_command<'a>(alloc: Global) -> Result<Command<'a>, AllocError> {
     let signature = Arg::new(alloc, SIGNATURE)
         .value_name("SIGNATURE")
@@ -79,7 +79,7 @@ fn draw_waits_command<'a>(alloc: Global) -> Result<Command<'a>, AllocError> {
         .arg(text_file(alloc))
 }
 
-/// The word that names the file of a drawing.
+/// The argument that names the file of a drawing.
 fn out_file<'a>(alloc: Global) -> Arg<'a> {
     Arg::new(alloc, OUT)
         .long(OUT)
@@ -87,8 +87,7 @@ fn out_file<'a>(alloc: Global) -> Arg<'a> {
         .help("Writes to the file OUT, all of it or nothing")
 }
 
-/// The drawing that the words behind `draw` ask for: of a run, of waits, or else of a collective, whose words are put together in
-/// `signature`.
+/// The task for the words after `draw`: to draw a run, waits, or else a collective, whose words are joined in `signature`.
 pub(crate) fn draw_task<'w>(
     matches: &ArgMatches<'w>,
     signature: &'w mut String,
@@ -112,7 +111,7 @@ pub(crate) fn draw_task<'w>(
     })
 }
 
-/// Puts words together, with a space between each two.
+/// Joins words, with a space between each two.
 fn join(words: Option<&[&str]>, joined: &mut String) -> Result<(), AllocError> {
     for word in words.unwrap_or(&[]) {
         if !joined.is_empty() {
@@ -123,7 +122,7 @@ fn join(words: Option<&[&str]>, joined: &mut String) -> Result<(), AllocError> {
     Ok(())
 }
 
-/// How the waits are drawn that the words behind `draw waits` ask for.
+/// How waits are drawn, by the words after `draw waits`.
 fn waits_options(matches: &ArgMatches<'_>) -> ExplainOptions {
     let form = if matches.get_flag(DOT) {
         Form::Dot
@@ -134,17 +133,18 @@ fn waits_options(matches: &ArgMatches<'_>) -> ExplainOptions {
         form,
         is_strict: false,
         is_whole: is_whole(matches),
+        is_colored: false,
     }
 }
 
-/// The drawing of a collective with that signature that the words behind `draw` ask for.
-fn draft_of<'w>(matches: &ArgMatches<'w>, words: &'w str) -> Draft<'w> {
+/// How the collective with that signature is drawn, by the words after `draw`.
+fn draft_of<'w>(matches: &ArgMatches<'w>, words: &'w str) -> DrawingTask<'w> {
     let form = if matches.get_flag(SVG) {
         DrawForm::Svg
     } else {
         DrawForm::Text
     };
-    Draft {
+    DrawingTask {
         words,
         members: matches.get_one::<u8>(MEMBERS).unwrap_or(1),
         form,

@@ -1,4 +1,4 @@
-//! The schedules of a collective, drawn.
+//! Draws the schedules of a collective.
 
 ghost use Rattle.std.specs.Prelude.{◌≡◌, ◌≢◌, ◌<◌, ◌≤◌, true, false, IfOk, IfErr};
 ghost use Rattle.std.specs.Io.KnownBytes.{Keeps};
@@ -26,7 +26,7 @@ pub enum DrawForm {
 
 /// A collective that is drawn, and where the drawing goes.
 #[derive(Clone, Copy, Debug, PartialEq, Eq)]
-pub struct Draft<'w> {
+pub struct DrawingTask<'w> {
     /// The words of the signature.
     pub words: &'w str,
     pub members: u8,
@@ -38,12 +38,12 @@ pub struct Draft<'w> {
 /// The most members that a communicator has.
 const MOST_MEMBERS: u8 = 64;
 
-/// Draws the schedules of all members of a collective. Answers the exit status. Where the words are wrong nothing is drawn,
-/// and what is wrong with them goes to `errors`.
+/// Draws the schedules of all members of a collective. Returns the exit status. If the words are wrong, nothing is drawn, and
+/// `errors` gets what is wrong with them.
 pub(crate) fn draw<F: Files, W: Write, E: Write>(
     host: &mut Host<'_, F>,
     alloc: Global,
-    draft: Draft<'_>,
+    draft: DrawingTask<'_>,
     output: &mut Witnessed<'_, W>,
     errors: &mut E,
 ) -> Result<u8, JobFault>
@@ -61,10 +61,10 @@ pub(crate) fn draw<F: Files, W: Write, E: Write>(
     put(host, alloc, draft.file, bytes, output, errors)
 }
 
-/// The drawing as it is written. Where the words are wrong that is told, and there is none.
+/// The drawing as it is written. None if the words are wrong; `errors` then gets what is wrong with them.
 fn drawn<E: Write>(
     alloc: Global,
-    draft: Draft<'_>,
+    draft: DrawingTask<'_>,
     errors: &mut E,
 ) -> Result<Option<String>, JobFault>
     ensures other { IfErr result (λ fault. fault ≢ JobFault.Write) }

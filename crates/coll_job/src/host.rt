@@ -4,7 +4,7 @@ ghost use Rattle.std.specs.Prelude.{◌≡◌, ◌||◌, true, false, OnOk, OnEr
 
 use crate::keeping::keep;
 use crate::opening::open_text;
-use coll_script::Counted;
+use coll_script::CountedReader;
 use std::alloc::Global;
 use std::fs::Files;
 use std::io;
@@ -19,7 +19,7 @@ pub struct Host<'m, M> {
 }
 
 impl<'m, M: Files> Host<'m, M> {
-    /// A machine the failures of whose files are remembered from here on.
+    /// A machine of which no file has failed so far.
     pub fn new(machine: &'m M) -> Host<'m, M>
         ensures { result.failed ≡ false }
     {
@@ -39,7 +39,7 @@ impl<'m, M: Files> Host<'m, M> {
 
     /// Opens the file of a job text.
     pub(crate) fn open(&mut self, name: &str) -> io::Result<M::File>
-        // An error sets the flag, and nothing else does.
+        // An error sets the flag; nothing else changes it.
         ensures failed { OnErr result (self.new.failed ≡ true) }
         ensures opened { OnOk result (self.new.failed ≡ self.old.failed) }
     {
@@ -50,13 +50,13 @@ impl<'m, M: Files> Host<'m, M> {
         opened
     }
 
-    /// Why a file failed while it was read.
+    /// The error with which a file failed while it was read.
     pub(crate) fn error(&self) -> Option<io::Error> {
         self.error
     }
 
-    /// Takes up whether a file failed while it was read, and why.
-    pub(crate) fn heed<R: Read>(&mut self, file: &Counted<'_, R>)
+    /// Notes whether a file failed while it was read, and with which error.
+    pub(crate) fn heed<R: Read>(&mut self, file: &CountedReader<'_, R>)
         ensures { self.new.failed ≡ (self.old.failed || file.now.failed) }
     {
         self.failed = self.failed || file.has_failed();

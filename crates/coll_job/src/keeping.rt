@@ -1,4 +1,4 @@
-//! A file that is written whole or not at all.
+//! Writes a file whole or not at all.
 
 ghost use Rattle.std.specs.Prelude.{◌≡◌, ◌≢◌, ◌<◌, ◌≤◌, true, false, IfOk, IfErr, OnErr, IsOkUnless};
 ghost use Rattle.std.specs.Io.KnownBytes.{Keeps};
@@ -13,11 +13,11 @@ use std::io;
 use std::io::{ErrorKind, Write};
 use std::os::unix::fs::MetadataExt;
 
-/// The exit status where a file can't be written: that of a write fault.
+/// The exit status if a file can't be written: that of a write fault.
 pub(crate) const UNWRITTEN: u8 = 1;
 
-/// Writes to the file that is named, or without one to standard output. Answers the exit status: where the file can't be written,
-/// that is told behind its name.
+/// Writes to the file that is named, or, if none is, to standard output. Returns the exit status. If the file can't be written,
+/// `errors` gets its name and the reason.
 pub(crate) fn put<F: Files, W: Write, E: Write>(
     host: &mut Host<'_, F>,
     alloc: Global,
@@ -30,7 +30,7 @@ pub(crate) fn put<F: Files, W: Write, E: Write>(
     ensures unwritten { IfOk result (λ status. 1 < status → Keeps (W.contents output.old.stream.now) (W.contents output.new.stream.now)) }
     ensures unwritten_fault { IfErr result (λ fault. fault ≢ JobFault.Write → Keeps (W.contents output.old.stream.now) (W.contents output.new.stream.now)) }
     ensures fault { IsOkUnless result JobFault.Write }
-    // The status 1 is answered only where a file failed, and a write fault only where the output did.
+    // The status is 1 only if a file failed, and the result a write fault only if the output did.
     ensures cause { IfOk result (λ status. status ≡ 1 → host.new.failed ≡ true) }
     ensures cause_fault { OnErr result (output.new.failed ≡ true) }
     ensures same_output { output.new.stream.ghost_name ≡ output.old.stream.ghost_name }
@@ -46,7 +46,7 @@ pub(crate) fn put<F: Files, W: Write, E: Write>(
     Ok(0)
 }
 
-/// Whether the file could be written. If not, that is told behind its name.
+/// Writes a file. Returns whether that succeeded; if not, `errors` gets the file's name and the reason.
 pub(crate) fn is_kept<F: Files, E: Write>(
     host: &mut Host<'_, F>,
     alloc: Global,
@@ -65,14 +65,14 @@ pub(crate) fn is_kept<F: Files, E: Write>(
     }
 }
 
-/// Writes a file, whole or not at all: until it is complete it has another name beside it; at an error nothing of it is left, and
-/// a file that had the name keeps its bytes. A file that takes the place of another one has its mode. What stands there and is no file,
-/// as a link, a pipe or a device, gets the bytes itself.
+/// Writes a file, whole or not at all. Until it is complete it has another name beside it; at an error nothing of it is left,
+/// and a file that had the name keeps its bytes. A file that replaces another one gets the mode of that one. A link, a pipe, a
+/// device or anything else that isn't a file gets the bytes itself.
 ///
 /// # Errors
 ///
-/// Those of the system; `PermissionDenied` where a file has the name that nobody may write, and `InvalidInput` where it is the file that
-/// standard output or standard error goes to: what these get later would stand in place of the bytes, or be lost with the old file.
+/// Those of the system; `PermissionDenied` if a file has the name that nobody may write; `InvalidInput` if it is the file to
+/// which standard output or standard error goes: what goes there later would replace the bytes, or be lost with the old file.
 pub(crate) fn keep<F: Files>(files: &F, alloc: Global, name: &str, bytes: &[u8]) -> io::Result<()> {
     let Ok(there) = symlink_metadata(files, name) else {
         return write_beside(files, alloc, name, None, bytes);
@@ -91,7 +91,7 @@ pub(crate) fn keep<F: Files>(files: &F, alloc: Global, name: &str, bytes: &[u8])
     }
 }
 
-/// A stream of the program, and what is told of a file that it goes to.
+/// A stream of the program, and why a file to which it goes is refused.
 struct Stream {
     name: &'static str,
     refusal: &'static str,
@@ -107,7 +107,7 @@ static OWN_ERRORS: Stream = Stream {
     refusal: "standard error goes to this file, so name another one",
 };
 
-/// Refuses a file that a stream of the program goes to.
+/// Refuses a file to which a stream of the program goes.
 fn check_stream<F: Files>(files: &F, stream: &Stream, found: &Metadata) -> io::Result<()> {
     match metadata(files, stream.name) {
         Ok(own) if is_same(&own, found) => {
@@ -117,12 +117,12 @@ fn check_stream<F: Files>(files: &F, stream: &Stream, found: &Metadata) -> io::R
     }
 }
 
-/// Whether both are of one file. A file system that numbers no files has none that are the same.
+/// Whether both describe one file. On a file system that numbers no files, no two are the same.
 fn is_same(one: &Metadata, other: &Metadata) -> bool {
     one.ino() != 0 && one.ino() == other.ino() && one.dev() == other.dev()
 }
 
-/// Refuses a file that can't be written. A file that nobody may write is refused to a user, too, who may write all files.
+/// Refuses a file that can't be written. A file that nobody may write is refused even to a user who may write all files.
 fn check_writable<F: Files>(files: &F, name: &str, found: &Metadata) -> io::Result<()> {
     if found.permissions().readonly() {
         return Err(io::Error::from(ErrorKind::PermissionDenied));
@@ -131,7 +131,7 @@ fn check_writable<F: Files>(files: &F, name: &str, found: &Metadata) -> io::Resu
     Ok(())
 }
 
-/// Writes a file beside the name, and gives it the name when it is complete. At an error nothing of it is left.
+/// Writes a file beside the name, and gives it the name once it is complete. At an error nothing of it is left.
 fn write_beside<F: Files>(
     files: &F,
     alloc: Global,
@@ -147,7 +147,7 @@ fn write_beside<F: Files>(
     kept
 }
 
-/// Writes a file under one name, with the mode of the old one, and gives it the other name when it is complete.
+/// Writes a file under the name `part`, with the mode of the old file, and renames it to `name` once it is complete.
 fn keep_as<F: Files>(
     files: &F,
     part: &str,

@@ -1,4 +1,4 @@
-use crate::screen::Screen;
+use crate::screen::{Colors, Screen};
 use crate::tasks::{run_on, told};
 use coll_script::JobFault;
 use std::fs::Files;
@@ -9,8 +9,8 @@ use std::sync::Wait;
 use std::thread::Threads;
 use std::{env, io};
 
-/// Runs the program on the machine's words, files and standard streams, and gives its exit status. The leave to start
-/// threads comes from `main`, which passes its runtime for it.
+/// Runs the program on the machine's words, files and standard streams. Returns its exit status. `main` passes its runtime,
+/// which is the permission to start threads.
 pub fn main_of<M: Threads + Wait + Sync + Files + Clock>(
     rt: &HostRuntime,
     machine: &M,
@@ -38,7 +38,7 @@ pub fn main_of<M: Threads + Wait + Sync + Files + Clock>(
     ExitCode::from(status)
 }
 
-/// Standard error of the machine.
+/// The machine's standard error, as a screen.
 #[derive(Drop)]
 struct StandardError<'r> {
     rt: &'r HostRuntime,
@@ -49,13 +49,16 @@ impl Screen for StandardError<'_> {
         self.rt.stderr().is_terminal()
     }
 
-    /// A terminal, where nobody asked for no colours (no-color.org).
-    fn takes_colors(&self) -> bool {
+    /// Terminals, where nobody asked for no colours (no-color.org).
+    fn colors(&self) -> Colors {
         let asks_for_none = match env::var(self.rt, "NO_COLOR") {
             Ok(value) => !value.is_empty(),
             Err(_) => false,
         };
-        !asks_for_none && self.is_watched()
+        Colors {
+            output: !asks_for_none && self.rt.stdout().is_terminal(),
+            errors: !asks_for_none && self.is_watched(),
+        }
     }
 
     fn show(&self, text: &str) {

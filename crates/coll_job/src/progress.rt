@@ -1,4 +1,4 @@
-//! How far a long run is, in one line of a terminal.
+//! Shows how far a long run is, in one line of a terminal.
 
 use crate::screen::Screen;
 use coll_run::Watch;
@@ -7,15 +7,15 @@ use std::rt::Clock;
 use std::sync::{Mutex, Wait};
 use std::time::Instant;
 
-/// The milliseconds from the beginning of a run until its progress is shown, and from one line to the next.
+/// The milliseconds from the beginning of a run until its progress is shown, and then between two lines.
 const FIRST: u64 = 1_000;
 
 const BETWEEN: u64 = 250;
 
 /// Shows how far a run is: how many ranks are done, how many posts and starts are completed, and the time since it began. The
-/// threads of the ranks show it as they go, so nothing changes while all of them wait.
+/// threads of the ranks show it as they go, so the line doesn't change while all of them wait.
 #[derive(Drop)]
-pub struct Progress<'m, M: Clock + Wait, S: Screen> {
+pub struct ProgressLine<'m, M: Clock + Wait, S: Screen> {
     machine: &'m M,
     alloc: Global,
     screen: &'m S,
@@ -23,7 +23,7 @@ pub struct Progress<'m, M: Clock + Wait, S: Screen> {
     state: Mutex<State>,
 }
 
-/// How far the run is, and what stands on the screen.
+/// How far the run is, and what the screen shows of it.
 #[derive(Clone, Copy)]
 struct State {
     ranks: u8,
@@ -32,14 +32,14 @@ struct State {
     completed: usize,
     /// When the next line is due, in milliseconds from the beginning.
     due: u64,
-    /// The columns that the line on the screen takes.
+    /// The width of the line on the screen, in columns.
     width: usize,
 }
 
-impl<'m, M: Clock + Wait, S: Screen> Progress<'m, M, S> {
-    /// Of a run that begins now.
-    pub fn new(machine: &'m M, alloc: Global, screen: &'m S) -> Progress<'m, M, S> {
-        Progress {
+impl<'m, M: Clock + Wait, S: Screen> ProgressLine<'m, M, S> {
+    /// The progress of a run that begins now.
+    pub fn new(machine: &'m M, alloc: Global, screen: &'m S) -> ProgressLine<'m, M, S> {
+        ProgressLine {
             machine,
             alloc,
             screen,
@@ -55,7 +55,7 @@ impl<'m, M: Clock + Wait, S: Screen> Progress<'m, M, S> {
         }
     }
 
-    /// Takes what was shown off the screen.
+    /// Clears the line on the screen.
     pub fn clear(&self) {
         let mut state = self.state.lock(self.machine);
         if state.width > 0 {
@@ -64,7 +64,7 @@ impl<'m, M: Clock + Wait, S: Screen> Progress<'m, M, S> {
         }
     }
 
-    /// Shows the line, if it is due.
+    /// Shows the line if it is due.
     fn show(&self, state: &mut State) {
         let Some(passed) = self.passed() else {
             return;
@@ -78,7 +78,7 @@ impl<'m, M: Clock + Wait, S: Screen> Progress<'m, M, S> {
         }
     }
 
-    /// Puts a line over the one that stands on the screen.
+    /// Overwrites the line on the screen.
     fn put(&self, line: &str, state: &mut State) {
         let width = state.width;
         if let Ok(text) = format!(in self.alloc; "\r{line:<width$}") {
@@ -87,7 +87,7 @@ impl<'m, M: Clock + Wait, S: Screen> Progress<'m, M, S> {
         }
     }
 
-    /// What is told of the run.
+    /// The line that reports the state after `passed` milliseconds.
     fn line(&self, state: &State, passed: u64) -> Result<String, AllocError> {
         let State {
             ranks,
@@ -102,7 +102,7 @@ impl<'m, M: Clock + Wait, S: Screen> Progress<'m, M, S> {
         )
     }
 
-    /// The milliseconds since the run began; none where the clock can't be read.
+    /// The milliseconds since the run began; None if the clock can't be read.
     fn passed(&self) -> Option<u64> {
         let now = Instant::now(self.machine).ok()?;
         let passed = now.checked_duration_since(self.begin?)?;
@@ -110,7 +110,7 @@ impl<'m, M: Clock + Wait, S: Screen> Progress<'m, M, S> {
     }
 }
 
-impl<M: Clock + Wait, S: Screen> Watch for Progress<'_, M, S> {
+impl<M: Clock + Wait, S: Screen> Watch for ProgressLine<'_, M, S> {
     fn begin(&self, ranks: u8, starts: usize) {
         let mut state = self.state.lock(self.machine);
         state.ranks = ranks;

@@ -1,18 +1,25 @@
-//! What the user looks at while the program works.
+//! The screen that the user sees while the program works.
 
-/// Standard error, where it may be a terminal.
+/// Standard error, which may be a terminal.
 pub trait Screen {
-    /// Whether somebody looks at it: whether it is a terminal.
+    /// Whether it is a terminal, so that a user may see it.
     fn is_watched(&self) -> bool;
 
-    /// Whether it takes colours.
-    fn takes_colors(&self) -> bool;
+    /// Which of the standard streams take colours.
+    fn colors(&self) -> Colors;
 
-    /// Shows a text. Nobody is told where that fails.
+    /// Shows a text. A failure is ignored.
     fn show(&self, text: &str);
 }
 
-/// Nobody looks.
+/// Which streams take colours: those that are terminals, where nobody asked for no colours.
+#[derive(Clone, Copy, Debug, PartialEq, Eq)]
+pub struct Colors {
+    pub output: bool,
+    pub errors: bool,
+}
+
+/// A screen that nobody sees.
 #[derive(Clone, Copy, Debug)]
 pub struct NoScreen;
 
@@ -21,8 +28,11 @@ impl Screen for NoScreen {
         false
     }
 
-    fn takes_colors(&self) -> bool {
-        false
+    fn colors(&self) -> Colors {
+        Colors {
+            output: false,
+            errors: false,
+        }
     }
 
     fn show(&self, _text: &str) {}

@@ -1,4 +1,4 @@
-//! The words of a signature on the command line, read as those of a job text.
+//! Reads the words of a signature on the command line like those of a job text.
 
 ghost use Rattle.std.specs.Prelude.{IsOkUnless};
 
@@ -9,11 +9,11 @@ use std::alloc::{AllocError, Global};
 use std::io;
 use std::io::Write;
 
-/// What stands before the words in the line of a job text that asks for a collective.
+/// The beginning of a job text's line that asks for a collective, before the words.
 const BEFORE: &str = "init 0 ";
 
-/// The signature that the words say for so many members. Where they break a rule it is told, with its words and what may be
-/// meant, and there is none. Refuses [`JobFault::Memory`] alone.
+/// The signature of the words for `members` members. None if they break a rule; `errors` then gets the words, the rule, and
+/// what may be meant. The only fault is [`JobFault::Memory`].
 pub(crate) fn signature_of<E: Write>(
     alloc: Global,
     words: &str,
@@ -48,7 +48,7 @@ pub(crate) fn signature_of<E: Write>(
     }
 }
 
-/// The words with one space between each two.
+/// The words, with one space between each two.
 fn joined(alloc: Global, words: &str) -> Result<String, AllocError> {
     let mut joined = String::new(alloc);
     for word in words.split_ascii_whitespace() {
@@ -76,7 +76,7 @@ fn asked(history: &History) -> Option<Signature> {
     }
 }
 
-/// Tells the first fault.
+/// Writes the first fault.
 fn tell<E: Write>(words: &str, faults: &Faults, errors: &mut E) -> io::Result<()> {
     writeln!(errors, "error: {}", faults.first.fault.cause)?;
     match &faults.first.detail {
@@ -85,7 +85,7 @@ fn tell<E: Write>(words: &str, faults: &Faults, errors: &mut E) -> io::Result<()
     }
 }
 
-/// Marks the words that are meant, and tells what is known of them.
+/// Shows the words, with those marked that are meant, and writes what is known of them.
 fn tell_words<E: Write>(words: &str, marked: &Marked, errors: &mut E) -> io::Result<()> {
     write!(errors, "  | ")?;
     for byte in words.as_bytes() {

@@ -1,36 +1,36 @@
 //! Writes what a run did to the files that are named.
 
 ghost use Rattle.std.specs.Prelude.{◌≡◌, true, false, IfErr, IfOk};
+ghost use Rattle.std.specs.Option.{option_copied, option_map};
 ghost use Rattle.coll_script.specs.Faults.{status_of};
-ghost use Rattle.coll_job.specs.Pages.{lines_of, outcomes_page, requests_of, stats_page, trace_page};
+ghost use Rattle.coll_job.specs.Pages.{ArePages, lines_of, name_in, named_text, outcomes_in, requests_of, stats_page, text_for, trace_page};
 
 use crate::host::Host;
 use crate::keeping::is_kept;
 use crate::views::{OutcomeForm, Views};
 use coll_report::{Report, Span};
 use coll_run::Recording;
-use coll_script::JobFault;
+use coll_script::{JobFault, ReportFault};
 use coll_views::{
-    Requests, ViewFault, outcomes_json, picture_text, rows_of, tables_text, timeline_json,
-    trace_text,
+    RankRequests, outcomes_json, picture_text, rows_of, tables_text, timeline_json, trace_text,
 };
 use std::alloc::{AllocError, Global};
 use std::fs::Files;
 use std::io::Write;
 
-/// A file and what it gets.
+/// A file's name and the bytes that it gets.
 #[derive(Drop)]
-struct Page<'w> {
+struct ViewFile<'w> {
     name: &'w str,
     bytes: Vec<u8>,
 }
 
-/// Writes the files of a run, each whole or not at all, and the first only when all that they get is made. Answers whether each could be
-/// written: where one can't, `errors` is told so behind its name, and those that were written before stay.
+/// Writes the files of a run, each whole or not at all. It writes the first one only once the bytes of all are made. Returns
+/// whether each could be written; if one can't, `errors` gets its name and the reason, and the files before it stay.
 ///
 /// # Errors
 ///
-/// Memory, and Torn where the report's entries don't fit together. Then nothing is written.
+/// `Memory`; `Torn` if the report's entries don't fit together. In both cases nothing is written.
 pub(crate) fn keep_views<F: Files, E: Write>(
     host: &mut Host<'_, F>,
     alloc: Global,
@@ -50,11 +50,11 @@ pub(crate) fn keep_views<F: Files, E: Write>(
     }
 }
 
-/// What a run did, drawn as a column for each rank.
+/// A drawing of what a run did, with a column for each rank.
 ///
 /// # Errors
 ///
-/// As of [`keep_views`].
+/// Those of [`keep_views`].
 pub(crate) fn picture_of(alloc: Global, recording: &Recording) -> Result<Vec<u8>, JobFault>
     ensures { IfErr result (λ fault. status_of fault ≡ 5) }
 {
@@ -64,145 +64,193 @@ pub(crate) fn picture_of(alloc: Global, recording: &Recording) -> Result<Vec<u8>
     }
 }
 
-fn picture(alloc: Global, recording: &Recording) -> Result<Vec<u8>, ViewFault> {
+fn picture(alloc: Global, recording: &Recording) -> Result<Vec<u8>, ReportFault> {
     let requests = requests_of(alloc, &recording.report)?;
     let lines = lines_of(alloc, &recording.spans)?;
-    picture_page(alloc, recording, &requests, &lines)
+    let (ranks, trace) = (recording.report.ranks(), recording.report.entries());
+    picture_text(alloc, ranks, &requests, trace, &lines)
 }
 
-/// Whether each page could be written; up to the first that can't.
+/// Writes the pages up to the first that can't be written. Returns whether each could be.
 fn are_kept<F: Files, E: Write>(
     host: &mut Host<'_, F>,
     alloc: Global,
-    pages: &[Page<'_>],
+    pages: &[Option<ViewFile<'_>>],
     errors: &mut E,
 ) -> bool
     ensures { result ≡ false → host.new.failed ≡ true }
 {
     for page in pages {
-        if !is_kept(host, alloc, page.name, &page.bytes, errors) {
-            return false;
+        if let Some(page) = page {
+            if !is_kept(host, alloc, page.name, &page.bytes, errors) {
+                return false;
+            }
         }
     }
     true
 }
 
-fn told_of(fault: ViewFault) -> JobFault
+fn told_of(fault: ReportFault) -> JobFault
     ensures { status_of result ≡ 5 }
 {
     match fault {
-        ViewFault::NoMemory => JobFault::Memory,
-        ViewFault::Torn => JobFault::Torn,
+        ReportFault::NoMemory => JobFault::Memory,
+        ReportFault::Torn => JobFault::Torn,
     }
 }
 
-/// What each file gets.
+/// The bytes of each file that is named.
 fn pages_of<'w>(
     alloc: Global,
     views: &Views<'w>,
     recording: &Recording,
-) -> Result<Vec<Page<'w>>, ViewFault> {
+) -> Result<[Option<ViewFile<'w>>; 5], ReportFault>
+    ensures { IfOk result (λ pages. ArePages views.now recording.now.report recording.now.spans.items recording.now.lines.items pages) }
+{
     let requests = requests_of(alloc, &recording.report)?;
     let lines = lines_of(alloc, &recording.spans)?;
-    let mut pages = Vec::new(alloc);
-    if let Some(name) = views.trace {
-        let bytes = trace_page(alloc, recording, &requests, &lines)?;
-        pages.push(Page { name, bytes })?;
-    }
-    if let Some(name) = views.stats {
-        let bytes = stats_page(alloc, recording, &requests)?;
-        pages.push(Page { name, bytes })?;
-    }
-    if let Some(name) = views.timeline {
-        let bytes = timeline_page(alloc, recording, &requests)?;
-        pages.push(Page { name, bytes })?;
-    }
-    if let Some(name) = views.picture {
-        let bytes = picture_page(alloc, recording, &requests, &lines)?;
-        pages.push(Page { name, bytes })?;
-    }
-    if let Some(name) = views.outcomes {
-        let bytes = match views.form {
-            OutcomeForm::Text => Vec::from_slice(alloc, &recording.lines)?,
-            OutcomeForm::Json => outcomes_page(alloc, recording, &requests, &lines)?,
-        };
-        pages.push(Page { name, bytes })?;
-    }
-    Ok(pages)
+    let trace = trace_page(alloc, views.trace, recording, &requests, &lines)?;
+    let stats = stats_page(alloc, views.stats, recording, &requests)?;
+    let timeline = timeline_page(alloc, views.timeline, recording, &requests)?;
+    let picture = picture_page(alloc, views.picture, recording, &requests, &lines)?;
+    let outcomes = outcomes_page(alloc, views, recording, &requests, &lines)?;
+    Ok([trace, stats, timeline, picture, outcomes])
 }
 
-/// The entries, a line each.
-fn trace_page(
+/// The page of the trace, an entry in each line, if a file is named.
+fn trace_page<'w>(
     alloc: Global,
+    name: Option<&'w str>,
     recording: &Recording,
-    requests: &Requests,
+    requests: &RankRequests,
     lines: &[u32],
-) -> Result<Vec<u8>, ViewFault>
+) -> Result<Option<ViewFile<'w>>, ReportFault>
     requires requests { requests.now ≡ requests_of recording.now.report }
     requires lines { lines.now ≡ lines_of recording.now.spans.items }
-    ensures { IfOk result (λ page. page.items ≡ trace_page recording.now.report recording.now.spans.items) }
+    ensures { IfOk result (λ page. option_map named_text page ≡ text_for name.entry (trace_page recording.now.report recording.now.spans.items)) }
 {
-    trace_text(alloc, requests, recording.report.entries(), lines)
+    let Some(name) = name else {
+        return Ok(None);
+    };
+    let bytes = trace_text(alloc, requests, recording.report.entries(), lines)?;
+    Ok(Some(ViewFile { name, bytes }))
 }
 
-/// What the entries add up to.
-fn stats_page(
+/// The page of the tables, if a file is named.
+fn stats_page<'w>(
+    alloc: Global,
+    name: Option<&'w str>,
+    recording: &Recording,
+    requests: &RankRequests,
+) -> Result<Option<ViewFile<'w>>, ReportFault>
+    requires { requests.now ≡ requests_of recording.now.report }
+    ensures { IfOk result (λ page. option_map named_text page ≡ text_for name.entry (stats_page recording.now.report)) }
+{
+    let Some(name) = name else {
+        return Ok(None);
+    };
+    let bytes = stats_text(alloc, recording, requests)?;
+    Ok(Some(ViewFile { name, bytes }))
+}
+
+/// The tables: sums over the entries.
+fn stats_text(
     alloc: Global,
     recording: &Recording,
-    requests: &Requests,
-) -> Result<Vec<u8>, ViewFault>
+    requests: &RankRequests,
+) -> Result<Vec<u8>, ReportFault>
     requires { requests.now ≡ requests_of recording.now.report }
-    ensures { IfOk result (λ page. page.items ≡ stats_page recording.now.report) }
+    ensures { IfOk result (λ text. text.items ≡ stats_page recording.now.report) }
 {
     let report = &recording.report;
     let rows = rows_of(alloc, requests, report.entries())?;
     tables_text(alloc, report.ranks(), report.groups(), requests, &rows)
 }
 
-/// When the calls were.
-fn timeline_page(
+/// The page of the timeline, if a file is named.
+fn timeline_page<'w>(
     alloc: Global,
+    name: Option<&'w str>,
     recording: &Recording,
-    requests: &Requests,
-) -> Result<Vec<u8>, ViewFault> {
+    requests: &RankRequests,
+) -> Result<Option<ViewFile<'w>>, ReportFault>
+    ensures { IfOk result (λ page. option_map name_in page ≡ option_copied name.entry) }
+{
+    let Some(name) = name else {
+        return Ok(None);
+    };
     let (ranks, trace) = (recording.report.ranks(), recording.report.entries());
     let text = timeline_json(alloc, ranks, requests, trace, &recording.spans)?;
-    Ok(Vec::from_slice(alloc, text.as_bytes())?)
+    let bytes = Vec::from_slice(alloc, text.as_bytes())?;
+    Ok(Some(ViewFile { name, bytes }))
 }
 
-/// A column for each rank.
-fn picture_page(
+/// The page of the picture, if a file is named.
+fn picture_page<'w>(
     alloc: Global,
+    name: Option<&'w str>,
     recording: &Recording,
-    requests: &Requests,
+    requests: &RankRequests,
     lines: &[u32],
-) -> Result<Vec<u8>, ViewFault> {
+) -> Result<Option<ViewFile<'w>>, ReportFault>
+    ensures { IfOk result (λ page. option_map name_in page ≡ option_copied name.entry) }
+{
+    let Some(name) = name else {
+        return Ok(None);
+    };
     let (ranks, trace) = (recording.report.ranks(), recording.report.entries());
-    picture_text(alloc, ranks, requests, trace, lines)
+    let bytes = picture_text(alloc, ranks, requests, trace, lines)?;
+    Ok(Some(ViewFile { name, bytes }))
 }
 
-/// What the entries handed out, as JSON.
-fn outcomes_page(
+/// The page of the outcomes in the form that is asked for, if a file is named.
+fn outcomes_page<'w>(
     alloc: Global,
+    views: &Views<'w>,
     recording: &Recording,
-    requests: &Requests,
+    requests: &RankRequests,
     lines: &[u32],
-) -> Result<Vec<u8>, ViewFault>
+) -> Result<Option<ViewFile<'w>>, ReportFault>
     requires requests { requests.now ≡ requests_of recording.now.report }
     requires lines { lines.now ≡ lines_of recording.now.spans.items }
-    ensures { IfOk result (λ page. page.items ≡ outcomes_page recording.now.report recording.now.spans.items) }
+    ensures { IfOk result (λ page. option_map named_text page
+        ≡ text_for views.now.outcomes (outcomes_in views.now.form recording.now.report recording.now.spans.items recording.now.lines.items)) }
 {
-    let (ranks, trace) = (recording.report.ranks(), recording.report.entries());
-    outcomes_json(alloc, ranks, requests, trace, lines)
+    let Some(name) = views.outcomes else {
+        return Ok(None);
+    };
+    let bytes = outcomes_in(alloc, views.form, recording, requests, lines)?;
+    Ok(Some(ViewFile { name, bytes }))
 }
 
-fn requests_of(alloc: Global, report: &Report) -> Result<Requests, ViewFault>
+/// The outcomes that the entries handed out: the lines of the run, or JSON.
+fn outcomes_in(
+    alloc: Global,
+    form: OutcomeForm,
+    recording: &Recording,
+    requests: &RankRequests,
+    lines: &[u32],
+) -> Result<Vec<u8>, ReportFault>
+    requires requests { requests.now ≡ requests_of recording.now.report }
+    requires lines { lines.now ≡ lines_of recording.now.spans.items }
+    ensures { IfOk result (λ page. page.items ≡ outcomes_in form recording.now.report recording.now.spans.items recording.now.lines.items) }
+{
+    match form {
+        OutcomeForm::Text => Ok(Vec::from_slice(alloc, &recording.lines)?),
+        OutcomeForm::Json => {
+            let (ranks, trace) = (recording.report.ranks(), recording.report.entries());
+            outcomes_json(alloc, ranks, requests, trace, lines)
+        }
+    }
+}
+
+fn requests_of(alloc: Global, report: &Report) -> Result<RankRequests, ReportFault>
     ensures { IfOk result (λ requests. requests ≡ requests_of report.now) }
 {
-    Requests::of(alloc, report.ranks(), report.groups(), report.entries())
+    RankRequests::of(alloc, report.ranks(), report.groups(), report.entries())
 }
 
-/// The line of each entry's call.
+/// For each entry, the line of the call that made it.
 fn lines_of(alloc: Global, spans: &[Span]) -> Result<Vec<u32>, AllocError>
     ensures { IfOk result (λ lines. lines.items ≡ lines_of spans.now) }
 {

@@ -4,18 +4,18 @@ use clap::builder::ValueParser;
 use clap::{Arg, ArgMatches, Command};
 use std::alloc::{AllocError, Global};
 
-/// The files that get what a run did, where one is named.
+/// The files that get what a run did, each if it is named.
 #[derive(Clone, Copy, Debug, PartialEq, Eq)]
 pub struct Views<'w> {
-    /// The entries of the trace, a line each.
+    /// The file of the trace's entries, one in each line.
     pub trace: Option<&'w str>,
-    /// Tables by rank and by collective.
+    /// The file of the tables by rank and by collective.
     pub stats: Option<&'w str>,
-    /// A timeline in the JSON format of trace events.
+    /// The file of the timeline, in the JSON format of trace events.
     pub timeline: Option<&'w str>,
-    /// A column for each rank.
+    /// The file of the picture with a column for each rank.
     pub picture: Option<&'w str>,
-    /// The outcomes.
+    /// The file of the outcomes.
     pub outcomes: Option<&'w str>,
     /// How the outcomes are written.
     pub form: OutcomeForm,
@@ -55,12 +55,12 @@ impl<'w> Views<'w> {
     }
 }
 
-/// What stands below the help of `run`.
+/// The text below the help of `run`.
 const WHEN: &str = "\
 Each file is written whole or not at all. Those of --trace, --stats, --timeline, --picture and --out are written where the run ends
 well, before standard output; where one of them can't be written, standard output stays empty.";
 
-/// The command that takes these words too.
+/// The command, with the arguments of these files added.
 pub(crate) fn with_views<'a>(
     alloc: Global,
     command: Command<'a>,
@@ -104,7 +104,7 @@ pub(crate) fn with_views<'a>(
         )
 }
 
-/// A word that names a file.
+/// An argument that names a file.
 fn file<'a>(alloc: Global, name: &'static str, help: &'static str) -> Arg<'a> {
     Arg::new(alloc, name)
         .long(name)
@@ -112,7 +112,7 @@ fn file<'a>(alloc: Global, name: &'static str, help: &'static str) -> Arg<'a> {
         .help(help)
 }
 
-/// The files that the words behind `run` name.
+/// The files that the words after `run` name.
 pub(crate) fn views_of<'w>(run: &ArgMatches<'w>) -> Views<'w> {
     Views {
         trace: run.get_str(TRACE),

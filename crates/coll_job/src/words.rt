@@ -4,6 +4,7 @@ ghost use Rattle.std.specs.Prelude.{◌≡◌, ◌≤◌, IfOk};
 ghost use Rattle.coll_job.specs.Tasks.{workers_of};
 
 use crate::draw_words::{draw_command, draw_task};
+use crate::screen::Colors;
 use crate::task::{RunOptions, Task, Way};
 use crate::views::{views_of, with_views};
 use clap::builder::ValueParser;
@@ -16,7 +17,7 @@ const MAX_WORKERS: u8 = 8;
 
 const WORKERS: &str = "workers";
 
-/// How many progress threads a run has where it isn't said.
+/// The number of progress threads of a run if the words don't give one.
 const DEFAULT_WORKERS: u8 = 2;
 
 const QUIET: &str = "quiet";
@@ -33,10 +34,10 @@ const EXPLANATION: &str = "explain";
 
 const COLOR: &str = "color";
 
-/// How an explanation can be written.
+/// The forms in which an explanation can be written.
 static FORMS: [&str; 3] = ["text", "json", "dot"];
 
-/// How the faults of a text can be written.
+/// The forms in which the faults of a text can be written.
 static CHECK_FORMS: [&str; 2] = ["text", "json"];
 
 /// When colours are wanted.
@@ -44,7 +45,7 @@ static COLORS: [&str; 3] = ["auto", "always", "never"];
 
 const NAME: &str = "colljob";
 
-/// What stands below the help.
+/// The text below the help.
 const FORMAT: &str = "\
 A job text begins so; docs/JOB_TEXT.md has the whole format:
   ranks 3
@@ -70,7 +71,7 @@ faults of a text, each with its line.";
 
 /// The one command of the program, with its subcommands.
 fn command<'a>(alloc: Global) -> Result<Command<'a>, AllocError> {
-    // The name in usage lines, whatever file the program was started from.
+    // The name in usage lines, from whatever file the program was started.
     Command::new(alloc, NAME)
         .bin_name(NAME)?
         .version("0.1.0")
@@ -139,12 +140,16 @@ fn explain_command<'a>(alloc: Global) -> Result<Command<'a>, AllocError> {
             "Tells whether the runs of a job text stall, and who then waits in which line for whom",
         )
         .arg(form)?
+        .arg(color_argument(
+            alloc,
+            "Whether text has colours; auto where standard output is a terminal and NO_COLOR isn't set",
+        ))?
         .arg(strict)?
         .arg(all_ranks(alloc))?
         .arg(text_file(alloc))
 }
 
-/// The word for all ranks that wait.
+/// The argument for all ranks that wait.
 pub(crate) fn all_ranks<'a>(alloc: Global) -> Arg<'a> {
     Arg::new(alloc, ALL)
         .long(ALL)
@@ -161,35 +166,40 @@ fn check_command<'a>(alloc: Global) -> Result<Command<'a>, AllocError> {
         .help(
             "text for a reader on standard error, or json with an object in each line on standard output",
         );
-    let color = Arg::new(alloc, COLOR)
-        .long("color")
-        .value_name("WHEN")
-        .value_parser(ValueParser::Names(&COLORS))
-        .default_value("auto")
-        .help(
-            "Whether text has colours; auto where standard error is a terminal and NO_COLOR isn't set",
-        );
     Command::new(alloc, "check")
         .about(
             "Tells all faults of a job text, with their words and what may be meant; where it has none, whether it stalls",
         )
         .arg(form)?
-        .arg(color)?
+        .arg(color_argument(
+            alloc,
+            "Whether text has colours; auto where standard error is a terminal and NO_COLOR isn't set",
+        ))?
         .arg(text_file(alloc))
 }
 
-/// The word for a file.
+/// The word for colours.
+fn color_argument<'a>(alloc: Global, help: &'a str) -> Arg<'a> {
+    Arg::new(alloc, COLOR)
+        .long(COLOR)
+        .value_name("WHEN")
+        .value_parser(ValueParser::Names(&COLORS))
+        .default_value("auto")
+        .help(help)
+}
+
+/// The argument for a file.
 pub(crate) fn text_file<'a>(alloc: Global) -> Arg<'a> {
     Arg::new(alloc, FILE).value_name("FILE").help(
         "The job text; standard input where there is no FILE, or where it is -",
     )
 }
 
-/// The task that the words name. Else the error has what a user is told. Whether colours are wanted is said by the words, or
-/// left to whether standard error takes them. The words of a signature are put together in `signature`.
+/// The task that the words name. Else the error has the message for the user. Whether colours are wanted is said by the words, or
+/// left to whether the stream takes them. The words of a signature are put together in `signature`.
 pub fn task_of<'w>(
     alloc: Global,
-    takes_colors: bool,
+    colors: Colors,
     words: &'w [String],
     signature: &'w mut String,
 ) -> Result<Task<'w>, Error>
@@ -204,11 +214,12 @@ pub fn task_of<'w>(
             form: form_of(explain),
             is_strict: explain.get_flag(STRICT),
             is_whole: is_whole(explain),
+            is_colored: is_colored(explain, colors.output),
         };
         return Ok(task_on(Way::Explain(options), explain));
     }
     if let Some(check) = matches.subcommand_matches("check") {
-        return Ok(task_on(Way::Check(check_form_of(check, takes_colors)), check));
+        return Ok(task_on(Way::Check(check_form_of(check, colors.errors)), check));
     }
     if let Some(draw) = matches.subcommand_matches("draw") {
         return Ok(draw_task(draw, signature)?);
@@ -222,7 +233,7 @@ pub fn task_of<'w>(
     }
 }
 
-/// The run that the words behind `run` ask for.
+/// The run for which the words after `run` ask.
 fn run_task<'w>(matches: &ArgMatches<'w>) -> Task<'w>
     ensures { workers_of result.way ≤ 8 }
 {
@@ -235,7 +246,7 @@ fn run_task<'w>(matches: &ArgMatches<'w>) -> Task<'w>
     task_on(Way::Run(options), matches)
 }
 
-/// How many progress threads the words behind a subcommand name.
+/// The number of progress threads that the words after a subcommand name.
 pub(crate) fn workers_in(matches: &ArgMatches<'_>) -> u8
     ensures { result ≤ 8 }
 {
@@ -245,7 +256,7 @@ pub(crate) fn workers_in(matches: &ArgMatches<'_>) -> u8
         .min(MAX_WORKERS)
 }
 
-/// A task on the file that the words behind a subcommand name.
+/// The task with the file that the words after a subcommand name.
 pub(crate) fn task_on<'w>(way: Way<'w>, matches: &ArgMatches<'w>) -> Task<'w>
     ensures { result.way ≡ way.entry }
 {
@@ -255,25 +266,31 @@ pub(crate) fn task_on<'w>(way: Way<'w>, matches: &ArgMatches<'w>) -> Task<'w>
     }
 }
 
-/// Whether the words behind a subcommand ask for all ranks that wait.
+/// Whether the words after a subcommand ask for all ranks that wait.
 pub(crate) fn is_whole(matches: &ArgMatches<'_>) -> bool {
     matches.get_flag(ALL)
 }
 
-/// The form that the words behind `check` name.
+/// The form that the words after `check` name.
 fn check_form_of(matches: &ArgMatches<'_>, takes_colors: bool) -> CheckForm {
     if matches.get_str(FORM) == Some("json") {
         return CheckForm::Json;
     }
-    let is_colored = match matches.get_str(COLOR) {
+    CheckForm::Text {
+        is_colored: is_colored(matches, takes_colors),
+    }
+}
+
+/// Whether colours are wanted, on a stream that takes them or doesn't.
+fn is_colored(matches: &ArgMatches<'_>, takes_colors: bool) -> bool {
+    match matches.get_str(COLOR) {
         Some("always") => true,
         Some("never") => false,
         _ => takes_colors,
-    };
-    CheckForm::Text { is_colored }
+    }
 }
 
-/// The form that the words behind `explain` name.
+/// The form that the words after `explain` name.
 fn form_of(matches: &ArgMatches<'_>) -> Form {
     match matches.get_str(FORM) {
         Some("json") => Form::Json,
@@ -282,7 +299,7 @@ fn form_of(matches: &ArgMatches<'_>) -> Form {
     }
 }
 
-/// The file that the words behind a subcommand name.
+/// The file that the words after a subcommand name.
 fn file_of<'w>(matches: &ArgMatches<'w>) -> Option<&'w str> {
     match matches.get_str(FILE) {
         Some("-") | None => None,

@@ -102,7 +102,7 @@ operation_fits sig = if has_operation sig.kind then reduces sig.op sig.ty else i
 abbrev pub one_count_fits : Signature → Bool
 one_count_fits sig = if is_barrier sig.kind || has_counts sig.kind then sig.count == 0 else nat_le sig.count max_count
 
--- the counts below k: each of the n members has one, and behind them stands 0
+-- the counts below k: each of the n members has one, and after them stands 0
 abbrev pub counts_below_fit : List ℕ → ℕ → ℕ → Bool
 counts_below_fit counts n zero = true
 counts_below_fit counts n (suc i) =

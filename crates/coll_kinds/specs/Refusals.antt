@@ -1,4 +1,4 @@
--- The numbers of the refusals, which the program prints, and what a mismatch tells.
+-- The numbers of the refusals, which the program prints, and what a mismatch says.
 use Rattle.std.specs.Prelude.{ℕ}
 use Rattle.coll_kinds.specs.declared.signature.Signature.{Signature}
 use Rattle.coll_kinds.specs.declared.refusal.Refusal.{Refusal}
@@ -24,6 +24,6 @@ number_of Torn = 16
 number_of NoMemory = 17
 number_of (BadConfig field) = 18
 
--- a mismatch with the signature that the lowest member has there, told without the counts of an allgatherv
+-- a mismatch with the signature that the lowest member has there, without the counts of an allgatherv
 abbrev pub mismatch_at : ℕ → ℕ → Signature → Refusal
 mismatch_at place first sig = Mismatch place first sig.kind sig.mode sig.root sig.op sig.ty sig.count

@@ -78,7 +78,7 @@ third_lends = refl
 three_fit : broken of_three 3 ≡ None
 three_fit = refl
 
--- behind the second member nothing may be counted
+-- after the second member nothing may be counted
 two_have_three_counts : broken of_three 2 ≡ Some Count
 two_have_three_counts = refl
 

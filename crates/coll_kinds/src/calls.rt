@@ -1,5 +1,5 @@
 //! The signature of each of MPI's calls, with the root, the operation, the type and the count that the call takes. It is that of
-//! the nonblocking call; [`Signature::persistent`] makes it that of the persistent one. Whether it is lawful is told by
+//! the nonblocking call; [`Signature::persistent`] makes it that of the persistent one. Whether it is lawful is decided by
 //! [`Signature::check`].
 
 ghost use Rattle.std.specs.Prelude.{◌≡◌, None, Some};
@@ -47,7 +47,7 @@ impl Signature {
         call(Kind::Allgather, 0, None, ty, count)
     }
 
-    /// `MPI_Iallgatherv` (6.12.5): member `i` gives `each[i]` elements to all, and behind the last member stands 0.
+    /// `MPI_Iallgatherv` (6.12.5): member `i` gives `each[i]` elements to all, and 0 stands after the last member.
     pub fn allgatherv(ty: Datatype, each: [u32; MAX_RANKS]) -> Signature
         ensures { result ≡ counted_call ty each }
     {

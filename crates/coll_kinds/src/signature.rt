@@ -21,7 +21,7 @@ pub struct Signature {
     pub ty: Datatype,
     /// The elements in a block; 0 where each member's are counted.
     pub count: u32,
-    /// The elements of each member's row in an allgatherv, and 0 behind the last member; none for the other kinds.
+    /// The elements of each member's row in an allgatherv, and 0 after the last member; none for the other kinds.
     pub each: Option<[u32; MAX_RANKS]>,
 }
 
@@ -31,7 +31,7 @@ impl Signature {
     ghost use Rattle.coll_kinds.specs.Sameness.{same_signature};
     ghost use Rattle.coll_kinds.specs.Checks.{broken, root_fits, operation_fits, one_count_fits, count_fits, size_fits, sizes_fit};
 
-    /// Tests the signature for `n` members. Of the rules that it breaks, the first is told, in the
+    /// Tests the signature for `n` members. Of the rules that it breaks, the first is returned, in the
     /// order [`SignatureFault::Root`], `Operation`, `Count`, `Size`.
     pub fn check(&self, n: u8) -> Result<(), Refusal>
         ensures { MatchOption (broken self.now n)
@@ -238,7 +238,7 @@ impl Signature {
     }
 }
 
-/// Whether each of the `n` members has a count within the limit, and 0 stands behind them.
+/// Whether each of the `n` members has a count within the limit, and 0 stands after them.
 fn counts_fit(counts: &[u32; MAX_RANKS], n: u8) -> bool
     ensures { result ≡ counts_below_fit counts.now n (length counts.now) }
 {
@@ -262,7 +262,7 @@ fn refused(cause: SignatureFault) -> Refusal
 }
 
 /// The words of a job text: the kind, then, where it has them, the root, the operation, the type and the count. Of an
-/// allgatherv's counts the last one told isn't 0. A persistent one has `persistent` before them.
+/// allgatherv's counts the last one written isn't 0. A persistent one has `persistent` before them.
 impl fmt::Display for Signature {
     fn fmt<W: fmt::Write>(&self, f: &mut fmt::Formatter<W>) -> fmt::Result {
         if let Mode::Persistent = self.mode {

@@ -64,7 +64,7 @@ Avoids-from_times x (y ∷ rest) none =
 pub sequence-without : (x : ℕ) (lists : Layout) (l : ℕ) → sequence (without x lists) l ≡ taken_out x (sequence lists l)
 sequence-without x lists l = get_or-map (taken_out x) lists l []
 
--- M is L with x taken out of every list, and put once more on list l
+-- M is L with x taken out of every list, and put again on list l
 pub record Moved (x l : ℕ) (L M : Layout) : Type 0 where
   pub lists : length M ≡ length L
   pub others : (k : ℕ) → k ≢ l → sequence M k ≡ taken_out x (sequence L k)

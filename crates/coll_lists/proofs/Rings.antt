@@ -26,7 +26,7 @@ pub record Unlinks (n p : ℕ → ℕ) (x : ℕ) (m q : ℕ → ℕ) : Type 0 wh
   pub prev_at : q (n x) ≡ p x
   pub prev_off : (i : ℕ) → i ≢ n x → q i ≡ p i
 
--- what unlinking leaves of the nodes behind `from`: where `from` isn't x, and where x stood before them and `from` before x
+-- what unlinking leaves of the nodes after `from`: where `from` isn't x, and where x stood before them and `from` before x
 pub record Left (n p : ℕ → ℕ) (x : ℕ) (m q : ℕ → ℕ) (nodes : List ℕ) (to : ℕ) : Type 0 where
   pub beside : (from : ℕ) → from ≢ x → Joined n p from nodes to → Joined m q from (taken_out x nodes) to
   pub behind : (from : ℕ) → from ≢ x → p x ≡ from → Joined n p x nodes to → Joined m q from (taken_out x nodes) to
@@ -112,7 +112,7 @@ put_back n p l x r m q u from (y ∷ rest) from_x xs rs j = (
   put_back n p l x r m q u y rest xs.0 xs.1 rs.1 j.2,
 )
 
--- x is the first behind l
+-- x is the first after l
 pub put_front : (n p : ℕ → ℕ) (l x r : ℕ) (m q : ℕ → ℕ) → Inserts n p l x r m q → (nodes : List ℕ) (to : ℕ) → to ≢ x → Avoids x nodes → Avoids l nodes → Joined n p l nodes to → Joined m q l (x ∷ nodes) to
 put_front n p l x r m q u [] to to_x _ _ j =
     let here : r ≡ to = sym u.was_next ∙ j.0 in

@@ -56,7 +56,7 @@ first_stands (y ∷ rest) x e =
     let is : y ≡ x = cc in
     subst (λ z. 0 < z) (sym (times-same x y rest is)) (omega arith)
 
--- the other way round the last node comes first, and the node before one stands behind it
+-- the other way round the last node comes first, and the node before one stands after it
 pub last_in-behind : (y z : ℕ) (rest : List ℕ) → last_in (y ∷ z ∷ rest) ≡ last_in (z ∷ rest)
 last_in-behind y z rest =
     let far : length (y ∷ z ∷ rest) - 1 ≡ suc (length rest) = omega arith in
@@ -125,7 +125,7 @@ from_node-here x y rest e = ap (λ b. cond b (y ∷ rest) (from_node x rest)) (e
 pub from_node-later : (x y : ℕ) (rest : List ℕ) → y ≢ x → from_node x (y ∷ rest) ≡ from_node x rest
 from_node-later x y rest ne = ap (λ b. cond b (y ∷ rest) (from_node x rest)) (ne_eqb y x ne)
 
--- a walk that starts behind the front
+-- a walk that starts after the front
 pub from_option-later : (r : Option ℕ) (y : ℕ) (rest : List ℕ) → ((w : ℕ) → r ≡ Some w → y ≢ w) → from_option r (y ∷ rest) ≡ from_option r rest
 from_option-later None y rest ne = refl
 from_option-later (Some w) y rest ne = from_node-later w y rest (ne w refl)

@@ -1,14 +1,14 @@
--- How index columns show a layout. Indices below the number of nodes are nodes; behind them comes one head for
--- each list, which stands before the list's first node and behind its last one, so that every list is a ring.
+-- How index columns show a layout. Indices below the number of nodes are nodes; after them comes one head for
+-- each list, which stands before the list's first node and after its last one, so that every list is a ring.
 use Rattle.std.specs.Prelude.{◌≡◌, ℕ, zero, suc, ◌+◌, ◌-◌, Option, Some, None, ◌^◌, ◌<◌, List, [], ◌∷◌, length, ◌==◌, ◌&&◌, nat_lt, if◌then◌else◌, slice_index, slice_set}
 use Rattle.coll_lists.specs.Layouts.{Layout, sequence, times}
 
--- from one index to another, these nodes stand between them, each linked with the one before and the one behind
+-- from one index to another, these nodes stand between them, each linked with the one before and the one after
 abbrev pub Joined : (ℕ → ℕ) → (ℕ → ℕ) → ℕ → List ℕ → ℕ → Type 0
 Joined next prev from [] to = (next from ≡ to) × (prev to ≡ from)
 Joined next prev from (a ∷ rest) to = (next from ≡ a) × (prev a ≡ from) × Joined next prev a rest to
 
--- so many nodes in the order of the next links
+-- that many nodes in the order of the next links
 abbrev pub walk : List ℕ → ℕ → ℕ → List ℕ
 walk next from zero = []
 walk next from (suc k) = slice_index next from ∷ walk next (slice_index next from) k

@@ -11,7 +11,7 @@ taken_out node nodes = filter (λ other. not (other == node)) nodes
 abbrev pub without : ℕ → Layout → Layout
 without node lists = map (taken_out node) lists
 
--- the node taken out and put behind the last node of a list
+-- the node taken out and put after the last node of a list
 abbrev pub moved_back : ℕ → ℕ → Layout → Layout
 moved_back node list lists = slice_set (without node lists) list (sequence (without node lists) list ++ node ∷ [])
 

@@ -1,7 +1,7 @@
 -- The nodes beside a node in its sequence, and the ends of a sequence.
 use Rattle.std.specs.Prelude.{ℕ, ◌-◌, List, [], ◌∷◌, Option, Some, None, length, ◌==◌, if◌then◌else◌, slice_get}
 
--- the node behind this one
+-- the node after this one
 abbrev pub after_in : ℕ → List ℕ → Option ℕ
 after_in node [] = None
 after_in node (a ∷ []) = None

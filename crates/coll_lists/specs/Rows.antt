@@ -6,7 +6,7 @@ use Rattle.coll_lists.specs.Moves.{moved_back, moved_front}
 use Rattle.coll_lists.specs.Neighbours.{after_in, before_in}
 use Rattle.coll_lists.specs.WellLinked.{Follows, reads}
 
--- five nodes and three lists: 2 and 0 move to the back of list 1, 4 to its front, and 2 to its back once more
+-- five nodes and three lists: 2 and 0 move to the back of list 1, 4 to its front, and 2 to its back again
 abbrev pub moved_of_five : Layout
 moved_of_five =
     moved_back 2 1 (moved_front 4 1 (moved_back 0 1 (moved_back 2 1

@@ -10,7 +10,7 @@ Follows step start [] = start ≡ None
 Follows step start (a ∷ rest) = (start ≡ Some a) × Follows step (step a) rest
 
 -- what a reader answers: the node that a link leads to, or None where it leads to a list's head; a node's link leads to
--- the node behind it or before it, and a head's to its list's first node or its last
+-- the node after it or before it, and a head's to its list's first node or its last
 abbrev pub reads : ℕ → List ℕ → ℕ → Option ℕ
 reads nodes links at = node_at nodes (slice_index links at)
 

@@ -6,7 +6,7 @@ use std::alloc::{AllocError, Global};
 /// The links of nodes and heads, each node's list and each list's length, by index.
 ///
 /// The nodes come first. Behind them stands one head for each list, which is linked before the list's first
-/// node and behind its last one, so that unlinking and linking know no special case.
+/// node and after its last one, so that unlinking and linking know no special case.
 #[derive(Debug, Drop)]
 pub struct Columns {
     pub(crate) next: Vec<u32>,

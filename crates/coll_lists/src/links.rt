@@ -71,7 +71,7 @@ impl Links {
         self.columns.node_at(self.columns.prev[head as usize])
     }
 
-    /// The node behind this one on its list; None where it is the last.
+    /// The node after this one on its list; None where it is the last.
     pub fn next(&self, node: u32) -> Option<u32>
         requires { node < size self.now }
         ensures { result ≡ after_in node (sequence self.now (list_of self.now node)) }

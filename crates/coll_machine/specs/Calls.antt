@@ -4,7 +4,7 @@ use Rattle.coll_kinds.specs.declared.signature.Signature.{Signature}
 use Rattle.coll_kinds.specs.declared.ticket.Ticket.{Ticket}
 use Rattle.coll_kinds.specs.declared.refusal.Refusal.{Refusal}
 
--- what a plan was made for: a member of so many
+-- what a plan was made for: a member, and the number of members
 pub record Planned : Type 0 where
   pub sig : Signature
   pub n : ℕ

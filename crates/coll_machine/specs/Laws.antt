@@ -42,7 +42,7 @@ abbrev pub RunsAreTraced : Type 0
 RunsAreTraced = (g : Setting) (events : List Event) (m : Machine) → Run g events m
     → (es : List Entry) × Shows events es × Leads g nothing es m.state
 
--- and each legal trace is that of a run: it tells nothing that no engine could do
+-- and each legal trace is that of a run: it says nothing that no engine could do
 abbrev pub TracesAreRun : Type 0
 TracesAreRun = (g : Setting) (s : State) (es : List Entry) → Leads g nothing es s
     → (events : List Event) × (m : Machine) × Run g events m × Shows events es × (m.state ≡ s)

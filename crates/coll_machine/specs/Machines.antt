@@ -48,11 +48,11 @@ pub data MachineStep (g : Setting) : Machine → Call → Reply → Machine → 
   free : {s u : State} {done : ℕ → Bool} (rank : ℕ) (t : Ticket)
       → Frees g s rank t u
       → MachineStep g (phased s done) (Free rank t) Nothing (phased u done)
-  -- a refused call changes nothing, and tells the first condition that holds;
+  -- a refused call changes nothing, and names the first condition that holds;
   refuse : {m : Machine} (call : Call) (why : Refusal)
       → refusal g m.state call ≡ Some why
       → MachineStep g m call (Refused why) m
-  -- one whose memory is refused changes nothing either, and tells so only where no other condition holds
+  -- one whose memory is refused changes nothing either, and says so only where no other condition holds
   short : {m : Machine} (call : Call)
       → takes_memory call ≡ true
       → refusal g m.state call ≡ None

@@ -58,7 +58,7 @@ full g s =
     let spare = λ (slot : ℕ). is_none (s.request slot) && nat_lt (s.generation slot) g.wear in
     unless (list_any spare (range_with_len 0 g.slots)) Full
 
--- of a plan among so many members, for a member and a mode
+-- of a plan among that many members, for a member and a mode
 abbrev pub plan_refusals : Planned → ℕ → ℕ → Mode → List (Option Refusal)
 plan_refusals plan size member mode =
     option_map BadSignature (broken plan.sig size)  -- root, operation, count or size

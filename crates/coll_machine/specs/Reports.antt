@@ -1,4 +1,4 @@
--- What a rank posted, initialised and started, as a trace tells it.
+-- What a rank posted, initialised and started, as a trace has it.
 use Rattle.std.specs.Prelude.{◌==◌, ℕ, Bool, false, List, filter}
 use Rattle.coll_machine.specs.Entries.{Entry, Posted, Inited, Started, Retired, Freed}
 

@@ -116,7 +116,7 @@ once_in_an_init = refl
 another_members_plan : refusal two_ranks posted (Post 1 0 (plan sum_once 0) []) ≡ Some (BadSignature WrongGroup)
 another_members_plan = refl
 
--- rank 0 has used its one place; a wrong length comes behind that
+-- rank 0 has used its one place; a wrong length comes after that
 places_come_first : refusal two_ranks posted (Post 0 0 (plan bcast 0) []) ≡ Some PlacesUsed
 places_come_first = refl
 
@@ -141,7 +141,7 @@ no_slot_is_left = refl
 abbrev pub gather : Signature
 gather = record { kind = Allgather; mode = Persistent; root = 0; op = None; ty = U8; count = 1; each = None }
 
--- rank r's request, Idle after so many starts
+-- rank r's request, Idle after that many starts
 abbrev pub idle : ℕ → ℕ → Request
 idle r starts = record { rank = r; comm = 0; member = r; place = 0; mode = Persistent; starts = starts; active = false }
 

@@ -73,7 +73,7 @@ pub record Works (s : State) (k : Key) (m : ℕ) : Type 0 where
   pub last : suc start ≡ request.starts  -- whose start under way
   pub key_is : key_of request start ≡ k  -- is this collective
 
--- each of so many members has given and left
+-- each of that many members has given and left
 abbrev pub AllHaveLeft : ℕ → (ℕ → Option (List ℕ)) → (ℕ → Type 0) → Type 0
 AllHaveLeft n given HasLeft = (m : ℕ) → m < n → (given m ≢ None) × HasLeft m
 

@@ -8,8 +8,8 @@
 //! | `Calls`, `Refusals` | the calls, and for each the list of its refusals |
 //! | `Changes`, `Steps` | what each accepted call does |
 //! | `Machines`, `Runs` | a step with its answer; steps one after the other |
-//! | `Entries`, `Traces` | what a trace tells, which traces are legal, and their room |
-//! | `Reports` | what a trace tells of one rank |
+//! | `Entries`, `Traces` | what a trace says, which traces are legal, and their room |
+//! | `Reports` | what a trace says of one rank |
 //! | `Lents`, `Postings` | the bytes lent; how posting lists and live requests agree |
 //! | `Laws`, `Rows` | the laws; worked rows |
 #![tactic(auto)]

@@ -167,7 +167,7 @@ impl Instance {
         self.shares.get(usize::from(member))?.slot
     }
 
-    /// Takes a member's note away. Answers whether every member has given and left.
+    /// Takes a member's note away. Returns whether every member has given and left.
     pub(crate) fn leave(&mut self, member: u8) -> bool
         requires { member < length self.old.shares }
         ensures over { IsTrue result ↔ IsOver self.new }

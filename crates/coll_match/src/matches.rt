@@ -145,7 +145,7 @@ impl Matches {
         is_last
     }
 
-    /// Takes a member's note away. Answers whether every member has now given and left.
+    /// Takes a member's note away. Returns whether every member has now given and left.
     fn unseat(&mut self, key: Key, hint: usize, member: u8) -> bool
         requires { seats self.old key member ≢ None }
         ensures last { IsTrue result ↔ IsLast self.old key member }

@@ -15,7 +15,7 @@ use Rattle.coll_ops.proofs.Places.{length-element_bytes}
 use Rattle.coll_ops.proofs.ElementBits.{width-some}
 use Rattle.coll_ops.proofs.RowLists.{length-combination, length-part}
 
--- the elements behind the first m
+-- the elements after the first m
 elements-drop : (ty : Datatype) (m k : ℕ) (row : List ℕ) → elements ty k (drop (m * width ty) row) ≡ drop m (elements ty (m + k) row)
 elements-drop ty zero k row = rw (zero-mul (width ty)) (ap (λ n. elements ty n row) (omega arith))
 elements-drop ty (suc m) k row =
@@ -88,7 +88,7 @@ length-elements ty (suc n) row = ap suc (length-elements ty n (drop (width ty) r
 count-of : (ty : Datatype) (n len : ℕ) → len ≡ n * width ty → len / width ty ≡ n
 count-of ty n len e = ap (λ v. v / width ty) e ∙ mul-div_left n (width-some ty)
 
--- the elements of a part are those behind the first m, c of them
+-- the elements of a part are those after the first m, c of them
 elements-part : (ty : Datatype) (m c j : ℕ) (row : List ℕ) → m * width ty + c * width ty ≤ length row →
     elements ty c (part (m * width ty) (c * width ty) row) ≡ take c (drop m (elements ty (m + (c + j)) row))
 elements-part ty m c j row within =

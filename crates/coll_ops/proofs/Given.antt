@@ -89,7 +89,7 @@ root-row sig kind n given root v is rooted fits rows root_is v_is =
 pub if-equal : {X : Type 0} (a b : ℕ) (x y : X) → a ≡ b → (if a == b then x else y) ≡ x
 if-equal a b x y h = let e : (a == b) ≡ true = search rules in rw e refl
 
--- n blocks are those before r, block r, and those behind it
+-- n blocks are those before r, block r, and those after it
 pub blocks-around : (r n count w : ℕ) → r < n → (r * count + (count + (n - (r + 1)) * count)) * w ≡ n * (count * w)
 blocks-around r n count w member =
     let split : n ≡ (r + 1) + (n - (r + 1)) = omega arith in

@@ -62,7 +62,7 @@ take-put_mid-place op ty w place k left right row new rest w_is within new_is so
     (take-put_mid-front (place * w) k row e rest (suc place * w) (rw (sym (add-one place)) end) within
     ∙ (ap (λ front. front ++ e) so_far ∙ (ap (λ x. places op ty place left right ++ x) same ∙ sym (places-suc op ty place left right))))
 
--- what stands behind a write to the rest of a row
+-- what stands after a write to the rest of a row
 drop-put_mid-front : (a k : ℕ) (row first rest : List ℕ) (n : ℕ) → n ≡ a + length first → a ≤ length row → k ≡ length row - a →
     drop n (put_mid a k row (first ++ rest)) ≡ rest
 drop-put_mid-front a k row first rest n e within whole =

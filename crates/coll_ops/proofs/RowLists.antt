@@ -37,7 +37,7 @@ part-fits rows at len i v have within is =
 pub length-part : (at len : ℕ) (row : List ℕ) → at + len ≤ length row → length (part at len row) ≡ len
 length-part at len row within = simp (length-take, length-drop) (omega arith)
 
--- what is taken of one more row behind that of the rows before
+-- what is taken of one more row after that of the rows before
 pub flat_map-rows_suc : (f : List ℕ → List ℕ) (rows : List (Vec ℕ Global)) (i : ℕ) (v : Vec ℕ Global) → i < length rows → v ≡ get_or rows i v →
     flat_map f (take (suc i) (rows_of rows)) ≡ flat_map f (take i (rows_of rows)) ++ f v.items
 flat_map-rows_suc f [] i v within is = absurd (omega arith)

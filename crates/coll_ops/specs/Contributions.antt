@@ -14,6 +14,6 @@ pub record AreGiven (sig : Signature) (n : ℕ) (rows : List (List ℕ)) : Type 
   pub each : length rows ≡ n
   pub long : (i : ℕ) → i < n → length (row_of rows i) ≡ given_len sig n i
 
--- each row has so many bytes from there on
+-- each row has that many bytes from there on
 abbrev pub HaveParts : ℕ → ℕ → List (List ℕ) → Type 0
 HaveParts at len rows = (i : ℕ) → i < length rows → at + len ≤ length (row_of rows i)

@@ -85,7 +85,7 @@ fn prefixes(alloc: Global, sig: Signature, rows: &[Vec<u8>]) -> Result<Vec<Vec<u
 }
 
 /// The combination of the rows up to `row`, where `sums` has those of the rows before it. The
-/// clause `bytes` tells the caller's proof what the row's type says.
+/// clause `bytes` gives the caller's proof what the row's type says.
 fn next_prefix(
     alloc: Global,
     op: Op,

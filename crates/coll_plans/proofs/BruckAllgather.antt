@@ -30,7 +30,7 @@ use Rattle.coll_plans.proofs.Around.{past_last, not_past}
 use Rattle.coll_plans.proofs.BruckRegions.{blocks_inside}
 use Rattle.coll_plans.proofs.BruckRounds.{bruck_columns, bruck_costs, bruck_rounds-at, bruck_rounds-last, length-bruck_rounds, bruck_heard, bruck_placed}
 
--- one block, by its place behind k blocks
+-- one block, by its place after k blocks
 block-place : (b k m : ℕ) → blocks_at b (k + m) 1 ≡ place (blocks_from (k * b) b) m
 block-place b k m = let e : (k + m) * b ≡ k * b + m * b = add-mul k m b in let o : 1 * b ≡ b = one-mul b in λ i. record { at = e i; len = o i }
 

@@ -17,7 +17,7 @@ use Rattle.coll_plans.proofs.LocalRounds.{local_column, is_local_column}
 use Rattle.coll_plans.proofs.Around.{meets, meets_back, two_steps, past_last, not_past}
 use Rattle.coll_plans.proofs.BruckRegions.{blocks_inside, blocks_apart, same_block}
 
--- m blocks go to p, and m come of q behind the s that the member holds
+-- m blocks go to p, and m come of q after the s that the member holds
 step_round : (b n s m p q : ℕ) → m ≤ s → s + m ≤ n → IsRound (n * b + n * b) (Send p (blocks_at b 0 m) ∷ Recv q (blocks_at b s m) ∷ [])
 step_round b n s m p q short room = record {
   fits = (blocks_inside b n 0 m (omega arith), (blocks_inside b n s m (omega arith), tt));

@@ -18,7 +18,7 @@ use Rattle.coll_plans.proofs.DirectPlaces.{block_within, places_apart}
 use Rattle.coll_plans.proofs.DirectArrivals.{got_all, heard_of}
 use Rattle.coll_plans.proofs.DirectCosts.{direct_few}
 
--- the blocks that a member gets lie behind those that it gives
+-- the blocks that a member gets lie after those that it gives
 pub all_routed : (n b : ℕ) → IsRouted n (λ r. n * b + n * b) ToAll (alike (blocks_from 0 b)) (alike (blocks_from (n * b) b))
 all_routed n b = record {
   same = λ q r. refl;

@@ -1,6 +1,6 @@
 -- Allgather by Bruck's exchange (MPI 4.1, 6.7; J. Bruck et al.), with members counted round: before the step at distance s
 -- a member holds the blocks of the s members from itself on. It sends them to the member s before, as many as that one
--- lacks, and receives those of the member s further behind its own. In the end it copies all into member order.
+-- lacks, and receives those of the member s further after its own. In the end it copies all into member order.
 use Rattle.std.specs.Prelude.{ℕ, zero, suc, ◌+◌, ◌-◌, ◌*◌, ◌%◌, ◌^◌, min, List, [], ◌∷◌}
 use Rattle.coll_kinds.specs.declared.signature.Signature.{Signature}
 use Rattle.coll_kinds.specs.Lengths.{block_len}
@@ -24,7 +24,7 @@ abbrev pub bruck_step : ℕ → ℕ → ℕ → Column
 bruck_step b n s r =
     Send ((r + (n - s)) % n) (blocks_at b 0 (block_count n s)) ∷ Recv ((r + s) % n) (blocks_at b s (block_count n s)) ∷ []
 
--- member r, which holds the n blocks from its own on, copies them into member order behind
+-- member r, which holds the n blocks from its own on, copies them into member order after
 abbrev pub rotation : ℕ → ℕ → Column
 rotation b n r = Copy (blocks_at b 0 (n - r)) (blocks_at b (n + r) (n - r)) ∷ Copy (blocks_at b (n - r) r) (blocks_at b n r) ∷ []
 

@@ -49,7 +49,7 @@ abbrev pub relaying : ℕ → ℕ → ℕ → ℕ → ℕ → List Column
 relaying b n root k zero = []
 relaying b n root k (suc c) = relay b n root k ∷ relaying b n root (suc k) c
 
--- so many rounds bring the last segment to the last of n members
+-- that many rounds bring the last segment to the last of n members
 abbrev pub relay_count : ℕ → ℕ → ℕ
 relay_count n b = n - 2 + segment_count b
 
@@ -58,7 +58,7 @@ chain_family sig n =
     family_of (block_len sig) (λ r. cond (r == sig.root) (front (block_len sig)) nothing) (λ r. front (block_len sig))
     (relaying (block_len sig) n sig.root 0 (relay_count n (block_len sig)))
 
--- a bcast goes along the chain from so many bytes on
+-- a bcast goes along the chain from that many bytes on
 abbrev pub long_len : ℕ
 long_len = 65536
 

@@ -16,7 +16,7 @@ use Rattle.coll_plans.specs.declared.direct_blocks.Blocks.{Blocks}
 use Rattle.coll_plans.specs.declared.direct_pattern.Pattern.TheVariants.{ToAll, ToRoot, FromRoot}
 use Rattle.coll_plans.specs.DirectExchange.{place, exchange, exchange_by}
 
--- the family serves the signature in at most so many exchanges
+-- the family serves the signature in at most that many exchanges
 pub record IsDirectFor (sig : Signature) (n : ℕ) (f : Family) (bound : ℕ) : Type 0 where
   pub serves : Serves sig n f
   pub few : family_exchanges n f ≤ bound
@@ -33,7 +33,7 @@ blocks_from at b = record { at = at; step = b; len = b }
 abbrev pub all_blocks : ℕ → ℕ → ℕ → Region
 all_blocks at n b = record { at = at; len = n * b }
 
--- each sends its block of b bytes to the root, which has the blocks of all behind its own
+-- each sends its block of b bytes to the root, which has the blocks of all after its own
 abbrev pub gather_by : ℕ → ℕ → ℕ → Family
 gather_by root n b =
     family_with (λ r. cond (r == root) (b + n * b) b) (λ r. front b) (λ r. cond (r == root) (all_blocks b n b) nothing)
@@ -45,13 +45,13 @@ scatter_by root n b =
     family_with (λ r. cond (r == root) (b + n * b) b) (λ r. cond (r == root) (all_blocks b n b) nothing) (λ r. front b)
     (exchange (FromRoot root) (blocks_from b b) (one_block b) n ∷ [])
 
--- each sends each its block, and has the n blocks that it gets behind the n that it gives
+-- each sends each its block, and has the n blocks that it gets after the n that it gives
 abbrev pub alltoall_by : ℕ → ℕ → Family
 alltoall_by n b =
     family_with (λ r. n * b + n * b) (λ r. all_blocks 0 n b) (λ r. all_blocks (n * b) n b)
     (exchange ToAll (blocks_from 0 b) (blocks_from (n * b) b) n ∷ [])
 
--- every member combines block k with what the block behind it has become
+-- every member combines block k with what the block after it has become
 abbrev pub combine_at : Op → Datatype → Blocks → ℕ → Column
 combine_at op ty blocks k r = Combine op ty (place blocks k) (place blocks (suc k)) (place blocks k) ∷ []
 
@@ -69,7 +69,7 @@ rsblock_by op ty n b = family_with (λ r. n * b + n * b) (λ r. all_blocks 0 n b
 abbrev pub row_at : (ℕ → ℕ) → ℕ → Region
 row_at rows i = record { at = total rows i; len = rows i }
 
--- what member r gives: its own row, behind those of all n
+-- what member r gives: its own row, after those of all n
 abbrev pub own_row : (ℕ → ℕ) → ℕ → ℕ → Region
 own_row rows n r = record { at = total rows n; len = rows r }
 

@@ -1,6 +1,6 @@
 -- Allreduce by recursive doubling in member order (MPI 4.1, 6.9.6): the odd member of each pair folds, it gives its row
 -- to the even one below. Then the corners of a hypercube exchange across one dimension after the other, and after k
--- steps each holds the combination of the rows of its 2 ^ k neighbours. At last the lower members of the pairs tell the upper ones.
+-- steps each holds the combination of the rows of its 2 ^ k neighbours. At last the lower members of the pairs send it to the upper ones.
 use Rattle.std.specs.Prelude.{ℕ, zero, suc, ◌+◌, ◌-◌, ◌%◌, ◌^◌, ◌==◌, cond, nat_lt, List, [], ◌∷◌, ◌++◌, unwrap_or}
 use Rattle.coll_kinds.specs.declared.operation.Op.{Op}
 use Rattle.coll_kinds.specs.declared.operation.Op.TheVariants.{Sum}
@@ -22,7 +22,7 @@ fold_gives b r Lower = Recv (r + 1) (behind b) ∷ []
 fold_gives b r Upper = Send (r - 1) (front b) ∷ []
 fold_gives b r Alone = []
 
--- which the lower one combines behind its own
+-- which the lower one combines as the right operand of its own
 abbrev pub fold_joins : Op → Datatype → ℕ → FoldPart → List Action
 fold_joins op ty b Lower = Combine op ty (front b) (behind b) (front b) ∷ []
 fold_joins op ty b Upper = []
@@ -38,7 +38,7 @@ exchanges b p Lower = swap b p
 exchanges b p Upper = []
 exchanges b p Alone = swap b p
 
--- what came of a higher corner joins behind, of a lower one in front
+-- what came of a higher corner joins as the right operand, of a lower one as the left
 abbrev pub joined : Op → Datatype → ℕ → ℕ → ℕ → List Action
 joined op ty b q s =
     cond (nat_lt (q % (s + s)) s)
@@ -50,7 +50,7 @@ joins_by op ty b q s Lower = joined op ty b q s
 joins_by op ty b q s Upper = []
 joins_by op ty b q s Alone = joined op ty b q s
 
--- the upper member of a pair is told the result
+-- the upper member of a pair gets the result
 abbrev pub tells : ℕ → ℕ → FoldPart → List Action
 tells b r Lower = Send (r + 1) (front b) ∷ []
 tells b r Upper = Recv (r - 1) (front b) ∷ []

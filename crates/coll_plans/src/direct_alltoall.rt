@@ -13,7 +13,7 @@ use coll_sched::Schedule;
 use std::alloc::Global;
 
 /// Member `r`'s schedule of an alltoall among `n` members (MPI 4.1, 6.8): each sends each its block in one round, in
-/// which it also copies its own. The n blocks that a member gets, in member order, lie behind the n that it
+/// which it also copies its own. The n blocks that a member gets, in member order, lie after the n that it
 /// gives. Refuses [`Refusal::NoMemory`] alone.
 pub fn alltoall(alloc: Global, sig: Signature, n: u8, r: u8) -> Result<Schedule, Refusal>
     requires kind { sig.kind ≡ Alltoall }

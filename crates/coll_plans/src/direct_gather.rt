@@ -13,7 +13,7 @@ use coll_sched::{Region, Schedule};
 use std::alloc::Global;
 
 /// Member `r`'s schedule of a gather among `n` members (MPI 4.1, 6.5): each sends its block to the root in one
-/// round, in which the root also copies its own. The root's buffer has the n blocks, in member order, behind its
+/// round, in which the root also copies its own. The root's buffer has the n blocks, in member order, after its
 /// own. Refuses [`Refusal::NoMemory`] alone.
 pub fn gather(alloc: Global, sig: Signature, n: u8, r: u8) -> Result<Schedule, Refusal>
     requires kind { sig.kind ≡ Gather }

@@ -15,7 +15,7 @@ use std::alloc::Global;
 
 /// Member `r`'s schedule of a reduce-scatter of equal blocks among `n` members (MPI 4.1, 6.10.1): each sends each its
 /// block in one round, in which it also copies its own, and then combines the n blocks that it got in n - 1
-/// local rounds, in member order. They lie behind the n blocks that it gives. Refuses [`Refusal::NoMemory`]
+/// local rounds, in member order. They lie after the n blocks that it gives. Refuses [`Refusal::NoMemory`]
 /// alone.
 pub fn rsblock(alloc: Global, sig: Signature, n: u8, r: u8) -> Result<Schedule, Refusal>
     requires kind { sig.kind ≡ Rsblock }
@@ -67,7 +67,7 @@ fn push_combines(
     Ok(())
 }
 
-// The round that combines block k with the one behind it.
+// The round that combines block k with the one after it.
 fn combine_at(alloc: Global, op: Op, ty: Datatype, blocks: Blocks, k: u8) -> Result<Round, Refusal>
     requires few { k < 63 }
     requires near { blocks.at < 2 ^ 31 }

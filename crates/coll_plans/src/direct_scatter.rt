@@ -14,7 +14,7 @@ use std::alloc::Global;
 
 /// Member `r`'s schedule of a scatter among `n` members (MPI 4.1, 6.6): the root sends each its block in one round,
 /// in which it also copies its own. The outcome is the first block of the buffer; the root's n blocks lie
-/// behind it. Refuses [`Refusal::NoMemory`] alone.
+/// after it. Refuses [`Refusal::NoMemory`] alone.
 pub fn scatter(alloc: Global, sig: Signature, n: u8, r: u8) -> Result<Schedule, Refusal>
     requires kind { sig.kind ≡ Scatter }
     requires checked { broken sig n ≡ None }

@@ -10,7 +10,7 @@
 //! | `laws` | what is known of every plan's family, as a contract |
 //! | `dissemination_barrier` | `barrier` |
 //! | `recursive_doubling_allreduce` | `allreduce` |
-//! | `recursive_doubling_rounds` | `RecursiveDoubling`, its rounds: the fold, the exchanges, and the result told |
+//! | `recursive_doubling_rounds` | `RecursiveDoubling`, its rounds: the fold, the exchanges, and the result for the odd members |
 //! | `recursive_doubling_fold` | `FoldPart`, which members fold, and which act for two |
 //! | `recursive_doubling_hypercube` | `Hypercube`, which members exchange in a step |
 //! | `bruck_allgather` | `allgather`, by the algorithm of J. Bruck et al. |

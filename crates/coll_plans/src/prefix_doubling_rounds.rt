@@ -98,7 +98,7 @@ impl PrefixDoubling {
         }
     }
 
-    // The combination of what came, and behind it of what the region holds, into that region.
+    // The combination of what came, as the left operand, with what the region holds, into that region.
     fn combine(self, held: Region) -> Action
         ensures { result ≡ Combine self.op self.ty (behind self.len) held held }
     {

@@ -1,7 +1,7 @@
 //! Principle: recursive doubling in member order. First the odd members of the first pairs of neighbours fold: each gives its
 //! row to the even member below, so that as many members act as the greatest power of two that `n` reaches. These are the
 //! corners of a hypercube. They exchange what they hold across one dimension after the other, and in the end the odd members
-//! are told the result.
+//! get the result.
 //!
 //! Rounds: 2 d + 3 for d dimensions, of which d exchange, and d + 2 where `n` is no power of two; the others are a
 //! member's own. Messages: 2^d d + 2 e together, e being the members beyond 2^d. Bytes moved, for blocks of B bytes: a

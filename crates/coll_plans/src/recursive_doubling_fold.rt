@@ -6,7 +6,7 @@ ghost use Rattle.std.specs.Prelude.{◌≡◌, ◌≤◌};
 pub(crate) enum FoldPart {
     /// The even member of a pair, the lower one, which acts for both.
     Lower,
-    /// The odd one: it gives its row at first, and is told the result in the end.
+    /// The odd one: it gives its row at first, and gets the result in the end.
     Upper,
     /// In no pair.
     Alone,

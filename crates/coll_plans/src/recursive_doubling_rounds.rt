@@ -9,7 +9,7 @@ use coll_sched::{Action, Region, Round};
 use std::alloc::Global;
 
 /// The rounds of an allreduce by recursive doubling: the odd members of pairs fold, the corners of a hypercube exchange what
-/// they hold, and the odd members are told the result.
+/// they hold, and the odd members get the result.
 #[derive(Clone, Copy, Debug)]
 pub(crate) struct RecursiveDoubling {
     pub op: Op,
@@ -26,7 +26,7 @@ impl RecursiveDoubling {
     ghost use Rattle.coll_plans.specs.RecursiveDoubling.{fold_gives, fold_joins, exchanges, joins_by, tells, hypercube_rounds, recursive_doubling};
 
     /// The rounds of member `r`: two of the fold, two for each dimension, and one in which the odd
-    /// members of pairs are told.
+    /// members of pairs get the result.
     pub fn rounds(self, alloc: Global, r: u8) -> Result<Vec<Round>, Refusal>
         requires { r < 64 }
         ensures ok { IfOk result (λ rounds. rounds.items ≡ rounds_of (recursive_doubling self.op self.ty self.len self.cube.extra self.cube.dimension) r) }
@@ -84,7 +84,7 @@ impl RecursiveDoubling {
         Ok(round)
     }
 
-    // The even one combines it behind its own.
+    // The even one combines it as the right operand of its own.
     fn fold_joins(self, alloc: Global, part: FoldPart) -> Result<Round, Refusal>
         ensures ok { IfOk result (λ round. round ≡ fold_joins self.op self.ty self.len part) }
         ensures refusal { IsOkUnless result Refusal.NoMemory }
@@ -149,7 +149,7 @@ impl RecursiveDoubling {
         Ok(round)
     }
 
-    // The even member of a pair tells the odd one the result.
+    // The even member of a pair sends the result to the odd one.
     fn tells(self, alloc: Global, r: u8, part: FoldPart) -> Result<Round, Refusal>
         requires member { r < 64 }
         requires is { part ≡ fold_part self.cube.extra r }

@@ -41,7 +41,7 @@ posts_front sigs (n ∷ lengths) (suc member) = posts_front sigs lengths member
 
 -- ---- the first list that has a place
 
--- it stands k members behind the first
+-- it stands k members after the first
 first_there-at : (f : ℕ → List Signature) (place from n k : ℕ) (s : Signature) → k < n → slice_get (f (from + k)) place ≡ Some s → ((j : ℕ) → j < k → slice_get (f (from + j)) place ≡ None)
     → first_there f place from n ≡ Some (from + k, s)
 first_there-at f place from zero k s lt at before = absurd (omega (arith, lt))

@@ -127,7 +127,7 @@ module _ (l : Lists) (member : ℕ) (sig : Signature) (places : ℕ) {T : Type 0
   unfolding fault
   fault_is = sym (checked (broken sig n) check check_is ∙ ap (λ k. option_map BadSignature (broken sig k)) n_is)
 
-  -- the conditions behind it
+  -- the conditions after it
   abbrev behind : ℕ → List (Option Refusal)
   behind k = mismatch_in l.group (posts_in l) k sig ∷ unless (nat_lt k places) PlacesUsed ∷ []
 

@@ -13,7 +13,7 @@ use Rattle.coll_queues.specs.Postings.{Postings, groups_of, place_of, posts}
 abbrev pub member_refusal : Postings → ℕ → ℕ → Option Refusal
 member_refusal q comm rank = first_of (member_refusals (groups_of q) comm rank)
 
--- of a signature for a place of a group's lists, which have so many
+-- of a signature for a place of a group's lists, which have that many
 abbrev pub place_refusals : Signature → List ℕ → (ℕ → List Signature) → ℕ → ℕ → List (Option Refusal)
 place_refusals sig group lists place places =
     option_map BadSignature (broken sig (length group))

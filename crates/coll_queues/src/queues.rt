@@ -37,7 +37,7 @@ impl Model for Queues {
 }
 
 impl Queues {
-    /// Empty lists for communicators whose groups have at most 64 ranks each, in member order, and at most so many
+    /// Empty lists for communicators whose groups have at most 64 ranks each, in member order, and at most that many
     /// places in each list. Only NoMemory is refused. Linear in the number of members of all groups.
     pub fn open(alloc: Global, groups: Vec<Vec<u8>>, places: u32) -> Result<Queues, Refusal>
         requires { All (λ group. length group.items ≤ 64) groups.items }

@@ -1,9 +1,9 @@
--- entries, and what a trace tells of a rank
+-- entries, and what a trace says of a rank
 pub mod Views
 pub mod Traces
 pub mod Posts
 pub mod Comparisons
--- what each rank is told to do, and what a legal trace then says
+-- what each rank has to do, and what a legal trace then says
 pub mod Scripts
 pub mod Told
 -- what a closed engine leaves, and what it attests

@@ -1,4 +1,4 @@
--- Worked rows, computed: what the traces of coll_machine's rows tell.
+-- Worked rows, computed: what the traces of coll_machine's rows say.
 use Rattle.std.specs.Prelude.{◌≡◌, List, [], ◌∷◌, true, false, refl}
 use Rattle.std.proofs.Common.{lit<}
 use Rattle.coll_machine.specs.Reports.{posts_of}

@@ -1,4 +1,4 @@
--- What the report of a closed engine tells of outcomes, where each rank did what a script says.
+-- What the report of a closed engine says of outcomes, where each rank did what a script says.
 use Rattle.std.specs.Prelude.{◌≡◌, ◌↔◌, ◌<◌, ◌≤◌, ℕ, List, [], count_by}
 use Rattle.std.specs.List.{AllByRecursion}
 use Rattle.coll_machine.specs.declared.key.Key.{Key}

@@ -1,4 +1,4 @@
--- What each rank is told to do, and what each collective then has to give, in whatever order the ranks act.
+-- What each rank has to do, and what each collective then gives, in whatever order the ranks act.
 use Rattle.std.specs.Prelude.{◌≡◌, ◌==◌, ◌<◌, ℕ, zero, suc, List, [], ◌∷◌, ◌++◌, length, map, filter, slice_get, unwrap_or, Option, Some, None}
 use Rattle.coll_kinds.specs.declared.signature.Signature.{Signature}
 use Rattle.coll_kinds.specs.declared.ticket.Ticket.{Ticket}

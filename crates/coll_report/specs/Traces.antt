@@ -1,4 +1,4 @@
--- What a trace tells of one rank.
+-- What a trace says of one rank.
 use Rattle.std.specs.Prelude.{◌==◌, ℕ, Bool, false, List, count_by, filter}
 use Rattle.coll_machine.specs.Entries.{Entry, Posted, Inited, Started, Retired, Freed}
 

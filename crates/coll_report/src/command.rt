@@ -1,6 +1,6 @@
 use coll_kinds::Signature;
 
-/// What a rank is told to do, as far as a trace shows it.
+/// What a rank has to do, as far as a trace shows it.
 #[derive(Clone, Copy, Debug)]
 pub enum Command<'a> {
     /// A nonblocking collective on a communicator, with what the rank gives.

@@ -1,11 +1,11 @@
-//! The trace of an engine as data, what a legal trace of a script tells, and what it tells once the engine is closed.
+//! The trace of an engine as data, what a legal trace of a script says, and what it says once the engine is closed.
 //!
 //! | Module | Has |
 //! |---|---|
 //! | `entry` | `Entry`, an accepted call |
 //! | `span` | `Span`, which call made an entry, and when |
 //! | `posts` | `Posts`, a walk along a rank's posts, initialisations and starts |
-//! | `command` | `Command`, what a rank is told to do |
+//! | `command` | `Command`, what a rank has to do |
 //! | `comparison` | `Comparison`, of a rank's entries with its commands |
 //! | `report` | `Report`, the trace of a closed engine |
 //! | `laws` | what holds of every legal trace of a script, and of every closed engine |

@@ -63,7 +63,7 @@ all_seen groups (t ∷ ts) xs =
     (one_seen groups t.line t.rank t.command xs)
     ∙ all_seen groups ts (requests_after groups t.line t.rank t.command xs)
 
--- the waitall behind a section asks for nothing
+-- the waitall after a section asks for nothing
 own : (h : History) (rank : ℕ)
     → asked (all_traced (commands_of h rank)) ≡ map as_asked (history.requests_of h.groups rank h.commands)
 own h rank =

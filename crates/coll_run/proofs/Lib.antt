@@ -4,4 +4,5 @@ pub mod Meant
 mod Indexing
 mod Printed
 mod Ending
+mod RankEnds
 mod AttestedRows

@@ -24,7 +24,7 @@ bcast_text = record {
       ∷ [];
 }
 
--- the unwritten waitall behind a section shows nothing
+-- the unwritten waitall after a section shows nothing
 commands_of_rank_1 : commands_by bcast_text 1 ≡ Post 0 bcast [] ∷ Other ∷ []
 commands_of_rank_1 = refl
 

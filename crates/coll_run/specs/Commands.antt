@@ -22,7 +22,7 @@ traced (line.WaitAll qs) = Other
 abbrev pub all_traced : List text.Command → List Command
 all_traced commands = map traced commands
 
--- what each rank of a job is told to do; who is no rank of it is told nothing
+-- what each rank of a job has to do; a number that is no rank of it has nothing to do
 abbrev pub commands_by : History → ℕ → List Command
 commands_by h rank = if nat_lt rank (unwrap_or h.ranks 0) then all_traced (commands_of h rank) else []
 

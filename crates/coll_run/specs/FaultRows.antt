@@ -1,4 +1,4 @@
--- Worked rows of which fault is told.
+-- Worked rows of which fault is reported.
 use Rattle.std.specs.Prelude.{◌≡◌, true, false, [], ◌∷◌, Some, None, refl}
 use Rattle.coll_kinds.specs.declared.refusal.Refusal.TheVariants.{Stale, Stalled, NoMemory}
 use Rattle.coll_script.specs.declared.fault.JobFault.TheVariants as fault

@@ -25,7 +25,7 @@ RunsTell = (h : History) (r : Closed)
     → IsRun h r
     → Tells r (λ rank. asked (commands_by h rank))
 
--- the lines that the completions of a run tell are those that the text means
+-- the lines that the completions of a run give are those that the text means
 abbrev pub RunsMean : Type 0
 RunsMean = (h : History) (r : Closed)
     → IsSound h

@@ -2,10 +2,10 @@
 pub mod Opened
 pub mod Commands
 pub mod Runs
--- what its report tells, and that it is the job's meaning
+-- what its report says, and that it is the job's meaning
 pub mod Lines
 pub mod Laws
--- why a run has no answer, and which fault is told
+-- why a run has no answer, and which fault is reported
 pub mod Faults
 -- worked rows
 pub mod AttestedRows

@@ -12,7 +12,7 @@ use std::alloc::Global;
 use std::mem;
 use std::sync::Wait;
 
-/// A rank's port with its requests, by their numbers, the outcomes that it got, and the spans of the calls that made its entries.
+/// A rank's port, with the rank's requests by their numbers, the outcomes that it got, and the spans of the calls that made its entries.
 #[derive(Drop)]
 pub(crate) struct Caller<L: Entries> {
     alloc: Global,
@@ -22,7 +22,7 @@ pub(crate) struct Caller<L: Entries> {
     spans: Vec<Span>,
 }
 
-/// What is left of a caller.
+/// What a caller leaves when it ends.
 #[derive(Drop)]
 pub(crate) struct Left<L: Entries> {
     pub(crate) spent: Spent<L>,
@@ -31,7 +31,7 @@ pub(crate) struct Left<L: Entries> {
 }
 
 impl<L: Entries> Caller<L> {
-    /// Of a rank that has no request yet.
+    /// The caller of a rank that has no request yet.
     pub(crate) fn new(alloc: Global, port: Port<L>) -> Self {
         Caller {
             alloc,
@@ -42,7 +42,7 @@ impl<L: Entries> Caller<L> {
         }
     }
 
-    /// How many outcomes it got so far.
+    /// The number of outcomes that it got so far.
     pub(crate) fn got(&self) -> usize {
         self.outcomes.len()
     }
@@ -55,11 +55,11 @@ impl<L: Entries> Caller<L> {
         Ok(())
     }
 
-    /// Does what a line says. A number that names no request is refused as a null request.
+    /// Carries out the command of a line. A number that names no request is refused as a null request is.
     ///
     /// # Errors
     ///
-    /// The refusal of the call, and NoMemory. What was done before stays.
+    /// The refusal of the call, and `NoMemory`. What was done before the refusal stays.
     pub(crate) fn carry_out<R: Wait, G: Gate>(
         &mut self,
         rt: &R,
@@ -179,7 +179,7 @@ impl<L: Entries> Caller<L> {
         Ok(())
     }
 
-    /// Waits for one of the named requests; not at all where none of them is active.
+    /// Waits for one of the named requests. If none of them is active, it doesn't wait.
     fn wait_any<R: Wait, G: Gate>(
         &mut self,
         rt: &R,
@@ -196,8 +196,8 @@ impl<L: Entries> Caller<L> {
         Ok(())
     }
 
-    /// Waits for one or more of the named requests; not at all where none of them is active. A list in which a request
-    /// stands twice is refused as a null request.
+    /// Waits for one or more of the named requests. If none of them is active, it doesn't wait. A list with a request twice is
+    /// refused as a null request is.
     fn wait_some<R: Wait, G: Gate>(
         &mut self,
         rt: &R,
@@ -231,7 +231,7 @@ impl<L: Entries> Caller<L> {
         Ok(())
     }
 
-    /// The named requests as a list of their own. In their places stand null ones.
+    /// Takes the named requests out, as a list. Null requests stand in their places.
     fn taken(&mut self, named: &Named) -> Result<Vec<Request>, Refusal>
         ensures { IfOk result (λ list. vec_len list ≡ length named.now) }
     {

@@ -4,8 +4,8 @@ ghost use Rattle.coll_run.specs.Faults.{fault_of, graver};
 use coll_kinds::Refusal;
 use coll_script::JobFault;
 
-/// The fault that is told where threads end with several: a thread that couldn't be started; then the lowest rank's
-/// that isn't Stalled; then a progress thread's; then Stalled. `ranks` are in rising rank.
+/// The fault that is reported if several threads end with one: first that a thread couldn't be started; then the fault of the
+/// lowest rank whose fault isn't `Stalled`; then that of a progress thread; then `Stalled`. `ranks` are in rising rank.
 pub(crate) fn first_fault(
     all_started: bool,
     ranks: &[Option<Refusal>],
@@ -23,7 +23,7 @@ pub(crate) fn first_fault(
     of_all.map(JobFault::from)
 }
 
-/// Of the ends of two threads, the earlier one first, the one that is told.
+/// Which of two threads' refusals is reported: `later`, if there is one and `told` is `Stalled` or None; else `told`.
 fn graver(told: Option<Refusal>, later: Option<Refusal>) -> Option<Refusal>
     ensures { result ≡ graver told later }
 {

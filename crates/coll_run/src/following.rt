@@ -1,4 +1,4 @@
-//! The comparison of a report with a script.
+//! Compares a report with a script.
 
 ghost use Rattle.std.specs.Prelude.{◌≡◌, ◌↔◌, [], IsTrue, IfOk, unwrap_or};
 ghost use Rattle.coll_report.specs.Scripts.{Says};
@@ -11,8 +11,8 @@ use coll_report::{Command as Shown, Comparison, Posts, Report};
 use coll_script::{Command, Script};
 use std::alloc::{AllocError, Global};
 
-/// Whether the report is that of a run of the script: the engine had the script's ranks and communicators, and each
-/// rank posted, initialised and started what its lines say.
+/// Whether the report is that of a run of the script: the engine had the script's ranks and communicators, and each rank
+/// posted, initialised and started what its lines say.
 pub(crate) fn is_run(alloc: Global, script: &Script, report: &Report) -> Result<bool, AllocError>
     ensures { IfOk result (λ is. IsTrue is ↔ IsRun script.now report.now) }
 {
@@ -23,7 +23,7 @@ pub(crate) fn is_run(alloc: Global, script: &Script, report: &Report) -> Result<
     all_follow(alloc, script, report)
 }
 
-/// Whether each rank did as its lines say.
+/// Whether each rank posted, initialised and started what its lines say.
 fn all_follow(alloc: Global, script: &Script, report: &Report) -> Result<bool, AllocError>
     ensures { IfOk result
         (λ all. IsTrue all ↔ AllFollow (unwrap_or script.now.ranks 0) script.now report.now) }

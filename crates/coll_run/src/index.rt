@@ -8,18 +8,18 @@ use coll_report::Entry;
 use std::alloc::{AllocError, Global};
 use std::collections::HashMap;
 
-/// Which start of which request of a rank was completed.
+/// A completed start of a rank's request.
 #[derive(Clone, Copy, PartialEq, Eq, Hash)]
 pub(crate) struct Completion {
     pub(crate) rank: u8,
     pub(crate) comm: u32,
     /// The request's index among the rank's requests on the communicator.
     pub(crate) place: u32,
-    /// How many starts of the request came before.
+    /// The number of the request's starts before this one.
     pub(crate) start: u32,
 }
 
-/// What the completions of a trace handed out. Takes a time linear in the trace, on average.
+/// The bytes that the completions of a trace handed out. Linear in the trace, on average.
 pub(crate) fn index_completions<'a>(
     alloc: Global,
     trace: &'a [Entry],
@@ -34,7 +34,7 @@ pub(crate) fn index_completions<'a>(
     Ok(index)
 }
 
-/// Takes up what an entry handed out, if it is a completion.
+/// Adds what an entry handed out, if it is a completion.
 fn note<'a>(entry: &'a Entry, index: &mut HashMap<Completion, &'a [u8]>) -> Result<(), AllocError>
     ensures { OnOk result ((rank comm place start : ℕ)
         → handed_in index.new.entries rank comm place start
@@ -60,7 +60,7 @@ fn note<'a>(entry: &'a Entry, index: &mut HashMap<Completion, &'a [u8]>) -> Resu
     Ok(())
 }
 
-/// What that start of the request was given.
+/// The bytes that the completion handed out; None if the trace has no such completion.
 pub(crate) fn find<'a>(
     index: &HashMap<Completion, &'a [u8]>,
     completion: Completion,

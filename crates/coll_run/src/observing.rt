@@ -1,21 +1,21 @@
-//! Who looks on while the threads of the ranks carry out their commands.
+//! Observers of a run, to which the threads of the ranks report.
 
 use std::rt::Clock;
 use std::time::Instant;
 
-/// Is told how far a run has come, by the threads of its ranks, which go on when it has returned.
+/// Gets reports of how far a run has come, from the threads of its ranks; each thread goes on when the call returns.
 pub trait Watch {
-    /// A run of so many ranks begins, with so many posts and starts of all of them.
+    /// A run begins, of this number of ranks, which have this number of posts and starts together.
     fn begin(&self, ranks: u8, starts: usize);
 
-    /// A rank got the outcomes of so many of its posts and starts.
+    /// A rank got the outcomes of `count` of its posts and starts.
     fn completed(&self, count: usize);
 
-    /// A rank carried out its last command, or one that is refused.
+    /// A rank carried out its last command, or one that was refused.
     fn ended(&self);
 }
 
-/// Nobody looks on.
+/// A watch that does nothing.
 #[derive(Clone, Copy, Debug)]
 pub struct NoWatch;
 
@@ -27,19 +27,19 @@ impl Watch for NoWatch {
     fn ended(&self) {}
 }
 
-/// What the threads of the ranks tell of their commands, and whom they ask for the time.
+/// Gets reports of the commands from the threads of the ranks, and gives them the time.
 pub(crate) trait Observer {
-    /// The nanoseconds from the beginning of the run; none where nothing is to be noted.
+    /// The nanoseconds since the beginning of the run; None if no times are to be noted.
     fn now(&self) -> Option<u64>;
 
-    /// As that of [`Watch`].
+    /// See [`Watch::completed`].
     fn completed(&self, count: usize);
 
-    /// As that of [`Watch`].
+    /// See [`Watch::ended`].
     fn ended(&self);
 }
 
-/// For a run at which nobody looks.
+/// The observer of a run that nobody watches.
 pub(crate) struct NoObserver;
 
 impl Observer for NoObserver {
@@ -52,7 +52,7 @@ impl Observer for NoObserver {
     fn ended(&self) {}
 }
 
-/// The time by a clock. Where the clock can't be read, no time has passed.
+/// Gives the time by a clock, and passes the reports on to a watch. If the clock can't be read, the time is 0.
 #[derive(Drop)]
 pub(crate) struct Recorder<'c, C: Clock, W: Watch> {
     clock: &'c C,
@@ -61,7 +61,7 @@ pub(crate) struct Recorder<'c, C: Clock, W: Watch> {
 }
 
 impl<'c, C: Clock, W: Watch> Recorder<'c, C, W> {
-    /// The run begins now.
+    /// The recorder of a run that begins now.
     pub(crate) fn begin(clock: &'c C, watch: &'c W) -> Recorder<'c, C, W> {
         Recorder {
             clock,

@@ -1,4 +1,4 @@
-//! The lines of a rank, with what its completions handed out.
+//! Prints the lines of a rank, with what its completions handed out.
 
 ghost use Rattle.std.specs.Prelude.{◌≡◌, ◌≤◌, ◌++◌, [], length, map, unwrap_or, None, IfErr, OnOk};
 ghost use Rattle.std.specs.List.{AllByRecursion};
@@ -8,11 +8,10 @@ ghost use Rattle.coll_run.specs.Index.{IsFew, handed_at, handed_in};
 ghost use Rattle.coll_run.specs.Lines.{told_behind, told_request};
 ghost use Rattle.coll_run.specs.Missing.{Lacks, LacksStart};
 
-use crate::attest_fault::AttestFault;
 use crate::index::{Completion, find};
 use coll_history::Request;
 use coll_kinds::{MAX_COMMUNICATORS, Signature};
-use coll_script::print_outcome;
+use coll_script::{ReportFault, print_outcome};
 use std::alloc::Global;
 use std::collections::HashMap;
 
@@ -24,12 +23,12 @@ pub(crate) fn print_rank(
     requests: &[Request],
     index: &HashMap<Completion, &[u8]>,
     out: &mut Vec<u8>,
-) -> Result<(), AttestFault>
+) -> Result<(), ReportFault>
     requires few { length requests.now ≤ 4096 }
     requires each { AllByRecursion IsFew (map request_view requests.now) }
     ensures ok { OnOk result (out.new.items
         ≡ out.old.items ++ told_behind (handed_in index.now.entries) rank [] (map request_view requests.now)) }
-    ensures torn { IfErr result (λ fault. fault ≡ AttestFault.Torn
+    ensures torn { IfErr result (λ fault. fault ≡ ReportFault.Torn
         → Lacks (handed_in index.now.entries) rank (map request_view requests.now)) }
 {
     let mut places = [0; MAX_COMMUNICATORS];
@@ -51,11 +50,11 @@ fn print_request(
     request: &Request,
     index: &HashMap<Completion, &[u8]>,
     out: &mut Vec<u8>,
-) -> Result<(), AttestFault>
+) -> Result<(), ReportFault>
     requires { IsFew (request_view request.now) }
     ensures ok { OnOk result (out.new.items
         ≡ out.old.items ++ told_request (handed_in index.now.entries) rank number place (request_view request.now)) }
-    ensures torn { IfErr result (λ fault. fault ≡ AttestFault.Torn
+    ensures torn { IfErr result (λ fault. fault ≡ ReportFault.Torn
         → LacksStart (handed_in index.now.entries) rank place (request_view request.now)) }
 {
     let comm = u32::from(request.comm);
@@ -79,18 +78,18 @@ fn print_start(
     completion: Completion,
     index: &HashMap<Completion, &[u8]>,
     out: &mut Vec<u8>,
-) -> Result<(), AttestFault>
+) -> Result<(), ReportFault>
     ensures ok { OnOk result (out.new.items ≡ out.old.items
         ++ outcome_line completion.rank number completion.start sig.ty
         (unwrap_or (handed_at index.now.entries completion) [])) }
-    ensures torn { IfErr result (λ fault. fault ≡ AttestFault.Torn → handed_at index.now.entries completion ≡ None) }
+    ensures torn { IfErr result (λ fault. fault ≡ ReportFault.Torn → handed_at index.now.entries completion ≡ None) }
 {
     let Some(bytes) = find(index, completion) else {
-        return Err(AttestFault::Torn);
+        return Err(ReportFault::Torn);
     };
     let (rank, start) = (completion.rank, completion.start);
     match print_outcome(alloc, rank, number, start, sig, bytes, out) {
         Ok(()) => Ok(()),
-        Err(_) => Err(AttestFault::NoMemory),
+        Err(_) => Err(ReportFault::NoMemory),
     }
 }

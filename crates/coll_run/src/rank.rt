@@ -1,5 +1,9 @@
 //! The threads of the ranks.
 
+ghost use Rattle.std.specs.Prelude.{◌≡◌, All, IfOk, IfSome, map, vec_len};
+ghost use Rattle.std.specs.Bool.{OnTrue};
+ghost use Rattle.coll_traced.specs.Awaiting.{IsSetback};
+
 use crate::caller::{Caller, Left};
 use crate::observing::Observer;
 use crate::spans::RankSpans;
@@ -13,7 +17,7 @@ use std::alloc::{AllocError, Global};
 use std::sync::Wait;
 use std::thread::Threads;
 
-/// What a rank got, in the order in which it got it.
+/// The outcomes that a rank got, in the order in which it got them.
 #[derive(Drop)]
 pub(crate) struct Got {
     pub(crate) rank: u8,
@@ -22,17 +26,17 @@ pub(crate) struct Got {
 
 /// How the thread of a rank ended.
 #[derive(Drop)]
-pub(crate) struct RankEnd<L: Entries> {
-    /// What is left of its port.
+pub(crate) struct ThreadEnd<L: Entries> {
+    /// What remains of its port.
     pub(crate) spent: Spent<L>,
     pub(crate) got: Got,
     pub(crate) spans: RankSpans,
-    /// Why it couldn't carry out all its commands.
+    /// The refusal that ended its commands early, if there was one.
     pub(crate) refusal: Option<Refusal>,
 }
 
-/// Carries out the commands of a port's rank, and ends the port, also where a command is refused. `gate` may hold a
-/// thread up at a combination; `observer` is told of the commands.
+/// Carries out the commands of a port's rank, and ends the port, even if a command is refused. `gate` may hold a thread up at a
+/// combination; `observer` gets reports of the commands.
 #[derive(Drop)]
 struct Commands<'x, L: Entries, R, G, O> {
     rt: &'x R,
@@ -43,8 +47,14 @@ struct Commands<'x, L: Entries, R, G, O> {
     port: Port<L>,
 }
 
-impl<L: Entries, R: Wait, G: Gate, O: Observer> RankTask<RankEnd<L>> for Commands<'_, L, R, G, O> {
-    fn run(self, all_started: bool) -> RankEnd<L> {
+impl<L: Entries, R: Wait, G: Gate, O: Observer> RankTask<ThreadEnd<L>>
+    for Commands<'_, L, R, G, O> {
+    ghost use Rattle.std.specs.Prelude.{◌≡◌};
+
+    // The outcomes are those of the port's rank.
+    ghost IsEnd = { λ task end. end.got.rank ≡ task.port.rank };
+
+    fn run(self, all_started: bool) -> ThreadEnd<L> {
         let Commands {
             rt,
             alloc,
@@ -65,7 +75,7 @@ impl<L: Entries, R: Wait, G: Gate, O: Observer> RankTask<RankEnd<L>> for Command
             outcomes,
             spans,
         } = caller.finish(rt);
-        RankEnd {
+        ThreadEnd {
             spent,
             got: Got { rank, outcomes },
             spans,
@@ -74,7 +84,7 @@ impl<L: Entries, R: Wait, G: Gate, O: Observer> RankTask<RankEnd<L>> for Command
     }
 }
 
-/// Carries out the commands of a rank, up to the first that is refused.
+/// Carries out the commands of a rank, up to the first one that is refused.
 fn carry_out_all<L: Entries, R: Wait, G: Gate, O: Observer>(
     rt: &R,
     alloc: Global,
@@ -92,7 +102,7 @@ fn carry_out_all<L: Entries, R: Wait, G: Gate, O: Observer>(
     Ok(())
 }
 
-/// Carries out a command, notes for its entries when it was, and tells how many outcomes it brought.
+/// Carries out a command, notes its span for each entry that it made, and reports how many outcomes it got.
 fn carry_out<L: Entries, R: Wait, G: Gate, O: Observer>(
     rt: &R,
     gate: &G,
@@ -113,7 +123,7 @@ fn carry_out<L: Entries, R: Wait, G: Gate, O: Observer>(
     caller.note(Span { line, from, until }, completed.max(own))
 }
 
-/// How many entries the command makes beside those of completions.
+/// The number of entries that the command makes, beside those of completions.
 fn own_entries(command: &Command) -> usize {
     match command {
         Command::Post { .. } | Command::Init { .. } | Command::Start { .. } | Command::Free(_) => 1,
@@ -136,12 +146,12 @@ fn lines_of(alloc: Global, script: &Script, rank: u8) -> Result<Vec<u32>, AllocE
     Ok(lines)
 }
 
-/// Has the commands of each port's rank carried out by a thread of its own, with so many progress threads. `ports` are
-/// in rising rank, and so are the ends of their threads.
+/// Carries out the commands of each port's rank in a thread of its own, with `workers` progress threads beside. `ports` are in
+/// rising rank, and so are the ends of their threads.
 ///
 /// # Errors
 ///
-/// Memory was refused, before the first thread was started.
+/// Memory was refused before the first thread was started.
 pub(crate) fn run_ranks<
     L: Entries + Send + Sync,
     R: Threads + Wait + Sync,
@@ -156,7 +166,29 @@ pub(crate) fn run_ranks<
     engine: &Engine<L>,
     ports: Vec<Port<L>>,
     workers: u8,
-) -> Result<Ends<RankEnd<L>>, AllocError> {
+) -> Result<Ends<ThreadEnd<L>>, AllocError>
+    // If all threads were started, there is an end for each port's rank, in the order of the ports,
+    ensures ranks { IfOk result (λ ends. OnTrue ends.all_started (map (λ end. end.got.rank) ends.ranks.items ≡ map (λ port. port.rank) ports.items)) }
+    // and one for each progress thread;
+    ensures workers { IfOk result (λ ends. OnTrue ends.all_started (vec_len ends.workers ≡ workers)) }
+    // such a thread ended early only for a reason that a progress thread has.
+    ensures setbacks { IfOk result (λ ends. All (λ end. IfSome end IsSetback) ends.workers.items) }
+{
+    let tasks = tasks_of(rt, alloc, gate, observer, script, ports)?;
+    run_rank_threads(rt, alloc, gate, engine, tasks, workers)
+}
+
+/// What the thread of each port's rank does, in the order of the ports.
+fn tasks_of<'x, L: Entries, R, G, O>(
+    rt: &'x R,
+    alloc: Global,
+    gate: &'x G,
+    observer: &'x O,
+    script: &'x Script,
+    ports: Vec<Port<L>>,
+) -> Result<Vec<Commands<'x, L, R, G, O>>, AllocError>
+    ensures { IfOk result (λ tasks. map (λ task. task.port) tasks.items ≡ ports.items) }
+{
     let mut tasks = Vec::with_capacity(alloc, ports.len())?;
     for port in ports {
         tasks.push(Commands {
@@ -168,5 +200,5 @@ pub(crate) fn run_ranks<
             port,
         })?;
     }
-    run_rank_threads(rt, alloc, gate, engine, tasks, workers)
+    Ok(tasks)
 }

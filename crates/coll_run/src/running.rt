@@ -1,6 +1,8 @@
-//! A job text's answer by a run of its script.
+//! Runs the script of a job text, from the text to its lines.
 
 ghost use Rattle.std.specs.Prelude.{◌≡◌, ◌≤◌, ◌⊎◌, Ok, All, IfErr, IfOk, IfSome, IsErrOf, IsOkUnless, IsTrue, OnOk, length, map, vec_len};
+ghost use Rattle.std.specs.Bool.{OnTrue};
+ghost use Rattle.std.specs.List.{range_with_len};
 ghost use Rattle.std.specs.Prelude.{◌↔◌};
 ghost use Rattle.coll_core.specs.Configs.{setting_by};
 ghost use Rattle.coll_core.specs.declared.config.Config.{Config as TheConfig};
@@ -16,16 +18,15 @@ ghost use Rattle.coll_run.specs.Opened.{setting_for};
 ghost use Rattle.coll_run.specs.Runs.{IsRun};
 ghost use Rattle.coll_run.specs.Faults.{IsEnd, fault_of};
 
-use crate::attest_fault::AttestFault;
 use crate::attested::attested_lines;
 use crate::ends::first_fault;
 use crate::observing::{NoObserver, Observer, Recorder, Watch};
-use crate::rank::{Got, RankEnd, run_ranks};
+use crate::rank::{Got, ThreadEnd, run_ranks};
 use crate::spans::{RankSpans, spans_along};
 use coll_core::Config;
 use coll_kinds::Refusal;
 use coll_report::{Report, Span};
-use coll_script::{Command, JobFault, Script};
+use coll_script::{Command, JobFault, ReportFault, Script};
 use coll_shared::{Ends, Engine, Gate, NoGate, close, open};
 use coll_traced::{Entries, Spent, copied_groups, ledger_for};
 use std::alloc::{AllocError, Global};
@@ -35,22 +36,22 @@ use std::sync::Wait;
 use std::sync::ledger::Blank;
 use std::thread::Threads;
 
-/// What is known of a run that ended well.
+/// The result of a run that ended well.
 #[derive(Debug, Drop)]
 pub struct Recording {
     /// The output lines.
     pub lines: Vec<u8>,
     pub report: Report,
-    /// Which call made each of the report's entries, and when, in their order.
+    /// For each of the report's entries, in their order, which call made it, and when.
     pub spans: Vec<Span>,
 }
 
-/// Runs a job text as [`run_job`] does, and answers also which call of a rank made each entry, and when. Each rank's thread notes
-/// that by the clock of `rt`, and tells `watch` how far it is.
+/// Runs a job text like [`run_job`], and also returns which call made each entry, and when. Each rank's thread notes this by
+/// the clock of `rt`, and reports to `watch` how far it is.
 ///
 /// # Errors
 ///
-/// As of [`run_job`].
+/// Those of [`run_job`].
 pub fn recorded_job<R: Threads + Wait + Clock + Sync, W: Watch + Sync>(
     rt: &R,
     alloc: Global,
@@ -66,7 +67,7 @@ pub fn recorded_job<R: Threads + Wait + Clock + Sync, W: Watch + Sync>(
         Tells done.report (λ rank. asked (commands_by script rank)))) }
     ensures told { IfOk result (λ done. IfOk (script_of text.now) (λ script.
         done.lines.items ≡ told_lines (told done.report.entries) (job_of script))) }
-    // Each entry has its span.
+    // Each entry has a span.
     ensures spans { IfOk result (λ done. vec_len done.spans ≡ length done.report.entries) }
     ensures faults { IfErr result (IsFaultOf text.now) }
 {
@@ -82,7 +83,7 @@ pub fn recorded_job<R: Threads + Wait + Clock + Sync, W: Watch + Sync>(
     })
 }
 
-/// The posts and starts of all ranks.
+/// The number of posts and starts of all ranks.
 fn starts_in(script: &Script) -> usize {
     script
         .history()
@@ -92,14 +93,14 @@ fn starts_in(script: &Script) -> usize {
         .count()
 }
 
-/// Runs a job text with a thread for each rank and so many progress threads, and answers its output lines and the report
-/// of the run. `gate` may hold a thread up at a combination.
+/// Runs a job text with a thread for each rank and `workers` progress threads. Returns its output lines and the report of the
+/// run. `gate` may hold a thread up at a combination.
 ///
 /// # Errors
 ///
-/// The text's fault. Then NoThread where a thread couldn't be started, and no rank has carried out a command; then the
-/// lowest rank's fault that isn't Stalled, a progress thread's, and Stalled. Then Torn where the report doesn't agree with
-/// the text or with what the ranks got. Memory where it was refused.
+/// The first of these that applies: the text's fault; `NoThread` if a thread couldn't be started, and then no rank has carried
+/// out a command; the fault of the lowest rank whose fault isn't `Stalled`; that of a progress thread; `Stalled`; `Torn` if the
+/// report doesn't agree with the text or with what the ranks got. `Memory` if memory was refused, at any of these points.
 pub fn run_job<R: Threads + Wait + Sync, G: Gate + Sync>(
     rt: &R,
     alloc: Global,
@@ -112,12 +113,12 @@ pub fn run_job<R: Threads + Wait + Sync, G: Gate + Sync>(
     ensures meaning { IfOk result (λ told. meaning text.now ≡ Ok told.0.items) }
     // and the engine was opened with the ranks, communicators and sizes that the script asks for,
     ensures opened { IfOk result (λ done. IfOk (script_of text.now) (λ script. done.1.setting ≡ setting_for script)) }
-    // the report is that of a run of its script,
+    // the report is that of a run of the text's script,
     ensures run { IfOk result (λ told. IfOk (script_of text.now) (λ script. IsRun script told.1)) }
     // in which each start was completed once, with its value,
     ensures tells { IfOk result (λ done. IfOk (script_of text.now) (λ script.
         Tells done.1 (λ rank. asked (commands_by script rank)))) }
-    // and of which the lines are told.
+    // and the lines are read from its completions.
     ensures told { IfOk result (λ done. IfOk (script_of text.now) (λ script.
         done.0.items ≡ told_lines (told done.1.entries) (job_of script))) }
     ensures faults { IfErr result (IsFaultOf text.now) }
@@ -148,7 +149,7 @@ fn run_script<R: Threads + Wait + Sync, G: Gate + Sync, O: Observer + Sync>(
     run_in::<Brand, R, G, O>(rt, alloc, script, config, workers, gate, observer, entries)
 }
 
-/// What an engine is opened with for a script.
+/// The configuration of an engine for a script.
 fn config_of(alloc: Global, script: &Script) -> Result<Config, Refusal>
     ensures setting { IfOk result (λ config. setting_by config ≡ setting_for script.now) }
     ensures refusal { IsOkUnless result Refusal.NoMemory }
@@ -191,22 +192,27 @@ fn run_in<L: Entries + Send + Sync, R: Threads + Wait + Sync, G: Gate + Sync, O:
     let Ok(ends) = run_ranks(rt, alloc, gate, observer, script, &engine, ports, workers) else {
         return Err(JobFault::Memory);
     };
-    concluded(rt, alloc, script, engine, ends)
+    concluded(rt, alloc, script, engine, ends, workers)
 }
 
-/// The answer of a run whose threads ended so: the fault that is told of them, and else what the engine's report attests.
+/// The answer of a run whose threads ended in this way, `count` progress threads among them: the fault that the threads report, or else
+/// what the engine's report attests.
 fn concluded<L: Entries, R: Wait>(
     rt: &R,
     alloc: Global,
     script: &Script,
     engine: Engine<L>,
-    ends: Ends<RankEnd<L>>,
+    ends: Ends<ThreadEnd<L>>,
+    count: u8,
 ) -> Result<(Vec<u8>, Report, Vec<RankSpans>), JobFault>
-    requires { L.parts ≡ L.setting.ranks }
-    // The fault of the threads is told, unless memory is refused before it is found,
+    requires parts { L.parts ≡ L.setting.ranks }
+    // If all threads were started, these are the ends of all ranks and of all progress threads.
+    requires ranks { OnTrue ends.all_started (map (λ end. end.got.rank) ends.ranks.items ≡ range_with_len 0 L.setting.ranks) }
+    requires workers { OnTrue ends.all_started (vec_len ends.workers ≡ count) }
+    // If the threads report a fault, the result is that fault, or `Memory` if memory is refused before it is found;
     ensures ends { IfSome (fault_of ends.all_started (map (λ end. end.refusal) ends.ranks.items) ends.workers.items)
         (λ fault. IsErrOf result fault ⊎ IsErrOf result JobFault.Memory) }
-    // and where there is none, each rank got just what its completions handed out.
+    // if they report none, each rank got exactly what its completions handed out.
     ensures got { IfOk result (λ done.
         All (λ got. HandedOut done.1.entries got.rank got.outcomes.items) (map (λ end. end.got) ends.ranks.items)) }
     ensures opened { IfOk result (λ done. done.1.setting ≡ L.setting) }
@@ -233,10 +239,10 @@ fn concluded<L: Entries, R: Wait>(
     }
 }
 
-/// The refusals, the ports' ends, the outcomes and the spans of the ranks apart.
+/// Splits the ends of the ranks into the refusals, the ports' ends, the outcomes and the spans.
 fn apart<L: Entries>(
     alloc: Global,
-    ranks: Vec<RankEnd<L>>,
+    ranks: Vec<ThreadEnd<L>>,
 ) -> Result<
     (
         Vec<Option<Refusal>>,
@@ -255,7 +261,7 @@ fn apart<L: Entries>(
     let mut all_got = Vec::new(alloc);
     let mut all_spans = Vec::new(alloc);
     for end in ranks {
-        let RankEnd {
+        let ThreadEnd {
             spent,
             got,
             spans,
@@ -269,7 +275,7 @@ fn apart<L: Entries>(
     Ok((refusals, spents, all_got, all_spans))
 }
 
-/// The lines of the job, where the report agrees with what the ranks got and with the script.
+/// The lines of the job, if the report agrees with what the ranks got and with the script.
 fn judge(
     alloc: Global,
     script: &Script,
@@ -290,12 +296,12 @@ fn judge(
     }
     match attested_lines(alloc, script, &report) {
         Ok(lines) => Ok((lines, report, spans)),
-        Err(AttestFault::Torn) => Err(JobFault::Torn),
-        Err(AttestFault::NoMemory) => Err(JobFault::Memory),
+        Err(ReportFault::Torn) => Err(JobFault::Torn),
+        Err(ReportFault::NoMemory) => Err(JobFault::Memory),
     }
 }
 
-/// Whether the ranks got just what their completions handed out.
+/// Whether the ranks got exactly what their completions handed out.
 fn all_handed_out(report: &Report, got: &[Got]) -> bool
     ensures { IsTrue result
         ↔ All (λ got. HandedOut report.now.entries got.rank got.outcomes.items) got.now }

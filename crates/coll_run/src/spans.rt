@@ -1,4 +1,4 @@
-//! When the calls were that made the entries of a trace.
+//! The times of the calls that made the entries of a trace.
 
 ghost use Rattle.std.specs.Prelude.{◌≡◌, length, vec_len, IfErr, IfOk};
 ghost use Rattle.coll_run.specs.Faults.{IsEnd};
@@ -14,12 +14,12 @@ pub(crate) struct RankSpans {
     pub(crate) spans: Vec<Span>,
 }
 
-/// The spans of a trace's entries, one for each, in the order of the trace: those of a rank in the order of its calls, which is that
-/// of its entries.
+/// The spans of a trace's entries, one for each, in the order of the trace. Those of a rank are in the order of its calls,
+/// which is also that of its entries.
 ///
 /// # Errors
 ///
-/// Torn where a rank has fewer spans than entries, and Memory.
+/// `Torn` if a rank has fewer spans than entries; `Memory` if memory was refused.
 pub(crate) fn spans_along(
     alloc: Global,
     trace: &[Entry],
@@ -43,7 +43,7 @@ pub(crate) fn spans_along(
     Ok(along)
 }
 
-/// The span of a rank that comes next; it is passed by.
+/// Takes the next span of a rank.
 fn next_of(ranks: &[RankSpans], next: &mut [usize], rank: usize) -> Option<Span> {
     let place = next.get_mut(rank)?;
     let span = ranks.get(rank)?.spans.get(*place)?;
@@ -51,7 +51,7 @@ fn next_of(ranks: &[RankSpans], next: &mut [usize], rank: usize) -> Option<Span>
     Some(*span)
 }
 
-/// The first place of each rank.
+/// For each rank, the index of its first span.
 fn places(alloc: Global, ranks: usize) -> Result<Vec<usize>, AllocError> {
     vec![in alloc; 0; ranks]
 }

@@ -108,7 +108,7 @@ message_of (Copy from into) buf = []
 message_of (Combine op ty left right into) buf = []
 message_of (Recv of into) buf = []
 
--- a Recv of a message of so many bytes
+-- a Recv of a message of that many bytes
 abbrev pub Takes : Action → ℕ → Type 0
 Takes (Send to from) len = ⊥
 Takes (Copy from into) len = ⊥

@@ -148,14 +148,14 @@ impl Action {
         }
     }
 
-    // Whether all of these may stand behind this action in one round.
+    // Whether all of these may follow this action in one round.
     pub(crate) fn may_precede_all(self, rest: &[Action]) -> bool
         ensures { IsTrue result ↔ All (Follows self) rest.now }
     {
         rest.iter().all(|later| self.may_precede(*later))
     }
 
-    // Whether `later` may stand behind this action in one round.
+    // Whether `later` may follow this action in one round.
     fn may_precede(self, later: Action) -> bool
         ensures { IsTrue result ↔ Follows self later }
     {

@@ -22,7 +22,7 @@ impl Region {
         Region { at: 0, len }
     }
 
-    /// The `len` bytes behind the first `len`.
+    /// The `len` bytes after the first `len`.
     pub fn behind(len: u32) -> Region
         ensures { result ≡ behind len }
     {
@@ -83,7 +83,7 @@ impl Region {
         }
     }
 
-    // The number of the byte behind the region.
+    // The number of the byte after the region.
     fn end(self) -> u64
         ensures { result ≡ self.at + self.len }
     {

@@ -38,7 +38,7 @@ impl Round {
         }
     }
 
-    /// A round without actions that has room for so many. Up to four take no memory.
+    /// A round without actions that has room for this many. Up to four take no memory.
     pub fn with_capacity(alloc: Global, count: usize) -> Result<Self, Refusal>
         ensures ok { IfOk result (λ round. round ≡ []) }
         ensures refusal { IsOkUnless result Refusal.NoMemory }

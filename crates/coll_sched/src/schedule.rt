@@ -128,7 +128,7 @@ impl Schedule {
         }
     }
 
-    /// The point itself where it has an action, and else the first one behind it that has, or the end.
+    /// The point itself where it has an action, and else the first one after it that has, or the end.
     pub fn following(&self, round: usize, index: usize) -> Point
         requires round_in { round ≤ length self.now.rounds }
         requires index_in { index ≤ length (actions_of self.now round) }

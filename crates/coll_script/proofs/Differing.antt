@@ -6,7 +6,7 @@ use Rattle.std.proofs.lemmas.List.Concat.{flat_map-cons}
 use Rattle.std.proofs.lemmas.Option.{none-some, same_Some}
 use Rattle.coll_kinds.proofs.Sameness.{same_signature-Decides}
 use Rattle.coll_history.specs.Requests.{Request}
-use Rattle.coll_script.specs.declared.first.First.{First}
+use Rattle.coll_script.specs.declared.first.Earliest.{Earliest}
 use Rattle.coll_script.specs.Matching.{earliest, agrees, differing_from, differing, lower, least, mismatch}
 use Rattle.coll_script.specs.Belonging.{StandsAt, Differs, IsFirstToDiffer, NoneDiffers}
 use Rattle.coll_script.proofs.Matches.{least-none, agrees-same}
@@ -80,14 +80,14 @@ least-le (Some l) (x ∷ xs) m e =
 
 -- ---- lines that differ
 
-record DiffersIn (firsts : ℕ → Option First) (place : ℕ) (list : List Request) (line : ℕ) : Type 0 where
+record DiffersIn (firsts : ℕ → Option Earliest) (place : ℕ) (list : List Request) (line : ℕ) : Type 0 where
   pub at : ℕ
   pub p : Request
   pub is : slice_get list at ≡ Some p
   pub is_line : p.line ≡ line
   pub fails : agrees (firsts (place + at)) p.sig ≡ false
 
-differing_from-at : (firsts : ℕ → Option First) (place : ℕ) (list : List Request) (line : ℕ) → Among line (differing_from firsts place list) → DiffersIn firsts place list line
+differing_from-at : (firsts : ℕ → Option Earliest) (place : ℕ) (list : List Request) (line : ℕ) → Among line (differing_from firsts place list) → DiffersIn firsts place list line
 differing_from-at firsts place [] line h = absurd h
 differing_from-at firsts place (p ∷ list) line h = turn (agrees (firsts place) p.sig) refl (differing_from-at firsts (place + 1) list line) h
   where
@@ -104,7 +104,7 @@ differing_from-at firsts place (p ∷ list) line h = turn (agrees (firsts place)
       | inr others ↦ later (rest others)
     ]
 
-differing_from-in : (firsts : ℕ → Option First) (place : ℕ) (list : List Request) (k : ℕ) (p : Request) → slice_get list k ≡ Some p → agrees (firsts (place + k)) p.sig ≡ false → Among p.line (differing_from firsts place list)
+differing_from-in : (firsts : ℕ → Option Earliest) (place : ℕ) (list : List Request) (k : ℕ) (p : Request) → slice_get list k ≡ Some p → agrees (firsts (place + k)) p.sig ≡ false → Among p.line (differing_from firsts place list)
 differing_from-in firsts place [] k p is fails = absurd (none-some p is)
 differing_from-in firsts place (q ∷ list) zero p is fails =
     let same : q ≡ p = same_Some q p is in
@@ -137,8 +137,8 @@ differs-from all comm lists place p is stands fails =
     elim (earliest-is None place lists some.f some.is) [
       | inl none ↦ absurd (none-some some.f none)
       | inr there ↦ (let first = there.p in
-          let line : first.line ≡ some.f.line = ap (λ (f : First). f.line) there.is_first in
-          let sig : some.f.sig ≡ first.sig = ap (λ (f : First). f.sig) (sym there.is_first) in
+          let line : first.line ≡ some.f.line = ap (λ (f : Earliest). f.line) there.is_first in
+          let sig : some.f.sig ≡ first.sig = ap (λ (f : Earliest). f.sig) (sym there.is_first) in
           record {
             comm = comm;
             lists = lists;
@@ -147,13 +147,13 @@ differs-from all comm lists place p is stands fails =
             there = stands;
             first = first;
             earliest = record { there = there.stands; least = λ q at. (let le = (earliest-le None place lists some.f some.is).1 q at in omega (arith, le, line)) };
-            differs = λ same. (let yes : agrees (earliest None place lists) p.sig ≡ true = ap (λ (o : Option First). agrees o p.sig) some.is ∙ (same_signature-Decides some.f.sig p.sig).1 (sig ∙ sym same) in
+            differs = λ same. (let yes : agrees (earliest None place lists) p.sig ≡ true = ap (λ (o : Option Earliest). agrees o p.sig) some.is ∙ (same_signature-Decides some.f.sig p.sig).1 (sig ∙ sym same) in
                 let no : true ≡ false = sym yes ∙ fails in absurd cc);
           })
     ]
 
 -- of two with different signatures at one place, one doesn't agree
-pub one-differs : (o : Option First) (p q : Request) → (p.sig ≡ q.sig → ⊥) → (agrees o p.sig ≡ false) ⊎ (agrees o q.sig ≡ false)
+pub one-differs : (o : Option Earliest) (p q : Request) → (p.sig ≡ q.sig → ⊥) → (agrees o p.sig ≡ false) ⊎ (agrees o q.sig ≡ false)
 one-differs o p q ne = turn (agrees o p.sig) (agrees o q.sig) refl refl
   where
     turn : (a b : Bool) → agrees o p.sig ≡ a → agrees o q.sig ≡ b → (agrees o p.sig ≡ false) ⊎ (agrees o q.sig ≡ false)

@@ -5,54 +5,54 @@ use Rattle.std.specs.Option.{option_map}
 use Rattle.std.proofs.lemmas.Bool.Decides.{nat_tests}
 use Rattle.std.proofs.lemmas.Option.{none-some, same_Some}
 use Rattle.coll_history.specs.Requests.{Request}
-use Rattle.coll_script.specs.declared.first.First.{First}
+use Rattle.coll_script.specs.declared.first.Earliest.{Earliest}
 use Rattle.coll_script.specs.Matching.{first_of, first_at, earlier, earliest}
 use Rattle.coll_script.specs.Belonging.{StandsAt}
 
 -- ---- the earlier of two
 
-chosen : (b : Bool) (p q f : First) → cond b (Some q) (Some p) ≡ Some f → (Some p ≡ Some f) ⊎ (Some q ≡ Some f)
+chosen : (b : Bool) (p q f : Earliest) → cond b (Some q) (Some p) ≡ Some f → (Some p ≡ Some f) ⊎ (Some q ≡ Some f)
 chosen true p q f e = inr e
 chosen false p q f e = inl e
 
-earlier-is : (o q : Option First) (f : First) → earlier o q ≡ Some f → (o ≡ Some f) ⊎ (q ≡ Some f)
+earlier-is : (o q : Option Earliest) (f : Earliest) → earlier o q ≡ Some f → (o ≡ Some f) ⊎ (q ≡ Some f)
 earlier-is None q f e = inr e
 earlier-is (Some p) None f e = inl e
 earlier-is (Some p) (Some q) f e = chosen (ltb q.line p.line) p q f e
 
-below-both : (b : Bool) (p q : First) → ltb q.line p.line ≡ b → (f : First) → cond b (Some q) (Some p) ≡ Some f → (f.line ≤ p.line) × (f.line ≤ q.line)
+below-both : (b : Bool) (p q : Earliest) → ltb q.line p.line ≡ b → (f : Earliest) → cond b (Some q) (Some p) ≡ Some f → (f.line ≤ p.line) × (f.line ≤ q.line)
 below-both true p q test f e =
     let lt : q.line < p.line = grind (arith, nat_tests) in
-    let same : q.line ≡ f.line = ap (λ (g : First). g.line) (same_Some q f e) in
+    let same : q.line ≡ f.line = ap (λ (g : Earliest). g.line) (same_Some q f e) in
     (omega (arith, lt, same), omega (arith, same))
 below-both false p q test f e =
     let ge : p.line ≤ q.line = grind (arith, nat_tests) in
-    let same : p.line ≡ f.line = ap (λ (g : First). g.line) (same_Some p f e) in
+    let same : p.line ≡ f.line = ap (λ (g : Earliest). g.line) (same_Some p f e) in
     (omega (arith, same), omega (arith, ge, same))
 
-line-same : (p g f : First) → Some p ≡ Some f → Some p ≡ Some g → f.line ≤ g.line
-line-same p g f e is = let same : f.line ≡ g.line = ap (λ (h : First). h.line) (sym (same_Some p f e) ∙ same_Some p g is) in omega (arith, same)
+line-same : (p g f : Earliest) → Some p ≡ Some f → Some p ≡ Some g → f.line ≤ g.line
+line-same p g f e is = let same : f.line ≡ g.line = ap (λ (h : Earliest). h.line) (sym (same_Some p f e) ∙ same_Some p g is) in omega (arith, same)
 
-earlier-le : (o q : Option First) (f g : First) → earlier o q ≡ Some f → (o ≡ Some g) ⊎ (q ≡ Some g) → f.line ≤ g.line
+earlier-le : (o q : Option Earliest) (f g : Earliest) → earlier o q ≡ Some f → (o ≡ Some g) ⊎ (q ≡ Some g) → f.line ≤ g.line
 earlier-le None None f g e h = absurd (none-some f e)
 earlier-le None (Some q) f g e h = elim h [ inl is ↦ absurd (none-some g is) | inr is ↦ line-same q g f e is ]
 earlier-le (Some p) None f g e h = elim h [ inl is ↦ line-same p g f e is | inr is ↦ absurd (none-some g is) ]
 earlier-le (Some p) (Some q) f g e h =
     let both = below-both (ltb q.line p.line) p q refl f e in
     elim h [
-      | inl is ↦ (let same : p.line ≡ g.line = ap (λ (x : First). x.line) (same_Some p g is) in omega (arith, both.0, same))
-      | inr is ↦ (let same : q.line ≡ g.line = ap (λ (x : First). x.line) (same_Some q g is) in omega (arith, both.1, same))
+      | inl is ↦ (let same : p.line ≡ g.line = ap (λ (x : Earliest). x.line) (same_Some p g is) in omega (arith, both.0, same))
+      | inr is ↦ (let same : q.line ≡ g.line = ap (λ (x : Earliest). x.line) (same_Some q g is) in omega (arith, both.1, same))
     ]
 
-pub record IsSomething (o : Option First) : Type 0 where
-  pub f : First
+pub record IsSomething (o : Option Earliest) : Type 0 where
+  pub f : Earliest
   pub is : o ≡ Some f
 
-either-some : (b : Bool) (p q : First) → IsSomething (cond b (Some q) (Some p))
+either-some : (b : Bool) (p q : Earliest) → IsSomething (cond b (Some q) (Some p))
 either-some true p q = record { f = q; is = refl }
 either-some false p q = record { f = p; is = refl }
 
-earlier-some : (o q : Option First) (g : First) → (o ≡ Some g) ⊎ (q ≡ Some g) → IsSomething (earlier o q)
+earlier-some : (o q : Option Earliest) (g : Earliest) → (o ≡ Some g) ⊎ (q ≡ Some g) → IsSomething (earlier o q)
 earlier-some None None g h = absurd (elim h [ inl is ↦ none-some g is | inr is ↦ none-some g is ])
 earlier-some None (Some q) g h = record { f = q; is = refl }
 earlier-some (Some p) None g h = record { f = p; is = refl }
@@ -61,31 +61,31 @@ earlier-some (Some p) (Some q) g h = either-some (ltb q.line p.line) p q
 -- ---- the earliest of all lists
 
 -- one of the requests there
-pub record IsThere (lists : List (List Request)) (place : ℕ) (f : First) : Type 0 where
+pub record IsThere (lists : List (List Request)) (place : ℕ) (f : Earliest) : Type 0 where
   pub p : Request
   pub stands : StandsAt lists place p
   pub is_first : first_of p ≡ f
 
-record AtPlace (o : Option Request) (f : First) : Type 0 where
+record AtPlace (o : Option Request) (f : Earliest) : Type 0 where
   pub p : Request
   pub is : o ≡ Some p
   pub is_first : first_of p ≡ f
 
-at-place : (o : Option Request) (f : First) → option_map first_of o ≡ Some f → AtPlace o f
+at-place : (o : Option Request) (f : Earliest) → option_map first_of o ≡ Some f → AtPlace o f
 at-place None f e = absurd (none-some f e)
 at-place (Some p) f e = record { p = p; is = refl; is_first = same_Some (first_of p) f e }
 
-in-front : (list : List Request) (lists : List (List Request)) (place : ℕ) (f : First) → first_at list place ≡ Some f → IsThere (list ∷ lists) place f
+in-front : (list : List Request) (lists : List (List Request)) (place : ℕ) (f : Earliest) → first_at list place ≡ Some f → IsThere (list ∷ lists) place f
 in-front list lists place f e =
     let at = at-place (slice_get list place) f e in
     record { p = at.p; stands = record { member = 0; list = list; is_list = refl; is_there = at.is }; is_first = at.is_first }
 
-behind : (list : List Request) (lists : List (List Request)) (place : ℕ) (f : First) → IsThere lists place f → IsThere (list ∷ lists) place f
+behind : (list : List Request) (lists : List (List Request)) (place : ℕ) (f : Earliest) → IsThere lists place f → IsThere (list ∷ lists) place f
 behind list lists place f there =
     let stands = there.stands in
     record { p = there.p; stands = record { member = suc stands.member; list = stands.list; is_list = stands.is_list; is_there = stands.is_there }; is_first = there.is_first }
 
-pub earliest-is : (o : Option First) (place : ℕ) (lists : List (List Request)) (f : First) → earliest o place lists ≡ Some f → (o ≡ Some f) ⊎ IsThere lists place f
+pub earliest-is : (o : Option Earliest) (place : ℕ) (lists : List (List Request)) (f : Earliest) → earliest o place lists ≡ Some f → (o ≡ Some f) ⊎ IsThere lists place f
 earliest-is o place [] f e = inl e
 earliest-is o place (list ∷ lists) f e = elim (earliest-is (earlier o (first_at list place)) place lists f e) [
   | inl is ↦ elim (earlier-is o (first_at list place) f is) [ inl one ↦ inl one | inr other ↦ inr (in-front list lists place f other) ]
@@ -103,25 +103,25 @@ stands-cases list lists place p stands = by_member stands.member stands.is_list
 nowhere : (place : ℕ) (p : Request) → StandsAt [] place p → ⊥
 nowhere place p stands = none-some stands.list stands.is_list
 
-pub earliest-le : (o : Option First) (place : ℕ) (lists : List (List Request)) (f : First) → earliest o place lists ≡ Some f → ((g : First) → o ≡ Some g → f.line ≤ g.line) × ((p : Request) → StandsAt lists place p → f.line ≤ p.line)
+pub earliest-le : (o : Option Earliest) (place : ℕ) (lists : List (List Request)) (f : Earliest) → earliest o place lists ≡ Some f → ((g : Earliest) → o ≡ Some g → f.line ≤ g.line) × ((p : Request) → StandsAt lists place p → f.line ≤ p.line)
 earliest-le None place [] f e = absurd (none-some f e)
 earliest-le (Some h) place [] f e = (λ g is. line-same h g f e is, λ p stands. absurd (nowhere place p stands))
 earliest-le o place (list ∷ lists) f e =
     let rest = earliest-le (earlier o (first_at list place)) place lists f e in
-    let reached : (g : First) → (o ≡ Some g) ⊎ (first_at list place ≡ Some g) → f.line ≤ g.line = λ g h.
+    let reached : (g : Earliest) → (o ≡ Some g) ⊎ (first_at list place ≡ Some g) → f.line ≤ g.line = λ g h.
     (let it = earlier-some o (first_at list place) g h in
     let one = rest.0 it.f it.is in
     let other = earlier-le o (first_at list place) it.f g it.is h in
     omega (arith, one, other)) in
     (λ g is. reached g (inl is), λ p stands. elim (stands-cases list lists place p stands) [ inl here ↦ reached (first_of p) (inr here) | inr later ↦ rest.1 p later ])
 
-earliest-any : (o : Option First) (place : ℕ) (lists : List (List Request)) (g : First) → o ≡ Some g → IsSomething (earliest o place lists)
+earliest-any : (o : Option Earliest) (place : ℕ) (lists : List (List Request)) (g : Earliest) → o ≡ Some g → IsSomething (earliest o place lists)
 earliest-any o place [] g is = record { f = g; is = is }
 earliest-any o place (list ∷ lists) g is =
     let next = earlier-some o (first_at list place) g (inl is) in
     earliest-any (earlier o (first_at list place)) place lists next.f next.is
 
-pub earliest-some : (o : Option First) (place : ℕ) (lists : List (List Request)) (p : Request) → StandsAt lists place p → IsSomething (earliest o place lists)
+pub earliest-some : (o : Option Earliest) (place : ℕ) (lists : List (List Request)) (p : Request) → StandsAt lists place p → IsSomething (earliest o place lists)
 earliest-some o place [] p stands = absurd (nowhere place p stands)
 earliest-some o place (list ∷ lists) p stands = elim (stands-cases list lists place p stands) [
   | inl here ↦ (let next = earlier-some o (first_at list place) (first_of p) (inr here) in earliest-any (earlier o (first_at list place)) place lists next.f next.is)

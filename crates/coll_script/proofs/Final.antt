@@ -26,7 +26,7 @@ slice_get-front [] ys k x e = absurd (none-some x e)
 slice_get-front (z ∷ xs) ys zero x e = e
 slice_get-front (z ∷ xs) ys (suc k) x e = slice_get-front xs ys k x e
 
--- what stands behind a view
+-- what stands after a view
 record Behind (X Y : Type 0) (f : X → Y) (o : Option X) (y : Y) : Type 0 where
   pub x : X
   pub is : o ≡ Some x

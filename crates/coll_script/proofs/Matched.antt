@@ -13,7 +13,7 @@ use Rattle.std.proofs.lemmas.List.{length-map, length-set, length-append, length
 use Rattle.std.proofs.lemmas.List.Concat.{flat_map-cons}
 use Rattle.std.proofs.lemmas.Option.{slice_get_past}
 use Rattle.coll_history.specs.Requests.{Request}
-use Rattle.coll_script.specs.declared.first.First.{First}
+use Rattle.coll_script.specs.declared.first.Earliest.{Earliest}
 use Rattle.coll_script.specs.Matching.{first_of, first_at, earlier, earliest, agrees, differing_from, lower, least, started_alike, first_list}
 use Rattle.coll_script.specs.Keeping.{IsKept}
 use Rattle.coll_script.proofs.Slots.{slice_get-set_same, slice_get-set_other, slice_get-push_same}
@@ -24,7 +24,7 @@ lower-turn : (b : Bool) (line : Option ℕ) (other : ℕ) (rest : List ℕ) → 
 lower-turn true line other rest = refl
 lower-turn false line other rest = refl
 
-pub differing-more : (firsts : ℕ → Option First) (list : List Request) (place : ℕ) (p : Request) (line next total : Option ℕ) → drop place list ≡ p ∷ drop (place + 1) list
+pub differing-more : (firsts : ℕ → Option Earliest) (list : List Request) (place : ℕ) (p : Request) (line next total : Option ℕ) → drop place list ≡ p ∷ drop (place + 1) list
     → next ≡ cond (agrees (firsts place) p.sig) line (lower line p.line) → least line (differing_from firsts place (drop place list)) ≡ total → least next (differing_from firsts (place + 1) (drop (place + 1) list)) ≡ total
 differing-more firsts list place p line next total front made so_far =
     ap (λ (o : Option ℕ). least o (differing_from firsts (place + 1) (drop (place + 1) list))) made
@@ -43,14 +43,14 @@ least-more {X} f xs k x line next total front made so_far =
 
 -- ---- the earliest requests
 
-pub earlier-none : (o : Option First) → earlier o None ≡ o
+pub earlier-none : (o : Option Earliest) → earlier o None ≡ o
 earlier-none None = refl
 earlier-none (Some p) = refl
 
-pub earliest-more : (lists : List (List Request)) (i place : ℕ) (list : List Request) (first next total : Option First) → drop i lists ≡ list ∷ drop (i + 1) lists → next ≡ earlier first (first_at list place)
+pub earliest-more : (lists : List (List Request)) (i place : ℕ) (list : List Request) (first next total : Option Earliest) → drop i lists ≡ list ∷ drop (i + 1) lists → next ≡ earlier first (first_at list place)
     → earliest first place (drop i lists) ≡ total → earliest next place (drop (i + 1) lists) ≡ total
 earliest-more lists i place list first next total front made so_far =
-    ap (λ (o : Option First). earliest o place (drop (i + 1) lists)) made ∙ ap (earliest first place) (sym front) ∙ so_far
+    ap (λ (o : Option Earliest). earliest o place (drop (i + 1) lists)) made ∙ ap (earliest first place) (sym front) ∙ so_far
 
 -- ---- starts
 
@@ -65,19 +65,19 @@ started-short first (q ∷ list) le = absurd (omega arith)
 
 -- ---- one more request at a place
 
-kept-there : (b : Bool) (place : ℕ) (p : First) (old : List First) (first : First) → slice_get old place ≡ Some first → ltb p.line first.line ≡ b → cond b (Some p) (Some first) ≡ earlier (slice_get old place) (Some p)
+kept-there : (b : Bool) (place : ℕ) (p : Earliest) (old : List Earliest) (first : Earliest) → slice_get old place ≡ Some first → ltb p.line first.line ≡ b → cond b (Some p) (Some first) ≡ earlier (slice_get old place) (Some p)
 kept-there b place p old first some less = rw (some, less) refl
 
-pub IsKept-stays : (place : ℕ) (p first : First) (old : List First) → slice_get old place ≡ Some first → place < length old → ltb p.line first.line ≡ false → IsKept place p old old
+pub IsKept-stays : (place : ℕ) (p first : Earliest) (old : List Earliest) → slice_get old place ≡ Some first → place < length old → ltb p.line first.line ≡ false → IsKept place p old old
 IsKept-stays place p first old some lt less =
     record { within = lt; there = some ∙ kept-there false place p old first some less; others = λ k ne. refl }
 
-pub IsKept-set : (place : ℕ) (p first : First) (old : List First) → slice_get old place ≡ Some first → place < length old → ltb p.line first.line ≡ true → IsKept place p old (set old place p)
+pub IsKept-set : (place : ℕ) (p first : Earliest) (old : List Earliest) → slice_get old place ≡ Some first → place < length old → ltb p.line first.line ≡ true → IsKept place p old (set old place p)
 IsKept-set place p first old some lt less =
     let len = length-set old place p in
     record { within = omega arith; there = slice_get-set_same old place p lt ∙ kept-there true place p old first some less; others = λ k ne. slice_get-set_other old place k p ne }
 
-pub IsKept-push : (place : ℕ) (p : First) (old : List First) → place ≡ length old → IsKept place p old (old ++ p ∷ [])
+pub IsKept-push : (place : ℕ) (p : Earliest) (old : List Earliest) → place ≡ length old → IsKept place p old (old ++ p ∷ [])
 IsKept-push place p old end =
     let len = length-append old (p ∷ []) in
     let none : slice_get old place ≡ None = slice_get_past old place (omega arith) in
@@ -88,17 +88,17 @@ map-set v [] k x = refl
 map-set v (y ∷ xs) zero x = refl
 map-set {X} {Y} v (y ∷ xs) (suc k) x = ap (λ (l : List Y). v y ∷ l) (map-set v xs k x)
 
--- the earliest of a list's requests up to a place, and what stands behind that place
-pub record KeepsUpTo (place : ℕ) (list : List Request) (old new : List First) : Type 0 where
+-- the earliest of a list's requests up to a place, and what stands after that place
+pub record KeepsUpTo (place : ℕ) (list : List Request) (old new : List Earliest) : Type 0 where
   pub within : place ≤ length new
   pub done : (k : ℕ) → k < place → slice_get new k ≡ earlier (slice_get old k) (first_at list k)
   pub left : (k : ℕ) → place ≤ k → slice_get new k ≡ slice_get old k
 
-pub KeepsUpTo-more : (place : ℕ) (list : List Request) (old new newer : List First) (p : First) → first_at list place ≡ Some p → KeepsUpTo place list old new → IsKept place p new newer → KeepsUpTo (place + 1) list old newer
+pub KeepsUpTo-more : (place : ℕ) (list : List Request) (old new newer : List Earliest) (p : Earliest) → first_at list place ≡ Some p → KeepsUpTo place list old new → IsKept place p new newer → KeepsUpTo (place + 1) list old newer
 KeepsUpTo-more place list old new newer p here keeps kept = record {
   within = let lt = kept.within in omega arith;
   done = λ k lt. elim (cases_eq k place) [
-    | inl e ↦ ap (slice_get newer) e ∙ kept.there ∙ ap (λ (o : Option First). earlier o (Some p)) (keeps.left place (omega arith)) ∙ ap (earlier (slice_get old place)) (sym here) ∙ ap (λ i. earlier (slice_get old i) (first_at list i)) (sym e)
+    | inl e ↦ ap (slice_get newer) e ∙ kept.there ∙ ap (λ (o : Option Earliest). earlier o (Some p)) (keeps.left place (omega arith)) ∙ ap (earlier (slice_get old place)) (sym here) ∙ ap (λ i. earlier (slice_get old i) (first_at list i)) (sym e)
     | inr ne ↦ kept.others k ne ∙ keeps.done k (omega arith)
   ];
   left = λ k le. kept.others k (λ e. omega arith) ∙ keeps.left k (omega arith);
@@ -107,7 +107,7 @@ KeepsUpTo-more place list old new newer p here keeps kept = record {
 first_at-past : (list : List Request) (k : ℕ) → length list ≤ k → first_at list k ≡ None
 first_at-past list k le = ap (option_map first_of) (slice_get_past list k le)
 
-pub KeepsUpTo-all : (place : ℕ) (list : List Request) (old new : List First) → length list ≤ place → KeepsUpTo place list old new → (k : ℕ) → slice_get new k ≡ earlier (slice_get old k) (first_at list k)
+pub KeepsUpTo-all : (place : ℕ) (list : List Request) (old new : List Earliest) → length list ≤ place → KeepsUpTo place list old new → (k : ℕ) → slice_get new k ≡ earlier (slice_get old k) (first_at list k)
 KeepsUpTo-all place list old new le keeps k = elim (cases_lt k place) [
   | inl lt ↦ keeps.done k lt
   | inr ge ↦ keeps.left k ge ∙ sym (earlier-none (slice_get old k)) ∙ ap (earlier (slice_get old k)) (sym (first_at-past list k (omega arith)))

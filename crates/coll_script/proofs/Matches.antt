@@ -19,7 +19,7 @@ use Rattle.coll_script.specs.Postings.{is_on, posted_on, requests_of, postings, 
 use Rattle.coll_script.specs.Matching.{earliest, agrees, differing_from, differing, lower, least, mismatch, first_list, have_places, started_alike, have_starts}
 use Rattle.coll_history.specs.Histories.{History}
 use Rattle.coll_kinds.specs.Groups.{member_of}
-use Rattle.coll_script.specs.declared.first.First.{First}
+use Rattle.coll_script.specs.declared.first.Earliest.{Earliest}
 use Rattle.coll_script.specs.Jobs.{job_of, all_postings, matched, belonging}
 use Rattle.coll_script.specs.Outcomes.{list_at, AreMatched}
 use Rattle.coll_kinds.proofs.Sameness.{same_signature-Decides}
@@ -79,7 +79,7 @@ agreeing : (b : Bool) (rest : List ℕ) (line : ℕ) → cond b rest (line ∷ r
 agreeing true rest line e = (refl, e)
 agreeing false rest line e = absurd cc
 
-agrees-at : (firsts : ℕ → Option First) (place k : ℕ) (list : List Request) (p : Request) → differing_from firsts place list ≡ [] → slice_get list k ≡ Some p → agrees (firsts (place + k)) p.sig ≡ true
+agrees-at : (firsts : ℕ → Option Earliest) (place k : ℕ) (list : List Request) (p : Request) → differing_from firsts place list ≡ [] → slice_get list k ≡ Some p → agrees (firsts (place + k)) p.sig ≡ true
 agrees-at firsts place k [] p none e = absurd cc
 agrees-at firsts place zero (q ∷ list) p none e =
     let same : q ≡ p = same_Some q p e in
@@ -89,7 +89,7 @@ agrees-at firsts place (suc k) (q ∷ list) p none e =
     let at : place + 1 + k ≡ place + suc k = omega arith in
     ap (λ i. agrees (firsts i) p.sig) (sym at) ∙ agrees-at firsts (place + 1) k list p (agreeing (agrees (firsts place) q.sig) (differing_from firsts (place + 1) list) q.line none).1 e
 
-pub agrees-same : (o : Option First) (sig other : Signature) → agrees o sig ≡ true → agrees o other ≡ true → sig ≡ other
+pub agrees-same : (o : Option Earliest) (sig other : Signature) → agrees o sig ≡ true → agrees o other ≡ true → sig ≡ other
 agrees-same None sig other one two = absurd cc
 agrees-same (Some first) sig other one two = sym ((same_signature-Decides first.sig sig).0 one) ∙ (same_signature-Decides first.sig other).0 two
 

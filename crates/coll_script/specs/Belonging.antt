@@ -69,7 +69,7 @@ pub record LacksStart (all : List (List (List Request))) : Type 0 where
   pub is_other : slice_get other place ≡ Some q
   pub differs : length p.starts ≢ length q.starts
 
--- what a fault that is judged after so many lines says
+-- what a fault that is judged after that many lines says
 abbrev pub SaysOf : List (List (List Request)) → ℕ → ℕ → Cause → Type 0
 SaysOf all last line PlaceMismatch = IsFirstToDiffer all line
 SaysOf all last line PlaceMissing =

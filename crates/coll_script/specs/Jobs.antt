@@ -1,4 +1,4 @@
--- The script of a text: the history that its lines tell, in which the requests of all ranks belong together.
+-- The script of a text: the history of its lines, in which the requests of all ranks belong together.
 use Rattle.std.specs.Prelude.{ℕ, nat_lt, List, length, Option, Some, None, Result, Ok, if◌then◌else◌}
 use Rattle.std.specs.List.{list_all}
 use Rattle.coll_history.specs.declared.cause.Cause.TheVariants.{TooLong, MissingRanks}
@@ -17,7 +17,7 @@ pub record Job : Type 0 where
   pub groups : List (List ℕ)
   pub requests : List (List Request)
 
--- the job that a history tells
+-- the job of a history
 abbrev pub job_of : History → Job
 job_of h = record { groups = h.groups; requests = requests h }
 
@@ -25,7 +25,7 @@ job_of h = record { groups = h.groups; requests = requests h }
 abbrev pub all_postings : Job → List (List (List Request))
 all_postings job = postings_from job.requests 0 job.groups
 
--- what is judged after so many lines, in this order: whether signatures differ at some place, whether a member lacks a
+-- what is judged after that many lines, in this order: whether signatures differ at some place, whether a member lacks a
 -- place, and whether members have different numbers of starts at one
 abbrev pub matched : ℕ → List (List (List Request)) → History → Option ℕ → Result History Fault
 matched last all h (Some line) = fault_at line PlaceMismatch
@@ -33,7 +33,7 @@ matched last all h None =
     if list_all have_places all then (if list_all have_starts all then Ok h else fault_at last StartMissing)
     else fault_at last PlaceMissing
 
--- whether the requests of all ranks belong together, judged after so many lines
+-- whether the requests of all ranks belong together, judged after that many lines
 abbrev pub belonging : ℕ → History → Result History Fault
 belonging last h = matched last (all_postings (job_of h)) h (mismatch (all_postings (job_of h)))
 
@@ -42,7 +42,7 @@ abbrev pub completed_by : Option ℕ → ℕ → History → Result History Faul
 completed_by None last h = fault_at last MissingRanks
 completed_by (Some n) last h = belonging last h
 
--- what is judged behind the last line, the number of which is given
+-- what is judged after the last line, the number of which is given
 abbrev pub completed : ℕ → History → Result History Fault
 completed last h = completed_by h.ranks last h
 

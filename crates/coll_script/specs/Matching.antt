@@ -6,34 +6,34 @@ use Rattle.std.specs.Option.{option_map}
 use Rattle.coll_kinds.specs.declared.signature.Signature.{Signature}
 use Rattle.coll_kinds.specs.Sameness.{same_signature}
 use Rattle.coll_history.specs.Requests.{Request}
-use Rattle.coll_script.specs.declared.first.First.{First}
+use Rattle.coll_script.specs.declared.first.Earliest.{Earliest}
 
 -- what the requests at a place are compared with
-abbrev pub first_of : Request → First
+abbrev pub first_of : Request → Earliest
 first_of p = record { line = p.line; sig = p.sig }
 
 -- the request at a place of a posting list
-abbrev pub first_at : List Request → ℕ → Option First
+abbrev pub first_at : List Request → ℕ → Option Earliest
 first_at list place = option_map first_of (slice_get list place)
 
 -- of two, where there are any, the one of the earlier line
-abbrev pub earlier : Option First → Option First → Option First
+abbrev pub earlier : Option Earliest → Option Earliest → Option Earliest
 earlier None q = q
 earlier (Some p) None = Some p
 earlier (Some p) (Some q) = if nat_lt q.line p.line then Some q else Some p
 
 -- the earliest of one, if there is one, and of those at a place of some posting lists
-abbrev pub earliest : Option First → ℕ → List (List Request) → Option First
+abbrev pub earliest : Option Earliest → ℕ → List (List Request) → Option Earliest
 earliest first place [] = first
 earliest first place (list ∷ lists) = earliest (earlier first (first_at list place)) place lists
 
 -- the earliest at a place has this signature
-abbrev pub agrees : Option First → Signature → Bool
+abbrev pub agrees : Option Earliest → Signature → Bool
 agrees None sig = false
 agrees (Some first) sig = same_signature first.sig sig
 
 -- the lines of a member's requests, from a place on, that differ from the earliest at their places
-abbrev pub differing_from : (ℕ → Option First) → ℕ → List Request → List ℕ
+abbrev pub differing_from : (ℕ → Option Earliest) → ℕ → List Request → List ℕ
 differing_from firsts place [] = []
 differing_from firsts place (p ∷ list) =
     if agrees (firsts place) p.sig then differing_from firsts (place + 1) list

@@ -14,7 +14,7 @@ use Rattle.coll_history.specs.Requests.{Request}
 use Rattle.coll_script.specs.Postings.{posted_on, requests_of, postings}
 use Rattle.coll_script.specs.Jobs.{Job, job_of, script_of}
 
--- the text of an element, behind a space
+-- the text of an element, after a space
 abbrev pub element_text : Element → List ℕ
 element_text element = 32 ∷ text_of element
 

@@ -10,8 +10,8 @@ use Rattle.coll_kinds.specs.Checks.{broken}
 use Rattle.coll_ops.specs.Values.{value}
 use Rattle.coll_history.specs.Requests.{Request}
 use Rattle.coll_history.specs.Code.{rows_view}
-use Rattle.coll_script.specs.declared.values.Values.{Values}
-use Rattle.coll_script.specs.declared.values.Values.TheVariants.{Same, Each}
+use Rattle.coll_script.specs.declared.values.MemberValues.{MemberValues}
+use Rattle.coll_script.specs.declared.values.MemberValues.TheVariants.{Same, Each}
 use Rattle.coll_script.specs.Matching.{first_list}
 use Rattle.coll_script.specs.Meaning.{given_at}
 
@@ -43,20 +43,20 @@ is_shared Allreduce = true
 is_shared kind = false
 
 -- the values at a start, without where they lie in memory
-abbrev pub members_view : Values → List (List ℕ)
+abbrev pub members_view : MemberValues → List (List ℕ)
 members_view (Same value members) = map (λ member. value.items) (range_with_len 0 members)
 members_view (Each rows) = rows_view rows.items
 
 -- those of the starts of a place
-abbrev pub place_view : List Values → List (List (List ℕ))
+abbrev pub place_view : List MemberValues → List (List (List ℕ))
 place_view starts = map members_view starts
 
 -- those of the places of a communicator
-abbrev pub group_view : List (Vec Values Global) → List (List (List (List ℕ)))
+abbrev pub group_view : List (Vec MemberValues Global) → List (List (List (List ℕ)))
 group_view places = map (λ starts. place_view starts.items) places
 
 -- those of all communicators
-abbrev pub values_view : List (Vec (Vec Values Global) Global) → List (List (List (List (List ℕ))))
+abbrev pub values_view : List (Vec (Vec MemberValues Global) Global) → List (List (List (List (List ℕ))))
 values_view groups = map (λ places. group_view places.items) groups
 
 -- a request of member m of n stands where this request of the first member's list stands

@@ -41,7 +41,7 @@ IsInputFault input Write = Unit {0}
 IsInputFault input Memory = Unit {0}
 IsInputFault input fault = IfSome input (λ text. IsFaultOf text fault)
 
--- the writer, which held old, holds the lines of the text's meaning behind it, where the bytes are known
+-- the writer, which held old, holds the lines of the text's meaning after it, where the bytes are known
 abbrev pub WritesMeaning : List ℕ → Option (List ℕ) → Option (List ℕ) → Type 0
 WritesMeaning text old new =
     (lines : List ℕ)

@@ -15,7 +15,7 @@ printed_request rank number p starts =
 abbrev pub values_at : List (List (List (List (List ℕ)))) → ℕ → ℕ → List (List (List ℕ))
 values_at values comm place = unwrap_or (slice_get (unwrap_or (slice_get values comm) []) place) []
 
--- the lines of a rank's requests behind others
+-- the lines of a rank's requests after others
 abbrev pub printed_behind : List (List (List (List (List ℕ)))) → ℕ → List Request → List Request → List ℕ
 printed_behind values rank before [] = []
 printed_behind values rank before (p ∷ requests) =

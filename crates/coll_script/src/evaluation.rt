@@ -1,4 +1,4 @@
-//! The values of a job, computed directly from what all members give.
+//! Computes the values of a job directly from what all members give.
 
 ghost use Rattle.std.specs.Prelude.{◌≡◌, ◌≤◌, length, map, slice_get, Some, None, IfOk, IsOkUnless};
 ghost use Rattle.std.specs.List.{AllByRecursion, range_with_len};
@@ -12,21 +12,21 @@ ghost use Rattle.coll_script.specs.PostingViews.{lists_view, all_lists_view};
 ghost use Rattle.coll_script.specs.Outcomes.{place_values, group_values, members_view, place_view, group_view, values_view, HaveStart, AreMatched};
 
 use crate::postings::Postings;
-use crate::values::Values;
+use crate::values::MemberValues;
 use coll_history::Request;
 use coll_kinds::{Refusal, Signature};
 use std::alloc::Global;
 
 /// A row of bytes for each member of a communicator.
-type Rows = Vec<Vec<u8>>;
+type MemberRows = Vec<Vec<u8>>;
 
-/// What the members of a communicator give at a start of a place. Linear in the bytes.
+/// What the members of a communicator give to a start of a place. Linear in the bytes.
 fn given_at(
     alloc: Global,
     lists: &[Vec<Request>],
     place: usize,
     start: usize,
-) -> Result<Rows, Refusal>
+) -> Result<MemberRows, Refusal>
     requires { HaveStart (lists_view lists.now) place start }
     ensures ok { IfOk result (λ rows. rows_view rows.items ≡ given_at (lists_view lists.now) place start) }
     ensures refusal { IsOkUnless result Refusal.NoMemory }
@@ -45,7 +45,7 @@ fn start_values(
     lists: &[Vec<Request>],
     place: usize,
     start: usize,
-) -> Result<Values, Refusal>
+) -> Result<MemberValues, Refusal>
     requires few { length lists.now ≤ 64 }
     requires checked { broken sig (length lists.now) ≡ None }
     requires starts { HaveStart (lists_view lists.now) place start }
@@ -54,7 +54,7 @@ fn start_values(
     ensures refusal { IsOkUnless result Refusal.NoMemory }
 {
     let given = given_at(alloc, lists, place, start)?;
-    Values::new(alloc, sig, lists.len() as u8, &given)
+    MemberValues::new(alloc, sig, lists.len() as u8, &given)
 }
 
 /// The values at each start of a place.
@@ -63,7 +63,7 @@ fn place_values(
     lists: &[Vec<Request>],
     place: usize,
     request: &Request,
-) -> Result<Vec<Values>, Refusal>
+) -> Result<Vec<MemberValues>, Refusal>
     requires matched { AreMatched (length lists.now) (lists_view lists.now) }
     requires there { slice_get (first_list (lists_view lists.now)) place ≡ Some (request_view request.now) }
     ensures ok { IfOk result (λ starts. place_view starts.items ≡ place_values (lists_view lists.now) place (request_view request.now)) }
@@ -77,7 +77,7 @@ fn place_values(
 }
 
 /// The values at each place of a communicator.
-fn group_values(alloc: Global, lists: &[Vec<Request>]) -> Result<Vec<Vec<Values>>, Refusal>
+fn group_values(alloc: Global, lists: &[Vec<Request>]) -> Result<Vec<Vec<MemberValues>>, Refusal>
     requires { AreMatched (length lists.now) (lists_view lists.now) }
     ensures ok { IfOk result (λ places. group_view places.items ≡ group_values (lists_view lists.now)) }
     ensures refusal { IsOkUnless result Refusal.NoMemory }
@@ -92,9 +92,11 @@ fn group_values(alloc: Global, lists: &[Vec<Request>]) -> Result<Vec<Vec<Values>
     Ok(places)
 }
 
-/// The values of all communicators, by place, start and member. Linear in the bytes that are given and
-/// got.
-pub(crate) fn all_values(alloc: Global, all: &[Postings]) -> Result<Vec<Vec<Vec<Values>>>, Refusal>
+/// The values of all communicators, by place, start and member. Linear in the bytes that are given and in those that are got.
+pub(crate) fn all_values(
+    alloc: Global,
+    all: &[Postings],
+) -> Result<Vec<Vec<Vec<MemberValues>>>, Refusal>
     requires { AllByRecursion (λ lists. AreMatched (length lists) lists) (all_lists_view all.now) }
     ensures ok { IfOk result (λ groups. values_view groups.items ≡ map group_values (all_lists_view all.now)) }
     ensures refusal { IsOkUnless result Refusal.NoMemory }

@@ -6,19 +6,19 @@ use std::io;
 use std::io::Write;
 use thiserror::Error;
 
-/// Why the program ends without its answer. It prints as the line that a user is told.
+/// Why the program ends without an answer. It prints as the line that the user reads.
 #[derive(Clone, Copy, Debug, PartialEq, Eq, Error)]
 pub enum JobFault {
-    /// The reader gave an error.
+    /// The reader returned an error.
     #[error("read fault")]
     Read,
-    /// The writer gave an error, or took no byte.
+    /// The writer returned an error, or took no byte.
     #[error("write fault")]
     Write,
     /// The text has a fault.
     #[error("{0}")]
     Text(Fault),
-    /// Nothing can go on any more.
+    /// No rank can go on: the run stalls.
     #[error("stalled")]
     Stalled,
     /// Another refusal of the engine.
@@ -30,7 +30,7 @@ pub enum JobFault {
     /// A thread couldn't be started.
     #[error("no thread")]
     NoThread,
-    /// The report doesn't agree with the outcomes.
+    /// The report doesn't agree with the text or with the outcomes.
     #[error("torn")]
     Torn,
 }
@@ -38,8 +38,8 @@ pub enum JobFault {
 impl JobFault {
     ghost use Rattle.coll_script.specs.Faults.{status_of};
 
-    /// The exit status: 1 for reading and writing, 2 for a text, 3 for a stall, 4 for another refusal, and
-    /// 5 where the machine gave too little or the report is torn.
+    /// The exit status: 1 for reading and writing, 2 for a text, 3 for a stall, 4 for another refusal, and 5 if memory or a
+    /// thread was refused or the report is torn.
     pub fn status(self) -> u8
         ensures { result ≡ status_of self }
     {
@@ -52,7 +52,7 @@ impl JobFault {
         }
     }
 
-    /// Writes the fault's line and a line feed. Answers the writer's error.
+    /// Writes the fault's line and a line feed. Returns the writer's error, if it fails.
     pub fn print<W: Write>(self, out: &mut W) -> io::Result<()> {
         writeln!(out, "{self}")
     }

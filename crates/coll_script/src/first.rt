@@ -5,18 +5,18 @@ ghost use Rattle.coll_script.specs.Matching.{first_of};
 use coll_history::Request;
 use coll_kinds::Signature;
 
-/// What the requests at a place are compared with: the line and the signature of the earliest one.
+/// The line and the signature of the earliest request at a place, with which the others are compared.
 #[derive(Clone, Copy, Debug)]
-pub(crate) struct First {
+pub(crate) struct Earliest {
     pub(crate) line: u32,
     pub(crate) sig: Signature,
 }
 
 /// The line and the signature of a request.
-pub(crate) fn first_of(request: &Request) -> First
+pub(crate) fn first_of(request: &Request) -> Earliest
     ensures { result ≡ first_of (request_view request.now) }
 {
-    First {
+    Earliest {
         line: request.line,
         sig: request.sig,
     }

@@ -1,4 +1,4 @@
-//! What holds of all texts: laws of the definitions, each the contract of a function without a body.
+//! Laws of all texts: each is the contract of a function without a body.
 
 ghost use Rattle.std.specs.Prelude.{◌≡◌, ℕ, List, Ok, Err, Some};
 ghost use Rattle.coll_history.specs.declared.fault.Fault.{Fault};
@@ -9,20 +9,20 @@ ghost use Rattle.coll_script.specs.Matching.{mismatch};
 ghost use Rattle.coll_script.specs.Jobs.{job_of, all_postings, belonging};
 ghost use Rattle.coll_script.specs.Belonging.{SaysOf, Belong};
 
-/// A fault that is judged after the last line says of the requests what its cause names: the first one that differs
-/// from the earliest at its place, a place that one member has and another lacks, or different numbers of starts at a place.
+/// A fault that is judged after the last line is true of the requests. By its cause it is the first request that differs from
+/// the earliest at its place, a place that one member has and another lacks, or a place with different numbers of starts.
 pub fn faults_say_so()
     ensures { (last : ℕ) (h : History) (fault : Fault) → belonging last h ≡ Err fault
         → SaysOf (all_postings (job_of h)) last fault.line fault.cause }
 {}
 
-/// Where there is no such fault the requests of all ranks belong together.
+/// If there is no such fault, the requests of all ranks belong together.
 pub fn scripts_belong()
     ensures { (last : ℕ) (h : History) (made : History) → belonging last h ≡ Ok made
         → Belong (all_postings (job_of h)) }
 {}
 
-/// Lines that have a place mismatch have one however they go on, unless a line that follows has a fault of its own.
+/// Lines with a place mismatch have one however the text goes on, unless a line that follows has a fault of its own.
 pub fn mismatch_is_final()
     ensures { (lines : List (List ℕ)) (h : History) (line number : ℕ) (more : List (List ℕ)) (next : History) (last : ℕ)
         → judged 1 beginning lines ≡ Ok h → mismatch (all_postings (job_of h)) ≡ Some line → judged number h more ≡ Ok next

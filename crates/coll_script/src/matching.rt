@@ -1,4 +1,4 @@
-//! What is judged after the last line: whether the requests at each place belong together.
+//! Judges after the last line whether the requests at each place belong together.
 
 ghost use Rattle.std.specs.Prelude.{◌≡◌, ◌≤◌, ℕ, length, flat_map, slice_get, None, IfOk, OnOk, if◌then◌else◌};
 ghost use Rattle.coll_script.specs.Matching.{first_at, earlier, earliest, agrees, differing_from, lower, least, mismatch, have_places, started_alike, have_starts};
@@ -6,14 +6,13 @@ ghost use Rattle.std.specs.List.{list_all};
 ghost use Rattle.coll_script.specs.Keeping.{IsKept};
 ghost use Rattle.coll_script.specs.PostingViews.{list_view, lists_view, all_lists_view};
 
-use crate::first::{First, first_of};
+use crate::first::{Earliest, first_of};
 use crate::postings::Postings;
 use coll_history::Request;
 use coll_kinds::Signature;
 use std::alloc::{AllocError, Global};
 
-/// The first line whose signature or mode differs from that of the earliest line at its communicator and
-/// place. Linear in the requests.
+/// The first line whose signature or mode differs from that of the earliest line at its communicator and place. Linear in the requests.
 pub(crate) fn mismatch(alloc: Global, all: &[Postings]) -> Result<Option<u32>, AllocError>
     ensures { IfOk result (λ line. line ≡ mismatch (all_lists_view all.now)) }
 {
@@ -26,7 +25,7 @@ pub(crate) fn mismatch(alloc: Global, all: &[Postings]) -> Result<Option<u32>, A
 }
 
 /// The earliest request at each place of a communicator.
-fn earliest(alloc: Global, lists: &[Vec<Request>]) -> Result<Vec<First>, AllocError>
+fn earliest(alloc: Global, lists: &[Vec<Request>]) -> Result<Vec<Earliest>, AllocError>
     ensures { IfOk result (λ firsts. (place : ℕ) → slice_get firsts.items place ≡ earliest None place (lists_view lists.now)) }
 {
     let mut firsts = Vec::new(alloc);
@@ -36,8 +35,8 @@ fn earliest(alloc: Global, lists: &[Vec<Request>]) -> Result<Vec<First>, AllocEr
     Ok(firsts)
 }
 
-/// Puts those of a member's requests into the list of the earliest that are earlier.
-fn keep_earlier(list: &[Request], firsts: &mut Vec<First>) -> Result<(), AllocError>
+/// At each place of the list, replaces the earliest request by this member's if that is earlier.
+fn keep_earlier(list: &[Request], firsts: &mut Vec<Earliest>) -> Result<(), AllocError>
     ensures { OnOk result ((place : ℕ) → slice_get firsts.new.items place
         ≡ earlier (slice_get firsts.old.items place) (first_at (list_view list.now) place)) }
 {
@@ -47,8 +46,8 @@ fn keep_earlier(list: &[Request], firsts: &mut Vec<First>) -> Result<(), AllocEr
     Ok(())
 }
 
-/// Puts a request into the list at that place, if it is earlier or the first there.
-fn keep_at(place: usize, first: First, firsts: &mut Vec<First>) -> Result<(), AllocError>
+/// Puts a request at that place of the list if it is the first there, or earlier than the one there.
+fn keep_at(place: usize, first: Earliest, firsts: &mut Vec<Earliest>) -> Result<(), AllocError>
     requires { place ≤ length firsts.old.items }
     ensures { OnOk result (IsKept place first firsts.old.items firsts.new.items) }
 {
@@ -60,9 +59,8 @@ fn keep_at(place: usize, first: First, firsts: &mut Vec<First>) -> Result<(), Al
     Ok(())
 }
 
-/// The least of `line` and of the lines of a communicator's requests that differ from the first ones at
-/// their places.
-fn differing(firsts: &[First], lists: &[Vec<Request>], line: Option<u32>) -> Option<u32>
+/// The lowest of `line` and the lines of a communicator's requests that differ from the earliest ones at their places.
+fn differing(firsts: &[Earliest], lists: &[Vec<Request>], line: Option<u32>) -> Option<u32>
     ensures { result ≡ least line (flat_map (differing_from (slice_get firsts.now) 0) (lists_view lists.now)) }
 {
     let mut line = line;
@@ -72,8 +70,8 @@ fn differing(firsts: &[First], lists: &[Vec<Request>], line: Option<u32>) -> Opt
     line
 }
 
-/// The same of one member's requests.
-fn differing_in(firsts: &[First], list: &[Request], line: Option<u32>) -> Option<u32>
+/// The lowest of `line` and the lines of a member's requests that differ from the earliest ones at their places.
+fn differing_in(firsts: &[Earliest], list: &[Request], line: Option<u32>) -> Option<u32>
     ensures { result ≡ least line (differing_from (slice_get firsts.now) 0 (list_view list.now)) }
 {
     let mut line = line;
@@ -83,8 +81,8 @@ fn differing_in(firsts: &[First], list: &[Request], line: Option<u32>) -> Option
     line
 }
 
-/// Whether the first request at a place has this signature.
-fn agrees(firsts: &[First], place: usize, sig: &Signature) -> bool
+/// Whether the earliest request at a place has this signature.
+fn agrees(firsts: &[Earliest], place: usize, sig: &Signature) -> bool
     ensures { result ≡ agrees (slice_get firsts.now place) sig.now }
 {
     match firsts.get(place) {
@@ -117,7 +115,7 @@ pub(crate) fn all_have_places(all: &[Postings]) -> bool
     true
 }
 
-/// Whether each member of a communicator has as many requests there as the first.
+/// Whether each member of a communicator has as many requests there as its first member.
 fn have_places(lists: &[Vec<Request>]) -> bool
     ensures { result ≡ have_places (lists_view lists.now) }
 {

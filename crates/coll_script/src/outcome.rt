@@ -8,9 +8,8 @@ ghost use Rattle.coll_script.specs.Growing.{Extends};
 use coll_kinds::{Datatype, Refusal, Signature, print_element};
 use std::alloc::{AllocError, Global};
 
-/// Appends the line `rank R req Q start S : ..` with the elements of an outcome, each behind one space,
-/// and a line feed. Linear in the bytes. Refuses [`Refusal::NoMemory`] alone, and `out` is then as
-/// before.
+/// Appends the line `rank R req Q start S : ..` with the elements of an outcome, each after one space, and a line feed. Linear
+/// in the bytes. The only refusal is [`Refusal::NoMemory`]; `out` is then unchanged.
 pub fn print_outcome(
     alloc: Global,
     rank: u8,
@@ -34,7 +33,7 @@ pub fn print_outcome(
     printed
 }
 
-/// What stands before the elements.
+/// The words before the elements.
 fn outcome_head(alloc: Global, rank: u8, req: u32, start: u32) -> Result<String, AllocError>
     ensures { IfOk result (λ head. string_bytes head ≡ outcome_head rank req start) }
 {

@@ -1,4 +1,4 @@
-//! A job text's answer without an engine: read, computed and written.
+//! A job text without an engine: it is read, and the lines of its values are computed and written.
 
 ghost use Rattle.std.specs.Prelude.{◌≡◌, ◌≢◌, ◌<◌, ◌≤◌, ◌+◌, ◌++◌, length, take, vec_len, true, false, IfOk, IfErr, OnOk, OnErr, IsOkUnless, IfSome, Ok};
 ghost use Rattle.std.specs.Io.KnownBytes.{Appends, Consumes, Keeps, IsAtEnd};
@@ -6,7 +6,7 @@ ghost use Rattle.coll_kinds.specs.Limits.{max_text};
 ghost use Rattle.coll_script.specs.Plain.{HasCause, IsReadFault, IsPlainFault, WritesMeaning, IsAnswerFault};
 ghost use Rattle.coll_script.specs.Meaning.{meaning};
 
-use crate::counted::Counted;
+use crate::counted::CountedReader;
 use crate::fault::JobFault;
 use crate::script::Script;
 use crate::witnessed::Witnessed;
@@ -20,18 +20,20 @@ const READ_LIMIT: usize = MAX_TEXT + 1;
 /// The most bytes of one read.
 const PIECE: usize = 8192;
 
-/// Reads a text up to its end, or up to and including the first byte past what a text may have. Any error
-/// of the reader is [`JobFault::Read`], also one that might pass if the read were made again; want of memory
-/// is [`JobFault::Memory`].
-pub fn read_text<R: Read>(alloc: Global, reader: &mut Counted<'_, R>) -> Result<Vec<u8>, JobFault>
+/// Reads a text up to its end, or up to and including the first byte beyond the length that a text may have. Any error of the
+/// reader is [`JobFault::Read`], even one that might pass if the read were repeated; refused memory is [`JobFault::Memory`].
+pub fn read_text<R: Read>(
+    alloc: Global,
+    reader: &mut CountedReader<'_, R>,
+) -> Result<Vec<u8>, JobFault>
     requires unread { reader.old.reads ≡ 0 }
     ensures text { IfOk result (λ text. IfSome (R.remaining reader.old.reader.now) (λ input. text.items ≡ take (max_text + 1) input)) }
     ensures left { IfOk result (λ text. Consumes (R.remaining reader.old.reader.now) (R.remaining reader.new.reader.now) text.items) }
     ensures faults { IfErr result IsReadFault }
-    // A read fault is answered only where the reader failed.
+    // The result is a read fault only if the reader failed.
     ensures cause { IfErr result (λ fault. HasCause fault reader.new.failed false) }
     ensures reads { reader.new.reads ≤ max_text + 1 }
-    // Each read but the last gave a byte.
+    // Each read except the last gave a byte.
     ensures few { IfOk result (λ text. reader.new.reads ≤ length text.items + 1) }
     ensures same_reference { reader.new.reader.ghost_name ≡ reader.old.reader.ghost_name }
 {
@@ -46,10 +48,9 @@ pub fn read_text<R: Read>(alloc: Global, reader: &mut Counted<'_, R>) -> Result<
     Ok(text)
 }
 
-/// Appends the bytes of one read, at most `room` and at most a piece. Answers how many there are; 0 is
-/// the end.
+/// Appends the bytes of one read, at most `room` and at most a piece. Returns their number; 0 is the end.
 fn read_piece<R: Read>(
-    reader: &mut Counted<'_, R>,
+    reader: &mut CountedReader<'_, R>,
     room: usize,
     piece: &mut [u8],
     text: &mut Vec<u8>,
@@ -77,24 +78,28 @@ fn read_piece<R: Read>(
     }
 }
 
-/// Reads a job text and writes its output lines, the value of every post and start. At a fault nothing is
-/// written, but at a write fault.
+/// Reads a job text, and writes its output lines: the value of every post and start. At a fault nothing is written, except at a
+/// write fault.
+///
+/// # Errors
+///
+/// `Read` if the reader failed, `Text` if the text has a fault, `Write` if the writer failed, and `Memory` if memory was refused.
 pub fn plain_job<R: Read, W: Write>(
     alloc: Global,
-    reader: &mut Counted<'_, R>,
+    reader: &mut CountedReader<'_, R>,
     writer: &mut Witnessed<'_, W>,
 ) -> Result<(), JobFault>
     requires unread { reader.old.reads ≡ 0 }
     // What was written is the meaning of what was read, and nothing else.
     ensures ok { OnOk result (IfSome (R.remaining reader.old.reader.now) (λ input. WritesMeaning input (W.contents writer.old.stream.now) (W.contents writer.new.stream.now))) }
-    // The fault of a text is the one that its definition gives.
+    // The fault of a text is the one that the definition of a text's meaning gives.
     ensures faults { IfErr result (IsPlainFault (R.remaining reader.old.reader.now)) }
-    // A read fault is answered only where the reader failed, and a write fault only where the writer did.
+    // The result is a read fault only if the reader failed, and a write fault only if the writer did.
     ensures cause { IfErr result (λ fault. HasCause fault reader.new.failed writer.new.failed) }
     ensures same_writer { writer.new.stream.ghost_name ≡ writer.old.stream.ghost_name }
     ensures unwritten { IfErr result (λ fault. fault ≢ JobFault.Write → Keeps (W.contents writer.old.stream.now) (W.contents writer.new.stream.now)) }
     ensures reads { reader.new.reads ≤ max_text + 1 }
-    // What was read, and no byte more, is taken from the reader.
+    // The reader has lost what was read, and no byte more.
     ensures left { OnOk result (IfSome (R.remaining reader.old.reader.now) (λ input.
         Consumes (R.remaining reader.old.reader.now) (R.remaining reader.new.reader.now) (take (max_text + 1) input))) }
     ensures same_reference { reader.new.reader.ghost_name ≡ reader.old.reader.ghost_name }

@@ -9,11 +9,10 @@ ghost use Rattle.coll_script.specs.PostingViews.{list_view, lists_view, all_list
 use coll_history::Request;
 use std::alloc::{AllocError, Global};
 
-/// A list for each member of a communicator, in member order: its requests there, in the order of their
-/// places.
+/// For each member of a communicator, in member order, its requests there in the order of their places.
 pub(crate) type Postings<'a> = Vec<Vec<Request<'a>>>;
 
-/// The requests on a communicator, in their order. Linear in the requests and their starts.
+/// A rank's requests on a communicator, in their order. Linear in the requests and their starts.
 fn posted_on<'a>(
     alloc: Global,
     requests: &[Request<'a>],
@@ -30,7 +29,7 @@ fn posted_on<'a>(
     Ok(list)
 }
 
-/// The posting lists of the communicator that has these members. Linear in the requests of the members.
+/// The posting lists of the communicator with these members. Linear in the requests of the members.
 fn postings<'a>(
     alloc: Global,
     ranks: &[Vec<Request<'a>>],
@@ -47,7 +46,7 @@ fn postings<'a>(
     Ok(lists)
 }
 
-/// The posting lists of all communicators. Linear in the requests, for each communicator.
+/// The posting lists of all communicators. For each communicator linear in the requests.
 pub(crate) fn all_postings<'a>(
     alloc: Global,
     ranks: &[Vec<Request<'a>>],

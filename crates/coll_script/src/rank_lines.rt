@@ -1,4 +1,4 @@
-//! The lines of the requests, from their values.
+//! Prints the lines of the requests, from their values.
 
 ghost use Rattle.coll_kinds.specs.Limits.{max_communicators};
 ghost use Rattle.std.specs.Prelude.{◌≡◌, ◌<◌, ◌≤◌, ◌++◌, length, [], map, OnOk, IsOkUnless};
@@ -8,18 +8,18 @@ ghost use Rattle.coll_script.specs.Outcomes.{place_view, values_view};
 ghost use Rattle.coll_script.specs.Prints.{printed_request, printed_behind, HaveValues};
 
 use crate::outcome::print_outcome;
-use crate::values::Values;
+use crate::values::MemberValues;
 use coll_history::Request;
 use coll_kinds::{MAX_COMMUNICATORS, Refusal};
 use std::alloc::Global;
 
-/// Appends the lines of a rank, of the values by communicator, place, start and member. A request's place
-/// is the number of the rank's requests on the same communicator before it. Linear in the output.
+/// Appends the lines of a rank. The values are by communicator, place, start and member. A request's place is the number of the
+/// rank's requests on the same communicator before it. Linear in the output.
 pub(crate) fn print_rank(
     alloc: Global,
     rank: u8,
     requests: &[Request],
-    values: &[Vec<Vec<Values>>],
+    values: &[Vec<Vec<MemberValues>>],
     out: &mut Vec<u8>,
 ) -> Result<(), Refusal>
     requires groups { length values.now ≤ max_communicators }
@@ -45,13 +45,13 @@ pub(crate) fn print_rank(
     Ok(())
 }
 
-/// Appends the lines of a request, of the values of all members at each start.
+/// Appends the lines of a request. The values are those of all members at each start.
 fn print_request(
     alloc: Global,
     rank: u8,
     number: u32,
     request: &Request,
-    starts: &[Values],
+    starts: &[MemberValues],
     out: &mut Vec<u8>,
 ) -> Result<(), Refusal>
     requires few { length starts.now ≤ 4294967295 }

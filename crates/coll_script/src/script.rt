@@ -39,13 +39,15 @@ impl Model for Script {
 }
 
 impl Script {
-    /// Reads a job text: its script, or the first rule that it breaks. Takes a text as it is, whatever its
-    /// bytes. The cost is linear in the text, and for each communicator in the requests of its members.
+    /// Reads a job text: its script, or the first rule that it breaks. It accepts any bytes as a text. The cost is linear in
+    /// the text, and for each communicator in the requests of its members.
     ///
-    /// A fault is [`ScriptFault::Text`], or [`ScriptFault::NoMemory`] where memory was refused.
+    /// # Errors
+    ///
+    /// [`ScriptFault::Text`] is the text's fault; [`ScriptFault::NoMemory`] means that memory was refused.
     pub fn read(alloc: Global, text: &[u8]) -> Result<Script, ScriptFault>
         ensures read { GivesText (λ script. script) result (script_of text.now) }
-        // It is told so whatever the memory is.
+        // A text that is too long gets this fault even if there is no memory.
         ensures long { max_text < length text.now → result ≡ Err (ScriptFault.Text (record { line = 1; cause = Cause.TooLong })) }
     {
         if text.len() > MAX_TEXT {
@@ -55,32 +57,31 @@ impl Script {
         completed(alloc, text, history)
     }
 
-    /// What the lines have said: the ranks, their communicators, and the commands of all ranks in order.
+    /// What the lines have said: the ranks, their communicators, and the commands of all ranks in the order of their lines.
     pub fn history(&self) -> &History
         ensures { result.now ≡ self.now }
     {
         &self.history
     }
 
-    /// The commands of a rank, in the order of their lines, and behind them the unwritten `waitall` of all its requests,
-    /// which each rank has, also one that says nothing. Linear in all commands, and in what those of the rank give.
+    /// The commands of a rank, in the order of their lines, and after them the unwritten `waitall` of all its requests; even a
+    /// rank without a line has it. Linear in all commands, and in the bytes that those of the rank give.
     pub fn commands_of(&self, alloc: Global, rank: u8) -> Result<Vec<Command>, AllocError>
         ensures { IfOk result (λ commands. commands.items ≡ commands_of self.now rank) }
     {
         self.history.commands_of(alloc, rank)
     }
 
-    /// How large an engine is opened to run the job. Linear in the commands.
+    /// The size of an engine for the job. Linear in the commands.
     pub fn config(&self) -> Sizes
         ensures { result ≡ sizes_of self.now.commands }
     {
         sizes_of(self.history.commands())
     }
 
-    /// The output lines of the job, in rising rank, request and start: the value of each start, computed
-    /// directly from what all members give. Refuses [`Refusal::NoMemory`] alone. The cost is linear in the
-    /// output and in the bytes that the members give, and for each communicator in the requests of its
-    /// members.
+    /// The output lines of the job, in rising rank, request and start: the value of each start, computed directly from what all
+    /// members give. The only refusal is [`Refusal::NoMemory`]. The cost is linear in the output and in the bytes that the
+    /// members give, and for each communicator in the requests of its members.
     pub fn plain_lines(&self, alloc: Global) -> Result<Vec<u8>, Refusal>
         ensures ok { IfOk result (λ out. out.items ≡ job_lines (job_of self.now)) }
         ensures refusal { IsOkUnless result Refusal.NoMemory }
@@ -102,7 +103,7 @@ fn fault(line: u32, cause: Cause) -> ScriptFault
     ScriptFault::Text(Fault { line, cause })
 }
 
-/// A fault of the whole text, which names its last line. Only such a fault has the lines counted. Linear in the text.
+/// A fault of the whole text, which names its last line. The lines are counted only for such a fault. Linear in the text.
 fn fault_of_all(text: &[u8], cause: Cause) -> ScriptFault
     requires { length text.now ≤ max_text }
     ensures { FailsText result (fault_at {A = History} (length (lines_of text.now)) cause) }
@@ -110,7 +111,7 @@ fn fault_of_all(text: &[u8], cause: Cause) -> ScriptFault
     fault(line_count(text) as u32, cause)
 }
 
-/// The script of a text's history, or what is judged after the last line.
+/// The script of a text's history, or the fault that is judged after the last line.
 fn completed(alloc: Global, text: &[u8], history: History) -> Result<Script, ScriptFault>
     requires { length text.now ≤ max_text }
     ensures { GivesText (λ script. script) result (completed (length (lines_of text.now)) history) }
@@ -122,7 +123,7 @@ fn completed(alloc: Global, text: &[u8], history: History) -> Result<Script, Scr
     Ok(Script { history })
 }
 
-/// Asks that the requests at each place belong together.
+/// Checks that the requests at each place belong together.
 fn check(alloc: Global, text: &[u8], history: &History) -> Result<(), ScriptFault>
     requires { length text.now ≤ max_text }
     ensures fault { GivesText (λ _. history.now) result (belonging (length (lines_of text.now)) history.now) }

@@ -1,7 +1,7 @@
 ghost use Rattle.std.specs.Prelude.{◌≤◌};
 
-/// How a byte of a line is shown: in one column. A tab and a carriage return are spaces, and what else isn't printed so is a
-/// question mark.
+/// The character that shows a byte of a line, one column wide: a space for a tab and a carriage return, and a question mark for
+/// any other byte that can't be printed.
 pub fn shown_as(byte: u8) -> char
     ensures low { 32 ≤ result }
     ensures high { result ≤ 126 }

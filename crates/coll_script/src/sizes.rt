@@ -4,22 +4,22 @@ ghost use Rattle.coll_script.specs.Configs.{sizes_of};
 
 use coll_history::IssuedCommand;
 
-/// How large an engine is opened to run a job, beside its ranks and its communicators.
+/// The size of an engine for a job, beside its ranks and its communicators.
 #[derive(Clone, Copy, Debug, PartialEq, Eq)]
 pub struct Sizes {
-    /// The most live requests at one time.
+    /// The greatest number of live requests at one time.
     pub slots: u32,
-    /// The most posts and initialisations of one member on one communicator.
+    /// The greatest number of posts and initialisations of one member on one communicator.
     pub places: u32,
-    /// How many requests one slot is given to, one after the other.
+    /// The number of requests to which one slot is given, one after the other.
     pub wear: u32,
-    /// The most starts of one request.
+    /// The greatest number of starts of one request.
     pub starts: u32,
-    /// The most entries of the trace.
+    /// The greatest number of entries of the trace.
     pub trace: u32,
 }
 
-/// What these commands need. Linear in them.
+/// The sizes that these commands need. Linear in the commands.
 pub(crate) fn sizes_of(issued: &[IssuedCommand]) -> Sizes
     requires { length issued.now ≤ 1048577 }
     ensures { result ≡ sizes_of issued.now }
@@ -35,7 +35,7 @@ pub(crate) fn sizes_of(issued: &[IssuedCommand]) -> Sizes
     }
 }
 
-/// How many requests they make.
+/// The number of requests that the commands make.
 fn made(issued: &[IssuedCommand]) -> u32
     requires { length issued.now ≤ 1048577 }
     ensures count { result ≡ count_by (λ t. is_some (posting t.command)) issued.now }
@@ -47,7 +47,7 @@ fn made(issued: &[IssuedCommand]) -> u32
         .count() as u32
 }
 
-/// How many starts they have.
+/// The number of starts among the commands.
 fn started(issued: &[IssuedCommand]) -> u32
     requires { length issued.now ≤ 1048577 }
     ensures count { result ≡ count_by (λ t. is_start t.command) issued.now }

@@ -4,8 +4,8 @@ ghost use Rattle.std.specs.Io.KnownBytes.{Appends};
 use std::io;
 use std::io::Write;
 
-/// A writer that remembers whether an answer couldn't be written to it, and why. What is told besides goes to `stream`, past the flag, since
-/// nobody is left to be told where that fails.
+/// A writer that remembers whether an answer couldn't be written to it, and why. What is written beside answers goes to
+/// `stream` directly and doesn't set the flag, since its failures are ignored.
 #[derive(Drop)]
 pub struct Witnessed<'w, W> {
     pub stream: &'w mut W,
@@ -14,7 +14,7 @@ pub struct Witnessed<'w, W> {
 }
 
 impl<'w, W: Write> Witnessed<'w, W> {
-    /// A writer whose failures are remembered from here on.
+    /// A writer whose failures are remembered from now on.
     pub fn new(stream: &'w mut W) -> Witnessed<'w, W>
         ensures same_reference { result.stream.ghost_name ≡ stream.entry.ghost_name }
         ensures stream { result.stream.now ≡ stream.old }
@@ -27,23 +27,23 @@ impl<'w, W: Write> Witnessed<'w, W> {
         }
     }
 
-    /// Whether the writer answered an error, or took no byte.
+    /// Whether the writer returned an error, or took no byte.
     pub fn has_failed(&self) -> bool
         ensures { result ≡ self.now.failed }
     {
         self.failed
     }
 
-    /// The last error that the writer answered.
+    /// The last error that the writer returned.
     pub fn error(&self) -> Option<io::Error> {
         self.error
     }
 
-    /// Writes all bytes, and flushes them. Answers the writer's error.
+    /// Writes all bytes, and flushes them. Returns the writer's error, if it fails.
     pub fn write_through(&mut self, bytes: &[u8]) -> io::Result<()>
         ensures same_reference { self.new.stream.ghost_name ≡ self.old.stream.ghost_name }
         ensures bytes { OnOk result (Appends (W.contents self.old.stream.now) (W.contents self.new.stream.now) bytes.now) }
-        // An error sets the flag, and nothing else does.
+        // An error sets the flag; nothing else changes it.
         ensures failed { OnErr result (self.new.failed ≡ true) }
         ensures taken { OnOk result (self.new.failed ≡ self.old.failed) }
     {

@@ -11,6 +11,6 @@ AreStarted rank ((request, bytes) ∷ begun) (e ∷ es) = IsStarted rank request
 AreStarted rank [] (e ∷ es) = ⊥
 AreStarted rank (b ∷ begun) [] = ⊥
 
--- they come behind those that were there
+-- they come after those that were there
 abbrev pub PushesStarts : ℕ → List Begun → List Entry → List Entry → Type 0
 PushesStarts rank begun was is = (es : List Entry) × (is ≡ was ++ es) × AreStarted rank begun es

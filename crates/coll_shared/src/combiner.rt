@@ -7,13 +7,13 @@ ghost use Rattle.std.specs.Prelude.{◌≡◌, IfErr};
 use crate::locked::{Locked, Successor};
 use crate::patience::Turns;
 use crate::record::PublicationRecord;
+use coll_core::{DoneShortWork, ShortWork};
 use coll_kinds::Refusal;
 use coll_traced::{Entries, Ranks, TracedCore};
-use crossbeam_utils::CachePadded;
 use crossbeam_utils::sync::EventCount;
+use crossbeam_utils::{Backoff, CachePadded};
 pub(crate) use held::Held;
 use std::alloc::Global;
-use std::hint::spin_loop;
 use std::sync::atomic::{AtomicU64, Ordering};
 use std::sync::{Mutex, Wait};
 
@@ -99,11 +99,12 @@ impl<L: Entries> Combiner<L> {
     }
 
     fn await_lock<R: Wait>(&self, rt: &R) -> Held<'_, L> {
-        for _ in 0..self.turns.without_turns().looks() {
+        let backoff = Backoff::new();
+        for _ in 0..self.turns.without_turns().asks() {
             if let Some(held) = self.try_enter() {
                 return held;
             }
-            spin_loop();
+            backoff.spin();
         }
         Held::new(self.locked.lock(rt))
     }
@@ -140,7 +141,7 @@ impl<L: Entries> Combiner<L> {
     ///
     /// Nobody misses it: where the lock is free, this thread takes it and notes the departure itself. Else the departure was
     /// published before another thread gave the lock up, and `release` looks for departures after each unlock, so that thread or the
-    /// one that has taken the lock since notes it. The hold that notes it tells a stall, and so wakes the ports that slept for this
+    /// one that has taken the lock since notes it. The hold that notes it reports a stall, and so wakes the ports that slept for this
     /// rank.
     pub(crate) fn depart(&self, rank: u8) {
         self.departed
@@ -189,7 +190,7 @@ impl<L: Entries> Combiner<L> {
     }
 
     /// Answers the registered ports that wait for what is finished now.
-    fn answer_met(&self, held: &mut Held<'_, L>) {
+    pub(crate) fn answer_met(&self, held: &mut Held<'_, L>) {
         if held.locked.finished {
             held.locked.finished = false;
             let met = held.locked.traced.met();
@@ -221,8 +222,22 @@ impl<L: Entries> Combiner<L> {
         self.answer_met(held);
     }
 
-    /// The only way to give the lock up. It takes the lock again, without waiting, for what was published meanwhile, a few times; for
-    /// ports that were dropped, of which there are few, each time.
+    /// Computes a combination of a few bytes with the lock free, and takes the lock again. Those who are to be woken are; nothing else is done
+    /// for others before that: this thread waits for nothing but the lock, and does it when it gives the lock up for good.
+    pub(crate) fn compute_between<'a, R: Wait>(
+        &'a self,
+        rt: &R,
+        held: Held<'a, L>,
+        work: ShortWork,
+    ) -> (Held<'a, L>, DoneShortWork) {
+        let wake = held.unlock();
+        self.wake(wake);
+        let done = work.run();
+        (self.enter(rt), done)
+    }
+
+    /// The only way to give the lock up for good. It takes the lock again, without waiting, for what was published meanwhile, a few times;
+    /// for ports that were dropped, of which there are few, each time.
     pub(crate) fn release<'a>(&'a self, mut held: Held<'a, L>) {
         for round in 1..u32::MAX {
             self.let_go(held);

@@ -7,6 +7,11 @@ pub trait Gate {
     /// Called after its result was written, with the lock free. It mustn't wait for what other threads do with the engine: a waiting port
     /// that is here counts as one that goes on with what is ready, so no other is called for that.
     fn after(&self, piece: u64);
+
+    /// Whether neither call does anything. Such a gate needn't be told of combinations of a few bytes.
+    fn is_always_open(&self) -> bool {
+        false
+    }
 }
 
 /// A gate that does nothing.
@@ -17,4 +22,8 @@ impl Gate for NoGate {
     fn before(&self, _piece: u64) {}
 
     fn after(&self, _piece: u64) {}
+
+    fn is_always_open(&self) -> bool {
+        true
+    }
 }

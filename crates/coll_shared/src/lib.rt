@@ -8,12 +8,12 @@
 //! | `port` | `Port`, a rank's way into the engine |
 //! | `closing` | `close`, which ends an engine and makes its report |
 //! | `rank_threads` | `run_rank_threads`, which runs a task for each rank in a thread of its own |
-//! | `gate` | `Gate`, which may hold a thread up before a combination, and is told of its end |
+//! | `gate` | `Gate`, which is called before and after a combination, and may hold a thread up before it |
 //! | `inspect` | `Inspect`, what looks at an engine under its lock |
 //! | `record` | `PublicationRecord`, a port's place to say what it wants |
 //! | `publication` | `Publication`, what lies there: an operation, a wait, or the answer |
 //! | `combiner` | `Combiner`, the lock and the records, and what the thread that has the lock does for all |
-//! | `combiner::held` | `Held`, a hold of the lock, which only `Combiner::release` can end |
+//! | `combiner::held` | `Held`, a hold of the lock, which can't be dropped |
 //! | `locked` | `Locked`, what the lock guards |
 //! | `looking` | the calls of a port on it, in words that outlast the hold of the lock |
 //! | `publishing` | posts and starts, which the combiner makes where the lock isn't free |

@@ -4,7 +4,7 @@ ghost use Rattle.std.specs.Prelude.{◌≡◌, IfErr, IsTrue};
 ghost use Rattle.coll_traced.specs.Awaiting.{IsSetback};
 ghost use Rattle.coll_traced.specs.Stalls.{WasStalled};
 
-use coll_core::{DoneWork, Stepped, Work};
+use coll_core::{DoneShortWork, DoneWork, Stepped, Work};
 use coll_kinds::{Refusal, Refused};
 use coll_traced::{Entries, Ranks, TracedCore};
 
@@ -25,7 +25,7 @@ pub(crate) struct Locked<L: Entries> {
     pub(crate) finished: bool,
     /// Progress threads are to end.
     pub(crate) stopped: bool,
-    /// A stall was told, and nothing was ready since.
+    /// A stall was reported, and nothing was ready since.
     stalled: bool,
     pieces: u64,
 }
@@ -103,6 +103,16 @@ impl<L: Entries> Locked<L> {
         }
     }
 
+    /// Writes the result of a combination of a few bytes.
+    pub(crate) fn write_short(&mut self, done: DoneShortWork) -> Result<(), Refusal>
+        ensures { IfErr result IsSetback }
+    {
+        if let Stepped::Finished = self.traced.commit_short(done)? {
+            self.finished = true;
+        }
+        Ok(())
+    }
+
     /// The number of the next combination that is handed out. At the greatest number it stays there.
     pub(crate) fn next_piece(&mut self) -> u64 {
         let piece = self.pieces;
@@ -117,7 +127,7 @@ impl<L: Entries> Locked<L> {
         }
     }
 
-    /// Whether a stall was told, and nothing has been ready since.
+    /// Whether a stall was reported, and nothing has been ready since.
     pub(crate) fn is_stalled(&self) -> bool
         ensures { IsTrue result → WasStalled L.setting }
     {

@@ -1,5 +1,5 @@
-//! How long a thread looks for what it waits for before it sleeps, and whether it gives turns to others meanwhile. `bench/RESULTS.md`,
-//! "Waiting", has what was measured.
+//! How long a thread that waits spins before it sleeps, and whether it gives turns to other threads meanwhile. `bench/RESULTS.md`,
+//! "Waiting", has the measurements.
 
 use std::hint::spin_loop;
 use std::sync::atomic::{AtomicU64, Ordering};
@@ -8,75 +8,88 @@ use std::thread::yield_now;
 /// How a thread waits, before it sleeps.
 #[derive(Clone, Copy, Debug)]
 pub(crate) struct Patience {
-    /// How often it looks in a row.
+    /// Looks in a row, without a turn for others.
     spins: u32,
-    /// How often it looks after that, with a turn for others before each look.
+    /// Looks after these, with a turn for others before each.
     snoozes: u32,
-    /// At which looks it tries to take the lock: at those whose number has all of these bits.
+    /// It tries to take the lock at the looks whose number has all of these bits.
     tries: u32,
-    /// How often it looks in a row with the lock, before it gives the lock up.
+    /// Looks in a row while it holds the lock, before it gives the lock up.
     holds: u32,
+    /// Tries to take the lock that it asks for, with longer and longer pauses between them.
+    asks: u32,
 }
 
-/// Where turns are short.
+/// Where each thread has a processor of its own. It gives no turns: no other thread needs its processor, and where another program does, a
+/// turn may take a time slice. It seldom tries for the lock, since each try takes the lock's word out of the cache of the thread that has
+/// the lock; a port that nobody serves waits for the first try.
+const ALONE: Patience = Patience {
+    spins: 10_000,
+    snoozes: 0,
+    tries: 1_023,
+    holds: 1_250,
+    asks: 160,
+};
+
+/// Where threads share processors, and turns are short.
 const AMONG_THREADS: Patience = Patience {
     spins: 20,
     snoozes: 1_980,
     tries: 63,
     holds: 200,
+    asks: 8,
 };
 
-/// Where turns are long, and each thread has a processor of its own. It gives none: nobody needs its processor.
-const ALONE: Patience = Patience {
-    spins: 10_000,
-    snoozes: 0,
-    tries: 511,
-    holds: 1_250,
-};
-
-/// Where turns are long, and threads share processors. It looks about as long as to sleep and to be woken takes.
+/// Where threads share processors, and turns are long: it looks about as long as it takes to sleep and be woken.
 const CROWDED: Patience = Patience {
     spins: 200,
     snoozes: 0,
     tries: 63,
     holds: 50,
+    asks: 8,
 };
 
-/// Where turns are long, and there is one processor: nothing comes while it looks.
+/// Where threads share one processor, and turns are long: nothing changes while it looks.
 const ON_ONE_PROCESSOR: Patience = Patience {
     spins: 0,
     snoozes: 0,
     tries: 0,
     holds: 0,
+    asks: 0,
 };
 
-/// How many looks with the lock come close upon one another.
+/// The first looks with the lock, which follow one another without longer pauses.
 const CLOSE: u32 = 20;
 
-/// How many pauses the later ones have between them: about as long as a short turn.
+/// Pauses between the later ones, which take about as long as a short turn.
 const PAUSES: u32 = 8;
 
-/// A wait that ends within so many turns is short.
+/// A wait that ends within this many turns is short.
 const FEW: u32 = 3;
 
-/// After so many short waits in a row turns are long.
+/// After this many short waits in a row turns count as long.
 const MANY: u64 = 16;
 
-/// So many waits give no turns then.
+/// This many waits then give no turns.
 const PERIOD: u64 = 10_000;
 
 impl Patience {
-    /// How often it looks in all.
+    /// Looks in all.
     pub(crate) fn looks(self) -> u32 {
         self.spins.saturating_add(self.snoozes)
     }
 
-    /// How often it looks with the lock.
+    /// Looks while it holds the lock.
     pub(crate) fn holds(self) -> u32 {
         self.holds
     }
 
-    /// Whether it tries to take the lock at a look.
+    /// Tries to take the lock that it asks for, before it sleeps.
+    pub(crate) fn asks(self) -> u32 {
+        self.asks
+    }
+
+    /// Whether it tries to take the lock at this look.
     pub(crate) fn tries(self, look: u32) -> bool {
         look & self.tries == self.tries
     }
@@ -90,7 +103,7 @@ impl Patience {
         }
     }
 
-    /// How many turns were given before a look.
+    /// The turns that were given before a look.
     fn turns(self, look: u32) -> u32 {
         look.saturating_sub(self.spins)
     }
@@ -104,15 +117,15 @@ pub(crate) fn pause_with_the_lock(look: u32) {
     }
 }
 
-/// What waits have shown of the turns that threads give to others. Where other programs want the processors, a turn takes a time slice, in
-/// which what the thread waits for mostly comes: so waits end within their first turns. Else a turn is short, and a wait takes many.
+/// What waits have shown of the turns that threads give to others, where they share processors. Where other programs want the processors, a
+/// turn takes a time slice, and most waits end within their first turns. Else a turn is short, and a wait takes many.
 #[derive(Drop)]
 pub(crate) struct Turns {
     threads: AtomicU64,
     processors: AtomicU64,
-    /// How many short waits have come in a row.
+    /// The short waits that came in a row.
     short: AtomicU64,
-    /// How many waits more give no turns.
+    /// The number of further waits that give no turns.
     left: AtomicU64,
 }
 
@@ -127,26 +140,33 @@ impl Turns {
         }
     }
 
-    /// So many threads share so many processors.
+    /// For this number of threads, on this number of processors.
     pub(crate) fn fit(&self, threads: usize, processors: usize) {
         self.threads.store(threads as u64, Ordering::SeqCst);
         self.processors.store(processors as u64, Ordering::SeqCst);
     }
 
-    /// How a thread waits where turns are long.
+    /// Whether each thread has a processor of its own.
+    fn are_needless(&self) -> bool {
+        self.threads.load(Ordering::SeqCst) <= self.processors.load(Ordering::SeqCst)
+    }
+
+    /// The patience of a thread that gives no turns.
     pub(crate) fn without_turns(&self) -> Patience {
-        let processors = self.processors.load(Ordering::SeqCst);
-        if self.threads.load(Ordering::SeqCst) <= processors {
+        if self.are_needless() {
             ALONE
-        } else if processors > 1 {
+        } else if self.processors.load(Ordering::SeqCst) > 1 {
             CROWDED
         } else {
             ON_ONE_PROCESSOR
         }
     }
 
-    /// How a wait that begins is to go.
+    /// How the wait that begins now is made.
     pub(crate) fn patience(&self) -> Patience {
+        if self.are_needless() {
+            return ALONE;
+        }
         let left = self.left.load(Ordering::SeqCst);
         if left == 0 {
             return AMONG_THREADS;
@@ -155,7 +175,7 @@ impl Turns {
         self.without_turns()
     }
 
-    /// A wait has ended at a look. The words are in the caches of all that wait, so they are written only where they change.
+    /// Notes that a wait ended at this look. The words lie in the caches of all threads that wait, so they are written only where they change.
     pub(crate) fn ended(&self, patience: Patience, look: u32) {
         let turns = patience.turns(look);
         if turns > FEW {

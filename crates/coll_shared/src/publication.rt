@@ -36,7 +36,7 @@ pub(crate) struct Publication<L: Entries> {
     pub(crate) tally: Tally<L>,
 }
 
-/// The post or start that a port published, as the port tells its answer from others.
+/// The post or start that a port published, by which the port recognises its answer.
 #[derive(Clone, Copy)]
 pub(crate) enum Expected<'a> {
     Post {

@@ -30,7 +30,7 @@ impl<T, K: RankTask<T>> Promise<T> for EndOf<K> {
     ghost kept_by = { λ p end. K.IsEnd p.0.value end };
 }
 
-/// What a progress thread promises: it ended as it was to, or for a reason that `Engine::work` tells.
+/// What a progress thread promises: it ended as it was to, or for a reason that `Engine::work` returns.
 #[derive(Clone, Copy)]
 struct Progress;
 

@@ -21,7 +21,7 @@ const ANSWERED: u64 = 3;
 /// As Registered, and the parked port is to go on.
 const CALLED: u64 = 4;
 
-/// A port's place to say what it wants. The word tells whose the slot is: the port's while Empty or Answered, else the combiner's. A
+/// A port's place to say what it wants. The word says whose the slot is: the port's while Empty or Answered, else the combiner's. A
 /// parked port sleeps on the word.
 #[derive(Drop)]
 pub(crate) struct PublicationRecord<L: Entries> {

@@ -43,12 +43,12 @@ enum Next {
 struct Effort {
     steps: u32,
     combinations: u32,
-    /// How often in a row nothing was ready.
+    /// How often nothing was ready since the last step or longer combination.
     looks: u32,
 }
 
 impl<L: Entries> Combiner<L> {
-    /// Gives the lock up, and tells the gate of the piece whose result was written meanwhile.
+    /// Gives the lock up, and calls the gate for the piece whose result was written meanwhile.
     fn leave<'a, G: Gate>(&'a self, gate: &G, held: Held<'a, L>, written: Option<u64>) {
         self.release(held);
         if let Some(piece) = written {
@@ -78,6 +78,9 @@ impl<L: Entries> Combiner<L> {
         record.heed();
         for _ in rt.forever() {
             self.combine(&mut held);
+            if gate.is_always_open() {
+                held = self.compute_short(rt, held, rank)?;
+            }
             match self.next(&mut held, rank, record, patience, may_park, &mut effort) {
                 Ok(Next::Again) => {}
                 Ok(Next::Compute(work)) => {
@@ -97,6 +100,38 @@ impl<L: Entries> Combiner<L> {
             }
         }
         unreachable!()
+    }
+
+    /// Computes the combinations of a few bytes that come first, up to `STEPS` of them, in the turn of a waiting port. They prolong no turn:
+    /// who is answered in it and sleeps is woken at its end, and others may go on for ever.
+    ///
+    /// # Errors
+    ///
+    /// As `compute`.
+    fn compute_short<'a, R: Wait>(
+        &'a self,
+        rt: &R,
+        mut held: Held<'a, L>,
+        rank: u8,
+    ) -> Result<Held<'a, L>, Refusal>
+        ensures { IfErr result IsSetback }
+    {
+        for _ in 0..STEPS {
+            let Some(work) = held.locked.traced.hand_out_short() else {
+                break;
+            };
+            let _piece = held.locked.next_piece();
+            let (mut again, done) = self.compute_between(rt, held, work);
+            if let Err(why) = again.locked.write_short(done) {
+                again.locked.give_up(Some(rank));
+                self.release(again);
+                return Err(why);
+            }
+            again.locked.advance();
+            held = again;
+        }
+        self.answer_met(&mut held);
+        Ok(held)
     }
 
     /// What a waiting port does next.
@@ -140,8 +175,8 @@ impl<L: Entries> Combiner<L> {
         Ok(Next::End(Turn::Spin))
     }
 
-    /// Computes a combination with the lock free, after the gate was told of the one that was written before; and writes its result.
-    /// Then the lock is held again, and the gate is still to be told of this one.
+    /// Computes a combination with the lock free, after the gate was called for the one that was written before; and writes its result.
+    /// Then the lock is held again, and the gate is still to be called for this one.
     ///
     /// # Errors
     ///
@@ -174,7 +209,7 @@ impl<L: Entries> Combiner<L> {
     }
 
     /// Takes the lock for a test, and makes progress: the steps that need no combination, and one combination where nobody else is there
-    /// to compute it. That isn't numbered, and no gate is told of it. Where it is refused, the next call finds it again.
+    /// to compute it. That one isn't numbered, and no gate is called for it. Where it is refused, the next call finds it again.
     pub(crate) fn enter_to_test<R: Wait>(&self, rt: &R) -> Held<'_, L> {
         let mut held = self.enter(rt);
         self.combine(&mut held);

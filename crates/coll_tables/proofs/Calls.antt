@@ -96,7 +96,7 @@ pub record Retiring (v : Tables) (i : ℕ) (q : Live) (rank : ℕ) (bytes : List
 
 -- ---- actions
 
--- the slot's request is on Ready or Running, and goes one action on, and over the ends of rounds behind it
+-- the slot's request is on Ready or Running, and goes one action on, and over the ends of rounds after it
 pub record Acting (v : Tables) (i : ℕ) (q : Live) (a : Action) (o : Progress) (home : ℕ → ℕ) : Type 0 where
   pub here : v.request i ≡ Some q
   pub list : (v.home i ≡ number_of Ready) ⊎ (v.home i ≡ number_of Running)

@@ -69,7 +69,7 @@ pub record HasMade (q r : Postings) (m n : Instances) (k : Key) (size : ℕ) : T
   pub seats : seats n ≡ seats m
   pub mail : mail n ≡ mail m
 
--- the request that a post or an initialisation makes, as it stands with so many starts
+-- the request that a post or an initialisation makes, as it stands with that many starts
 abbrev pub made : ℕ → ℕ → Planned → ℕ → ℕ → Progress → Live
 made rank comm plan place starts o = record {
   rank = rank;

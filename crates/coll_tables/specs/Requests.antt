@@ -50,7 +50,7 @@ advanced q p = record {
   buf = p.buf;
 }
 
--- the request started once more, at this point
+-- the request started again, at this point
 abbrev pub begun : Live → Progress → Live
 begun q p = record {
   rank = q.rank;

@@ -41,7 +41,7 @@ moved v slot list = put v.home slot (number_of list)
 abbrev pub both : List ℕ
 both = 7 ∷ 8 ∷ []
 
--- its buffer at its first action, and behind its last
+-- its buffer at its first action, and after its last
 abbrev pub laid : List ℕ
 laid = 0 ∷ both
 

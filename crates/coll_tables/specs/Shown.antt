@@ -1,5 +1,5 @@
 -- The tables that an arena, posting lists and instances show. The arena's records are data of any type; a function
--- gives what each is as a live request, but for whether it is active: that is told by its list.
+-- gives what each is as a live request, but for whether it is active: its list shows that.
 use Rattle.std.specs.Prelude.{ℕ, ◌==◌, not, List, Option, Some, None, option_map, if◌then◌else◌}
 use Rattle.coll_kinds.specs.Lengths.{lent}
 use Rattle.coll_arena.specs.declared.list_name.ListName.TheVariants.{Idle}

@@ -2,7 +2,7 @@
 use Rattle.std.proofs.Common.{◌≡◌, ◌⊎◌, inl, inr, Bool, true, ℕ, zero, suc, ◌+◌, ◌<◌, ◌≤◌, List, [], ◌∷◌, ◌++◌, length, Some, None, refl, sym, ap, subst, ◌∙◌, arith}
 use Rattle.coll_kinds.specs.declared.refusal.Refusal.TheVariants.{NoMemory, TraceFull}
 use Rattle.coll_core.specs.Calls.{Refuses}
-use Rattle.std.specs.Prelude.{is_some, IfErr, IfOk, OnErr, OnOk, Result, Ok, Err}
+use Rattle.std.specs.Prelude.{is_some, IfErr, IfOk, IfSome, OnErr, OnOk, Option, Result, Ok, Err}
 use Rattle.std.proofs.lemmas.Option.{same_Some}
 use Rattle.coll_kinds.specs.declared.kind.Mode.TheVariants.{Once, Persistent}
 use Rattle.coll_kinds.specs.declared.refusal.Refusal.{Refusal}
@@ -28,7 +28,7 @@ use Rattle.coll_core.specs.declared.config.Config.{Config}
 use Rattle.coll_core.specs.declared.outcome.Outcome.{Outcome}
 use Rattle.coll_core.specs.declared.stepped.Stepped.{Stepped}
 use Rattle.coll_core.specs.declared.stepped.Stepped.TheVariants.{Quiet, Moved, Finished, Out}
-use Rattle.coll_core.specs.Steps.{Steps, CommitSteps, Returns}
+use Rattle.coll_core.specs.Steps.{Steps, CommitSteps, HandsOut, Returns}
 use Rattle.coll_core.specs.Works.{Made, Piece}
 use Rattle.coll_core.specs.declared.about.About.{About}
 use Rattle.coll_core.specs.Phases.{about_in, about_of}
@@ -273,6 +273,10 @@ commit_ended {g} config p r es n d (Err why) k ok err = subst (λ q. IsKept g co
 pub abandon_ended : {g : Setting} (config : Config) (p r : Parts) (es : List Entry) (n : ℕ) (w : Piece) (o : Result (Unit {0}) Refusal) → IsKept g config p es n → OnOk o (Returns p r w) → OnErr o (r ≡ p) → IsKept g config r es n
 abandon_ended {g} config p r es n w (Ok x) k ok err = kept_stays config p r es n k ok.stays.set (ap (λ (m : Machine). m.state) ok.stays.same)
 abandon_ended {g} config p r es n w (Err why) k ok err = subst (λ q. IsKept g config q es n) (sym err) k
+
+pub handed_out : {g : Setting} (config : Config) (p r : Parts) (es : List Entry) (n : ℕ) (o : Option Piece) → IsKept g config p es n → IfSome o (HandsOut p r) → (o ≡ None → r ≡ p) → IsKept g config r es n
+handed_out {g} config p r es n (Some w) k out none = kept_stays config p r es n k out.stays.set (ap (λ (m : Machine). m.state) out.stays.same)
+handed_out {g} config p r es n None k out none = subst (λ q. IsKept g config q es n) (sym (none refl)) k
 
 -- ---- refusals
 

@@ -10,7 +10,7 @@ use Rattle.coll_report.specs.declared.entry.Entry as rust_entry
 use Rattle.coll_report.specs.Views.{seen, trace_seen}
 use Rattle.coll_traced.specs.Places.{IsLast, NamesLast, place_in}
 
--- what stands behind a list is found at its length
+-- what stands after a list is found at its length
 slice_get-behind : (xs : List Entry) (e : Entry) → slice_get (xs ++ e ∷ []) (length xs) ≡ Some e
 slice_get-behind [] e = refl
 slice_get-behind (x ∷ xs) e = slice_get-behind xs e

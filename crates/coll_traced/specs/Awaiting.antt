@@ -46,7 +46,7 @@ IsWaitFor m rank (awaited.One request) wait = (t : Ticket) × (request.now ≡ S
 IsWaitFor m rank (awaited.Any requests) wait = wait ≡ ForAny rank (tickets_in requests.now)
 IsWaitFor m rank (awaited.All requests) wait = IsForOneOf m rank requests.now wait
 
--- the port needn't wait, since there is no request; of all requests of a list this tells nothing
+-- the port needn't wait, since there is no request; of all requests of a list this says nothing
 abbrev pub NeedsNoWait : Awaited → Type 0
 NeedsNoWait (awaited.One request) = request.now ≡ None
 NeedsNoWait (awaited.Any requests) = ⊥

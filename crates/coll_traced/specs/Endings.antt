@@ -5,7 +5,7 @@ use Rattle.coll_machine.specs.Calls.{Call, Free, Nothing, Outcome, Reply, Retire
 use Rattle.coll_machine.specs.Entries.{Entry, Freed, Retired}
 use Rattle.coll_machine.specs.Runs.{Event}
 
--- the entry of a call with its answer; those of other calls aren't told here
+-- the entry of a call with its answer; nothing is said here of other calls
 abbrev pub ending : Call → Reply → List Entry
 ending (Retire rank t) (Outcome who comm place start bytes) = Retired rank t comm place start bytes ∷ []
 ending (Free rank t) Nothing = Freed rank t ∷ []

@@ -1,4 +1,4 @@
--- a core with its trace; what ports wait for, when nothing can go on, and what calls tell
+-- a core with its trace; what ports wait for, when nothing can go on, and what calls return
 pub mod Traced
 pub mod Moments
 pub mod Waits
@@ -11,7 +11,7 @@ pub mod Awaiting
 pub mod Unfinished
 pub mod Operations
 pub mod Closings
--- what a core with its trace did, as the completion calls over it tell
+-- what a core with its trace did, as the completion calls over it say
 pub mod Doing
 -- what functions promise one another: what a post keeps, the entries of receipts, and the trace's room
 pub mod Outcomes

@@ -15,7 +15,7 @@ use Rattle.coll_traced.specs.Traced.{Traced}
 abbrev pub IsDone : Parts → ℕ → Ticket → Type 0
 IsDone p rank t = (refusal (setting p) (seen p).state (Retire rank t) ≡ None) × (phase_in (seen p) t ≡ Some Done)
 
--- the port waits for what isn't the case, or has ended
+-- the port is blocked in a wait, or has ended
 abbrev pub IsBlocked : Parts → WaitFor → Type 0
 IsBlocked p Awake = ⊥
 IsBlocked p (ForOne rank t) = IsDone p rank t → ⊥

@@ -1,4 +1,4 @@
--- What completion calls tell, without naming what lay under the lock: at a moment of an engine with that setting, which accepted the
+-- What completion calls return, without naming what lay under the lock: at a moment of an engine with that setting, which accepted the
 -- requests and had at least the entries that the port had made, they are the tests of `coll_complete`, and the receipts are the
 -- entries of what they completed.
 use Rattle.std.specs.Prelude.{◌≡◌, Bool, true, false, not, ℕ, List, [], length, map, position}

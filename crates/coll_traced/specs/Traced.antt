@@ -19,7 +19,7 @@ pub record Traced : Type 0 where
   pub waits : List WaitFor  -- what each port waits for, by rank
   pub stalled : Bool  -- it was found that nothing can go on
 
--- what is kept of an engine with that setting, which was opened with that configuration, where so many entries are spoken for
+-- what is kept of an engine with that setting, which was opened with that configuration, where that many entries are spoken for
 pub record IsKept (g : Setting) (config : Config) (core : Parts) (entries : List Entry) (spoken_for : ℕ) : Type 0 where
   pub set : setting_by config ≡ g
   pub opened : setting core ≡ setting_by config

@@ -22,7 +22,7 @@ wait_of waiting.Ended tickets = Ended
 abbrev pub wait_in : PortWait → WaitFor
 wait_in port = wait_of port.how port.tickets.items
 
--- there is memory for the tickets of so many requests
+-- there is memory for the tickets of that many requests
 abbrev pub IsRoomy : ℕ → PortWait → Type 0
 IsRoomy slots port = slots ≤ vec_capacity port.tickets
 

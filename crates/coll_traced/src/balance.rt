@@ -1,4 +1,4 @@
-//! What the entries of a trace tell of its ranks when the engine is to be closed.
+//! What the entries of a trace say of its ranks when the engine is to be closed.
 
 ghost use Rattle.std.specs.Prelude.{◌≡◌, ◌<◌, ◌+◌, ◌^◌, ◌==◌, ◌↔◌, ℕ, IfSome, IsNone, IsTrue, cond, length, slice_index};
 ghost use Rattle.coll_report.specs.Traces.{caller, completes_by};
@@ -72,7 +72,7 @@ fn count_completed(entries: &[Entry]) -> [usize; RANKS]
     counts
 }
 
-/// The first of so many ranks that has begun more than it completed. Linear in the trace.
+/// The lowest of this many ranks that has begun more than it completed. Linear in the trace.
 pub(crate) fn first_unbalanced(entries: &[Entry], ranks: u8) -> Option<u8>
     ensures none { IsNone result → (r : ℕ) → r < ranks → IsBalanced r (trace_seen entries.now) }
     ensures some { IfSome result (λ rank. IsBalanced rank (trace_seen entries.now) → ⊥) }
@@ -99,7 +99,7 @@ fn count_made(entries: &[Entry]) -> [usize; RANKS]
     counts
 }
 
-/// Whether it is the end of the rank's port, which made so many entries.
+/// Whether it is the end of the rank's port, which made that many entries.
 fn is_end<L: Entries>(spent: &Spent<L>, rank: u8, made: usize) -> bool
     ensures { IsTrue result ↔ (spent.now ≡ (rank, made)) }
 {

@@ -16,7 +16,7 @@
 //! | `recent` | `Recent`, long bytes that further entries can share |
 //! | `copied_config` | a copy of what an engine is opened with |
 //! | `laws` | that the records of a port's answers aren't true of everything |
-//! | `balance` | what a trace tells of its ranks when the engine is to be closed |
+//! | `balance` | what a trace says of its ranks when the engine is to be closed |
 //! | `spent` | `Spent`, what is left of a port |
 //! | `replacement` | `Replacement`, what takes an engine's place when it is closed |
 #![tactic(auto)]

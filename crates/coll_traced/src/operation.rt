@@ -45,7 +45,7 @@ impl Operation {
         Some(Operation::Start(operation))
     }
 
-    /// Makes it for the rank, unless that is refused. Answers the ticket, and the entry that was appended.
+    /// Makes it for the rank, unless that is refused. Returns the ticket, and the entry that was appended.
     pub fn make<L: Entries>(
         self,
         traced: &mut TracedCore<L>,

@@ -53,7 +53,7 @@ fn list(tickets: &mut Vec<Ticket>, requests: &[Request]) -> Result<(), Refusal>
 }
 
 impl PortWait {
-    /// Of a port that is awake, with memory for so many tickets.
+    /// For a port that is awake, with memory for this many tickets.
     pub(crate) fn new(alloc: Global, slots: u32) -> Result<Self, Refusal>
         ensures waits { IfOk result (λ port. wait_in port ≡ Awake) }
         ensures capacity { IfOk result (λ port. slots ≤ vec_capacity port.tickets) }
@@ -90,7 +90,7 @@ impl PortWait {
         Ok(())
     }
 
-    /// Whether the port waits for what isn't the case, or has ended.
+    /// Whether the port is blocked in a wait, or has ended.
     pub(crate) fn is_blocked(&self, core: &Core) -> bool
         ensures { IsTrue result ↔ IsBlocked core.now (wait_in self.now) }
     {

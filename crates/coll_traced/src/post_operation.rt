@@ -35,7 +35,7 @@ pub struct PostOperation {
     ghost signed: { arc_value sig ≡ offer.plan.sig },
 }
 
-/// A plan once more, with its signature.
+/// A copy of a plan, with its signature.
 fn shared(plan: &Plan) -> Option<(Plan, Arc<Signature>)>
     ensures plan { IfSome result (λ r. r.0 ≡ plan.now) }
     ensures sig { IfSome result (λ r. arc_value r.1 ≡ plan.now.sig) }
@@ -68,7 +68,7 @@ impl PostOperation {
         })
     }
 
-    /// Makes the post, unless that is refused. Answers its ticket and its entry.
+    /// Makes the post, unless that is refused. Returns its ticket and its entry.
     pub(crate) fn make<L: Entries>(
         self,
         traced: &mut TracedCore<L>,

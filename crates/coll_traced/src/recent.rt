@@ -3,27 +3,31 @@ ghost use Rattle.std.specs.Prelude.{◌≡◌, IfSome};
 use coll_bytes::Bytes;
 use coll_ops::are_same;
 
+/// The owners of a block that no earlier entry of the trace has: the caller that completes the request, and the entry of that.
+const OWN: usize = 2;
+
 /// The last bytes of the trace that entries can share. An outcome of the same bytes shares them, so that the trace keeps them once:
-/// the members of an allgather or an allreduce get all the same, each in memory of its own.
+/// all members of an allgather get the same bytes, each in memory of its own. Where others own the outcome's block, as the root of a bcast and
+/// the members of an allreduce do, the trace keeps it once anyway, and the bytes aren't compared.
 #[derive(Drop)]
 pub(crate) struct Recent {
     bytes: Option<Bytes>,
 }
 
 impl Recent {
-    /// Of a trace without entries.
+    /// For a trace without entries.
     pub(crate) fn new() -> Self {
         Recent { bytes: None }
     }
 
-    /// Keeps bytes that the trace is about to keep, if entries can share them.
+    /// Keeps bytes that the trace is about to take in, if entries can share them.
     pub(crate) fn remember(&mut self, bytes: &Bytes) {
         if let Some(shared) = bytes.share_counted() {
             self.bytes = Some(shared);
         }
     }
 
-    /// The bytes that were kept, where they are those of the outcome and lie elsewhere.
+    /// The kept bytes, where they equal the outcome's and lie in another block.
     fn find(&self, outcome: &Bytes) -> Option<Bytes>
         ensures { IfSome result (λ bytes. bytes ≡ outcome.now) }
     {
@@ -36,12 +40,14 @@ impl Recent {
         bytes.share_counted()
     }
 
-    /// An outcome's bytes for the trace, without memory: those that were kept, or else the outcome's own.
+    /// An outcome's bytes for the trace: the kept ones where they are the same, else the outcome's own. Takes no memory.
     pub(crate) fn outcome(&mut self, outcome: Bytes) -> Bytes
         ensures { result ≡ outcome }
     {
-        if let Some(bytes) = self.find(&outcome) {
-            return bytes;
+        if !outcome.has_owners_beyond(OWN) {
+            if let Some(bytes) = self.find(&outcome) {
+                return bytes;
+            }
         }
         self.remember(&outcome);
         outcome

@@ -43,7 +43,7 @@ impl StartOperation {
         })
     }
 
-    /// Makes the start, unless that is refused. Answers its ticket and its entry.
+    /// Makes the start, unless that is refused. Returns its ticket and its entry.
     pub(crate) fn make<L: Entries>(
         self,
         traced: &mut TracedCore<L>,

@@ -5,7 +5,7 @@ ghost use Rattle.std.specs.Prelude.{◌≡◌, ◌+◌, ◌<◌, ◌≤◌, ◌^
 use std::marker::{Brand, Model};
 use std::sync::ledger::{Blank, Book, Ledger, Share};
 
-/// The ledger of an engine's entries, in one part for each rank. Its type names the engine: what the calls on it tell is of a state of
+/// The ledger of an engine's entries, in one part for each rank. Its type names the engine: what the calls on it return is of a state of
 /// an engine in just this setting.
 pub trait Entries: Ledger {
     ghost use Rattle.coll_machine.specs.Settings.{Setting};
@@ -20,7 +20,7 @@ impl Entries for Brand {
     ghost setting = { record { ranks = 0; groups = []; slots = 0; places = 0; wear = 0; starts = 0; trace = 0 } };
 }
 
-/// A new ledger for the entries of an engine of so many ranks.
+/// A new ledger for the entries of an engine with this many ranks.
 pub fn ledger_for(ranks: u8) -> Blank
     ensures { result.parts ≡ ranks }
 {

@@ -141,7 +141,7 @@ impl<L: Entries> Trace<L> {
         }
     }
 
-    /// The last entry once more, of which this is a copy.
+    /// A copy of the last entry.
     pub(crate) fn last(&self, copy: Entry) -> Appended
         requires { IsLast self.now.entries (seen copy) }
         ensures { result ≡ seen copy }
@@ -163,7 +163,7 @@ impl<L: Entries> Trace<L> {
         Receipts::between(before, self.moment())
     }
 
-    /// The first of so many ranks that has begun more than it completed.
+    /// The lowest of this many ranks that has begun more than it completed.
     pub(crate) fn first_unbalanced(&self, ranks: u8) -> Option<u8>
         ensures none { IsNone result → (r : ℕ) → r < ranks → IsBalanced r self.now.entries }
         ensures some { IfSome result (λ rank. IsBalanced rank self.now.entries → ⊥) }

@@ -35,7 +35,7 @@ impl Model for Waits {
     ghost invariant = { λ n. All (IsRoomy n.slots) n.ports.items };
 }
 
-/// Whether each of these ports waits for what isn't the case, or has ended.
+/// Whether each of these ports is blocked in a wait, or has ended.
 fn all_are_blocked(ports: &[PortWait], core: &Core) -> bool
     ensures { IsTrue result ↔ All (λ port. IsBlocked core.now (wait_in port)) ports.now }
 {
@@ -43,7 +43,7 @@ fn all_are_blocked(ports: &[PortWait], core: &Core) -> bool
 }
 
 impl Waits {
-    /// Of so many ports that are awake, on an engine of so many slots.
+    /// For this many ports, all awake, on an engine with this many slots.
     pub(crate) fn open(alloc: Global, ranks: u8, slots: u32) -> Result<Self, Refusal>
         ensures waits { IfOk result (λ new. new.waits ≡ replicate ranks Awake) }
         ensures slots { IfOk result (λ new. new.slots ≡ slots) }
@@ -91,7 +91,7 @@ impl Waits {
         Ok(())
     }
 
-    /// Whether each port waits for what isn't the case, or has ended. Linear in the ports up to the first that doesn't, and in what
+    /// Whether each port is blocked in a wait, or has ended. Linear in the ports up to the first that doesn't, and in what
     /// they wait for.
     pub(crate) fn all_are_blocked(&self, core: &Core) -> bool
         ensures { IsTrue result ↔ All (IsBlocked core.now) self.now.waits }
@@ -99,7 +99,7 @@ impl Waits {
         all_are_blocked(&self.ports, core)
     }
 
-    /// The ranks whose ports wait for what is the case now. Linear in the ports, and in what those wait for that do.
+    /// The ranks whose wait is over. Linear in the ports, and in what the waiting ones wait for.
     pub(crate) fn met(&self, core: &Core) -> Ranks {
         let mut met = Ranks::NONE;
         for (rank, port) in (0..64u8).zip(self.ports.iter()) {

@@ -123,7 +123,7 @@ narrow_family n size input output columns h = record {
 abbrev pub IsLocalColumn : Column → Type 0
 IsLocalColumn column = (r : ℕ) → list_any has_peer (column r) ≡ false
 
--- these rounds have at most so many exchanges
+-- these rounds have at most that many exchanges
 pub data Costs : List Column → ℕ → Type 0 where
   free : {k : ℕ} → Costs [] k
   local_round : {column : Column} {rest : List Column} {k : ℕ} → IsLocalColumn column → Costs rest k → Costs (column ∷ rest) k

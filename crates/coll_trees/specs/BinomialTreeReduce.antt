@@ -1,5 +1,5 @@
 -- From all to member 0 by a binomial tree: in the step at distance s a member that is an odd multiple of s
--- gives what it holds to the member s below, which combines it behind its own. So each holds a range of
+-- gives what it holds to the member s below, the right operand of its own. So each holds a range of
 -- neighbours, in ascending order.
 use Rattle.std.specs.Prelude.{ℕ, zero, suc, ◌+◌, ◌-◌, ◌%◌, ◌^◌, ◌==◌, ◌&&◌, nat_lt, cond, List, [], ◌∷◌}
 use Rattle.coll_kinds.specs.declared.operation.Op.{Op}
@@ -21,7 +21,7 @@ moves b r s SendsToParent = Send (r - s) (front b) ∷ []
 moves b r s ReceivesFromChild = Recv (r + s) (behind b) ∷ []
 moves b r s Rests = []
 
--- the round in which what was taken is combined behind what the member has
+-- the round in which what was taken is combined, as the right operand, with what the member has
 abbrev pub combines : Op → Datatype → ℕ → ReduceStep → List Action
 combines op ty b SendsToParent = []
 combines op ty b ReceivesFromChild = Combine op ty (front b) (behind b) (front b) ∷ []

@@ -30,7 +30,7 @@ allreduce_family sig n =
     family_of (block_len sig + block_len sig) (λ r. front (block_len sig)) (λ r. front (block_len sig))
     (reduce_tree_rounds (unwrap_or sig.op Sum) sig.ty (block_len sig) n 0 (depth n) ++ bcast_tree_rounds (block_len sig) n 0 0 (depth n))
 
--- the family serves the signature, narrowly, in at most so many exchanges
+-- the family serves the signature, narrowly, in at most that many exchanges
 pub record IsNarrowFor (sig : Signature) (n : ℕ) (f : Family) (bound : ℕ) : Type 0 where
   pub serves : Serves sig n f
   pub narrow : IsNarrow n f

@@ -1,6 +1,6 @@
 //! Principle: a binomial tree to member 0, and from there a hop to the root. In the step at distance s = 1, 2, 4, .. each
 //! member that is an odd multiple of s is a child of the member s below: it sends what it holds, and its parent combines
-//! that behind its own. So the operands stay in member order, whoever the root is.
+//! that as the right operand of its own. So the operands stay in member order, whoever the root is.
 //!
 //! Rounds: 2 d + 1 for d = ceil(log2 n). Of these d exchange, and the last one too where the root isn't member 0; the others
 //! are a member's own. Messages: n - 1 together, and one more for the hop, each of the block's B bytes. A buffer has 2 B

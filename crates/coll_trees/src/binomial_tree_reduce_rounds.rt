@@ -72,7 +72,7 @@ impl ReduceTree {
         }
     }
 
-    // The round in which what was taken is combined behind what the member holds.
+    // The round in which what was taken is combined, as the right operand, with what the member holds.
     fn combines(self, alloc: Global, part: ReduceStep) -> Result<Round, Refusal>
         ensures ok { IfOk result (λ round. round ≡ combines self.op self.ty self.len part) }
         ensures refusal { IsOkUnless result Refusal.NoMemory }

@@ -5,7 +5,7 @@ ghost use Rattle.std.specs.Prelude.{◌≡◌, ◌<◌, ◌≤◌};
 pub(crate) enum ReduceStep {
     /// It gives what it holds to its parent, the member below.
     SendsToParent,
-    /// It takes what its child, the member above, holds, and combines it behind its own.
+    /// It takes what its child, the member above, holds, and combines it as the right operand of its own.
     ReceivesFromChild,
     /// It does nothing.
     Rests,

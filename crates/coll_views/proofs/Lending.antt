@@ -2,15 +2,15 @@
 use Rattle.std.proofs.Common.{◌≡◌, ℕ, ◌+◌, ◌-◌, ◌<◌, ◌≤◌, List, [], ◌∷◌, drop, get_or, length, ap, sym, arith}
 use Rattle.std.specs.Prelude.{max}
 use Rattle.coll_script.proofs.Loops.{drop-at}
-use Rattle.coll_views.specs.declared.row.Row.{Row}
+use Rattle.coll_views.specs.declared.row.TableRow.{TableRow}
 use Rattle.coll_views.specs.Totals.{most_lent}
 
 -- at least what is lent before
-pub most_lent-low : (now : ℕ) (rows : List Row) → now ≤ most_lent now rows
+pub most_lent-low : (now : ℕ) (rows : List TableRow) → now ≤ most_lent now rows
 most_lent-low now [] = omega arith
 most_lent-low now (row ∷ rows) = omega arith
 
-pub most_lent-more : (most lent next : ℕ) (rows : List Row) (k : ℕ) (row : Row) (total : ℕ)
+pub most_lent-more : (most lent next : ℕ) (rows : List TableRow) (k : ℕ) (row : TableRow) (total : ℕ)
     → drop k rows ≡ row ∷ drop (k + 1) rows
     → next ≡ lent + row.lends - row.returns
     → lent ≤ most
@@ -24,7 +24,7 @@ most_lent-more most lent next rows k row total front step low so_far =
     let above = most_lent-low next (drop (k + 1) rows) in
     omega (arith, here, same, above, low, so_far)
 
-pub most_lent-at : (most lent next : ℕ) (rows : List Row) (k : ℕ) (d : Row) (total : ℕ)
+pub most_lent-at : (most lent next : ℕ) (rows : List TableRow) (k : ℕ) (d : TableRow) (total : ℕ)
     → k < length rows
     → next ≡ lent + (get_or rows k d).lends - (get_or rows k d).returns
     → lent ≤ most

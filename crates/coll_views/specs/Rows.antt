@@ -5,11 +5,11 @@ use Rattle.coll_tables.specs.Tables.{no_signature}
 use Rattle.coll_machine.specs.Entries.{Entry, Posted, Inited, Started, Retired, Freed}
 use Rattle.coll_views.specs.declared.request.NumberedRequest.{NumberedRequest}
 use Rattle.coll_views.specs.declared.request.TracedRequest.{TracedRequest}
-use Rattle.coll_views.specs.declared.row.Row.{Row}
+use Rattle.coll_views.specs.declared.row.TableRow.{TableRow}
 use Rattle.coll_views.specs.Requests.{named}
 
 -- a row of a rank's request that adds nothing
-abbrev pub row_by : ℕ → TracedRequest → Row
+abbrev pub row_by : ℕ → TracedRequest → TableRow
 row_by rank p = record {
   rank = rank;
   comm = p.comm;
@@ -33,7 +33,7 @@ abbrev pub times_of : TracedRequest → ℕ
 times_of p = if p.member == 0 then 1 else 0
 
 -- a row of a collective that begins: what is given and lent, and what the member's schedule has it do
-abbrev pub begun : ℕ → TracedRequest → List ℕ → Row
+abbrev pub begun : ℕ → TracedRequest → List ℕ → TableRow
 begun rank p bytes = record (row_by rank p) {
   times = times_of p;
   given = length bytes;
@@ -44,7 +44,7 @@ begun rank p bytes = record (row_by rank p) {
 }
 
 -- of an entry that is about this request
-abbrev pub added : TracedRequest → Entry → Row
+abbrev pub added : TracedRequest → Entry → TableRow
 added p (Posted rank t comm place sig bytes) = record (begun rank p bytes) { posts = 1 }
 added p (Inited rank t comm place sig) = record (row_by rank p) { inits = 1 }
 added p (Started rank t start bytes) = record (begun rank p bytes) { starts = 1 }
@@ -53,7 +53,7 @@ added p (Retired rank t comm place start bytes) =
 added p (Freed rank t) = row_by rank p
 
 -- an entry that is about no request adds nothing
-abbrev pub nothing : Row
+abbrev pub nothing : TableRow
 nothing = record {
   rank = 0;
   comm = 0;
@@ -72,10 +72,10 @@ nothing = record {
   combinations = 0;
 }
 
-abbrev pub row_of : Option NumberedRequest → Entry → Row
+abbrev pub row_of : Option NumberedRequest → Entry → TableRow
 row_of None e = nothing
 row_of (Some found) e = added found.request e
 
 -- those of a trace
-abbrev pub rows_of : List (List TracedRequest) → List Entry → List Row
+abbrev pub rows_of : List (List TracedRequest) → List Entry → List TableRow
 rows_of all es = map (λ e. row_of (named all e) e) es

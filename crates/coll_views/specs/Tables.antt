@@ -7,7 +7,7 @@ use Rattle.coll_kinds.specs.Sameness.{same_signature}
 use Rattle.coll_sched.specs.Families.{family_exchanges}
 use Rattle.coll_plans.specs.Plans.{family}
 use Rattle.coll_views.specs.declared.request.TracedRequest.{TracedRequest}
-use Rattle.coll_views.specs.declared.row.Row.{Row}
+use Rattle.coll_views.specs.declared.row.TableRow.{TableRow}
 use Rattle.coll_views.specs.declared.cell.Cell.{Cell}
 use Rattle.coll_views.specs.declared.totals.Totals.{Totals}
 use Rattle.coll_views.specs.Texts.{signature_text}
@@ -36,7 +36,7 @@ cells_of t =
     ∷ []
 
 -- the totals of rows
-abbrev pub numbers_text : List Row → List ℕ
+abbrev pub numbers_text : List TableRow → List ℕ
 numbers_text rows = flat_map cell_text (cells_of (totals_of rows))
 
 -- ---- by rank
@@ -44,17 +44,17 @@ numbers_text rows = flat_map cell_text (cells_of (totals_of rows))
 unfoldable pub head_of_ranks : List ℕ
 head_of_ranks = codes "rank  posts  inits  starts  completed  bytes given  bytes got  most lent  messages  their bytes  combinations\n"
 
-abbrev pub by_rank : ℕ → Row → Bool
+abbrev pub by_rank : ℕ → TableRow → Bool
 by_rank rank row = row.rank == rank
 
-abbrev pub rank_line : List Row → ℕ → List ℕ
+abbrev pub rank_line : List TableRow → ℕ → List ℕ
 rank_line rows rank = aligned 4 (decimal rank) ++ (numbers_text (filter (by_rank rank) rows) ++ codes "\n")
 
-abbrev pub rank_lines : ℕ → List Row → List ℕ
+abbrev pub rank_lines : ℕ → List TableRow → List ℕ
 rank_lines ranks rows = flat_map (rank_line rows) (range_with_len 0 ranks)
 
 -- the lines of the ranks, and one for all
-abbrev pub ranks_text : ℕ → List Row → List ℕ
+abbrev pub ranks_text : ℕ → List TableRow → List ℕ
 ranks_text ranks rows = head_of_ranks ++ (rank_lines ranks rows ++ (codes " all" ++ (numbers_text rows ++ codes "\n")))
 
 -- ---- by collective
@@ -77,10 +77,10 @@ abbrev pub asked_on : List (List TracedRequest) → ℕ → List ℕ → List Si
 asked_on all comm group = map (λ p. p.sig) (filter (is_on comm) (slice_index_or all (slice_index group 0) []))
 
 -- a row of that signature on that communicator
-abbrev pub by_collective : ℕ → Signature → Row → Bool
+abbrev pub by_collective : ℕ → Signature → TableRow → Bool
 by_collective comm sig row = row.comm == comm && same_signature sig row.sig
 
-abbrev pub rows_on : List Row → ℕ → Signature → List Row
+abbrev pub rows_on : List TableRow → ℕ → Signature → List TableRow
 rows_on rows comm sig = filter (by_collective comm sig) rows
 
 -- communicator, members, how often the collective was carried out, and how many rounds of its schedules have messages
@@ -90,25 +90,25 @@ label_of comm members sig times =
     ++ (aligned 9 (decimal members)
     ++ (aligned 7 (decimal times) ++ aligned 16 (decimal (family_exchanges members (family sig members)))))
 
-abbrev pub line_of : ℕ → ℕ → Signature → List Row → List ℕ
+abbrev pub line_of : ℕ → ℕ → Signature → List TableRow → List ℕ
 line_of comm members sig rows =
     label_of comm members sig (totals_of rows).times
     ++ (numbers_text rows ++ (codes "  " ++ (signature_text sig members ++ codes "\n")))
 
-abbrev pub collective_line : List Row → ℕ → ℕ → Signature → List ℕ
+abbrev pub collective_line : List TableRow → ℕ → ℕ → Signature → List ℕ
 collective_line rows comm members sig = line_of comm members sig (rows_on rows comm sig)
 
 -- the collectives of a communicator
-abbrev pub comm_lines : List (List TracedRequest) → List Row → ℕ → List ℕ → List ℕ
+abbrev pub comm_lines : List (List TracedRequest) → List TableRow → ℕ → List ℕ → List ℕ
 comm_lines all rows comm group = flat_map (collective_line rows comm (length group)) (each_once (asked_on all comm group))
 
-abbrev pub all_comm_lines : List (List TracedRequest) → List (List ℕ) → List Row → List ℕ
+abbrev pub all_comm_lines : List (List TracedRequest) → List (List ℕ) → List TableRow → List ℕ
 all_comm_lines all groups rows =
     flat_map (λ (at : ℕ × List ℕ). comm_lines all rows at.0 at.1) (enumerate_from 0 groups)
 
-abbrev pub collectives_text : List (List TracedRequest) → List (List ℕ) → List Row → List ℕ
+abbrev pub collectives_text : List (List TracedRequest) → List (List ℕ) → List TableRow → List ℕ
 collectives_text all groups rows = head_of_collectives ++ all_comm_lines all groups rows
 
 -- both tables
-abbrev pub tables_text : ℕ → List (List ℕ) → List (List TracedRequest) → List Row → List ℕ
+abbrev pub tables_text : ℕ → List (List ℕ) → List (List TracedRequest) → List TableRow → List ℕ
 tables_text ranks groups all rows = ranks_text ranks rows ++ collectives_text all groups rows

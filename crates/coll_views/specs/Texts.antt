@@ -54,7 +54,7 @@ many_text (Some counts) count members = counts_text counts members
 abbrev pub block_text : Signature → ℕ → List ℕ
 block_text sig members = codes " " ++ (datatype_word sig.ty ++ many_text sig.each sig.count members)
 
--- what stands behind the kind; behind a barrier nothing
+-- what stands after the kind; after a barrier nothing
 abbrev pub behind_kind : Kind → Signature → ℕ → List ℕ
 behind_kind Barrier sig members = []
 behind_kind kind sig members = root_text sig ++ (operation_text sig.op ++ block_text sig members)

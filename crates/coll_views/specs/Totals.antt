@@ -1,17 +1,17 @@
 -- What rows add up to.
 use Rattle.std.specs.Prelude.{ℕ, ◌+◌, ◌-◌, List, [], ◌∷◌, map, max, sum}
-use Rattle.coll_views.specs.declared.row.Row.{Row}
+use Rattle.coll_views.specs.declared.row.TableRow.{TableRow}
 use Rattle.coll_views.specs.declared.totals.Column.{Column}
 use Rattle.coll_views.specs.declared.totals.Column.TheVariants.{Times, Posts, Inits, Starts, Completed, Given, Got, Messages, Sent, Combinations}
 use Rattle.coll_views.specs.declared.totals.Totals.{Totals}
 
--- the most bytes that are lent at one time along rows, where so many are lent before
-abbrev pub most_lent : ℕ → List Row → ℕ
+-- the most bytes that are lent at one time along rows, where that many are lent before
+abbrev pub most_lent : ℕ → List TableRow → ℕ
 most_lent now [] = now
 most_lent now (row ∷ rows) = max now (most_lent (now + row.lends - row.returns) rows)
 
 -- a row's number in a column
-abbrev pub number_in : Column → Row → ℕ
+abbrev pub number_in : Column → TableRow → ℕ
 number_in Times row = row.times
 number_in Posts row = row.posts
 number_in Inits row = row.inits
@@ -24,10 +24,10 @@ number_in Sent row = row.sent
 number_in Combinations row = row.combinations
 
 -- the sum of a column
-abbrev pub column_sum : Column → List Row → ℕ
+abbrev pub column_sum : Column → List TableRow → ℕ
 column_sum column rows = sum (map (number_in column) rows)
 
-abbrev pub totals_of : List Row → Totals
+abbrev pub totals_of : List TableRow → Totals
 totals_of rows = record {
   times = column_sum Times rows;
   posts = column_sum Posts rows;

@@ -3,19 +3,23 @@
 ghost use Rattle.std.specs.Prelude.{◌≡◌, ◌++◌, flat_map, OnOk};
 ghost use Rattle.coll_views.specs.Tables.{aligned, cell_text, cells_of};
 
-use crate::fault::ViewFault;
 use crate::totals::Totals;
+use coll_script::ReportFault;
 use std::alloc::Global;
 
-/// A number that stands at the right end of its column.
+/// A number with the width of its column, at the right end of which it is printed.
 #[derive(Clone, Copy)]
 pub(crate) struct Cell {
     pub(crate) width: usize,
     pub(crate) number: u64,
 }
 
-/// Appends these cells, one behind the other.
-pub(crate) fn print_cells(alloc: Global, cells: &[Cell], out: &mut Vec<u8>) -> Result<(), ViewFault>
+/// Appends these cells, one after another.
+pub(crate) fn print_cells(
+    alloc: Global,
+    cells: &[Cell],
+    out: &mut Vec<u8>,
+) -> Result<(), ReportFault>
     ensures { OnOk result (out.new.items ≡ out.old.items ++ flat_map cell_text cells.now) }
 {
     for cell in cells {
@@ -73,7 +77,7 @@ pub(crate) fn cells_of(totals: Totals) -> [Cell; 10]
     ]
 }
 
-fn print_cell(alloc: Global, cell: &Cell, out: &mut Vec<u8>) -> Result<(), ViewFault>
+fn print_cell(alloc: Global, cell: &Cell, out: &mut Vec<u8>) -> Result<(), ReportFault>
     ensures { OnOk result (out.new.items ≡ out.old.items ++ cell_text cell.now) }
 {
     let number = cell.number;
@@ -81,13 +85,13 @@ fn print_cell(alloc: Global, cell: &Cell, out: &mut Vec<u8>) -> Result<(), ViewF
     print_aligned(alloc, cell.width, text.as_bytes(), out)
 }
 
-/// Appends a text at the right end of a column that is so wide.
+/// Appends a text at the right end of a column of that width.
 pub(crate) fn print_aligned(
     alloc: Global,
     width: usize,
     text: &[u8],
     out: &mut Vec<u8>,
-) -> Result<(), ViewFault>
+) -> Result<(), ReportFault>
     ensures { OnOk result (out.new.items ≡ out.old.items ++ aligned width text.now) }
 {
     let spaces = vec![in alloc; b' '; width.saturating_sub(text.len())]?;

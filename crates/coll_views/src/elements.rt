@@ -5,15 +5,15 @@ ghost use Rattle.coll_kinds.specs.Elements.{width, element_at};
 ghost use Rattle.coll_ops.specs.Combinations.{elements};
 ghost use Rattle.coll_views.specs.Texts.{element_text, row_text};
 
-use crate::fault::ViewFault;
 use coll_kinds::{Datatype, print_element};
+use coll_script::ReportFault;
 
 /// How elements are written.
 #[derive(Clone, Copy)]
 pub(crate) enum Style {
-    /// As a job text has them, each behind a space.
+    /// As in a job text, each after a space.
     Words,
-    /// As the elements of a JSON array, each behind a comma; a pair as an array of its own.
+    /// As the elements of a JSON array, each after a comma; a pair is an array of its own.
     Json,
 }
 
@@ -23,7 +23,7 @@ pub(crate) fn print_elements(
     ty: Datatype,
     row: &[u8],
     out: &mut Vec<u8>,
-) -> Result<(), ViewFault>
+) -> Result<(), ReportFault>
     ensures { OnOk result (out.new.items ≡ out.old.items ++ row_text style ty row.now) }
 {
     let width = ty.width();
@@ -35,8 +35,8 @@ pub(crate) fn print_elements(
     Ok(())
 }
 
-/// Appends the first element of a row, with what stands round it.
-fn print_one(style: Style, ty: Datatype, row: &[u8], out: &mut Vec<u8>) -> Result<(), ViewFault>
+/// Appends the first element of a row, with the characters around it.
+fn print_one(style: Style, ty: Datatype, row: &[u8], out: &mut Vec<u8>) -> Result<(), ReportFault>
     requires { width ty ≤ length row.now }
     ensures { OnOk result (out.new.items ≡ out.old.items ++ element_text style ty (element_at ty row.now)) }
 {
@@ -50,7 +50,7 @@ fn print_one(style: Style, ty: Datatype, row: &[u8], out: &mut Vec<u8>) -> Resul
     Ok(())
 }
 
-fn print_json(ty: Datatype, row: &[u8], out: &mut Vec<u8>) -> Result<(), ViewFault>
+fn print_json(ty: Datatype, row: &[u8], out: &mut Vec<u8>) -> Result<(), ReportFault>
     requires { width ty ≤ length row.now }
     ensures { OnOk result (out.new.items ≡ out.old.items ++ element_text Style.Json ty (element_at ty row.now)) }
 {

@@ -1,33 +1,33 @@
-//! In which lane of its rank a bar is drawn, so that bars which are there at the same time don't cover one another.
+//! The lane of its rank in which each bar is drawn. Bars that overlap in time get different lanes.
 
-use crate::fault::ViewFault;
 use coll_kinds::Ticket;
 use coll_report::Entry;
+use coll_script::ReportFault;
 use std::alloc::{AllocError, Global};
 
-/// A request that is active, and the index of the entry that made it so.
+/// An active request, with the index of the entry that made it active.
 #[derive(Clone, Copy)]
 struct Active {
     ticket: Ticket,
     begin: usize,
 }
 
-/// Where an entry is drawn.
+/// The lane and the bar of an entry.
 #[derive(Clone, Copy)]
 pub(crate) struct Bar {
     pub(crate) lane: usize,
-    /// The index of the post or start whose bar it begins or ends; its own where it does neither.
+    /// The index of the post or start whose bar the entry begins or ends; the entry's own index if it does neither.
     pub(crate) begin: usize,
 }
 
-/// The lanes of each rank, with what is active in them.
+/// The lanes of each rank, with the requests that are active in them.
 #[derive(Drop)]
 pub(crate) struct Lanes {
     ranks: Vec<Vec<Option<Active>>>,
 }
 
 impl Lanes {
-    /// Of so many ranks, with nothing active.
+    /// The lanes of this number of ranks, without a bar.
     pub(crate) fn new(alloc: Global, ranks: u8) -> Result<Lanes, AllocError> {
         let mut all = Vec::new(alloc);
         for _ in 0..ranks {
@@ -36,7 +36,7 @@ impl Lanes {
         Ok(Lanes { ranks: all })
     }
 
-    /// The lanes of a rank: whether each has a bar.
+    /// For each lane of a rank, whether it has a bar.
     pub(crate) fn of(&self, alloc: Global, rank: u8) -> Result<Vec<bool>, AllocError> {
         let mut bars = Vec::new(alloc);
         if let Some(lanes) = self.ranks.get(usize::from(rank)) {
@@ -47,10 +47,11 @@ impl Lanes {
         Ok(bars)
     }
 
-    /// Goes on to the entry of that index. Torn where it completes what isn't active.
-    pub(crate) fn enter(&mut self, index: usize, entry: &Entry) -> Result<Bar, ViewFault> {
+    /// Goes on to the entry of that index, and returns where it is drawn. `Torn` if it completes a request that isn't active,
+    /// or is of no rank.
+    pub(crate) fn enter(&mut self, index: usize, entry: &Entry) -> Result<Bar, ReportFault> {
         let Some(lanes) = self.ranks.get_mut(usize::from(entry.rank())) else {
-            return Err(ViewFault::Torn);
+            return Err(ReportFault::Torn);
         };
         let begin = index;
         match entry {
@@ -75,7 +76,7 @@ impl Lanes {
     }
 }
 
-/// The first lane without a bar.
+/// The first lane without a bar; the number of lanes if each has one.
 fn free_lane(lanes: &[Option<Active>]) -> usize {
     lanes
         .iter()
@@ -83,8 +84,8 @@ fn free_lane(lanes: &[Option<Active>]) -> usize {
         .unwrap_or(lanes.len())
 }
 
-/// Ends the bar of a request.
-fn leave(lanes: &mut [Option<Active>], ticket: Ticket) -> Result<Bar, ViewFault> {
+/// Ends the bar of a request. `Torn` if the request has none.
+fn leave(lanes: &mut [Option<Active>], ticket: Ticket) -> Result<Bar, ReportFault> {
     for lane in 0..lanes.len() {
         if let Some(active) = lanes[lane] {
             if active.ticket == ticket {
@@ -96,5 +97,5 @@ fn leave(lanes: &mut [Option<Active>], ticket: Ticket) -> Result<Bar, ViewFault>
             }
         }
     }
-    Err(ViewFault::Torn)
+    Err(ReportFault::Torn)
 }

@@ -9,28 +9,28 @@ ghost use Rattle.coll_views.specs.Requests.{named};
 ghost use Rattle.coll_views.specs.Texts.{row_text};
 
 use crate::elements::{Style, print_elements};
-use crate::fault::ViewFault;
-use crate::request::{NumberedRequest, Requests, TracedRequest};
+use crate::request::{NumberedRequest, RankRequests, TracedRequest};
 use crate::start_lines::{StartLine, line_of, start_lines_of};
 use coll_kinds::Datatype;
 use coll_report::Entry;
+use coll_script::ReportFault;
 use std::alloc::{AllocError, Global};
 
-/// What the completions of a trace handed out, an object in each line: in rising rank, those of a rank in the order in which it
-/// completed them, with the lines of the posts and starts that they end, of which `lines` has that of each entry; the last line says
-/// how many there are. The cost is linear in the text, for each rank in the trace, and for each completion in its rank's requests
-/// and starts.
+/// The outcomes that the completions of a trace handed out, an object in each line: in rising rank, and those of a rank in the
+/// order in which it completed them. Each has the line of the post or start that it ends; `lines` has the line of each entry's
+/// call. The last line has the number of outcomes. The cost is linear in the text, for each rank in the trace, and for each
+/// completion in its rank's requests and starts.
 ///
 /// # Errors
 ///
-/// [`ViewFault::Torn`] where an entry names a request that its rank didn't make, and [`ViewFault::NoMemory`].
+/// [`ReportFault::Torn`] if an entry names a request that its rank didn't make; [`ReportFault::NoMemory`] if memory was refused.
 pub fn outcomes_json(
     alloc: Global,
     ranks: u8,
-    requests: &Requests,
+    requests: &RankRequests,
     trace: &[Entry],
     lines: &[u32],
-) -> Result<Vec<u8>, ViewFault>
+) -> Result<Vec<u8>, ReportFault>
     ensures { IfOk result (λ text. text.items ≡ outcomes_json ranks requests.now lines.now (trace_seen trace.now)) }
 {
     let mut out = Vec::new(alloc);
@@ -65,26 +65,26 @@ fn is_completion(entry: &Entry) -> bool
 fn print_rank(
     alloc: Global,
     rank: u8,
-    requests: &Requests,
+    requests: &RankRequests,
     trace: &[Entry],
     lines: &[u32],
     out: &mut Vec<u8>,
-) -> Result<(), ViewFault>
+) -> Result<(), ReportFault>
     ensures { OnOk result (out.new.items ≡ out.old.items ++ outcomes_of requests.now lines.now (trace_seen trace.now) rank) }
 {
     let start_lines = start_lines_of(alloc, rank, trace, lines)?;
     print_entries(alloc, rank, requests, &start_lines, trace, out)
 }
 
-/// Appends the outcomes of a rank that made these posts and starts.
+/// Appends the outcomes of a rank, which made these posts and starts.
 fn print_entries(
     alloc: Global,
     rank: u8,
-    requests: &Requests,
+    requests: &RankRequests,
     start_lines: &[StartLine],
     trace: &[Entry],
     out: &mut Vec<u8>,
-) -> Result<(), ViewFault>
+) -> Result<(), ReportFault>
     ensures { OnOk result (out.new.items ≡ out.old.items ++ flat_map (outcome_of requests.now start_lines.now rank) (trace_seen trace.now)) }
 {
     for entry in trace {
@@ -93,15 +93,15 @@ fn print_entries(
     Ok(())
 }
 
-/// Appends the outcome that an entry handed out to the rank, if it did.
+/// Appends the outcome that an entry handed out to the rank, if it handed one out.
 fn print_entry(
     alloc: Global,
     of: u8,
-    requests: &Requests,
+    requests: &RankRequests,
     start_lines: &[StartLine],
     entry: &Entry,
     out: &mut Vec<u8>,
-) -> Result<(), ViewFault>
+) -> Result<(), ReportFault>
     ensures { OnOk result (out.new.items ≡ out.old.items ++ outcome_of requests.now start_lines.now of (seen entry.now)) }
 {
     match entry {
@@ -135,7 +135,7 @@ fn print_object(
     found: &NumberedRequest,
     bytes: &[u8],
     out: &mut Vec<u8>,
-) -> Result<(), ViewFault>
+) -> Result<(), ReportFault>
     ensures { OnOk result (out.new.items ≡ out.old.items ++ found_object (Some found.now) rank start line bytes.now) }
 {
     let head = object_text(alloc, rank, start, line, found)?;
@@ -146,7 +146,12 @@ fn print_object(
 }
 
 /// Appends the values of a row, with commas between them.
-fn print_values(alloc: Global, ty: Datatype, row: &[u8], out: &mut Vec<u8>) -> Result<(), ViewFault>
+fn print_values(
+    alloc: Global,
+    ty: Datatype,
+    row: &[u8],
+    out: &mut Vec<u8>,
+) -> Result<(), ReportFault>
     ensures { OnOk result (out.new.items ≡ out.old.items ++ drop 1 (row_text Style.Json ty row.now)) }
 {
     let mut values = Vec::new(alloc);
@@ -157,7 +162,7 @@ fn print_values(alloc: Global, ty: Datatype, row: &[u8], out: &mut Vec<u8>) -> R
     Ok(())
 }
 
-/// What stands before the values.
+/// The part of an object before its values.
 fn object_text(
     alloc: Global,
     rank: u8,
@@ -175,7 +180,7 @@ fn object_text(
     )
 }
 
-/// Where the request stands.
+/// The request's communicator and place.
 fn stand_text(alloc: Global, request: &TracedRequest) -> Result<String, AllocError>
     ensures { IfOk result (λ text. string_bytes text ≡ stand_text request.now) }
 {
@@ -184,7 +189,7 @@ fn stand_text(alloc: Global, request: &TracedRequest) -> Result<String, AllocErr
     format!(in alloc; ",\"comm\":{comm},\"place\":{place}")
 }
 
-/// The request's collective and type, and what opens the array of values.
+/// The request's collective and type, and the beginning of the array of values.
 fn kind_text(alloc: Global, request: &TracedRequest) -> Result<String, AllocError>
     ensures { IfOk result (λ text. string_bytes text ≡ kind_text request.now) }
 {

@@ -1,28 +1,29 @@
 //! The trace as a picture: a column for each rank, in which a bar goes from each post or start to its completion.
 
 use crate::elements::{Style, print_elements};
-use crate::fault::ViewFault;
 use crate::lanes::{Bar, Lanes};
-use crate::request::{NumberedRequest, Requests};
+use crate::request::{NumberedRequest, RankRequests};
 use crate::trace::bytes_of;
 use crate::words::signature_text;
 use coll_report::Entry;
+use coll_script::ReportFault;
 use std::alloc::{AllocError, Global};
 
-/// The picture of a trace, whose entries' calls stand in these lines; 0 for an unwritten one. A row for each entry has, in its rank's
-/// column, `o` with the number of the request that is posted or started, `x` where it is completed, `i` where it is initialised and
-/// `f` where it is freed. The cost is that of [`crate::trace_text`], and in each row linear in the width.
+/// The picture of a trace; `lines` has the line of each entry's call, 0 for the unwritten `waitall`. A row for each entry has,
+/// in its rank's column, `o` with the number of the request that it posts or starts, `x` if it completes the request, `i` if it
+/// initialises it, and `f` if it frees it. The cost is that of [`crate::trace_text`], and in each row linear in the width.
 ///
 /// # Errors
 ///
-/// [`ViewFault::Torn`] where an entry names a request that its rank didn't make or that isn't active, and [`ViewFault::NoMemory`].
+/// [`ReportFault::Torn`] if an entry names a request that its rank didn't make, or completes one that isn't active;
+/// [`ReportFault::NoMemory`] if memory was refused.
 pub fn picture_text(
     alloc: Global,
     ranks: u8,
-    requests: &Requests,
+    requests: &RankRequests,
     trace: &[Entry],
     lines: &[u32],
-) -> Result<Vec<u8>, ViewFault> {
+) -> Result<Vec<u8>, ReportFault> {
     let columns = columns_of(alloc, ranks, requests, trace)?;
     let mut out = Vec::new(alloc);
     print_head(alloc, &columns, &mut out)?;
@@ -49,16 +50,16 @@ pub fn picture_text(
 #[derive(Clone, Copy)]
 struct Column {
     rank: u8,
-    /// The width of a lane.
+    /// The width of a lane, in characters.
     lane: usize,
-    /// How many lanes are needed.
+    /// The number of lanes that the rank needs.
     lanes: usize,
-    /// The width of all of it.
+    /// The width of the whole column, in characters.
     width: usize,
 }
 
 impl Column {
-    /// Appends the column's part of a row: the bars, and the mark of the row's entry.
+    /// Appends the column's part of a row: the bars, and the mark of the row's entry if it is of this rank.
     fn print(
         &self,
         alloc: Global,
@@ -94,9 +95,9 @@ fn fill(width: usize, row: &mut Vec<u8>) -> Result<(), AllocError> {
 fn columns_of(
     alloc: Global,
     ranks: u8,
-    requests: &Requests,
+    requests: &RankRequests,
     trace: &[Entry],
-) -> Result<Vec<Column>, ViewFault> {
+) -> Result<Vec<Column>, ReportFault> {
     let mut most = vec![in alloc; 1; usize::from(ranks)]?;
     let mut lanes = Lanes::new(alloc, ranks)?;
     for (index, entry) in trace.iter().enumerate() {
@@ -136,7 +137,7 @@ fn print_head(alloc: Global, columns: &[Column], out: &mut Vec<u8>) -> Result<()
     out.extend_from_slice(b" line\n")
 }
 
-/// What stands in the column of the entry's rank.
+/// The mark of an entry in its rank's column.
 fn mark_of(alloc: Global, found: &NumberedRequest, entry: &Entry) -> Result<String, AllocError> {
     let number = found.number;
     match entry {
@@ -147,14 +148,14 @@ fn mark_of(alloc: Global, found: &NumberedRequest, entry: &Entry) -> Result<Stri
     }
 }
 
-/// Appends what stands behind the columns: the line of the call, and what it did.
+/// Appends the part of a row after the columns: the line of the call, and what it did.
 fn print_end(
     alloc: Global,
     found: &NumberedRequest,
     entry: &Entry,
     line: u32,
     out: &mut Vec<u8>,
-) -> Result<(), ViewFault> {
+) -> Result<(), ReportFault> {
     let told = match line {
         0 => String::from_str(alloc, "  end")?,
         _ => format!(in alloc; "{line:>5}")?,

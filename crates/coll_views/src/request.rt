@@ -6,15 +6,15 @@ ghost use Rattle.std.specs.Arc.{arc_value};
 ghost use Rattle.coll_report.specs.Views.{groups_seen, seen, trace_seen};
 ghost use Rattle.coll_views.specs.Requests.{all_requests, made_by, member_at, named, named_at, named_in, names, own_named, request_on, requests_by, ticket_of};
 
-use crate::fault::ViewFault;
-use crate::work::{Work, work_of};
+use crate::work::{MessageCounts, work_of};
 use coll_kinds::{Signature, Ticket};
 use coll_plans::plan;
 use coll_report::Entry;
+use coll_script::ReportFault;
 use std::alloc::{AllocError, Global};
 use std::marker::Model;
 
-/// What a trace tells of a request.
+/// What a trace says about a request.
 #[derive(Clone, Copy, Debug)]
 pub struct TracedRequest {
     pub ticket: Ticket,
@@ -22,12 +22,12 @@ pub struct TracedRequest {
     /// Its index in its member's posting list on the communicator.
     pub place: u32,
     pub sig: Signature,
-    /// How many members the communicator has.
+    /// The number of the communicator's members.
     pub members: u8,
-    /// Which of them the rank is.
+    /// The rank's member number in it.
     pub member: u8,
-    /// What each start of it has the member do.
-    pub work: Work,
+    /// What the member sends and combines by each start of it.
+    pub work: MessageCounts,
 }
 
 /// A request with its number among those of its rank, from 0.
@@ -39,11 +39,11 @@ pub struct NumberedRequest {
 
 /// The requests that each rank made, in their order.
 #[derive(Debug, Drop)]
-pub struct Requests {
+pub struct RankRequests {
     ranks: Vec<Vec<TracedRequest>>,
 }
 
-impl Model for Requests {
+impl Model for RankRequests {
     ghost use Rattle.std.specs.Prelude.{List, map};
     ghost use Rattle.coll_views.specs.declared.request.TracedRequest.{TracedRequest};
 
@@ -52,19 +52,20 @@ impl Model for Requests {
     ghost view = { λ r. map (λ own. own.items) r.ranks.items };
 }
 
-impl Requests {
-    /// Those of a trace of so many ranks on these communicators. Linear in the trace for each rank, and in the schedules of the
-    /// requests.
+impl RankRequests {
+    /// The requests of a trace, of this number of ranks on these communicators. Linear in the trace for each rank, and in the
+    /// schedules of the requests.
     ///
     /// # Errors
     ///
-    /// [`ViewFault::Torn`] where a request's communicator isn't there, doesn't have its rank, or has no plan for its signature.
+    /// [`ReportFault::Torn`] if a request's communicator doesn't exist, doesn't have its rank, or has no plan for its signature;
+    /// [`ReportFault::NoMemory`] if memory was refused.
     pub fn of(
         alloc: Global,
         ranks: u8,
         groups: &[Vec<u8>],
         trace: &[Entry],
-    ) -> Result<Requests, ViewFault>
+    ) -> Result<RankRequests, ReportFault>
         ensures { IfOk result (λ requests. requests ≡ all_requests ranks (groups_seen groups.now) (trace_seen trace.now)) }
     {
         let mut all = Vec::new(alloc);
@@ -72,10 +73,10 @@ impl Requests {
             let own = requests_by(alloc, groups, rank, trace)?;
             all.push(own)?;
         }
-        Ok(Requests { ranks: all })
+        Ok(RankRequests { ranks: all })
     }
 
-    /// The requests of a rank; none of a stranger.
+    /// The requests of a rank; empty if there is no such rank.
     pub fn by(&self, rank: u8) -> &[TracedRequest]
         ensures { result.now ≡ slice_index_or self.now rank [] }
     {
@@ -85,29 +86,29 @@ impl Requests {
         }
     }
 
-    /// The request of an entry.
+    /// The request that an entry makes or names.
     ///
     /// # Errors
     ///
-    /// [`ViewFault::Torn`] where its rank didn't make it.
-    pub fn named_by(&self, entry: &Entry) -> Result<NumberedRequest, ViewFault>
+    /// [`ReportFault::Torn`] if its rank didn't make it.
+    pub fn named_by(&self, entry: &Entry) -> Result<NumberedRequest, ReportFault>
         ensures { IfOk result (λ found. named self.now (seen entry.now) ≡ Some found) }
     {
         match find(&self.ranks, entry.rank(), ticket_of(entry)) {
             Some(found) => Ok(found),
-            None => Err(ViewFault::Torn),
+            None => Err(ReportFault::Torn),
         }
     }
 }
 
-/// The request that a rank made with the ticket.
+/// The request that a rank made with the ticket, if it made one.
 fn find(ranks: &[Vec<TracedRequest>], rank: u8, ticket: Ticket) -> Option<NumberedRequest>
     ensures { result ≡ named_in (map (λ own. own.items) ranks.now) rank ticket }
 {
     find_own(ranks.get(usize::from(rank))?, ticket)
 }
 
-/// The one of these that was made with the ticket.
+/// The request among these that was made with the ticket, if one was.
 fn find_own(own: &[TracedRequest], ticket: Ticket) -> Option<NumberedRequest>
     ensures { result ≡ own_named ticket own.now }
 {
@@ -128,7 +129,7 @@ fn named_at(own: &[TracedRequest], number: usize) -> Option<NumberedRequest>
     }
 }
 
-/// The number of the one that was made with the ticket.
+/// The number of the request that was made with the ticket, if one was.
 fn number_of(own: &[TracedRequest], ticket: Ticket) -> Option<usize>
     ensures { result ≡ position (names ticket) own.now }
 {
@@ -141,7 +142,7 @@ fn has_ticket(request: &TracedRequest, ticket: Ticket) -> bool
     request.ticket.slot == ticket.slot && request.ticket.generation == ticket.generation
 }
 
-/// The request that an entry makes or names.
+/// The ticket of the request that an entry makes or names.
 fn ticket_of(entry: &Entry) -> Ticket
     ensures { result ≡ ticket_of (seen entry.now) }
 {
@@ -160,7 +161,7 @@ fn requests_by(
     groups: &[Vec<u8>],
     rank: u8,
     trace: &[Entry],
-) -> Result<Vec<TracedRequest>, ViewFault>
+) -> Result<Vec<TracedRequest>, ReportFault>
     ensures { IfOk result (λ own. own.items ≡ requests_by (groups_seen groups.now) (trace_seen trace.now) rank) }
 {
     let mut own = Vec::new(alloc);
@@ -184,13 +185,13 @@ fn push_made(made: Option<TracedRequest>, own: &mut Vec<TracedRequest>) -> Resul
     }
 }
 
-/// The request that the rank makes by the entry.
+/// The request that the rank makes by the entry, if it makes one.
 fn made_by(
     alloc: Global,
     groups: &[Vec<u8>],
     by: u8,
     entry: &Entry,
-) -> Result<Option<TracedRequest>, ViewFault>
+) -> Result<Option<TracedRequest>, ReportFault>
     ensures { IfOk result (λ made. made ≡ made_by (groups_seen groups.now) by (seen entry.now)) }
 {
     match entry {
@@ -223,7 +224,7 @@ fn made_by(
     }
 }
 
-/// A request of the rank on a communicator, with the work of its plan.
+/// A request of the rank on a communicator, with the work of the rank's plan.
 fn request_on(
     alloc: Global,
     groups: &[Vec<u8>],
@@ -232,11 +233,11 @@ fn request_on(
     comm: u32,
     place: u32,
     sig: Signature,
-) -> Result<TracedRequest, ViewFault>
+) -> Result<TracedRequest, ReportFault>
     ensures { IfOk result (λ request. request ≡ request_on (groups_seen groups.now) rank ticket comm place sig) }
 {
     let Some(group) = groups.get(comm as usize) else {
-        return Err(ViewFault::Torn);
+        return Err(ReportFault::Torn);
     };
     let (members, member) = member_in(group, rank)?;
     let plan = plan(alloc, sig, members, member)?;
@@ -252,24 +253,24 @@ fn request_on(
     })
 }
 
-/// How many members a group has, and which of them the rank is.
-fn member_in(group: &[u8], rank: u8) -> Result<(u8, u8), ViewFault>
+/// The number of a group's members, and the rank's member number among them.
+fn member_in(group: &[u8], rank: u8) -> Result<(u8, u8), ReportFault>
     ensures members { IfOk result (λ found. found.0 ≡ length group.now) }
     ensures member { IfOk result (λ found. found.1 ≡ member_at group.now rank) }
     ensures low { IfOk result (λ found. found.1 < found.0) }
     ensures few { IfOk result (λ found. found.0 ≤ 64) }
 {
     let Some(member) = place_in(group, rank) else {
-        return Err(ViewFault::Torn);
+        return Err(ReportFault::Torn);
     };
     let members = group.len();
     if members > 64 || member >= members {
-        return Err(ViewFault::Torn);
+        return Err(ReportFault::Torn);
     }
     Ok((members as u8, member as u8))
 }
 
-/// Where the rank stands in a group.
+/// The index of the rank in a group.
 fn place_in(group: &[u8], rank: u8) -> Option<usize>
     ensures { result ≡ position (λ one. one == rank) group.now }
 {

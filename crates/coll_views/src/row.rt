@@ -5,20 +5,20 @@ ghost use Rattle.coll_report.specs.Views.{seen, trace_seen};
 ghost use Rattle.coll_views.specs.Requests.{named};
 ghost use Rattle.coll_views.specs.Rows.{row_by, row_of, rows_of, times_of};
 
-use crate::fault::ViewFault;
-use crate::request::{NumberedRequest, Requests, TracedRequest};
+use crate::request::{NumberedRequest, RankRequests, TracedRequest};
 use crate::trace::bytes_of;
 use coll_kinds::Signature;
 use coll_report::Entry;
+use coll_script::ReportFault;
 use std::alloc::Global;
 
 /// What an entry adds to the table of its rank, and to that of its collective.
 #[derive(Clone, Copy, Debug, PartialEq, Eq)]
-pub struct Row {
+pub struct TableRow {
     pub rank: u8,
     pub comm: u32,
     pub sig: Signature,
-    /// 1 for a post or a start of the communicator's first member: once for each time that the collective is carried out.
+    /// 1 for a post or a start by the communicator's first member, so that each collective that is carried out counts once.
     pub times: u64,
     /// 1 for a post.
     pub posts: u64,
@@ -36,20 +36,20 @@ pub struct Row {
     pub lends: u64,
     /// The bytes that a completion gives back to the rank.
     pub returns: u64,
-    /// The messages that a post or a start has the member send.
+    /// The messages that the member sends by a post or a start.
     pub messages: u64,
-    /// The bytes of these.
+    /// The bytes of these messages.
     pub sent: u64,
-    /// The pieces that it has the member combine.
+    /// The pieces that the member combines by a post or a start.
     pub combinations: u64,
 }
 
-impl Row {
-    /// A row of a request that adds nothing.
-    fn of(rank: u8, request: &TracedRequest) -> Row
+impl TableRow {
+    /// A row of a request, with all numbers 0.
+    fn of(rank: u8, request: &TracedRequest) -> TableRow
         ensures { result ≡ row_by rank request.now }
     {
-        Row {
+        TableRow {
             rank,
             comm: request.comm,
             sig: request.sig,
@@ -73,8 +73,12 @@ impl Row {
 ///
 /// # Errors
 ///
-/// [`ViewFault::Torn`] where an entry names a request that its rank didn't make, and [`ViewFault::NoMemory`].
-pub fn rows_of(alloc: Global, requests: &Requests, trace: &[Entry]) -> Result<Vec<Row>, ViewFault>
+/// [`ReportFault::Torn`] if an entry names a request that its rank didn't make; [`ReportFault::NoMemory`] if memory was refused.
+pub fn rows_of(
+    alloc: Global,
+    requests: &RankRequests,
+    trace: &[Entry],
+) -> Result<Vec<TableRow>, ReportFault>
     ensures { IfOk result (λ rows. rows.items ≡ rows_of requests.now (trace_seen trace.now)) }
 {
     let mut rows = Vec::with_capacity(alloc, trace.len())?;
@@ -85,25 +89,25 @@ pub fn rows_of(alloc: Global, requests: &Requests, trace: &[Entry]) -> Result<Ve
     Ok(rows)
 }
 
-/// The row of an entry that is about this request.
-fn row_of(found: &NumberedRequest, entry: &Entry) -> Row
+/// The row of an entry that concerns this request.
+fn row_of(found: &NumberedRequest, entry: &Entry) -> TableRow
     ensures { result ≡ row_of (Some found.now) (seen entry.now) }
 {
     let request = found.request;
-    let row = Row::of(entry.rank(), &request);
+    let row = TableRow::of(entry.rank(), &request);
     let len = bytes_of(entry).len() as u64;
     let lent = request.sig.lent(request.members, request.member) as u64;
     match entry {
-        Entry::Posted { .. } => Row {
+        Entry::Posted { .. } => TableRow {
             posts: 1,
             ..begun(row, &request, len, lent)
         },
-        Entry::Inited { .. } => Row { inits: 1, ..row },
-        Entry::Started { .. } => Row {
+        Entry::Inited { .. } => TableRow { inits: 1, ..row },
+        Entry::Started { .. } => TableRow {
             starts: 1,
             ..begun(row, &request, len, lent)
         },
-        Entry::Retired { .. } => Row {
+        Entry::Retired { .. } => TableRow {
             completed: 1,
             got: len,
             returns: lent,
@@ -113,8 +117,8 @@ fn row_of(found: &NumberedRequest, entry: &Entry) -> Row
     }
 }
 
-/// The row with what a collective that begins adds.
-fn begun(row: Row, request: &TracedRequest, len: u64, lent: u64) -> Row
+/// The row with the numbers of a post or a start added.
+fn begun(row: TableRow, request: &TracedRequest, len: u64, lent: u64) -> TableRow
     ensures { result ≡ record row {
       times = times_of request.now;
       given = len;
@@ -124,7 +128,7 @@ fn begun(row: Row, request: &TracedRequest, len: u64, lent: u64) -> Row
       combinations = request.now.work.combinations;
     } }
 {
-    Row {
+    TableRow {
         times: times_of(request),
         given: len,
         lends: lent,
@@ -135,7 +139,7 @@ fn begun(row: Row, request: &TracedRequest, len: u64, lent: u64) -> Row
     }
 }
 
-/// How often a post or a start of this request carries its collective out: it counts at the first member alone.
+/// How often a post or a start of this request counts as a collective that is carried out: once at the first member, else 0 times.
 fn times_of(request: &TracedRequest) -> u64
     ensures { result ≡ times_of request.now }
 {

@@ -10,7 +10,7 @@ use coll_kinds::Ticket;
 use coll_report::Entry;
 use std::alloc::{AllocError, Global};
 
-/// A post or a start: of which request, which of its starts, and the line of the call.
+/// A post or a start: the ticket of its request, the number of the start, and the line of the call.
 #[derive(Clone, Copy)]
 pub(crate) struct StartLine {
     ticket: Ticket,
@@ -35,7 +35,7 @@ pub(crate) fn start_lines_of(
     Ok(start_lines)
 }
 
-/// Appends what an entry begins of the rank, if it does.
+/// Appends the post or start that an entry is, if it is one of rank `of`.
 fn push_start_line(
     of: u8,
     line: u32,
@@ -58,7 +58,7 @@ fn push_start_line(
     }
 }
 
-/// Appends a post or start of a rank, if it is that rank.
+/// Appends a post or start of `rank`, if that is rank `of`.
 fn push_own(
     of: u8,
     rank: u8,
@@ -79,7 +79,7 @@ fn push_own(
     Ok(())
 }
 
-/// The line of that start of the request; 0 where it isn't among these.
+/// The line of that start of the request; 0 if it isn't among these.
 pub(crate) fn line_of(start_lines: &[StartLine], ticket: Ticket, start: u32) -> u32
     ensures { result ≡ line_of start_lines.now ticket start }
 {

@@ -9,13 +9,13 @@ ghost use Rattle.coll_plans.specs.Plans.{family};
 ghost use Rattle.coll_views.specs.Tables.{added_once, all_comm_lines, asked_on, by_collective, by_rank, collective_line, collectives_text, comm_lines, each_once, head_of_collectives, head_of_ranks, is_on, label_of, line_of, numbers_text, rank_line, rank_lines, ranks_text, rows_on, tables_text};
 
 use crate::cell::{cells_of, print_aligned, print_cells};
-use crate::fault::ViewFault;
-use crate::request::{Requests, TracedRequest};
-use crate::row::Row;
+use crate::request::{RankRequests, TracedRequest};
+use crate::row::TableRow;
 use crate::totals::totals_of;
 use crate::words::signature_text;
 use coll_draw::Drawing;
 use coll_kinds::Signature;
+use coll_script::ReportFault;
 use std::alloc::{AllocError, Global};
 
 const HEAD_OF_RANKS: &str =
@@ -24,20 +24,22 @@ const HEAD_OF_RANKS: &str =
 const HEAD_OF_COLLECTIVES: &str =
     "\ncommunicator  members  times  exchanges each  posts  inits  starts  completed  bytes given  bytes got  most lent  messages  their bytes  combinations  collective\n";
 
-/// Two tables of so many ranks on these communicators: a line for each rank and one for all, and then one for each signature that
-/// was asked for on a communicator, in the order in which its first member did. The rows are those of the requests. Linear in the
-/// rows for each line, and in the schedules of all members of each signature.
+/// Two tables, of this number of ranks on these communicators. The first has a line for each rank and one for all; the second
+/// one for each signature that was asked for on a communicator, in the order in which the communicator's first member asked for
+/// it. The rows are those of the requests. Linear in the rows for each line, and in the schedules of all members of each
+/// signature.
 ///
 /// # Errors
 ///
-/// [`ViewFault::Torn`] where a sum doesn't fit 64 bits, or a communicator hasn't 1 to 64 members, and [`ViewFault::NoMemory`].
+/// [`ReportFault::Torn`] if a sum doesn't fit into 64 bits, or a communicator doesn't have 1 to 64 members;
+/// [`ReportFault::NoMemory`] if memory was refused.
 pub fn tables_text(
     alloc: Global,
     ranks: u8,
     groups: &[Vec<u8>],
-    requests: &Requests,
-    rows: &[Row],
-) -> Result<Vec<u8>, ViewFault>
+    requests: &RankRequests,
+    rows: &[TableRow],
+) -> Result<Vec<u8>, ReportFault>
     ensures { IfOk result (λ text. text.items ≡ tables_text ranks (groups_seen groups.now) requests.now rows.now) }
 {
     let mut out = Vec::new(alloc);
@@ -47,7 +49,12 @@ pub fn tables_text(
 }
 
 /// Appends a line for each rank, and one for all.
-fn print_ranks(alloc: Global, ranks: u8, rows: &[Row], out: &mut Vec<u8>) -> Result<(), ViewFault>
+fn print_ranks(
+    alloc: Global,
+    ranks: u8,
+    rows: &[TableRow],
+    out: &mut Vec<u8>,
+) -> Result<(), ReportFault>
     ensures { OnOk result (out.new.items ≡ out.old.items ++ ranks_text ranks rows.now) }
 {
     push_head_of_ranks(out)?;
@@ -59,7 +66,7 @@ fn print_ranks(alloc: Global, ranks: u8, rows: &[Row], out: &mut Vec<u8>) -> Res
 }
 
 #[tactic(auto, unfolding(crate::specs::Tables::head_of_ranks))]
-fn push_head_of_ranks(out: &mut Vec<u8>) -> Result<(), ViewFault>
+fn push_head_of_ranks(out: &mut Vec<u8>) -> Result<(), ReportFault>
     ensures { OnOk result (out.new.items ≡ out.old.items ++ head_of_ranks) }
 {
     out.extend_from_slice(HEAD_OF_RANKS.as_bytes())?;
@@ -67,7 +74,7 @@ fn push_head_of_ranks(out: &mut Vec<u8>) -> Result<(), ViewFault>
 }
 
 #[tactic(auto, unfolding(crate::specs::Tables::head_of_collectives))]
-fn push_head_of_collectives(out: &mut Vec<u8>) -> Result<(), ViewFault>
+fn push_head_of_collectives(out: &mut Vec<u8>) -> Result<(), ReportFault>
     ensures { OnOk result (out.new.items ≡ out.old.items ++ head_of_collectives) }
 {
     out.extend_from_slice(HEAD_OF_COLLECTIVES.as_bytes())?;
@@ -78,9 +85,9 @@ fn push_head_of_collectives(out: &mut Vec<u8>) -> Result<(), ViewFault>
 fn print_rank_lines(
     alloc: Global,
     ranks: u8,
-    rows: &[Row],
+    rows: &[TableRow],
     out: &mut Vec<u8>,
-) -> Result<(), ViewFault>
+) -> Result<(), ReportFault>
     ensures { OnOk result (out.new.items ≡ out.old.items ++ rank_lines ranks rows.now) }
 {
     for rank in 0..ranks {
@@ -90,7 +97,12 @@ fn print_rank_lines(
 }
 
 /// Appends the line of a rank.
-fn print_rank(alloc: Global, rank: u8, rows: &[Row], out: &mut Vec<u8>) -> Result<(), ViewFault>
+fn print_rank(
+    alloc: Global,
+    rank: u8,
+    rows: &[TableRow],
+    out: &mut Vec<u8>,
+) -> Result<(), ReportFault>
     ensures { OnOk result (out.new.items ≡ out.old.items ++ rank_line rows.now rank) }
 {
     let own = rows_by(alloc, rank, rows)?;
@@ -102,7 +114,7 @@ fn print_rank(alloc: Global, rank: u8, rows: &[Row], out: &mut Vec<u8>) -> Resul
 }
 
 /// The rows of a rank.
-fn rows_by(alloc: Global, rank: u8, rows: &[Row]) -> Result<Vec<Row>, AllocError>
+fn rows_by(alloc: Global, rank: u8, rows: &[TableRow]) -> Result<Vec<TableRow>, AllocError>
     ensures { IfOk result (λ own. own.items ≡ filter (by_rank rank) rows.now) }
 {
     rows.iter()
@@ -115,10 +127,10 @@ fn rows_by(alloc: Global, rank: u8, rows: &[Row]) -> Result<Vec<Row>, AllocError
 fn print_collectives(
     alloc: Global,
     groups: &[Vec<u8>],
-    requests: &Requests,
-    rows: &[Row],
+    requests: &RankRequests,
+    rows: &[TableRow],
     out: &mut Vec<u8>,
-) -> Result<(), ViewFault>
+) -> Result<(), ReportFault>
     ensures { OnOk result (out.new.items ≡ out.old.items ++ collectives_text requests.now (groups_seen groups.now) rows.now) }
 {
     push_head_of_collectives(out)?;
@@ -128,10 +140,10 @@ fn print_collectives(
 fn print_communicators(
     alloc: Global,
     groups: &[Vec<u8>],
-    requests: &Requests,
-    rows: &[Row],
+    requests: &RankRequests,
+    rows: &[TableRow],
     out: &mut Vec<u8>,
-) -> Result<(), ViewFault>
+) -> Result<(), ReportFault>
     ensures { OnOk result (out.new.items ≡ out.old.items ++ all_comm_lines requests.now (groups_seen groups.now) rows.now) }
 {
     for (comm, group) in groups.iter().enumerate() {
@@ -145,10 +157,10 @@ fn print_communicator(
     alloc: Global,
     comm: usize,
     group: &[u8],
-    requests: &Requests,
-    rows: &[Row],
+    requests: &RankRequests,
+    rows: &[TableRow],
     out: &mut Vec<u8>,
-) -> Result<(), ViewFault>
+) -> Result<(), ReportFault>
     ensures { OnOk result (out.new.items ≡ out.old.items ++ comm_lines requests.now rows.now comm group.now) }
 {
     let members = size_of(group)?;
@@ -157,23 +169,23 @@ fn print_communicator(
     print_lines(alloc, comm, members, &collectives, rows, out)
 }
 
-/// How many members a group has, 1 to 64.
-fn size_of(group: &[u8]) -> Result<u8, ViewFault>
+/// The number of a group's members. `Torn` if it isn't from 1 to 64.
+fn size_of(group: &[u8]) -> Result<u8, ReportFault>
     ensures size { IfOk result (λ size. size ≡ length group.now) }
     ensures not_none { IfOk result (λ size. 0 < size) }
     ensures few { IfOk result (λ size. size ≤ 64) }
 {
     let size = group.len();
     if size == 0 || size > 64 {
-        return Err(ViewFault::Torn);
+        return Err(ReportFault::Torn);
     }
     Ok(size as u8)
 }
 
-/// The signatures for which the first member of a group asked on a communicator, in its order.
+/// The signatures for which the first member of a group asked on a communicator, in the order in which it asked.
 fn asked_on(
     alloc: Global,
-    requests: &Requests,
+    requests: &RankRequests,
     comm: usize,
     group: &[u8],
 ) -> Result<Vec<Signature>, AllocError>
@@ -196,7 +208,7 @@ fn is_on(request: &TracedRequest, comm: usize) -> bool
     request.comm as usize == comm
 }
 
-/// The signatures, each once, in the order in which they come first.
+/// The signatures, each once, in the order of their first occurrences.
 fn each_once(alloc: Global, sigs: &[Signature]) -> Result<Vec<Signature>, AllocError>
     ensures { IfOk result (λ once. once.items ≡ each_once sigs.now) }
 {
@@ -207,7 +219,7 @@ fn each_once(alloc: Global, sigs: &[Signature]) -> Result<Vec<Signature>, AllocE
     Ok(once)
 }
 
-/// Appends a signature, if it isn't there.
+/// Appends a signature, if it isn't in the list.
 fn add_once(sig: &Signature, sigs: &mut Vec<Signature>) -> Result<(), AllocError>
     ensures { OnOk result (sigs.new.items ≡ added_once sigs.old.items sig.now) }
 {
@@ -223,15 +235,15 @@ fn is_among(sig: &Signature, sigs: &[Signature]) -> bool
     sigs.iter().any(|one| sig.is_same(one))
 }
 
-/// Appends a line for each of these collectives of a communicator with so many members.
+/// Appends a line for each of these collectives of a communicator of this number of members.
 fn print_lines(
     alloc: Global,
     comm: usize,
     members: u8,
     collectives: &[Signature],
-    rows: &[Row],
+    rows: &[TableRow],
     out: &mut Vec<u8>,
-) -> Result<(), ViewFault>
+) -> Result<(), ReportFault>
     requires not_none { 0 < members }
     requires few { members ≤ 64 }
     ensures { OnOk result (out.new.items ≡ out.old.items ++ flat_map (collective_line rows.now comm members) collectives.now) }
@@ -248,9 +260,9 @@ fn print_collective(
     comm: usize,
     members: u8,
     sig: &Signature,
-    rows: &[Row],
+    rows: &[TableRow],
     out: &mut Vec<u8>,
-) -> Result<(), ViewFault>
+) -> Result<(), ReportFault>
     requires not_none { 0 < members }
     requires few { members ≤ 64 }
     ensures { OnOk result (out.new.items ≡ out.old.items ++ collective_line rows.now comm members sig.now) }
@@ -259,15 +271,15 @@ fn print_collective(
     print_line(alloc, comm, members, sig, &own, out)
 }
 
-/// Appends the line of a collective that has these rows.
+/// Appends the line of a collective with these rows.
 fn print_line(
     alloc: Global,
     comm: usize,
     members: u8,
     sig: &Signature,
-    rows: &[Row],
+    rows: &[TableRow],
     out: &mut Vec<u8>,
-) -> Result<(), ViewFault>
+) -> Result<(), ReportFault>
     requires not_none { 0 < members }
     requires few { members ≤ 64 }
     ensures { OnOk result (out.new.items ≡ out.old.items ++ line_of comm members sig.now rows.now) }
@@ -287,8 +299,8 @@ fn rows_on(
     alloc: Global,
     comm: usize,
     sig: &Signature,
-    rows: &[Row],
-) -> Result<Vec<Row>, AllocError>
+    rows: &[TableRow],
+) -> Result<Vec<TableRow>, AllocError>
     ensures { IfOk result (λ own. own.items ≡ rows_on rows.now comm sig.now) }
 {
     rows.iter()
@@ -297,13 +309,13 @@ fn rows_on(
         .collect(alloc)
 }
 
-fn is_of(row: &Row, comm: usize, sig: &Signature) -> bool
+fn is_of(row: &TableRow, comm: usize, sig: &Signature) -> bool
     ensures { result ≡ by_collective comm sig.now row.now }
 {
     row.comm as usize == comm && sig.is_same(&row.sig)
 }
 
-/// Appends what stands before the numbers of a collective.
+/// Appends the part of a collective's line before its numbers.
 fn print_label(
     alloc: Global,
     comm: usize,
@@ -311,7 +323,7 @@ fn print_label(
     sig: &Signature,
     times: u64,
     out: &mut Vec<u8>,
-) -> Result<(), ViewFault>
+) -> Result<(), ReportFault>
     requires not_none { 0 < members }
     requires few { members ≤ 64 }
     ensures { OnOk result (out.new.items ≡ out.old.items ++ label_of comm members sig.now times) }
@@ -327,8 +339,8 @@ fn print_label(
     print_aligned(alloc, 16, each.as_bytes(), out)
 }
 
-/// How many rounds of a collective's schedules have messages.
-fn exchanges_of(alloc: Global, sig: &Signature, members: u8) -> Result<usize, ViewFault>
+/// The number of rounds with messages in the schedules of a collective.
+fn exchanges_of(alloc: Global, sig: &Signature, members: u8) -> Result<usize, ReportFault>
     requires not_none { 0 < members }
     requires few { members ≤ 64 }
     ensures { IfOk result (λ count. count ≡ family_exchanges members (family sig.now members)) }
@@ -338,7 +350,7 @@ fn exchanges_of(alloc: Global, sig: &Signature, members: u8) -> Result<usize, Vi
 }
 
 /// Appends the totals of these rows.
-fn print_numbers(alloc: Global, rows: &[Row], out: &mut Vec<u8>) -> Result<(), ViewFault>
+fn print_numbers(alloc: Global, rows: &[TableRow], out: &mut Vec<u8>) -> Result<(), ReportFault>
     ensures { OnOk result (out.new.items ≡ out.old.items ++ numbers_text rows.now) }
 {
     let totals = totals_of(alloc, rows)?;

@@ -1,26 +1,27 @@
 //! A timeline in the JSON format of trace events, which Perfetto and other viewers open.
 
-use crate::fault::ViewFault;
 use crate::lanes::Lanes;
-use crate::request::{NumberedRequest, Requests};
+use crate::request::{NumberedRequest, RankRequests};
 use crate::words::signature_text;
 use coll_report::{Entry, Span};
+use coll_script::ReportFault;
 use std::alloc::{AllocError, Global};
 
-/// The timeline of a trace, whose entries have these spans: each rank is a process, and each post or start a complete event (`ph` is
-/// `X`) from the beginning of its call to the end of the call that completed it. Times are in microseconds. Bars of a rank which are
-/// there at the same time lie in different threads of its process. The cost is that of [`crate::trace_text`].
+/// The timeline of a trace, with the span of each entry. Each rank is a process, and each post or start a complete event (`ph`
+/// is `X`), from the beginning of its call to the end of the call that completed it. Times are in microseconds. Bars of a rank
+/// that overlap in time lie in different threads of its process. The cost is that of [`crate::trace_text`].
 ///
 /// # Errors
 ///
-/// [`ViewFault::Torn`] where an entry names a request that its rank didn't make or that isn't active, and [`ViewFault::NoMemory`].
+/// [`ReportFault::Torn`] if an entry names a request that its rank didn't make, or completes one that isn't active;
+/// [`ReportFault::NoMemory`] if memory was refused.
 pub fn timeline_json(
     alloc: Global,
     ranks: u8,
-    requests: &Requests,
+    requests: &RankRequests,
     trace: &[Entry],
     spans: &[Span],
-) -> Result<String, ViewFault> {
+) -> Result<String, ReportFault> {
     let mut out = String::new(alloc);
     out.push_str("{\"displayTimeUnit\":\"ns\",\"traceEvents\":[")?;
     for rank in 0..ranks {
@@ -45,7 +46,7 @@ pub fn timeline_json(
     Ok(out)
 }
 
-/// The span of the entry of that index; nothing where it isn't told.
+/// The span of the entry of that index; line 0 and times 0 if it isn't given.
 fn span_at(spans: &[Span], index: usize) -> Span {
     match spans.get(index) {
         Some(span) => *span,
@@ -57,7 +58,7 @@ fn span_at(spans: &[Span], index: usize) -> Span {
     }
 }
 
-/// Names the process of a rank, and says where it stands among the others.
+/// Names the process of a rank, and gives its place among the others.
 fn name_rank(alloc: Global, rank: u8, out: &mut String) -> Result<(), AllocError> {
     let comma = if rank == 0 { "" } else { "," };
     let text = format!(in alloc;
@@ -66,7 +67,7 @@ fn name_rank(alloc: Global, rank: u8, out: &mut String) -> Result<(), AllocError
     out.push_str(text.as_str())
 }
 
-/// The bar of a start.
+/// The bar of a post or a start.
 #[derive(Clone, Copy)]
 struct Event {
     rank: u8,

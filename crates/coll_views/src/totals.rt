@@ -3,15 +3,15 @@
 ghost use Rattle.std.specs.Prelude.{◌≡◌, ◌+◌, ◌-◌, IfOk};
 ghost use Rattle.coll_views.specs.Totals.{column_sum, most_lent, number_in, totals_of};
 
-use crate::fault::ViewFault;
-use crate::row::Row;
+use crate::row::TableRow;
 use crate::work::sum_of;
+use coll_script::ReportFault;
 use std::alloc::Global;
 
-/// What the entries of a rank, of a collective or of a whole trace add up to.
+/// The sums over the entries of a rank, of a collective or of a whole trace.
 #[derive(Clone, Copy, Debug, PartialEq, Eq)]
 pub struct Totals {
-    /// How often collectives were carried out.
+    /// The number of collectives that were carried out.
     pub times: u64,
     pub posts: u64,
     pub inits: u64,
@@ -21,17 +21,17 @@ pub struct Totals {
     pub given: u64,
     /// The bytes that completions handed out.
     pub got: u64,
-    /// The most bytes that were lent to the engine at one time, from each post or start to its completion.
+    /// The greatest number of bytes that were lent to the engine at one time, from each post or start to its completion.
     pub lent: u64,
-    /// The messages that the schedules of the posts and starts have their members send.
+    /// The messages that members send by the schedules of the posts and starts.
     pub messages: u64,
-    /// The bytes of these.
+    /// The bytes of these messages.
     pub sent: u64,
-    /// The pieces that they have their members combine.
+    /// The pieces that members combine by these schedules.
     pub combinations: u64,
 }
 
-/// A number of a row that is summed.
+/// A number of a row that is summed up.
 #[derive(Clone, Copy)]
 pub(crate) enum Column {
     Times,
@@ -50,8 +50,8 @@ pub(crate) enum Column {
 ///
 /// # Errors
 ///
-/// [`ViewFault::Torn`] where a sum doesn't fit 64 bits, and [`ViewFault::NoMemory`].
-pub fn totals_of(alloc: Global, rows: &[Row]) -> Result<Totals, ViewFault>
+/// [`ReportFault::Torn`] if a sum doesn't fit into 64 bits; [`ReportFault::NoMemory`] if memory was refused.
+pub fn totals_of(alloc: Global, rows: &[TableRow]) -> Result<Totals, ReportFault>
     ensures { IfOk result (λ totals. totals ≡ totals_of rows.now) }
 {
     Ok(Totals {
@@ -70,7 +70,7 @@ pub fn totals_of(alloc: Global, rows: &[Row]) -> Result<Totals, ViewFault>
 }
 
 /// The sum of a column.
-fn column_sum(alloc: Global, column: Column, rows: &[Row]) -> Result<u64, ViewFault>
+fn column_sum(alloc: Global, column: Column, rows: &[TableRow]) -> Result<u64, ReportFault>
     ensures { IfOk result (λ total. total ≡ column_sum column rows.now) }
 {
     let numbers: Vec<u64> = rows
@@ -80,8 +80,8 @@ fn column_sum(alloc: Global, column: Column, rows: &[Row]) -> Result<u64, ViewFa
     sum_of(&numbers)
 }
 
-/// A row's number in a column.
-fn number_in(column: Column, row: &Row) -> u64
+/// A row's number for a column.
+fn number_in(column: Column, row: &TableRow) -> u64
     ensures { result ≡ number_in column row.now }
 {
     match column {
@@ -98,8 +98,8 @@ fn number_in(column: Column, row: &Row) -> u64
     }
 }
 
-/// The most bytes that are lent at one time along these rows.
-fn most_lent(rows: &[Row]) -> Result<u64, ViewFault>
+/// The greatest number of bytes that are lent at one time along these rows.
+fn most_lent(rows: &[TableRow]) -> Result<u64, ReportFault>
     ensures { IfOk result (λ most. most ≡ most_lent 0 rows.now) }
 {
     let mut lent: u64 = 0;
@@ -111,12 +111,12 @@ fn most_lent(rows: &[Row]) -> Result<u64, ViewFault>
     Ok(most)
 }
 
-/// What is lent after a row, where so much was lent before.
-fn lent_after(lent: u64, row: &Row) -> Result<u64, ViewFault>
+/// The bytes that are lent after a row, if `lent` bytes were lent before it.
+fn lent_after(lent: u64, row: &TableRow) -> Result<u64, ReportFault>
     ensures { IfOk result (λ next. next ≡ lent + row.now.lends - row.now.returns) }
 {
     match lent.checked_add(row.lends) {
         Some(more) => Ok(more.saturating_sub(row.returns)),
-        None => Err(ViewFault::Torn),
+        None => Err(ReportFault::Torn),
     }
 }

@@ -7,25 +7,25 @@ ghost use Rattle.coll_views.specs.Lines.{bytes_of, entry_line, head_text, line_t
 ghost use Rattle.coll_views.specs.Requests.{named};
 
 use crate::elements::{Style, print_elements};
-use crate::fault::ViewFault;
-use crate::request::{NumberedRequest, Requests};
+use crate::request::{NumberedRequest, RankRequests};
 use crate::words::signature_text;
 use coll_report::Entry;
+use coll_script::ReportFault;
 use std::alloc::{AllocError, Global};
 
-/// The entries of a trace, one a line and in their order: whose call it was, what it did to which of the rank's requests, what was
-/// given or handed out, and behind `#` the line of the call, of which `lines` has one for each entry, 0 for an unwritten one. The
-/// cost is linear in the text, and for each entry in its rank's requests.
+/// The entries of a trace, one in each line and in their order: the rank of the call, what the call did to which of the rank's
+/// requests, what was given or handed out, and after `#` the line of the call. `lines` has that line for each entry, 0 for the
+/// unwritten `waitall`. The cost is linear in the text, and for each entry in its rank's requests.
 ///
 /// # Errors
 ///
-/// [`ViewFault::Torn`] where an entry names a request that its rank didn't make, and [`ViewFault::NoMemory`].
+/// [`ReportFault::Torn`] if an entry names a request that its rank didn't make; [`ReportFault::NoMemory`] if memory was refused.
 pub fn trace_text(
     alloc: Global,
-    requests: &Requests,
+    requests: &RankRequests,
     trace: &[Entry],
     lines: &[u32],
-) -> Result<Vec<u8>, ViewFault>
+) -> Result<Vec<u8>, ReportFault>
     ensures { IfOk result (λ text. text.items ≡ trace_text requests.now lines.now (trace_seen trace.now)) }
 {
     let mut out = Vec::new(alloc);
@@ -36,7 +36,7 @@ pub fn trace_text(
     Ok(out)
 }
 
-/// The line of the entry of that index; 0 where it isn't told.
+/// The line of the entry of that index; 0 if it isn't given.
 pub(crate) fn line_of_entry(lines: &[u32], index: usize) -> u32
     ensures { result ≡ slice_index lines.now index }
 {
@@ -49,11 +49,11 @@ pub(crate) fn line_of_entry(lines: &[u32], index: usize) -> u32
 /// Appends the line of an entry.
 fn print_entry(
     alloc: Global,
-    requests: &Requests,
+    requests: &RankRequests,
     entry: &Entry,
     line: u32,
     out: &mut Vec<u8>,
-) -> Result<(), ViewFault>
+) -> Result<(), ReportFault>
     ensures { OnOk result (out.new.items ≡ out.old.items ++ entry_line requests.now line (seen entry.now)) }
 {
     let found = requests.named_by(entry)?;
@@ -65,7 +65,7 @@ fn print_entry(
     Ok(())
 }
 
-/// What stands behind the elements: the line of the call.
+/// The words after the elements: the line of the call.
 fn line_text(alloc: Global, line: u32) -> Result<String, AllocError>
     ensures { IfOk result (λ text. string_bytes text ≡ line_text line) }
 {
@@ -75,7 +75,7 @@ fn line_text(alloc: Global, line: u32) -> Result<String, AllocError>
     format!(in alloc; "  # line {line}\n")
 }
 
-/// What stands before the elements.
+/// The words before the elements.
 fn head_text(alloc: Global, found: &NumberedRequest, entry: &Entry) -> Result<String, AllocError>
     ensures { IfOk result (λ text. string_bytes text ≡ head_text found.now (seen entry.now)) }
 {
@@ -102,7 +102,7 @@ fn head_text(alloc: Global, found: &NumberedRequest, entry: &Entry) -> Result<St
     }
 }
 
-/// Where the request stands.
+/// The request's communicator and place.
 fn place_text(alloc: Global, found: &NumberedRequest) -> Result<String, AllocError>
     ensures { IfOk result (λ text. string_bytes text ≡ place_text found.now.request) }
 {
@@ -111,7 +111,7 @@ fn place_text(alloc: Global, found: &NumberedRequest) -> Result<String, AllocErr
     format!(in alloc; "comm {comm} place {place}")
 }
 
-/// What was given by an entry, or handed out.
+/// The bytes that an entry gave or handed out.
 pub(crate) fn bytes_of(entry: &Entry) -> &[u8]
     ensures { result.now ≡ bytes_of (seen entry.now) }
 {

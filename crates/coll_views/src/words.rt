@@ -8,8 +8,8 @@ ghost use Rattle.coll_views.specs.Texts.{block_text, count_text, counts_text, op
 use coll_kinds::{Kind, MAX_RANKS, Op, Signature};
 use std::alloc::{AllocError, Global};
 
-/// The words of a signature among so many members: the kind, then, where it has them, the root, the operation, the type and the
-/// count, or the count of each member. A persistent one's are the same.
+/// The words of a signature among `members` members: the kind; then, if it has them, the root, the operation and the type; and
+/// the count, or the count of each member. The words of a persistent signature are the same.
 pub(crate) fn signature_text(
     alloc: Global,
     sig: &Signature,
@@ -47,7 +47,7 @@ fn operation_text(alloc: Global, op: Option<Op>) -> Result<String, AllocError>
     format!(in alloc; " {word}")
 }
 
-/// The type, and how many elements.
+/// The type, and the count or counts.
 fn block_text(alloc: Global, sig: &Signature, members: u8) -> Result<String, AllocError>
     ensures { IfOk result (λ text. string_bytes text ≡ block_text sig.now members) }
 {
@@ -62,7 +62,7 @@ fn block_text(alloc: Global, sig: &Signature, members: u8) -> Result<String, All
     }
 }
 
-/// The counts of so many members.
+/// The counts of this number of members.
 fn counts_text(alloc: Global, counts: &[u32; MAX_RANKS], members: u8) -> Result<String, AllocError>
     ensures { IfOk result (λ text. string_bytes text ≡ counts_text counts.now members) }
 {
@@ -86,7 +86,7 @@ fn push_count(
     text.push_str(word.as_str())
 }
 
-/// The count of a member; 0 past the last one.
+/// The count of a member; 0 after the last one.
 fn count_text(alloc: Global, counts: &[u32; MAX_RANKS], member: u8) -> Result<String, AllocError>
     ensures { IfOk result (λ text. string_bytes text ≡ count_text counts.now member) }
 {

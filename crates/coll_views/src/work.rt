@@ -1,4 +1,4 @@
-//! What a schedule has its member do.
+//! What a member does by its schedule.
 
 ghost use Rattle.std.specs.Prelude.{◌≡◌, ◌++◌, ◌∷◌, [], ◌<◌, ◌^◌, List, count_by, flat_map, map, sum, IfOk, OnOk};
 ghost use Rattle.coll_sched.specs.declared.action.Action.{Action as AnAction};
@@ -6,23 +6,23 @@ ghost use Rattle.coll_sched.specs.Families.{is_send};
 ghost use Rattle.coll_draw.specs.Counts.{is_combine, sent_len};
 ghost use Rattle.coll_views.specs.Works.{actions_in, work_in};
 
-use crate::fault::ViewFault;
 use coll_sched::{Action, Round};
+use coll_script::ReportFault;
 use std::alloc::{AllocError, Global};
 
 /// What a member sends and combines in one collective.
 #[derive(Clone, Copy, Debug, PartialEq, Eq)]
-pub struct Work {
+pub struct MessageCounts {
     /// The messages that it sends.
     pub messages: u64,
-    /// The bytes of these.
+    /// The bytes of these messages.
     pub bytes: u64,
     /// The pieces that it combines.
     pub combinations: u64,
 }
 
 /// The work of these rounds. Linear in their actions.
-pub(crate) fn work_of(alloc: Global, rounds: &[Round]) -> Result<Work, ViewFault>
+pub(crate) fn work_of(alloc: Global, rounds: &[Round]) -> Result<MessageCounts, ReportFault>
     ensures { IfOk result (λ work. work ≡ work_in rounds.now) }
 {
     let actions = all_actions(alloc, rounds)?;
@@ -30,7 +30,7 @@ pub(crate) fn work_of(alloc: Global, rounds: &[Round]) -> Result<Work, ViewFault
         .iter()
         .map(|action| sent_len(*action))
         .collect(alloc)?;
-    Ok(Work {
+    Ok(MessageCounts {
         messages: count_sends(&actions),
         bytes: sum_of(&sent)?,
         combinations: count_combinations(&actions),
@@ -101,14 +101,14 @@ fn sent_len(action: Action) -> u64
     }
 }
 
-/// The sum of these numbers; Torn where it doesn't fit 64 bits.
-pub(crate) fn sum_of(numbers: &[u64]) -> Result<u64, ViewFault>
+/// The sum of these numbers. `Torn` if it doesn't fit into 64 bits.
+pub(crate) fn sum_of(numbers: &[u64]) -> Result<u64, ReportFault>
     ensures { IfOk result (λ total. total ≡ sum numbers.now) }
 {
     let mut total: u64 = 0;
     for number in numbers {
         let Some(more) = total.checked_add(*number) else {
-            return Err(ViewFault::Torn);
+            return Err(ReportFault::Torn);
         };
         total = more;
     }

@@ -1,30 +1,30 @@
-//! The completion calls of one request and of lists, each answer compared with the one that must come.
+//! The completion calls of one request and of lists: each answer is compared with the one that must come.
 //!
 //! | Module | Has |
 //! |---|---|
-//! | `making` | an engine with requests as rows ask for them |
+//! | `making` | an engine with the requests that rows ask for |
 //! | `asking` | the calls of the rows, with their answers in short |
 
 mod asking;
 mod making;
 
-use asking::{Answer, Call, ask};
+use asking::{CompletionAnswer, CompletionCall, ask};
 use coll_kinds::Refusal;
-use making::{Made, far_all, make_all, open};
+use making::{Holder, far_all, make_all, open};
 use std::alloc::Global;
 use std::process::Abort;
 
-/// A call over a list, its answer, what it notes, and how far the requests are then.
-type Row = (
-    Call,
-    &'static [Made],
-    Answer,
+/// A call over a list, its answer, the outcomes or bytes that it notes, and how far the requests are after it.
+type CompletionRow = (
+    CompletionCall,
+    &'static [Holder],
+    CompletionAnswer,
     &'static [(usize, u8)],
-    &'static [Made],
+    &'static [Holder],
 );
 
-/// Whether a call gives its answer, notes what it must, and leaves the requests so.
-fn holds(alloc: Global, (call, list, want, noted, after): &Row) -> Result<bool, Refusal> {
+/// Whether a call gives its answer, notes what it must, and leaves the requests as it must.
+fn holds(alloc: Global, (call, list, want, noted, after): &CompletionRow) -> Result<bool, Refusal> {
     let mut core = open(alloc)?;
     let mut requests = make_all(alloc, &mut core, list)?;
     let mut told = Vec::new(alloc);
@@ -33,24 +33,30 @@ fn holds(alloc: Global, (call, list, want, noted, after): &Row) -> Result<bool, 
     Ok(answer == *want && told.as_slice() == *noted && left.as_slice() == *after)
 }
 
-/// Ends the test where a call does otherwise.
-fn assert_rows(rt: &impl Abort, alloc: Global, rows: &[Row]) {
+/// Ends the test if a call does otherwise.
+fn assert_rows(rt: &impl Abort, alloc: Global, rows: &[CompletionRow]) {
     for (index, row) in rows.iter().enumerate() {
         assert!(rt; holds(alloc, row) == Ok(true), "row {index}");
     }
 }
 
-const INACTIVE: &[Made] = &[Made::Null, Made::Idle];
+const INACTIVE: &[Holder] = &[Holder::Null, Holder::Idle];
 
-const OVER_INACTIVE: &[Row] = &[
+const OVER_INACTIVE: &[CompletionRow] = &[
     (
-        Call::Some,
-        &[Made::Null, Made::Idle, Made::Pending],
-        Answer::Count(Some(0)),
+        CompletionCall::Some,
+        &[Holder::Null, Holder::Idle, Holder::Pending],
+        CompletionAnswer::Count(Some(0)),
         &[],
-        &[Made::Null, Made::Idle, Made::Pending],
+        &[Holder::Null, Holder::Idle, Holder::Pending],
     ),
-    (Call::Some, INACTIVE, Answer::Count(None), &[], INACTIVE),
+    (
+        CompletionCall::Some,
+        INACTIVE,
+        CompletionAnswer::Count(None),
+        &[],
+        INACTIVE,
+    ),
 ];
 
 #[test]
@@ -58,12 +64,17 @@ fn some_over_inactive(rt: HostRuntime) {
     assert_rows(&rt, rt.alloc(), OVER_INACTIVE);
 }
 
-const SOME_DONE: &[Row] = &[(
-    Call::Some,
-    &[Made::Done, Made::Pending, Made::Null, Made::Restarted],
-    Answer::Count(Some(2)),
+const SOME_DONE: &[CompletionRow] = &[(
+    CompletionCall::Some,
+    &[
+        Holder::Done,
+        Holder::Pending,
+        Holder::Null,
+        Holder::Restarted,
+    ],
+    CompletionAnswer::Count(Some(2)),
     &[(0, 10), (3, 13)],
-    &[Made::Null, Made::Pending, Made::Null, Made::Idle],
+    &[Holder::Null, Holder::Pending, Holder::Null, Holder::Idle],
 )];
 
 #[test]
@@ -71,20 +82,20 @@ fn some_are_done(rt: HostRuntime) {
     assert_rows(&rt, rt.alloc(), SOME_DONE);
 }
 
-const PARTLY_DONE: &[Made] = &[Made::Done, Made::Pending];
+const PARTLY_DONE: &[Holder] = &[Holder::Done, Holder::Pending];
 
-const REST_LEFT: &[Row] = &[
+const REST_LEFT: &[CompletionRow] = &[
     (
-        Call::Any,
-        &[Made::Null, Made::Done, Made::Done],
-        Answer::At(1),
+        CompletionCall::Any,
+        &[Holder::Null, Holder::Done, Holder::Done],
+        CompletionAnswer::At(1),
         &[(1, 11)],
-        &[Made::Null, Made::Null, Made::Done],
+        &[Holder::Null, Holder::Null, Holder::Done],
     ),
     (
-        Call::All,
+        CompletionCall::All,
         PARTLY_DONE,
-        Answer::Flag(false),
+        CompletionAnswer::Flag(false),
         &[],
         PARTLY_DONE,
     ),
@@ -95,11 +106,23 @@ fn any_and_all_leave_the_rest(rt: HostRuntime) {
     assert_rows(&rt, rt.alloc(), REST_LEFT);
 }
 
-const NOT_DONE: &[Made] = &[Made::Pending, Made::Idle];
+const NOT_DONE: &[Holder] = &[Holder::Pending, Holder::Idle];
 
-const NONE_DONE: &[Row] = &[
-    (Call::Any, NOT_DONE, Answer::Unfinished, &[], NOT_DONE),
-    (Call::Any, INACTIVE, Answer::Undefined, &[], INACTIVE),
+const NONE_DONE: &[CompletionRow] = &[
+    (
+        CompletionCall::Any,
+        NOT_DONE,
+        CompletionAnswer::Unfinished,
+        &[],
+        NOT_DONE,
+    ),
+    (
+        CompletionCall::Any,
+        INACTIVE,
+        CompletionAnswer::Undefined,
+        &[],
+        INACTIVE,
+    ),
 ];
 
 #[test]
@@ -107,17 +130,23 @@ fn any_of_none(rt: HostRuntime) {
     assert_rows(&rt, rt.alloc(), NONE_DONE);
 }
 
-const NULL: &[Made] = &[Made::Null];
+const NULL: &[Holder] = &[Holder::Null];
 
-const ALL_DONE: &[Row] = &[
+const ALL_DONE: &[CompletionRow] = &[
     (
-        Call::All,
-        &[Made::Restarted, Made::Null, Made::Idle, Made::Done],
-        Answer::Flag(true),
+        CompletionCall::All,
+        &[Holder::Restarted, Holder::Null, Holder::Idle, Holder::Done],
+        CompletionAnswer::Flag(true),
         &[(0, 10), (3, 13)],
-        &[Made::Idle, Made::Null, Made::Idle, Made::Null],
+        &[Holder::Idle, Holder::Null, Holder::Idle, Holder::Null],
     ),
-    (Call::All, NULL, Answer::Flag(true), &[], NULL),
+    (
+        CompletionCall::All,
+        NULL,
+        CompletionAnswer::Flag(true),
+        &[],
+        NULL,
+    ),
 ];
 
 #[test]
@@ -125,18 +154,18 @@ fn all_are_done(rt: HostRuntime) {
     assert_rows(&rt, rt.alloc(), ALL_DONE);
 }
 
-const NOT_YOURS: Answer = Answer::Refused(Refusal::NotYours);
+const NOT_YOURS: CompletionAnswer = CompletionAnswer::Refused(Refusal::NotYours);
 
-const BAD: &[Made] = &[Made::Foreign, Made::Stale];
+const BAD: &[Holder] = &[Holder::Foreign, Holder::Stale];
 
-const BAD_LISTS: &[Row] = &[
-    (Call::Any, BAD, NOT_YOURS, &[], BAD),
-    (Call::All, BAD, NOT_YOURS, &[], BAD),
-    (Call::Some, BAD, NOT_YOURS, &[], BAD),
+const BAD_LISTS: &[CompletionRow] = &[
+    (CompletionCall::Any, BAD, NOT_YOURS, &[], BAD),
+    (CompletionCall::All, BAD, NOT_YOURS, &[], BAD),
+    (CompletionCall::Some, BAD, NOT_YOURS, &[], BAD),
     (
-        Call::Start,
+        CompletionCall::Start,
         BAD,
-        Answer::Halted(0, Refusal::NotYours),
+        CompletionAnswer::Halted(0, Refusal::NotYours),
         &[(0, 1), (1, 2)],
         BAD,
     ),
@@ -147,11 +176,11 @@ fn bad_lists(rt: HostRuntime) {
     assert_rows(&rt, rt.alloc(), BAD_LISTS);
 }
 
-const FOREIGN: &[Made] = &[Made::Foreign];
+const FOREIGN: &[Holder] = &[Holder::Foreign];
 
-const ANOTHER_RANKS: &[Row] = &[
-    (Call::Test, FOREIGN, NOT_YOURS, &[], FOREIGN),
-    (Call::Free, FOREIGN, NOT_YOURS, &[], FOREIGN),
+const ANOTHER_RANKS: &[CompletionRow] = &[
+    (CompletionCall::Test, FOREIGN, NOT_YOURS, &[], FOREIGN),
+    (CompletionCall::Free, FOREIGN, NOT_YOURS, &[], FOREIGN),
 ];
 
 #[test]
@@ -159,9 +188,21 @@ fn another_ranks_ticket(rt: HostRuntime) {
     assert_rows(&rt, rt.alloc(), ANOTHER_RANKS);
 }
 
-const ONE_NULL: &[Row] = &[
-    (Call::Free, NULL, Answer::Refused(Refusal::Stale), &[], NULL),
-    (Call::Test, NULL, Answer::Flag(true), &[], NULL),
+const ONE_NULL: &[CompletionRow] = &[
+    (
+        CompletionCall::Free,
+        NULL,
+        CompletionAnswer::Refused(Refusal::Stale),
+        &[],
+        NULL,
+    ),
+    (
+        CompletionCall::Test,
+        NULL,
+        CompletionAnswer::Flag(true),
+        &[],
+        NULL,
+    ),
 ];
 
 #[test]
@@ -169,15 +210,21 @@ fn one_null(rt: HostRuntime) {
     assert_rows(&rt, rt.alloc(), ONE_NULL);
 }
 
-const ONE: &[Row] = &[
+const ONE: &[CompletionRow] = &[
     (
-        Call::Test,
-        &[Made::Done],
-        Answer::Flag(true),
+        CompletionCall::Test,
+        &[Holder::Done],
+        CompletionAnswer::Flag(true),
         &[(0, 10)],
         NULL,
     ),
-    (Call::Free, &[Made::Idle], Answer::Ok, &[], NULL),
+    (
+        CompletionCall::Free,
+        &[Holder::Idle],
+        CompletionAnswer::Ok,
+        &[],
+        NULL,
+    ),
 ];
 
 #[test]
@@ -185,20 +232,20 @@ fn one_request(rt: HostRuntime) {
     assert_rows(&rt, rt.alloc(), ONE);
 }
 
-const STARTED: &[Made] = &[Made::Pending, Made::Pending];
+const STARTED: &[Holder] = &[Holder::Pending, Holder::Pending];
 
-const STARTS: &[Row] = &[
+const STARTS: &[CompletionRow] = &[
     (
-        Call::Start,
-        &[Made::Idle, Made::Pending],
-        Answer::Halted(1, Refusal::NotPersistent),
+        CompletionCall::Start,
+        &[Holder::Idle, Holder::Pending],
+        CompletionAnswer::Halted(1, Refusal::NotPersistent),
         &[(0, 0), (1, 2)],
         STARTED,
     ),
     (
-        Call::Start,
-        &[Made::Idle, Made::Idle],
-        Answer::Ok,
+        CompletionCall::Start,
+        &[Holder::Idle, Holder::Idle],
+        CompletionAnswer::Ok,
         &[],
         STARTED,
     ),

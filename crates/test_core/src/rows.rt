@@ -3,12 +3,12 @@
 //! | Module | Has |
 //! |---|---|
 //! | `signatures` | the signatures of the rows |
-//! | `setup` | `Setup`, what a row's engine is opened with |
-//! | `call` | `Call`, a call of a row |
-//! | `values` | `Values`, what an outcome or an operand has |
-//! | `answer` | `Answer`, what a call answered |
+//! | `setup` | `CoreSetup`, the configuration of a row's engine |
+//! | `call` | `CoreCall`, a call of a row |
+//! | `values` | `Values`, the values of an outcome or an operand |
+//! | `answer` | `CoreAnswer`, the answer to a call |
 //! | `calls` | the core's calls, each with its answer |
-//! | `driver` | `Driver`, an engine that makes the calls of a row |
+//! | `driver` | `CoreDriver`, an engine that makes the calls of a row |
 //! | `once_tests` | rows of posts |
 //! | `persistent_tests` | rows of initialisations and starts |
 //! | `refusal_tests` | rows of refusals |
@@ -27,28 +27,29 @@ pub mod signatures;
 pub mod values;
 pub mod work_tests;
 
-use answer::Answer;
-use call::Call;
+use answer::CoreAnswer;
+use call::CoreCall;
 use coll_kinds::Refusal;
-use driver::Driver;
-use setup::Setup;
+use driver::CoreDriver;
+use setup::CoreSetup;
 use std::alloc::Global;
 use std::process::Abort;
 
 /// A call, with the answer that must come.
-pub type Row = (Call, Answer);
+pub type CoreRow = (CoreCall, CoreAnswer);
 
-/// Makes the calls on a new engine: the first that is answered otherwise, by its index. None where each is answered as it must be.
+/// Makes the calls on a new engine. Returns the index and the answer of the first one that is answered otherwise; None if each
+/// is answered as it must be.
 ///
 /// # Errors
 ///
 /// The engine's refusal to open.
 pub fn first_misfit(
     alloc: Global,
-    setup: &Setup,
-    rows: &[Row],
-) -> Result<Option<(usize, Answer)>, Refusal> {
-    let mut driver = Driver::open(alloc, setup)?;
+    setup: &CoreSetup,
+    rows: &[CoreRow],
+) -> Result<Option<(usize, CoreAnswer)>, Refusal> {
+    let mut driver = CoreDriver::open(alloc, setup)?;
     for (index, (call, want)) in rows.iter().enumerate() {
         let got = driver.answer(*call);
         if got != *want {
@@ -58,7 +59,7 @@ pub fn first_misfit(
     Ok(None)
 }
 
-/// Ends the test where a call is answered otherwise.
-pub fn assert_answers(rt: &impl Abort, alloc: Global, setup: &Setup, rows: &[Row]) {
+/// Ends the test if a call is answered otherwise.
+pub fn assert_answers(rt: &impl Abort, alloc: Global, setup: &CoreSetup, rows: &[CoreRow]) {
     assert_eq!(rt; first_misfit(alloc, setup, rows), Ok(None));
 }

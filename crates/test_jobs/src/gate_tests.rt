@@ -1,5 +1,5 @@
-//! A text run by threads whose first two combinations are held until a third one was computed: ranks and progress threads are at work
-//! at one time.
+//! A text run by threads whose first two combinations are held until a third one was computed, so that ranks and progress
+//! threads work at the same time.
 
 use coll_run::run_job;
 use coll_shared::Gate;
@@ -9,8 +9,8 @@ use std::test::Fail;
 use std::thread;
 use std::time::{Clock, Duration};
 
-/// How often a held piece looks, and how long it sleeps between two looks: for so long that a third thread comes to its turn also on a
-/// machine whose processors all are at work elsewhere.
+/// How many times a held piece looks, and how long it sleeps between two looks. This is long enough for a third thread to come
+/// to its turn even if all processors of the machine are busy.
 const TURNS: u32 = 3_000;
 
 const NAP_IN_MILLIS: u64 = 10;
@@ -23,17 +23,17 @@ const THREE_SUMS: (&str, &str) = (
      rank 1 req 0 start 0 : 3\nrank 1 req 1 start 0 : 30\nrank 1 req 2 start 0 : 300\n",
 );
 
-/// Holds pieces 0 and 1 until piece 2 was ended, for a bounded time.
+/// Holds pieces 0 and 1 until piece 2 has ended, for a bounded time.
 #[derive(Drop)]
 struct HeldPieces<'r, R> {
     rt: &'r R,
-    /// A bit for each of the first 64 pieces that were ended.
+    /// A bit for each of the first 64 pieces, set once the piece has ended.
     ends: AtomicU64,
-    /// How many pieces were held in vain.
+    /// The number of pieces that were held in vain.
     missed: AtomicU64,
 }
 
-/// Whether the piece is among those whose bits these are.
+/// Whether the bit of the piece is set.
 fn has(ends: u64, piece: u64) -> bool {
     piece < 64 && ends & 1u64.wrapping_shl(piece as u32) != 0
 }

@@ -10,7 +10,7 @@ use coll_shared::NoGate;
 use std::test::Fail;
 use test_texts::texts::STARTS_OUT_OF_ORDER;
 
-/// How many progress threads the texts are run with.
+/// The numbers of progress threads with which the texts are run.
 const WORKERS: &[u8] = &[0, 1, 2, 8];
 
 const SUM_OF_THREE: (&str, &str) = (
@@ -84,7 +84,7 @@ const ALLGATHERV_OF_ONE: (&str, &str) = (
     "rank 0 req 0 start 0 : 5\n",
 );
 
-/// A persistent one on a communicator of two of three ranks, in the other order.
+/// A persistent allgatherv on a communicator of two of three ranks, in reverse order.
 const ALLGATHERV_STARTED_TWICE: (&str, &str) = (
     "ranks 3\ncomm 2 0\nrank 0\ninit 1 allgatherv u8 1 2\nstart 0 : 3 4\nwait 0\nstart 0 : 5 6\n\
      rank 2\ninit 1 allgatherv u8 1 2\nstart 0 : 1\nwaitall\nstart 0 : 2\n",
@@ -102,7 +102,7 @@ const COMMENTS_AND_LEADING_ZEROS: (&str, &str) = (
     "rank 0 req 0 start 0 : -1 7\n",
 );
 
-/// Each of two ranks looks at one request, frees another, and completes the last by the unwritten waitall.
+/// Each of two ranks tests one request, frees another, and completes the last one by the unwritten `waitall`.
 const TESTED_AND_FREED: (&str, &str) = (
     "ranks 2\nrank 0\npost 0 allgather u8 1 : 1\ninit 0 barrier\nstart 1\ntest 0\nwait 1\nfree 1\npost 0 barrier\n\
      rank 1\npost 0 allgather u8 1 : 2\ninit 0 barrier\nstart 1\ntest 0\nwait 1\nfree 1\npost 0 barrier\n",
@@ -110,7 +110,7 @@ const TESTED_AND_FREED: (&str, &str) = (
      rank 1 req 0 start 0 : 1 2\nrank 1 req 1 start 0 :\nrank 1 req 2 start 0 :\n",
 );
 
-/// Each of two ranks waits for one of two requests, then for some of three, and again for none that is active.
+/// Each of two ranks waits for one of two requests, then for some of three, and then for requests of which none is active.
 const ANY_AND_SOME: (&str, &str) = (
     "ranks 2\nrank 0\npost 0 allgather u8 1 : 1\npost 0 barrier\npost 0 scan sum i8 1 : 3\n\
      waitany 1 0\nwaitsome 2 0 1\nwaitall 0 1\nwaitany 0 1\nwaitsome 1\n\
@@ -120,7 +120,7 @@ const ANY_AND_SOME: (&str, &str) = (
      rank 1 req 0 start 0 : 1 2\nrank 1 req 1 start 0 :\nrank 1 req 2 start 0 : 7\n",
 );
 
-/// A request that is started more often than the whole text has requests.
+/// A request that has more starts than the whole text has requests.
 const STARTED_AGAIN: (&str, &str) = (
     "ranks 2\nrank 0\ninit 0 allgather u8 1\nstart 0 : 1\nwait 0\nstart 0 : 3\nwait 0\nstart 0 : 5\n\
      rank 1\ninit 0 allgather u8 1\nstart 0 : 2\nwaitall\nstart 0 : 4\nwaitall\nstart 0 : 6\n",
@@ -188,7 +188,7 @@ fn texts_without_lines(rt: HostRuntime) -> Result<(), Fail> {
     Ok(())
 }
 
-/// What each of three ranks gives.
+/// The contribution of each of three ranks.
 const GIVEN: &[[u8; 4]] = &[[1, 0, 0, 0], [2, 0, 0, 0], [3, 0, 0, 0]];
 
 fn outcome(rank: u8, bytes: [u8; 4]) -> Outcome {
@@ -201,7 +201,7 @@ fn outcome(rank: u8, bytes: [u8; 4]) -> Outcome {
     }
 }
 
-/// Whether a rank's posts are one, of these bytes.
+/// Whether a rank has made exactly one post, of these bytes.
 fn has_posted(report: &Report, rank: u8, given: [u8; 4]) -> bool {
     let mut posts = report.posts(rank);
     match (posts.next(), posts.next()) {
@@ -220,7 +220,7 @@ fn has_posted(report: &Report, rank: u8, given: [u8; 4]) -> bool {
     }
 }
 
-/// Whether a report has each rank's post, attests the sum of all for each and nothing else, and has as many entries as that are.
+/// Whether a report has each rank's post, attests the sum for each rank and no other value, and has no other entries.
 fn is_of_three(report: &Report) -> bool {
     for (rank, given) in (0..3u8).zip(GIVEN.iter()) {
         let is_attested = report.attests(&outcome(rank, [6, 0, 0, 0]));

@@ -1,4 +1,4 @@
-//! Texts run with several numbers of progress threads, each end compared with the one that must come.
+//! Runs texts with several numbers of progress threads, and compares each end with the one that must come.
 
 ghost use Rattle.std.specs.Prelude.{◌≤◌};
 
@@ -27,7 +27,7 @@ fn ends_so<R: Threads + Wait + Sync>(
     }
 }
 
-/// The first number of progress threads with which a run of the text ends otherwise. None where there is none.
+/// The first number of progress threads with which a run of the text ends otherwise. None if there is none.
 fn misfit_of<R: Threads + Wait + Sync>(
     rt: &R,
     alloc: Global,
@@ -43,7 +43,7 @@ fn misfit_of<R: Threads + Wait + Sync>(
     None
 }
 
-/// The first text that has other lines, by its index, and with how many progress threads. None where there is none.
+/// The first text with other lines, by its index, and the number of progress threads. None if there is none.
 pub fn first_misfit<R: Threads + Wait + Sync>(
     rt: &R,
     alloc: Global,
@@ -58,7 +58,7 @@ pub fn first_misfit<R: Threads + Wait + Sync>(
     None
 }
 
-/// The first text that has another fault, by its index, and with how many progress threads. None where there is none.
+/// The first text with another fault, by its index, and the number of progress threads. None if there is none.
 pub fn first_other_end<R: Threads + Wait + Sync>(
     rt: &R,
     alloc: Global,

@@ -1,4 +1,4 @@
-//! Texts that go on only where a wait answers in time, and texts in which no wait can go on.
+//! Texts that go on only if a wait returns in time, and texts in which no wait can return.
 
 use crate::run_tests::CROSSED_BARRIERS;
 use crate::running::{first_misfit, first_other_end};
@@ -13,7 +13,7 @@ const ANY_OF_TWO: &str = "ranks 2\ncomm 0 1\ncomm 0 1\ncomm 0 1\n\
      rank 0\npost 1 barrier\npost 2 barrier\nwaitany 0 1\npost 3 barrier\n\
      rank 1\npost 1 barrier\npost 3 barrier\nwait 1\npost 2 barrier\n";
 
-/// The same with a wait for some, in which the barrier that is done stands last.
+/// The same text with a wait for some, in which the barrier that is done is named last.
 const SOME_OF_TWO: &str = "ranks 2\ncomm 0 1\ncomm 0 1\ncomm 0 1\n\
      rank 0\npost 1 barrier\npost 2 barrier\nwaitsome 1 0\npost 3 barrier\n\
      rank 1\npost 1 barrier\npost 3 barrier\nwait 1\npost 2 barrier\n";
@@ -28,7 +28,7 @@ const STALL_OF_THREE: &str = "ranks 3\ncomm 1 2\ncomm 1 2\n\
      rank 1\npost 1 barrier\nwait 0\npost 2 barrier\nwait 1\n\
      rank 2\npost 2 barrier\nwait 0\npost 1 barrier\nwait 1\n";
 
-/// Ranks 1 and 2 wait for one another, and rank 0 gets what it asks for.
+/// Ranks 1 and 2 wait for one another, and rank 0 gets the value for which it asks.
 const STALL_BESIDE_THE_FIRST: &str =
     "ranks 3\ncomm 1 2\ncomm 1 2\ncomm 0\nrank 0\npost 3 allreduce sum i8 1 : 1\n\
      rank 1\npost 1 barrier\nwait 0\npost 2 barrier\n\
@@ -45,7 +45,7 @@ const STALL_IN_A_RING: &str = "ranks 3\ncomm 0 1\ncomm 1 2\ncomm 2 0\n\
      rank 1\npost 2 barrier\nwait 0\npost 1 barrier\n\
      rank 2\npost 3 barrier\nwait 0\npost 2 barrier\n";
 
-/// As many progress threads as a job may have, and fewer.
+/// The number of progress threads of a job: as many as a job may have, and all smaller numbers.
 const WORKERS: &[u8] = &[0, 1, 2, 3, 4, 5, 6, 7, 8];
 
 const GO_ON: &[(&str, &str)] = &[(ANY_OF_TWO, BARRIERS), (SOME_OF_TWO, BARRIERS)];

@@ -9,22 +9,22 @@ ghost use Rattle.coll_arena.specs.Slots.{names, record_in};
 
 use coll_arena::{Arena, ListName};
 use coll_kinds::{Refusal, Ticket};
-use driver::{Answer, Call, Driver, END, Live, On};
+use driver::{ArenaAnswer, ArenaCall, ArenaDriver, END, Live, On};
 use std::alloc::Global;
 use std::process::Abort;
 
 /// A call, with the answer that must come.
-type Row = (Call, Answer);
+type ArenaRow = (ArenaCall, ArenaAnswer);
 
-/// The first call of a list that was answered otherwise, by its index, on a new arena of so many slots, each of which can
-/// be taken so often.
+/// The first call of a list that was answered otherwise, by its index and with its answer. The arena is new and has this number
+/// of slots, each of which can be taken `wear` times.
 fn first_misfit(
     alloc: Global,
     slots: u8,
     wear: u8,
-    rows: &[Row],
-) -> Result<Option<(usize, Answer)>, Refusal> {
-    let mut driver = Driver::open(alloc, slots, wear)?;
+    rows: &[ArenaRow],
+) -> Result<Option<(usize, ArenaAnswer)>, Refusal> {
+    let mut driver = ArenaDriver::open(alloc, slots, wear)?;
     for (index, (call, want)) in rows.iter().enumerate() {
         let got = driver.answer(*call);
         if got != *want {
@@ -34,27 +34,36 @@ fn first_misfit(
     Ok(None)
 }
 
-/// Ends the test where a call of a list is answered otherwise.
-fn assert_answers(rt: &impl Abort, alloc: Global, slots: u8, wear: u8, rows: &[Row]) {
+/// Ends the test if a call of a list is answered otherwise.
+fn assert_answers(rt: &impl Abort, alloc: Global, slots: u8, wear: u8, rows: &[ArenaRow]) {
     assert_eq!(rt; first_misfit(alloc, slots, wear, rows), Ok(None));
 }
 
 const ON_DONE: On = On::Live(Live::Done);
 
-// A slot that is worn out isn't given again, and its tickets name nothing.
-const WORN: &[Row] = &[
-    (Call::Take(7, 0, Live::Ready), Answer::Ticket(0, 1)),
-    (Call::Retire(0), Answer::Record(7)),
-    (Call::Get(0), Answer::Refused(Refusal::Stale)),
-    (Call::Take(8, 0, Live::Ready), Answer::Ticket(0, 2)),
-    (Call::Retire(0), Answer::Refused(Refusal::Stale)),
-    (Call::Retire(1), Answer::Record(8)),
+// A slot that is worn out isn't given again, and its tickets name no request.
+const WORN: &[ArenaRow] = &[
     (
-        Call::Take(9, 0, Live::Ready),
-        Answer::Back(Refusal::Full, 9),
+        ArenaCall::Take(7, 0, Live::Ready),
+        ArenaAnswer::Ticket(0, 1),
     ),
-    (Call::Slots(On::Worn), Answer::Slots([0, END, END, END])),
-    (Call::Retire(0), Answer::Refused(Refusal::Stale)),
+    (ArenaCall::Retire(0), ArenaAnswer::Record(7)),
+    (ArenaCall::Get(0), ArenaAnswer::Refused(Refusal::Stale)),
+    (
+        ArenaCall::Take(8, 0, Live::Ready),
+        ArenaAnswer::Ticket(0, 2),
+    ),
+    (ArenaCall::Retire(0), ArenaAnswer::Refused(Refusal::Stale)),
+    (ArenaCall::Retire(1), ArenaAnswer::Record(8)),
+    (
+        ArenaCall::Take(9, 0, Live::Ready),
+        ArenaAnswer::Back(Refusal::Full, 9),
+    ),
+    (
+        ArenaCall::Slots(On::Worn),
+        ArenaAnswer::Slots([0, END, END, END]),
+    ),
+    (ArenaCall::Retire(0), ArenaAnswer::Refused(Refusal::Stale)),
 ];
 
 #[test]
@@ -62,15 +71,33 @@ fn worn_slot(rt: HostRuntime) {
     assert_answers(&rt, rt.alloc(), 1, 2, WORN);
 }
 
-// The named request leaves, not the oldest.
-const NAMED: &[Row] = &[
-    (Call::Take(10, 1, Live::Done), Answer::Ticket(0, 1)),
-    (Call::Take(11, 1, Live::Done), Answer::Ticket(1, 1)),
-    (Call::Take(12, 1, Live::Done), Answer::Ticket(2, 1)),
-    (Call::Slots(ON_DONE), Answer::Slots([0, 1, 2, END])),
-    (Call::Retire(1), Answer::Record(11)),
-    (Call::Slots(ON_DONE), Answer::Slots([0, 2, END, END])),
-    (Call::Slots(On::Free), Answer::Slots([3, 1, END, END])),
+// The request that is named leaves, not the oldest.
+const NAMED: &[ArenaRow] = &[
+    (
+        ArenaCall::Take(10, 1, Live::Done),
+        ArenaAnswer::Ticket(0, 1),
+    ),
+    (
+        ArenaCall::Take(11, 1, Live::Done),
+        ArenaAnswer::Ticket(1, 1),
+    ),
+    (
+        ArenaCall::Take(12, 1, Live::Done),
+        ArenaAnswer::Ticket(2, 1),
+    ),
+    (
+        ArenaCall::Slots(ON_DONE),
+        ArenaAnswer::Slots([0, 1, 2, END]),
+    ),
+    (ArenaCall::Retire(1), ArenaAnswer::Record(11)),
+    (
+        ArenaCall::Slots(ON_DONE),
+        ArenaAnswer::Slots([0, 2, END, END]),
+    ),
+    (
+        ArenaCall::Slots(On::Free),
+        ArenaAnswer::Slots([3, 1, END, END]),
+    ),
 ];
 
 #[test]
@@ -78,16 +105,28 @@ fn retire_the_named(rt: HostRuntime) {
     assert_answers(&rt, rt.alloc(), 4, 2, NAMED);
 }
 
-const REST: &[Row] = &[
-    (Call::Take(10, 8, Live::Done), Answer::Ticket(0, 1)),
-    (Call::Take(11, 24, Live::Done), Answer::Ticket(1, 1)),
-    (Call::Take(12, 0, Live::Done), Answer::Ticket(2, 1)),
-    (Call::Lent, Answer::Lent(32)),
-    (Call::Retire(1), Answer::Record(11)),
-    (Call::Lent, Answer::Lent(8)),
-    (Call::Slots(ON_DONE), Answer::Slots([0, 2, END, END])),
-    (Call::Get(0), Answer::Record(10)),
-    (Call::Get(2), Answer::Record(12)),
+const REST: &[ArenaRow] = &[
+    (
+        ArenaCall::Take(10, 8, Live::Done),
+        ArenaAnswer::Ticket(0, 1),
+    ),
+    (
+        ArenaCall::Take(11, 24, Live::Done),
+        ArenaAnswer::Ticket(1, 1),
+    ),
+    (
+        ArenaCall::Take(12, 0, Live::Done),
+        ArenaAnswer::Ticket(2, 1),
+    ),
+    (ArenaCall::Lent, ArenaAnswer::Lent(32)),
+    (ArenaCall::Retire(1), ArenaAnswer::Record(11)),
+    (ArenaCall::Lent, ArenaAnswer::Lent(8)),
+    (
+        ArenaCall::Slots(ON_DONE),
+        ArenaAnswer::Slots([0, 2, END, END]),
+    ),
+    (ArenaCall::Get(0), ArenaAnswer::Record(10)),
+    (ArenaCall::Get(2), ArenaAnswer::Record(12)),
 ];
 
 #[test]
@@ -95,13 +134,28 @@ fn retire_keeps_the_rest(rt: HostRuntime) {
     assert_answers(&rt, rt.alloc(), 3, 2, REST);
 }
 
-const WEARS_OUT: &[Row] = &[
-    (Call::Take(10, 8, Live::Done), Answer::Ticket(0, 1)),
-    (Call::Take(11, 24, Live::Done), Answer::Ticket(1, 1)),
-    (Call::Take(12, 0, Live::Done), Answer::Ticket(2, 1)),
-    (Call::Retire(1), Answer::Record(11)),
-    (Call::Slots(On::Worn), Answer::Slots([1, END, END, END])),
-    (Call::Slots(On::Free), Answer::Slots([END, END, END, END])),
+const WEARS_OUT: &[ArenaRow] = &[
+    (
+        ArenaCall::Take(10, 8, Live::Done),
+        ArenaAnswer::Ticket(0, 1),
+    ),
+    (
+        ArenaCall::Take(11, 24, Live::Done),
+        ArenaAnswer::Ticket(1, 1),
+    ),
+    (
+        ArenaCall::Take(12, 0, Live::Done),
+        ArenaAnswer::Ticket(2, 1),
+    ),
+    (ArenaCall::Retire(1), ArenaAnswer::Record(11)),
+    (
+        ArenaCall::Slots(On::Worn),
+        ArenaAnswer::Slots([1, END, END, END]),
+    ),
+    (
+        ArenaCall::Slots(On::Free),
+        ArenaAnswer::Slots([END, END, END, END]),
+    ),
 ];
 
 #[test]
@@ -109,19 +163,37 @@ fn retire_wears_out(rt: HostRuntime) {
     assert_answers(&rt, rt.alloc(), 3, 1, WEARS_OUT);
 }
 
-const CHANGES: &[Row] = &[
-    (Call::Take(10, 8, Live::Done), Answer::Ticket(0, 1)),
-    (Call::Take(11, 24, Live::Done), Answer::Ticket(1, 1)),
-    (Call::Take(12, 0, Live::Done), Answer::Ticket(2, 1)),
-    (Call::Set(2, 13), Answer::Accepted),
-    (Call::Get(2), Answer::Record(13)),
-    (Call::Reweigh(0, 0), Answer::Accepted),
-    (Call::Lent, Answer::Lent(24)),
-    (Call::Shift(0, Live::Done), Answer::Accepted),
-    (Call::Slots(ON_DONE), Answer::Slots([1, 2, 0, END])),
-    (Call::ShiftFront(2, Live::Done), Answer::Accepted),
-    (Call::Slots(ON_DONE), Answer::Slots([2, 1, 0, END])),
-    (Call::SlotsBack(ON_DONE), Answer::Slots([0, 1, 2, END])),
+const CHANGES: &[ArenaRow] = &[
+    (
+        ArenaCall::Take(10, 8, Live::Done),
+        ArenaAnswer::Ticket(0, 1),
+    ),
+    (
+        ArenaCall::Take(11, 24, Live::Done),
+        ArenaAnswer::Ticket(1, 1),
+    ),
+    (
+        ArenaCall::Take(12, 0, Live::Done),
+        ArenaAnswer::Ticket(2, 1),
+    ),
+    (ArenaCall::Set(2, 13), ArenaAnswer::Accepted),
+    (ArenaCall::Get(2), ArenaAnswer::Record(13)),
+    (ArenaCall::Reweigh(0, 0), ArenaAnswer::Accepted),
+    (ArenaCall::Lent, ArenaAnswer::Lent(24)),
+    (ArenaCall::Shift(0, Live::Done), ArenaAnswer::Accepted),
+    (
+        ArenaCall::Slots(ON_DONE),
+        ArenaAnswer::Slots([1, 2, 0, END]),
+    ),
+    (ArenaCall::ShiftFront(2, Live::Done), ArenaAnswer::Accepted),
+    (
+        ArenaCall::Slots(ON_DONE),
+        ArenaAnswer::Slots([2, 1, 0, END]),
+    ),
+    (
+        ArenaCall::SlotsBack(ON_DONE),
+        ArenaAnswer::Slots([0, 1, 2, END]),
+    ),
 ];
 
 #[test]
@@ -129,19 +201,22 @@ fn a_live_request_changes(rt: HostRuntime) {
     assert_answers(&rt, rt.alloc(), 3, 2, CHANGES);
 }
 
-const ASKED_FOR: &[Row] = &[
-    (Call::HasFree, Answer::Is(true)),
-    (Call::First(Live::Done), Answer::Nothing),
-    (Call::TicketAt(0), Answer::Nothing),
-    (Call::Take(10, 8, Live::Done), Answer::Ticket(0, 1)),
-    (Call::HasFree, Answer::Is(false)),
-    (Call::First(Live::Done), Answer::Ticket(0, 1)),
-    (Call::TicketAt(0), Answer::Ticket(0, 1)),
-    (Call::TicketAt(1), Answer::Nothing),
-    (Call::Len(ON_DONE), Answer::Count(1)),
-    (Call::Len(On::Free), Answer::Count(0)),
-    (Call::IsOn(0, Live::Done), Answer::Is(true)),
-    (Call::IsOn(0, Live::Queue), Answer::Is(false)),
+const ASKED_FOR: &[ArenaRow] = &[
+    (ArenaCall::HasFree, ArenaAnswer::Is(true)),
+    (ArenaCall::First(Live::Done), ArenaAnswer::Nothing),
+    (ArenaCall::TicketAt(0), ArenaAnswer::Nothing),
+    (
+        ArenaCall::Take(10, 8, Live::Done),
+        ArenaAnswer::Ticket(0, 1),
+    ),
+    (ArenaCall::HasFree, ArenaAnswer::Is(false)),
+    (ArenaCall::First(Live::Done), ArenaAnswer::Ticket(0, 1)),
+    (ArenaCall::TicketAt(0), ArenaAnswer::Ticket(0, 1)),
+    (ArenaCall::TicketAt(1), ArenaAnswer::Nothing),
+    (ArenaCall::Len(ON_DONE), ArenaAnswer::Count(1)),
+    (ArenaCall::Len(On::Free), ArenaAnswer::Count(0)),
+    (ArenaCall::IsOn(0, Live::Done), ArenaAnswer::Is(true)),
+    (ArenaCall::IsOn(0, Live::Queue), ArenaAnswer::Is(false)),
 ];
 
 #[test]
@@ -149,17 +224,26 @@ fn a_request_is_asked_for(rt: HostRuntime) {
     assert_answers(&rt, rt.alloc(), 1, 1, ASKED_FOR);
 }
 
-const REPLACED: &[Row] = &[
-    (Call::Take(10, 8, Live::Done), Answer::Ticket(0, 1)),
-    (Call::Take(11, 24, Live::Done), Answer::Ticket(1, 1)),
-    (Call::Replace(0, 20, Live::Ready), Answer::Record(10)),
-    (Call::Get(0), Answer::Record(20)),
-    (Call::IsOn(0, Live::Ready), Answer::Is(true)),
-    (Call::Lent, Answer::Lent(32)),
-    (Call::Retire(0), Answer::Record(20)),
+const REPLACED: &[ArenaRow] = &[
     (
-        Call::Replace(0, 21, Live::Ready),
-        Answer::Back(Refusal::Stale, 21),
+        ArenaCall::Take(10, 8, Live::Done),
+        ArenaAnswer::Ticket(0, 1),
+    ),
+    (
+        ArenaCall::Take(11, 24, Live::Done),
+        ArenaAnswer::Ticket(1, 1),
+    ),
+    (
+        ArenaCall::Replace(0, 20, Live::Ready),
+        ArenaAnswer::Record(10),
+    ),
+    (ArenaCall::Get(0), ArenaAnswer::Record(20)),
+    (ArenaCall::IsOn(0, Live::Ready), ArenaAnswer::Is(true)),
+    (ArenaCall::Lent, ArenaAnswer::Lent(32)),
+    (ArenaCall::Retire(0), ArenaAnswer::Record(20)),
+    (
+        ArenaCall::Replace(0, 21, Live::Ready),
+        ArenaAnswer::Back(Refusal::Stale, 21),
     ),
 ];
 
@@ -170,13 +254,13 @@ fn a_record_is_replaced(rt: HostRuntime) {
 
 /// A record of two fields.
 #[derive(Clone, Copy)]
-struct Counted {
+struct TwoFields {
     steps: u32,
     bytes: u32,
 }
 
-/// One field of a record changes, by a write through `get_mut`; the other fields stay, and so does all else.
-fn set_steps(arena: &mut Arena<Counted>, ticket: Ticket, steps: u32) -> Result<(), Refusal>
+/// Changes one field of a record by a write through `get_mut`. The other fields stay, and so does all else.
+fn set_steps(arena: &mut Arena<TwoFields>, ticket: Ticket, steps: u32) -> Result<(), Refusal>
     ensures live { is_ok result ≡ names arena.old ticket }
     ensures err { OnErr result (arena.new ≡ arena.old) }
     ensures written { OnOk result (ForSome (record_in arena.old ticket.slot) (λ counted. arena.new ≡ rewritten arena.old ticket.slot (record { steps = steps; bytes = counted.bytes }))) }
@@ -185,10 +269,10 @@ fn set_steps(arena: &mut Arena<Counted>, ticket: Ticket, steps: u32) -> Result<(
     Ok(())
 }
 
-/// The fields of a record of which one was changed.
+/// The fields of a record after one of them was changed.
 fn changed(alloc: Global) -> Result<(u32, u32), Refusal> {
-    let mut arena: Arena<Counted> = Arena::open(alloc, 1, 1, 1)?;
-    let counted = Counted { steps: 1, bytes: 2 };
+    let mut arena: Arena<TwoFields> = Arena::open(alloc, 1, 1, 1)?;
+    let counted = TwoFields { steps: 1, bytes: 2 };
     let Ok(ticket) = arena.take(counted, 0, ListName::Ready) else {
         return Err(Refusal::Torn);
     };

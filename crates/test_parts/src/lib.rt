@@ -1,5 +1,6 @@
-//! Tests of what the core stands on: worked rows of lists, of the arena, of schedules and of plans. All of it is built for tests
-//! alone. The folder `tests/test_parts` has the tests that no proof reads: schedules in lock-step, messages, values, bytes, postings.
+//! Tests of the core's foundations: worked rows of lists, of the arena, of schedules and of plans. All of it is built only for
+//! tests. The folder `tests/test_parts` has the tests that no proof reads: schedules in lock-step, messages, values, bytes,
+//! postings.
 //!
 //! | Module | Has |
 //! |---|---|

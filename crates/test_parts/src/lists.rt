@@ -1,18 +1,18 @@
-//! Moves of nodes, and what the lists are then.
+//! Moves of nodes, and the lists after them.
 
 ghost use Rattle.std.specs.Prelude.{◌≡◌, length};
 ghost use Rattle.coll_lists.specs.Layouts.{size};
 
 use coll_lists::Links;
 
-/// A list, its first and its last node, and how many it has.
-type List = (u32, Option<u32>, Option<u32>, u32);
+/// A list, its first and its last node, and its number of nodes.
+type ListShape = (u32, Option<u32>, Option<u32>, u32);
 
 /// A node, the next one, the one before it, and its list.
 type Node = (u32, Option<u32>, Option<u32>, u32);
 
-/// List 0 is 1, 3, list 1 is 4, 0, 2, and list 2 is empty.
-const LISTS: &[List] = &[
+/// List 0 is 1, 3; list 1 is 4, 0, 2; list 2 is empty.
+const LISTS: &[ListShape] = &[
     (0, Some(1), Some(3), 2),
     (1, Some(4), Some(2), 3),
     (2, None, None, 0),
@@ -27,7 +27,7 @@ const NODES: &[Node] = &[
 ];
 
 /// Whether each of three lists is as it must be.
-fn are_lists(links: &Links, lists: &[List]) -> bool
+fn are_lists(links: &Links, lists: &[ListShape]) -> bool
     requires { length links.now ≡ 3 }
 {
     for (list, first, last, len) in lists {
@@ -43,7 +43,7 @@ fn are_lists(links: &Links, lists: &[List]) -> bool
     true
 }
 
-/// Whether each of five nodes stands where it must.
+/// Whether each of five nodes is where it must be.
 fn are_nodes(links: &Links, nodes: &[Node]) -> bool
     requires { size links.now ≡ 5 }
 {

@@ -5,7 +5,7 @@
 //! | `schedules` | which schedules of one member are accepted |
 //! | `rounds` | the rounds of a barrier |
 //! | `exchanges` | the most exchanges of a member's plan |
-//! | `trees` | the same of the builders of binomial trees |
+//! | `trees` | the most exchanges of the binomial trees |
 
 pub mod exchanges;
 pub mod rounds;

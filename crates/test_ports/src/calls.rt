@@ -1,4 +1,4 @@
-//! The calls of a port, as the players make them.
+//! The calls of a port, as the tests make them.
 
 ghost use Rattle.std.specs.Prelude.{◌+◌, ◌≤◌, IfOk, OnOk, length, vec_capacity, vec_len};
 ghost use Rattle.coll_complete.specs.Requests.{AreDistinct};
@@ -76,7 +76,7 @@ pub fn wait<L: Entries, R: Wait, G: Gate>(
     Ok(outcome)
 }
 
-/// Room for the outcomes of a list; Torn where a request stands in it twice.
+/// A list with room for the outcomes of a list; `Torn` if a request stands in it twice.
 pub fn room_for(alloc: Global, list: &[Request]) -> Result<Vec<(usize, Outcome)>, Refusal>
     ensures distinct { OnOk result (AreDistinct list.now) }
     ensures room { IfOk result (λ out. vec_len out + length list.now ≤ vec_capacity out) }

@@ -1,11 +1,11 @@
-//! Tests of ports: worked rows of an engine in one thread, from its opening to its report. All of it is built for tests alone.
-//! The folder `tests/test_ports` has the tests that no proof reads: traces, reports, entries, memory that is refused.
+//! Tests of ports: worked rows of an engine in one thread, from its opening to its report. All of it is built only for tests.
+//! The folder `tests/test_ports` has the tests that no proof reads: traces, reports, entries, refused memory.
 //!
 //! | Module | Has |
 //! |---|---|
 //! | `calls` | the calls of a port |
 //! | `signatures` | the signatures of the rows |
-//! | `ports` | the rows, each answer compared with the one that must come |
+//! | `ports` | the rows: each answer is compared with the one that must come |
 #![tactic(auto)]
 
 #[cfg(test)]

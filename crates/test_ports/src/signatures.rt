@@ -32,7 +32,7 @@ pub const GATHER: Signature = Signature {
     ..BCAST
 };
 
-/// An allreduce that sums one number.
+/// An allreduce that sums one number of each member.
 pub const SUM: Signature = Signature {
     kind: Kind::Allreduce,
     op: Some(Op::Sum),
@@ -44,7 +44,7 @@ pub const PERSISTENT_SUM: Signature = Signature {
     ..SUM
 };
 
-/// The same of an i32 value.
+/// An allreduce that sums one i32 value of each member.
 pub const SUM_OF_I32: Signature = Signature {
     ty: Datatype::I32,
     ..SUM

@@ -1,11 +1,11 @@
-//! Texts, with what a user is shown of each.
+//! Texts, with what a user sees of each.
 
 use crate::answering::{COMMENTS, SUM_OF_THREE};
-use crate::shown::{Row, first_misfit};
+use crate::shown::{TextRow, first_misfit};
 use crate::texts::STARTS_OUT_OF_ORDER;
 use std::test::Fail;
 
-const TEXTS: &[Row] = &[
+const TEXTS: &[TextRow] = &[
     ("", "2: line 1: missing ranks\n"),
     (
         SUM_OF_THREE,
@@ -79,8 +79,8 @@ const TEXTS: &[Row] = &[
     ),
 ];
 
-/// Pairs whose text is no pair, and operations that their type hasn't.
-const PAIR_FAULTS: &[Row] = &[
+/// Pairs whose text isn't one, and operations that their type doesn't have.
+const PAIR_FAULTS: &[TextRow] = &[
     (
         "ranks 1\nrank 0\npost 0 allreduce maxloc 2int 1 : 7",
         "2: line 3: bad value\n",
@@ -115,7 +115,7 @@ fn texts_and_what_is_shown(rt: HostRuntime) -> Result<(), Fail> {
     Ok(())
 }
 
-const KINDS: &[Row] = &[
+const KINDS: &[TextRow] = &[
     (
         "ranks 3\nrank 0\npost 0 gather 1 u8 2 : 1 2\nrank 1\npost 0 gather 1 u8 2 : 3 4\n\
          rank 2\npost 0 gather 1 u8 2 : 5 6\n",

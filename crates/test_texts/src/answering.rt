@@ -1,6 +1,6 @@
-//! The calls that read and answer a text, with nothing that they promise: what they do is compared when a test runs.
+//! The calls that read and answer a text. They have no contracts: the tests compare the results.
 
-use coll_script::{Counted, JobFault, Witnessed, plain_job, read_text};
+use coll_script::{CountedReader, JobFault, Witnessed, plain_job, read_text};
 use std::alloc::Global;
 use std::io::{Cursor, Read, Write};
 
@@ -9,14 +9,14 @@ pub const SUM_OF_THREE: &str = "ranks 3\nrank 0\npost 0 allreduce sum i32 1 : 1\
 
 pub const COMMENTS: &str = "# x\nranks 1\n\nrank 0\npost 0 bcast 0 i8 2 : -1 007\n";
 
-/// A text that is read whole, and how many reads were counted.
+/// Reads a whole text. Returns it, and the number of reads that were counted.
 pub fn read<R: Read>(alloc: Global, reader: &mut R) -> Result<(Vec<u8>, u32), JobFault> {
-    let mut counted = Counted::new(reader);
+    let mut counted = CountedReader::new(reader);
     let text = read_text(alloc, &mut counted)?;
     Ok((text, counted.reads()))
 }
 
-/// Answers the text that a reader gives.
+/// The outcome of the text that a reader gives, without an engine.
 pub fn answer<R: Read, W: Write>(
     alloc: Global,
     reader: &mut R,
@@ -24,7 +24,7 @@ pub fn answer<R: Read, W: Write>(
 ) -> Result<(), JobFault> {
     plain_job(
         alloc,
-        &mut Counted::new(reader),
+        &mut CountedReader::new(reader),
         &mut Witnessed::new(writer),
     )
 }

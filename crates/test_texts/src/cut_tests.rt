@@ -1,14 +1,14 @@
 //! Texts that were cut off.
 
 use crate::answering::answer_text;
-use crate::shown::{Row, first_misfit};
+use crate::shown::{TextRow, first_misfit};
 use crate::texts::STARTS_OUT_OF_ORDER;
 use coll_script::JobFault;
 use std::alloc::Global;
 use std::test::Fail;
 
-/// A sum of three ranks, cut behind the second one's post, and behind the last `:`.
-const CUT: &[Row] = &[
+/// A sum of three ranks, cut off after the second rank's post, and after the last `:`.
+const CUT: &[TextRow] = &[
     (
         "ranks 3\nrank 0\npost 0 allreduce sum i32 1 : 1\nrank 1\npost 0 allreduce sum i32 1 : 2\n",
         "2: line 5: place missing\n",
@@ -26,25 +26,24 @@ fn cut_texts(rt: HostRuntime) -> Result<(), Fail> {
     Ok(())
 }
 
-/// How a text ends: it is answered, it has a fault and nothing was written, or otherwise.
+/// How a text ends: it is answered, it has a fault and nothing was written, or something else happens.
 #[derive(Clone, Copy)]
-enum End {
+enum Ending {
     Answered,
     Told,
     Other,
 }
 
-fn end_of(alloc: Global, text: &str) -> End {
+fn end_of(alloc: Global, text: &str) -> Ending {
     let mut out = Vec::new(alloc);
     match answer_text(alloc, text, &mut out) {
-        Ok(()) => End::Answered,
-        Err(JobFault::Text(_)) if out.is_empty() => End::Told,
-        Err(_) => End::Other,
+        Ok(()) => Ending::Answered,
+        Err(JobFault::Text(_)) if out.is_empty() => Ending::Told,
+        Err(_) => Ending::Other,
     }
 }
 
-/// The lengths of the prefixes of a text that are answered; None where one ends otherwise than with an answer or with a
-/// fault of the text.
+/// The lengths of the prefixes of a text that are answered. None if a prefix ends with neither an answer nor a fault of the text.
 fn answered_prefixes(alloc: Global, text: &str) -> Result<Option<Vec<usize>>, Fail> {
     let mut answered = Vec::new(alloc);
     for len in 0..=text.len() {
@@ -52,16 +51,16 @@ fn answered_prefixes(alloc: Global, text: &str) -> Result<Option<Vec<usize>>, Fa
             return Ok(None);
         };
         match end_of(alloc, prefix) {
-            End::Answered => answered.push(len)?,
-            End::Told => {}
-            End::Other => return Ok(None),
+            Ending::Answered => answered.push(len)?,
+            Ending::Told => {}
+            Ending::Other => return Ok(None),
         }
     }
     Ok(Some(answered))
 }
 
-/// A prefix is answered behind the number of ranks and behind the first section's head, with the end of its line and without it,
-/// since no rank has said anything yet. Then only the whole text is, with its last line's end and without it.
+/// A prefix is answered after the number of ranks and after the first section's head, with the end of the line and without it,
+/// since no rank has a command yet. After that only the whole text is answered, with the end of its last line and without it.
 #[test]
 fn prefixes(rt: HostRuntime) -> Result<(), Fail> {
     let (text, _) = STARTS_OUT_OF_ORDER;

@@ -3,7 +3,7 @@
 use std::io;
 use std::io::{Read, Write};
 
-/// Gives ten bytes, one at a time, and then an error.
+/// A reader that gives ten bytes, one at a time, and then an error.
 #[derive(Drop)]
 pub struct Failing {
     pub given: u8,
@@ -25,7 +25,7 @@ impl Read for Failing {
     }
 }
 
-/// Takes no byte.
+/// A writer that takes no byte.
 #[derive(Drop)]
 pub struct Full;
 
@@ -39,7 +39,7 @@ impl Write for Full {
     }
 }
 
-/// Takes every byte, and fails when it has to give them on.
+/// A writer that takes every byte, and fails when it is flushed.
 #[derive(Drop)]
 pub struct Unflushed;
 

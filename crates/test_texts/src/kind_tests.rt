@@ -24,7 +24,7 @@ fn pair_bytes(rt: HostRuntime) -> Result<(), Fail> {
     Ok(())
 }
 
-/// A gather of the most elements that a signature may have.
+/// A gather of the greatest number of elements that a signature may have.
 const GATHER: Signature = Signature {
     kind: Kind::Gather,
     mode: Mode::Once,
@@ -43,20 +43,21 @@ const BYTE_SUM: Signature = Signature {
     ..GATHER
 };
 
-/// A number of members of an allgatherv, and the count of each; 0 stands behind them.
-type Rows = (usize, u32);
+/// The number of members of an allgatherv, and the count of each. The counts after them are 0.
+type CountsRow = (usize, u32);
 
 /// A signature, the number of members, and the rule that it breaks.
-type Row = (Signature, u8, Option<SignatureFault>);
+type KindRow = (Signature, u8, Option<SignatureFault>);
 
-/// The members of an allgatherv with the count of each, and the rule that it breaks among so many.
-const ALLGATHERVS: &[(Rows, u8, Option<SignatureFault>)] = &[
+/// The members of an allgatherv with the count of each, the number of members of the communicator, and the rule that the
+/// allgatherv breaks there.
+const ALLGATHERVS: &[(CountsRow, u8, Option<SignatureFault>)] = &[
     ((32, 65_536), 32, None),
     ((33, 65_536), 33, Some(SignatureFault::Size)),
     ((1, 65_537), 1, Some(SignatureFault::Count)),
 ];
 
-fn allgatherv((members, count): Rows) -> Signature {
+fn allgatherv((members, count): CountsRow) -> Signature {
     let mut counts = [0; 64];
     for place in counts.iter_mut().take(members) {
         *place = count;
@@ -69,8 +70,8 @@ fn allgatherv((members, count): Rows) -> Signature {
     }
 }
 
-/// Whether a signature breaks that rule, or none.
-fn breaks((sig, n, rule): Row) -> bool {
+/// Whether a signature breaks that rule, or none if there is none.
+fn breaks((sig, n, rule): KindRow) -> bool {
     match (sig.check(n), rule) {
         (Ok(()), None) => true,
         (Err(why), Some(cause)) => why == Refusal::BadSignature { cause },

@@ -1,4 +1,4 @@
-//! A text that is read whole, and what the errors of a reader and of a writer come to.
+//! A text that is read whole, and the results of errors of a reader and of a writer.
 
 use crate::answering::{COMMENTS, SUM_OF_THREE, answer, answer_text, read};
 use crate::fakes::{Failing, Full, Unflushed};
@@ -7,7 +7,7 @@ use std::alloc::Global;
 use std::io::Cursor;
 use std::test::Fail;
 
-/// A text as it is read.
+/// The bytes of a text as they are read.
 fn read_again(alloc: Global, text: &str) -> Result<Vec<u8>, JobFault> {
     let (text, _) = read(alloc, &mut Cursor::new(text.as_bytes()))?;
     Ok(text)
@@ -20,7 +20,7 @@ fn a_text_is_read_whole(rt: HostRuntime) -> Result<(), Fail> {
     Ok(())
 }
 
-/// How a text is read, and answered, where its reader fails, and how many bytes were written.
+/// The results of reading and of answering a text whose reader fails, and the number of bytes that were written.
 fn ends_of_reading(alloc: Global) -> (Option<JobFault>, Result<(), JobFault>, usize) {
     let text = read(alloc, &mut Failing { given: 0 });
     let mut out = Vec::new(alloc);
@@ -28,7 +28,7 @@ fn ends_of_reading(alloc: Global) -> (Option<JobFault>, Result<(), JobFault>, us
     (text.err(), answered, out.len())
 }
 
-/// How a text is answered where its writer takes no byte, and where it doesn't give them on.
+/// The results of answering a text whose writer takes no byte, and of one whose writer can't be flushed.
 fn ends_of_writing(alloc: Global) -> [Result<(), JobFault>; 2] {
     [
         answer_text(alloc, SUM_OF_THREE, &mut Full),

@@ -1,6 +1,6 @@
 //! Texts that more than one crate of tests takes.
 
-/// Two persistent sums, started in other orders by two ranks, and the lines of their values.
+/// Two persistent sums, which two ranks start in different orders, and the lines of their values.
 pub const STARTS_OUT_OF_ORDER: (&str, &str) = (
     "ranks 2\nrank 0\ninit 0 allreduce sum i32 1\ninit 0 allreduce max i32 1\n\
      start 0 : 1\nstart 1 : 10\nwaitall\nstart 0 : 2\nstart 1 : 20\nwaitall\nstart 0 : 3\nstart 1 : 30\n\

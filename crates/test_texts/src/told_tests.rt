@@ -1,10 +1,10 @@
-//! Texts with a fault, and the line that a user is told.
+//! Texts with a fault, and the line that a user reads.
 
-use crate::shown::{Row, first_misfit, shown};
+use crate::shown::{TextRow, first_misfit, shown};
 use std::alloc::Global;
 use std::test::Fail;
 
-const FAULTS: &[Row] = &[
+const FAULTS: &[TextRow] = &[
     ("ranks 65", "2: line 1: bad number\n"),
     ("ranks 1\nrank 1", "2: line 2: bad rank\n"),
     ("ranks 1\npost 0 barrier", "2: line 2: out of place\n"),
@@ -32,7 +32,7 @@ fn faults_are_told(rt: HostRuntime) -> Result<(), Fail> {
     Ok(())
 }
 
-/// What is shown of a text of so many bytes, whose first line would be wrong by itself.
+/// What is shown of a text of `len` bytes, whose first line would be wrong by itself.
 fn shown_of_long(alloc: Global, len: usize) -> Result<String, Fail> {
     let mut text = Vec::new(alloc);
     text.resize(len, b'x')?;

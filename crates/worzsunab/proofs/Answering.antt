@@ -11,6 +11,9 @@ use Rattle.coll_core.specs.declared.phase.Phase.TheVariants.{Done, Idle, Pending
 use Rattle.coll_engine.specs.declared.combination.Stage.{Stage}
 use Rattle.coll_engine.specs.declared.test.Test.{Test}
 use Rattle.coll_core.specs.Cores.{Parts, seen, setting}
+use Rattle.coll_arena.specs.Slots.{record_in}
+use Rattle.coll_core.specs.Progress.{BeginsSchedule}
+use Rattle.coll_core.specs.Requests.{schedule, shown}
 use Rattle.coll_core.specs.Steps.{Finishings, none}
 use Rattle.coll_complete.specs.Completing.{freeing}
 use Rattle.coll_complete.specs.Requests.{active_by, done_by, free_refusal, is_active, is_done, is_pending, left_of, pending_by, phase_at}
@@ -23,6 +26,7 @@ use Rattle.worzsunab.specs.Forms.{IsAbout, about_of}
 use Rattle.worzsunab.specs.declared.reason.Reason.{Reason}
 use Rattle.coll_engine.specs.Combinations.{TakesBack}
 use Rattle.coll_kinds.specs.declared.refusal.Refusal.TheVariants.{Stale}
+use Rattle.worzsunab.specs.Beginnings.{StartsOne}
 use Rattle.worzsunab.specs.Answers.{Answers, IsPhase, IsSame, Tested, phase_number}
 
 pub none_of : {X : Type 0} (x : Option X) → is_some x ≡ false → x ≡ None
@@ -43,6 +47,13 @@ not_freed p rank held named why is e = ap (free_refusal (setting p) (seen p).sta
 
 pub started : (p r : Parts) (rank : ℕ) (held named : Option Ticket) (bytes : List ℕ) → held ≡ named → StartsAt (setting p) rank (seen p) (held, bytes) (seen r) → StartsAt (setting p) rank (seen p) (named, bytes) (seen r)
 started p r rank held named bytes is h = subst (λ (q : Option Ticket). StartsAt (setting p) rank (seen p) (q, bytes) (seen r)) is h
+
+pub begun : (p r : Parts) (rank : ℕ) (held named : Option Ticket) (bytes : List ℕ) → held ≡ named → StartsAt (setting p) rank (seen p) (held, bytes) (seen r)
+    → IfSome held (λ ticket. IfSome (record_in p.arena ticket.slot) (λ x. BeginsSchedule p r ticket.slot (schedule (shown x)))) → StartsOne p r rank named bytes
+begun p r rank held named bytes is h begins = record {
+  starts = started p r rank held named bytes is h;
+  begins = subst (λ (q : Option Ticket). IfSome q (λ ticket. IfSome (record_in p.arena ticket.slot) (λ x. BeginsSchedule p r ticket.slot (schedule (shown x))))) is begins;
+}
 
 pub not_started : (p : Parts) (rank : ℕ) (held named : Option Ticket) (bytes : List ℕ) (why : Refusal) → held ≡ named → DeniesStart (setting p) rank (seen p) (held, bytes) why → DeniesStart (setting p) rank (seen p) (named, bytes) why
 not_started p rank held named bytes why is h = subst (λ (q : Option Ticket). DeniesStart (setting p) rank (seen p) (q, bytes) why) is h

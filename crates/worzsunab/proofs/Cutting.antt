@@ -22,7 +22,7 @@ lengths-more done group sizes i low so_far long =
     ∙ sym (take-suc sizes i 0 low)
     ∙ ap (λ n. take n sizes) next
 
--- the members of one group more, with those behind it
+-- the members of one group more, with those after it
 pub members-more : (done : List (Vec ℕ Global)) (group : Vec ℕ Global) (rest after : List ℕ)
     → group.items ++ after ≡ rest
     → concat (groups_seen (done ++ group ∷ [])) ++ after ≡ concat (groups_seen done) ++ rest

@@ -1,4 +1,4 @@
--- Counts with zeros behind them.
+-- Counts with zeros after them.
 use Rattle.std.proofs.Common.{◌≡◌, ◌∙◌, ◌++◌, ℕ, List, ap, length, drop, replicate}
 use Rattle.std.proofs.lemmas.List.{drop-replicate}
 use Rattle.worzsunab.specs.Calls.{padded}

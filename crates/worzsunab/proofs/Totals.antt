@@ -32,7 +32,7 @@ sum-take sizes i =
     let parts = sum-append (take i sizes) (drop i sizes) in
     omega arith
 
--- those so far and those behind them are all members
+-- those so far and those after them are all members
 pub sum-so-far : (sizes members rest : List ℕ) (done : List (List ℕ)) (i : ℕ) → map (λ g. length g) done ≡ take i sizes
     → concat done ++ rest ≡ members → length members ≡ sum (take i sizes) + length rest
 sum-so-far sizes members rest done i so_far whole =
@@ -49,7 +49,7 @@ uncut-short sizes members rest done i so_far whole low short groups cut =
     let most = sum-take sizes (suc i) in
     absurd (omega arith)
 
--- some are left behind the last group
+-- some are left after the last group
 pub uncut-long : (sizes members rest : List ℕ) (done : List (List ℕ)) → map (λ g. length g) done ≡ sizes
     → concat done ++ rest ≡ members → 0 < length rest → IsUncut sizes members
 uncut-long sizes members rest done so_far whole some groups cut =

@@ -56,7 +56,7 @@ pub record IsCall (call : Call) (mode : Mode) (sig : Signature) : Type 0 where
   pub call_is : call_of sig.kind sig.op sig.ty sig.root sig.count ≡ call
   pub each_is : sig.each ≡ None
 
--- counts, and 0 behind the last
+-- counts, and 0 after the last
 abbrev pub padded : List ℕ → List ℕ
 padded counts = counts ++ replicate (64 - length counts) 0
 

@@ -3,6 +3,7 @@ pub mod OwningWork
 pub mod Calls
 pub mod Reasons
 pub mod Forms
+pub mod Beginnings
 pub mod Answers
 pub mod Works
 pub mod Listing

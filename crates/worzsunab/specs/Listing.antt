@@ -57,7 +57,7 @@ pub record CompletesLowest (rank : ℕ) (p r : Parts) (was is : List Part) (old 
   pub lowest : position (is_done (seen p)) (tickets_of was) ≡ Some index
   pub completes : CompletesOne (setting p) rank (seen p) (seen r) index was is old new
 
--- all that are Done were, so many
+-- all that are Done were, that many
 pub record CompletesSome (rank : ℕ) (p r : Parts) (was is : List Part) (old new : List ℕ) (many : ℕ) : Type 0 where
   pub active : list_any (is_active (seen p)) (tickets_of was) ≡ true
   pub many_is : many ≡ length (done_positions (seen p) (tickets_of was))

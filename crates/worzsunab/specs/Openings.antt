@@ -44,7 +44,7 @@ pub record IsOpened (l : Limits) (sizes members : List ℕ) (p : Parts) : Type 0
   pub is_cut : IsCut sizes members groups
   pub setting_is : setting p ≡ setting_of l groups
 
--- why there are no groups: the members are more or fewer than the sizes tell, or memory was refused
+-- why there are no groups: the members are more or fewer than the sizes say, or memory was refused
 abbrev pub DeniesGroups : List ℕ → List ℕ → Refusal → Type 0
 DeniesGroups sizes members why = ((why ≡ BadConfig Groups) × IsUncut sizes members) ⊎ (why ≡ NoMemory)
 

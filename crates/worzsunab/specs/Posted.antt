@@ -13,7 +13,7 @@ posted_of sig = record {
   counts = unwrap_or sig.each (replicate 64 0);
 }
 
--- it is told, or that there is none
+-- it is returned, or that there is none
 abbrev pub Tells : Option Signature → Posted → Posted → ℤ → Type 0
 Tells None was is code = (is ≡ was) × (code ≡ pos 25)
 Tells (Some sig) was is code = (is ≡ posted_of sig) × (code ≡ pos 0)

@@ -51,7 +51,7 @@ impl Call {
     }
 }
 
-/// The signature of an allgatherv whose members give as many elements as is listed; those behind the list give none. None
+/// The signature of an allgatherv whose members give as many elements as is listed; those after the list give none. None
 /// where the type's number names nothing, or there are more counts than ranks may be.
 pub fn counted_signature(ty: u8, counts: &[u32], mode: Mode) -> Option<Signature>
     ensures { IfSome result (IsCounted ty counts.now mode) }
@@ -64,7 +64,7 @@ pub fn counted_signature(ty: u8, counts: &[u32], mode: Mode) -> Option<Signature
     })
 }
 
-/// The counts, and 0 behind the last; none where there are more than ranks may be.
+/// The counts, and 0 after the last; none where there are more than ranks may be.
 fn counts_of(counts: &[u32]) -> Option<[u32; MAX_RANKS]>
     ensures { IfSome result (λ each. (length counts.now ≤ 64) × (each ≡ padded counts.now)) }
 {

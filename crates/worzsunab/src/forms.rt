@@ -117,7 +117,7 @@ impl Limits {
 ///
 /// # Errors
 ///
-/// BadConfig where there are more or fewer members than the sizes tell, and NoMemory.
+/// BadConfig where there are more or fewer members than the sizes say, and NoMemory.
 pub fn groups_of(alloc: Global, sizes: &[u8], members: &[u8]) -> Result<Vec<Vec<u8>>, Refusal>
     ensures cut { IfOk result (λ groups. IsCut sizes.now members.now (groups_seen groups.items)) }
     ensures refused { IfErr result (DeniesGroups sizes.now members.now) }

@@ -26,11 +26,11 @@ ghost use Rattle.coll_core.specs.Cores.{seen, setting};
 ghost use Rattle.coll_core.specs.Steps.{Finishings, ready};
 ghost use Rattle.coll_complete.specs.Completing.{freeing};
 ghost use Rattle.coll_complete.specs.Requests.{free_refusal, phase_at};
-ghost use Rattle.coll_complete.specs.Starting.{StartsAt};
 ghost use Rattle.coll_engine.specs.Calls.{DeniesStart, about_at, naming_refusal};
 ghost use Rattle.coll_engine.specs.Lengths.{IsOutcomeLengthAt};
 ghost use Rattle.coll_engine.specs.Progress.{Advances};
 ghost use Rattle.worzsunab.specs.Answers.{Answers, IsPhase, Tests, phase_number};
+ghost use Rattle.worzsunab.specs.Beginnings.{StartsOne};
 ghost use Rattle.worzsunab.specs.Forms.{IsAbout, named_by, request_of};
 ghost use Rattle.worzsunab.specs.Openings.{DeniesOpen, IsOpened, Opens};
 ghost use Rattle.coll_engine.specs.Signatures.{signature_at};
@@ -120,7 +120,7 @@ pub extern "C" fn wz_start(
     request: &Request,
     bytes: &[u8],
 ) -> i32
-    ensures answers { Answers handle.old.held.engine handle.new.held.engine handle.old.reason handle.new.reason result (Unit {0}) (λ p. DeniesStart (setting p) rank (seen p) (named_by request.now, bytes.now)) (λ p r. StartsAt (setting p) rank (seen p) (named_by request.now, bytes.now) (seen r)) }
+    ensures answers { Answers handle.old.held.engine handle.new.held.engine handle.old.reason handle.new.reason result (Unit {0}) (λ p. DeniesStart (setting p) rank (seen p) (named_by request.now, bytes.now)) (λ p r. StartsOne p r rank (named_by request.now) bytes.now) }
 {
     let Some(mut engine) = handle.take(alloc) else {
         return CLOSED;

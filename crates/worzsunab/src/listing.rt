@@ -76,7 +76,7 @@ pub extern "C" fn wz_test_some(
     DONE
 }
 
-/// How many were completed, as C is told.
+/// How many were completed, as a number for C.
 fn told(found: Option<usize>) -> usize
     ensures { result ≡ told_of found }
 {

@@ -4,9 +4,10 @@ ghost use Rattle.std.specs.Prelude.{◌≡◌, ◌⊎◌, pos};
 ghost use Rattle.coll_kinds.specs.declared.kind.Mode.TheVariants.{Once, Persistent};
 ghost use Rattle.coll_kinds.specs.declared.signature.Signature.{Signature};
 ghost use Rattle.coll_core.specs.Cores.{seen, setting};
-ghost use Rattle.coll_engine.specs.Calls.{Denies, InitsTo, PostsTo, init_by, post_by};
+ghost use Rattle.coll_engine.specs.Calls.{Denies, init_by, post_by};
 ghost use Rattle.worzsunab.specs.Answers.{Answers};
 ghost use Rattle.worzsunab.specs.Calls.{IsCall, IsCounted};
+ghost use Rattle.worzsunab.specs.Beginnings.{Inits, Posts};
 ghost use Rattle.worzsunab.specs.Forms.{IsMade};
 
 use crate::call::{Call, counted_signature};
@@ -26,7 +27,7 @@ pub extern "C" fn wz_post(
     bytes: &[u8],
     request: &mut Request,
 ) -> i32
-    ensures answers { (result ≡ pos 19) ⊎ (sig : Signature) × IsCall call.now Once sig × Answers handle.old.held.engine handle.new.held.engine handle.old.reason handle.new.reason result (request.new ≡ request.old) (λ p. Denies (setting p) (seen p) (post_by (setting p) rank comm sig bytes.now)) (λ p r. IsMade (PostsTo (setting p) (seen p) (post_by (setting p) rank comm sig bytes.now) (seen r)) request.new) }
+    ensures answers { (result ≡ pos 19) ⊎ (sig : Signature) × IsCall call.now Once sig × Answers handle.old.held.engine handle.new.held.engine handle.old.reason handle.new.reason result (request.new ≡ request.old) (λ p. Denies (setting p) (seen p) (post_by (setting p) rank comm sig bytes.now)) (λ p r. IsMade (Posts p r rank comm sig bytes.now) request.new) }
     ensures unnamed { result ≡ pos 19 → (handle.new ≡ handle.old) × (request.new ≡ request.old) }
 {
     match call.signature(Mode::Once) {
@@ -46,7 +47,7 @@ pub extern "C" fn wz_post_allgatherv(
     bytes: &[u8],
     request: &mut Request,
 ) -> i32
-    ensures answers { (result ≡ pos 19) ⊎ (sig : Signature) × IsCounted ty counts.now Once sig × Answers handle.old.held.engine handle.new.held.engine handle.old.reason handle.new.reason result (request.new ≡ request.old) (λ p. Denies (setting p) (seen p) (post_by (setting p) rank comm sig bytes.now)) (λ p r. IsMade (PostsTo (setting p) (seen p) (post_by (setting p) rank comm sig bytes.now) (seen r)) request.new) }
+    ensures answers { (result ≡ pos 19) ⊎ (sig : Signature) × IsCounted ty counts.now Once sig × Answers handle.old.held.engine handle.new.held.engine handle.old.reason handle.new.reason result (request.new ≡ request.old) (λ p. Denies (setting p) (seen p) (post_by (setting p) rank comm sig bytes.now)) (λ p r. IsMade (Posts p r rank comm sig bytes.now) request.new) }
     ensures unnamed { result ≡ pos 19 → (handle.new ≡ handle.old) × (request.new ≡ request.old) }
 {
     match counted_signature(ty, counts, Mode::Once) {
@@ -65,7 +66,7 @@ fn post(
     bytes: &[u8],
     request: &mut Request,
 ) -> i32
-    ensures answers { Answers handle.old.held.engine handle.new.held.engine handle.old.reason handle.new.reason result (request.new ≡ request.old) (λ p. Denies (setting p) (seen p) (post_by (setting p) rank comm sig bytes.now)) (λ p r. IsMade (PostsTo (setting p) (seen p) (post_by (setting p) rank comm sig bytes.now) (seen r)) request.new) }
+    ensures answers { Answers handle.old.held.engine handle.new.held.engine handle.old.reason handle.new.reason result (request.new ≡ request.old) (λ p. Denies (setting p) (seen p) (post_by (setting p) rank comm sig bytes.now)) (λ p r. IsMade (Posts p r rank comm sig bytes.now) request.new) }
     ensures named { result ≡ pos 19 → ⊥ }
 {
     let Some(mut engine) = handle.take(alloc) else {
@@ -91,7 +92,7 @@ pub extern "C" fn wz_init(
     call: &Call,
     request: &mut Request,
 ) -> i32
-    ensures answers { (result ≡ pos 19) ⊎ (sig : Signature) × IsCall call.now Persistent sig × Answers handle.old.held.engine handle.new.held.engine handle.old.reason handle.new.reason result (request.new ≡ request.old) (λ p. Denies (setting p) (seen p) (init_by (setting p) rank comm sig)) (λ p r. IsMade (InitsTo (setting p) (seen p) (init_by (setting p) rank comm sig) (seen r)) request.new) }
+    ensures answers { (result ≡ pos 19) ⊎ (sig : Signature) × IsCall call.now Persistent sig × Answers handle.old.held.engine handle.new.held.engine handle.old.reason handle.new.reason result (request.new ≡ request.old) (λ p. Denies (setting p) (seen p) (init_by (setting p) rank comm sig)) (λ p r. IsMade (Inits p r rank comm sig) request.new) }
     ensures unnamed { result ≡ pos 19 → (handle.new ≡ handle.old) × (request.new ≡ request.old) }
 {
     match call.signature(Mode::Persistent) {
@@ -110,7 +111,7 @@ pub extern "C" fn wz_init_allgatherv(
     counts: &[u32],
     request: &mut Request,
 ) -> i32
-    ensures answers { (result ≡ pos 19) ⊎ (sig : Signature) × IsCounted ty counts.now Persistent sig × Answers handle.old.held.engine handle.new.held.engine handle.old.reason handle.new.reason result (request.new ≡ request.old) (λ p. Denies (setting p) (seen p) (init_by (setting p) rank comm sig)) (λ p r. IsMade (InitsTo (setting p) (seen p) (init_by (setting p) rank comm sig) (seen r)) request.new) }
+    ensures answers { (result ≡ pos 19) ⊎ (sig : Signature) × IsCounted ty counts.now Persistent sig × Answers handle.old.held.engine handle.new.held.engine handle.old.reason handle.new.reason result (request.new ≡ request.old) (λ p. Denies (setting p) (seen p) (init_by (setting p) rank comm sig)) (λ p r. IsMade (Inits p r rank comm sig) request.new) }
     ensures unnamed { result ≡ pos 19 → (handle.new ≡ handle.old) × (request.new ≡ request.old) }
 {
     match counted_signature(ty, counts, Mode::Persistent) {
@@ -128,7 +129,7 @@ fn init(
     sig: Signature,
     request: &mut Request,
 ) -> i32
-    ensures answers { Answers handle.old.held.engine handle.new.held.engine handle.old.reason handle.new.reason result (request.new ≡ request.old) (λ p. Denies (setting p) (seen p) (init_by (setting p) rank comm sig)) (λ p r. IsMade (InitsTo (setting p) (seen p) (init_by (setting p) rank comm sig) (seen r)) request.new) }
+    ensures answers { Answers handle.old.held.engine handle.new.held.engine handle.old.reason handle.new.reason result (request.new ≡ request.old) (λ p. Denies (setting p) (seen p) (init_by (setting p) rank comm sig)) (λ p r. IsMade (Inits p r rank comm sig) request.new) }
     ensures named { result ≡ pos 19 → ⊥ }
 {
     let Some(mut engine) = handle.take(alloc) else {

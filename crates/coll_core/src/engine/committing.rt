@@ -8,6 +8,7 @@ ghost use Rattle.coll_core.specs.Steps.{CommitSteps, IsOut, Returns};
 
 use crate::engine::Core;
 use crate::engine::stepping::advance;
+use crate::short_work::{DoneShortWork, ShortWork};
 use crate::stepped::Stepped;
 use crate::work::{DoneWork, Work};
 use coll_arena::ListName;
@@ -39,6 +40,29 @@ impl Core {
         Ok(Stepped::by(advance(&mut self.arena, &self.matches, ticket)))
     }
 
+    /// `commit` of a combination that was handed out by value.
+    ///
+    /// # Errors
+    ///
+    /// Stale, with nothing changed, as `commit`.
+    pub fn commit_short(&mut self, done: DoneShortWork) -> Result<Stepped, Refusal>
+        ensures out { IsTrue (is_ok result) ↔ IsOut self.old done.piece }
+        ensures steps { IfOk result (CommitSteps self.old self.new done) }
+        ensures err { OnErr result (self.new ≡ self.old) }
+        ensures refused { IfErr result (λ why. why ≡ Refusal.Stale) }
+    {
+        if !self.is_short_out(done.work()) {
+            return Err(Refusal::Stale);
+        }
+        is_sound(&self.arena);
+        let ticket = done.work().ticket();
+        let Ok(request) = self.arena.get_mut(ticket) else {
+            unreachable!()
+        };
+        request.write_short(done);
+        Ok(Stepped::by(advance(&mut self.arena, &self.matches, ticket)))
+    }
+
     /// Takes back a combination that was handed out. Its request is the first that is ready.
     ///
     /// # Errors
@@ -58,6 +82,16 @@ impl Core {
             unreachable!()
         };
         Ok(())
+    }
+
+    /// The work is out.
+    fn is_short_out(&self, work: &ShortWork) -> bool
+        ensures { IsTrue result ↔ IsOut self.now work.now }
+    {
+        let Ok(request) = self.arena.get(work.ticket()) else {
+            return false;
+        };
+        self.arena.is_on(work.ticket(), ListName::Running) && request.stands_at_short(work)
     }
 
     /// The work is out.

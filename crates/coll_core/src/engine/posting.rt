@@ -33,7 +33,7 @@ use coll_match::Key;
 use coll_plans::Plan;
 use std::sync::Arc;
 
-/// The signature breaks no rule among so many members. Among as many as the plan is for, it was tested when the plan was made.
+/// The signature breaks no rule among this number of members. Among as many as the plan is for, it was tested when the plan was made.
 fn check(plan: &Plan, size: u8) -> Result<(), Refusal>
     ensures { MatchOption (broken plan.now.sig size) (IsOk result) (λ cause. IsErrOf result (Refusal.BadSignature cause)) }
 {
@@ -44,7 +44,7 @@ fn check(plan: &Plan, size: u8) -> Result<(), Refusal>
     sig.check(size)
 }
 
-/// The signature breaks no rule among so many members, and the plan is that mode's and that member's.
+/// The signature breaks no rule among this number of members, and the plan is that mode's and that member's.
 fn fits(plan: &Plan, size: u8, member: u8, mode: Mode) -> Result<(), Refusal>
     ensures { result_err result ≡ first_of (plan_refusals (planned plan.now) size member mode) }
 {

@@ -49,7 +49,7 @@ impl Core {
         }
     }
 
-    /// `retire` that answers the outcome's bytes once more, for a trace: a second owner, so that nothing is copied.
+    /// As `retire`; also returns a second owner of the outcome's bytes, for a trace, so that nothing is copied.
     ///
     /// # Errors
     ///

@@ -1,6 +1,6 @@
 //! Steps.
 
-ghost use Rattle.std.specs.Prelude.{◌≡◌, ◌<◌, ◌≤◌, ◌+◌, ◌↔◌, [], ℕ, true, IfOk, IfSome, IsOkUnless, None, Ok, OnErr, OnOk, Some};
+ghost use Rattle.std.specs.Prelude.{◌≡◌, ◌<◌, ◌≤◌, ◌+◌, ◌↔◌, [], ℕ, true, IfOk, IfSome, IsOkUnless, IsTrue, None, Ok, OnErr, OnOk, Some, is_some};
 ghost use Rattle.coll_lists.specs.Layouts.{sequence};
 ghost use Rattle.coll_lists.specs.Neighbours.{first_in};
 ghost use Rattle.coll_match.specs.Instances.{seats};
@@ -14,12 +14,15 @@ ghost use Rattle.coll_core.specs.declared.stepped.Stepped.TheVariants.{Quiet};
 ghost use Rattle.coll_core.specs.Cores.{seen, setting};
 ghost use Rattle.coll_core.specs.Advancing.{Brings, CanAdvance, IsReceiver, HasAdvanced, HaveLists, IsSent, NoReceiver, is_end};
 ghost use Rattle.coll_core.specs.Requests.{shown};
-ghost use Rattle.coll_core.specs.Steps.{Acts, AwaitsWork, CombinesFirst, CombinesNext, Finishings, HandsOut, IsActing, IsWork, Makes, Steps, left, placed, ready, running};
+ghost use Rattle.coll_core.specs.Steps.{Acts, AwaitsWork, CombinesFirst, CombinesNext, CombinesShort, Finishings, HandsOut, IsActing, IsWork, Makes, Steps, left, placed, ready, running};
+ghost use Rattle.coll_core.specs.Works.{IsShort};
 
 use crate::engine::Core;
 use crate::request::Request;
 use crate::sent::Sent;
+use crate::short_work::ShortWork;
 use crate::stepped::Stepped;
+use crate::word::WORD;
 use crate::work::Work;
 use coll_arena::laws::is_sound;
 use coll_arena::{Arena, ListName, Ticket};
@@ -71,7 +74,24 @@ impl Core {
         }
     }
 
-    /// Steps until no request is ready, and computes combinations itself. Answers the number of actions.
+    /// Hands out by value the combination that `step` would hand out, where its operands have up to eight bytes; else nothing changes. It
+    /// takes no memory.
+    pub fn hand_out_short(&mut self) -> Option<ShortWork>
+        ensures short { IsTrue (is_some result) ↔ CombinesShort self.old }
+        ensures out { IfSome result (HandsOut self.old self.new) }
+        ensures none { result ≡ None → self.new ≡ self.old }
+    {
+        let Some(ticket) = self.arena.first(ListName::Ready) else {
+            return None;
+        };
+        let action = self.next_of(ticket);
+        if !is_short(action) {
+            return None;
+        }
+        Some(self.hand_out_value(ticket, action))
+    }
+
+    /// Steps until no request is ready, and computes combinations itself. Returns the number of actions.
     ///
     /// # Errors
     ///
@@ -110,7 +130,7 @@ impl Core {
         }
     }
 
-    /// Carries out an action, which is the next one of a ready request. Answers whether that is Done.
+    /// Carries out an action, which is the next one of a ready request. Returns whether that request is Done.
     #[inline(always)]
     fn act(&mut self, ticket: Ticket, action: Action) -> Result<bool, Refusal>
         requires { IsActing self.old ticket action }
@@ -189,6 +209,24 @@ impl Core {
         Ok(advance(&mut self.arena, &self.matches, ticket))
     }
 
+    /// Hands out the short combination of a ready request by value.
+    #[inline(always)]
+    fn hand_out_value(&mut self, ticket: Ticket, action: Action) -> ShortWork
+        requires first { IsFirst self.old.arena (number_of Ready) ticket }
+        requires acting { IsActing self.old ticket action }
+        requires short { IsShort action }
+        ensures { HandsOut self.old self.new result }
+    {
+        let Ok(request) = self.arena.get_mut(ticket) else {
+            unreachable!()
+        };
+        let work = request.short_work(self.alloc, ticket, action);
+        let Ok(()) = self.arena.shift(ticket, ListName::Running) else {
+            unreachable!()
+        };
+        work
+    }
+
     /// Hands out the combination of a ready request.
     #[inline(always)]
     fn hand_out(&mut self, ticket: Ticket) -> Result<Work, Refusal>
@@ -209,7 +247,17 @@ impl Core {
     }
 }
 
-/// Takes a request one action on, to the list where it then belongs. Answers whether it is Done.
+/// Whether it is a combination of operands of up to eight bytes.
+fn is_short(action: Action) -> bool
+    ensures { IsTrue result ↔ IsShort action }
+{
+    match action {
+        Action::Combine { left, .. } => left.len as usize <= WORD,
+        Action::Send { .. } | Action::Copy { .. } | Action::Recv { .. } => false,
+    }
+}
+
+/// Moves a request past its next action, to the list where it then belongs. Returns whether it is Done.
 #[inline(always)]
 pub(super) fn advance(arena: &mut Arena<Request>, matches: &Matches, ticket: Ticket) -> bool
     requires { CanAdvance arena.old ticket }

@@ -48,7 +48,7 @@ impl Engine {
     }
 
     /// Takes a combination back. Where it was computed its request goes on with the result; else its request is the first
-    /// that is ready, and the combination is handed out, or computed, once more.
+    /// that is ready, and the combination is handed out, or computed, again.
     ///
     /// # Errors
     ///

@@ -54,7 +54,7 @@ impl Engine {
     }
 
     /// Completes all requests of a list that are Done (`MPI_Testsome`; MPI 4.1, 3.7.5), in rising position: each outcome stands at
-    /// the front of its request's span of `out` then, and once requests are null. Answers how many there were, none where no
+    /// the front of its request's span of `out` then, and once requests are null. Returns how many there were, none where no
     /// request is active. Null and Idle requests are inactive. It takes no memory.
     ///
     /// # Errors
@@ -119,7 +119,7 @@ impl Engine {
         Ok(true)
     }
 
-    /// Completes each request of a list that is Done, in rising position. Answers how many there were.
+    /// Completes each request of a list that is Done, in rising position. Returns how many there were.
     fn complete_parts(&mut self, rank: u8, parts: &mut [Part], out: &mut [u8]) -> usize
         requires distinct { AreDistinct (tickets_of parts.old) }
         requires accepted { list_refusal (setting self.old) (seen self.old).state rank (tickets_of parts.old) ≡ None }

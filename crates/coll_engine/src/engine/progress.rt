@@ -11,7 +11,7 @@ use coll_core::{Stepped, Work};
 use coll_kinds::Refusal;
 
 impl Engine {
-    /// Makes at most `budget` actions, each of which copies bytes at most once or combines two rows. Answers how many there
+    /// Makes at most `budget` actions, each of which copies bytes at most once or combines two rows. Returns how many there
     /// were; there are fewer only where none is left to do.
     ///
     /// # Errors

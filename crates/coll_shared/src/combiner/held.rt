@@ -2,8 +2,8 @@ use crate::locked::Locked;
 use coll_traced::{Entries, Ranks};
 use std::sync::MutexGuard;
 
-/// A hold of the engine's lock. It has no Drop, so a path on which a hold is forgotten doesn't compile, and only `Combiner::release` ends
-/// one.
+/// A hold of the engine's lock. It has no Drop, so a path on which a hold is forgotten doesn't compile. `Combiner::release` ends one;
+/// `Combiner::compute_between` ends one and begins the next.
 pub(crate) struct Held<'a, L: Entries> {
     pub(crate) locked: MutexGuard<'a, Locked<L>>,
     /// The ranks whose parked ports were answered or called under this hold.

@@ -1,4 +1,4 @@
-//! A port's tests and waits. What they tell was so while the port had the engine. A wait for a list looks with the lock, and registers what
+//! A port's tests and waits. What they return was so while the port had the engine. A wait for a list looks with the lock, and registers what
 //! it waits for before it gives the lock up; it is given up only where a last look finds it unfinished.
 
 ghost use Rattle.std.specs.Prelude.{◌≡◌, ◌+◌, ◌<◌, ◌≤◌, ◌⊎◌, IfErr, IfOk, IfSome, None, OnErr, Some, length, true, vec_capacity, vec_len};

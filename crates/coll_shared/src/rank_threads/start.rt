@@ -34,7 +34,7 @@ impl Start {
         self.given.notify_all();
     }
 
-    /// Waits until it is known. Answers whether all threads have been started.
+    /// Waits until it is known. Returns whether all threads have been started.
     pub(super) fn wait<R: Wait>(&self, rt: &R) -> bool {
         let mut signal = self.signal.lock(rt);
         for _ in rt.forever() {

@@ -4,7 +4,7 @@ ghost use Rattle.coll_report.specs.Views.{seen};
 use coll_report::Entry;
 use std::marker::Model;
 
-/// The entry that a call appended, once more. Contracts see it as that entry; only the trace makes one. It can cross threads, which a
+/// A copy of the entry that a call appended. Contracts see it as that entry; only the trace makes one. It can cross threads, which a
 /// `Receipt` can't beside a tally.
 #[derive(Drop)]
 pub struct Appended {

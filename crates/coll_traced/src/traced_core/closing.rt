@@ -24,7 +24,7 @@ impl<L: Entries> TracedCore<L> {
         self.config.ranks
     }
 
-    /// The lowest rank that has an active request, which the trace tells.
+    /// The lowest rank that has an active request, as the trace shows.
     fn first_busy(&self) -> Option<u8>
         ensures none { IsNone result → IsIdle (seen self.now.core).state }
         ensures balanced { IsNone result → (r : ℕ) → r < L.setting.ranks → IsBalanced r self.now.entries }

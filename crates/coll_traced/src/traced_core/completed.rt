@@ -47,7 +47,7 @@ fn left(stays: bool, ticket: Ticket) -> Request
 }
 
 impl<L: Entries> Completed<L> {
-    /// Of what the test of a request told, which a port with so many entries then holds further or not.
+    /// Of the result of a request's test, after which a port with this many entries holds the request further or not.
     pub(super) fn new(rank: u8, ticket: Ticket, made: u64, stays: bool, outcome: Outcome) -> Self
         requires { TestsOne L.setting made rank (Some ticket) (left_by stays ticket) true (Some outcome) (retired rank ticket outcome ∷ []) }
         ensures { result ≡ record { rank = rank; ticket = ticket; made = made; entry = retired rank ticket outcome } }
@@ -62,7 +62,7 @@ impl<L: Entries> Completed<L> {
         }
     }
 
-    /// Whether it is for the rank's port with so many entries, and of the request that the ticket names.
+    /// Whether it is for the rank's port with this many entries, and of the request that the ticket names.
     pub fn is_for(&self, rank: u8, ticket: Ticket, made: u64) -> bool
         ensures { IsTrue result ↔ ((self.now.rank ≡ rank) × (self.now.ticket ≡ ticket) × (self.now.made ≡ made)) }
     {

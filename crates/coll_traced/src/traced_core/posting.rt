@@ -6,6 +6,8 @@ ghost use Rattle.coll_machine.specs.Entries.{Posted, Inited};
 ghost use Rattle.coll_machine.specs.Machines.{MachineStep, StepsTo};
 ghost use Rattle.coll_core.specs.Cores.{seen, setting};
 ghost use Rattle.coll_core.specs.Posts.{init_of, post_of};
+ghost use Rattle.coll_core.specs.Progress.{BeginsSchedule, KeepsProgress};
+ghost use Rattle.coll_plans.specs.Plans.{family};
 ghost use Rattle.coll_traced.specs.Traced.{Denies, Stays};
 ghost use Rattle.coll_report.specs.Views.{seen as seen_as};
 ghost use Rattle.coll_traced.specs.Places.{IsLast, NamesLast};
@@ -28,7 +30,7 @@ impl<L: Entries> TracedCore<L> {
         self.trace.last_place()
     }
 
-    /// The trace's last entry once more, of which this is a copy.
+    /// A copy of the trace's last entry.
     pub(crate) fn last(&self, copy: Entry) -> Appended
         requires { IsLast self.now.entries (seen_as copy) }
         ensures { result ≡ seen_as copy }
@@ -56,6 +58,8 @@ impl<L: Entries> TracedCore<L> {
         ensures setting { setting self.new.core ≡ setting self.old.core }
         ensures waits { (self.new.waits ≡ self.old.waits) × (self.new.stalled ≡ self.old.stalled) }
         ensures posted { IfOk result (λ r. StepsTo (setting self.old.core) (seen self.old.core) (post_of rank comm offer) (Ticketed r.0) (seen self.new.core)) }
+        // No request makes progress but this one, which begins its schedule.
+        ensures begins { IfOk result (λ r. BeginsSchedule self.old.core self.new.core r.0.slot (family offer.plan.sig offer.plan.n offer.plan.member)) }
         ensures entry { IfOk result (λ r. self.new.entries ≡ self.old.entries ++ r.1 ∷ []) }
         ensures receipt { IfOk result (λ r. (place : ℕ) × (r.1 ≡ Posted rank r.0 comm place offer.plan.sig offer.bytes)) }
         ensures counted { OnOk result (mine.new ≡ mine.old + 1) }
@@ -111,6 +115,7 @@ impl<L: Entries> TracedCore<L> {
         ensures setting { setting self.new.core ≡ setting self.old.core }
         ensures waits { (self.new.waits ≡ self.old.waits) × (self.new.stalled ≡ self.old.stalled) }
         ensures made { IfOk result (λ r. MachineStep (setting self.old.core) (seen self.old.core) (init_of rank comm plan) (Ticketed r.0) (seen self.new.core)) }
+        ensures progress { IfOk result (λ r. KeepsProgress self.old.core self.new.core r.0.slot) }
         ensures entry { IfOk result (λ r. self.new.entries ≡ self.old.entries ++ r.1 ∷ []) }
         ensures receipt { IfOk result (λ r. (place : ℕ) × (r.1 ≡ Inited rank r.0 comm place plan.sig)) }
         ensures counted { OnOk result (mine.new ≡ mine.old + 1) }

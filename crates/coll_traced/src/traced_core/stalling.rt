@@ -27,7 +27,7 @@ impl<L: Entries> TracedCore<L> {
         self.stalled
     }
 
-    /// Marks the engine as stalled for good where nothing can go on, unless it is marked already. Answers whether it did that. It is
+    /// Marks the engine as stalled for good where nothing can go on, unless it is marked already. Returns whether it did that. It is
     /// a few instructions where a request is ready or a combination is out, else linear in the ports.
     pub fn tell_stall(&mut self) -> bool
         ensures core { self.new.core ≡ self.old.core }
@@ -64,7 +64,7 @@ impl<L: Entries> TracedCore<L> {
         self.waits.put(rank, Waiting::Ended);
     }
 
-    /// The ranks whose ports wait for what is the case now. Linear in the ports.
+    /// The ranks whose wait is over. Linear in the ports.
     pub fn met(&self) -> Ranks {
         self.waits.met(&self.core)
     }

@@ -1,12 +1,15 @@
 //! Starts and frees of persistent requests.
 
-ghost use Rattle.std.specs.Prelude.{◌≡◌, ◌+◌, ℕ, [], ◌∷◌, ◌++◌, IfErr, IfOk, OnErr, OnOk};
+ghost use Rattle.std.specs.Prelude.{◌≡◌, ◌+◌, ℕ, [], ◌∷◌, ◌++◌, IfErr, IfOk, IfSome, OnErr, OnOk};
 ghost use Rattle.std.specs.Result.{result_err};
+ghost use Rattle.coll_arena.specs.Slots.{record_in};
 ghost use Rattle.coll_machine.specs.Calls.{Free, Nothing, Start};
 ghost use Rattle.coll_machine.specs.Entries.{Freed, Started};
 ghost use Rattle.coll_machine.specs.Machines.{MachineStep, StepsTo};
 ghost use Rattle.coll_machine.specs.Refusals.{refusal};
 ghost use Rattle.coll_core.specs.Cores.{seen, setting};
+ghost use Rattle.coll_core.specs.Progress.{BeginsSchedule};
+ghost use Rattle.coll_core.specs.Requests.{schedule, shown};
 ghost use Rattle.coll_traced.specs.Traced.{Denies, Stays};
 
 use crate::prepared::shared;
@@ -35,6 +38,8 @@ impl<L: Entries> TracedCore<L> {
         ensures setting { setting self.new.core ≡ setting self.old.core }
         ensures waits { (self.new.waits ≡ self.old.waits) × (self.new.stalled ≡ self.old.stalled) }
         ensures starts { OnOk result (StepsTo (setting self.old.core) (seen self.old.core) (Start rank ticket bytes) Nothing (seen self.new.core)) }
+        // No request makes progress but this one, which begins its schedule.
+        ensures begins { OnOk result (IfSome (record_in self.old.core.arena ticket.slot) (λ x. BeginsSchedule self.old.core self.new.core ticket.slot (schedule (shown x)))) }
         ensures entry { IfOk result (λ receipt. self.new.entries ≡ self.old.entries ++ receipt ∷ []) }
         ensures receipt { IfOk result (λ receipt. (start : ℕ) × (receipt ≡ Started rank ticket start bytes)) }
         ensures counted { OnOk result (mine.new ≡ mine.old + 1) }

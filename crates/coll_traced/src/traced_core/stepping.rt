@@ -1,12 +1,12 @@
 //! Steps, and combinations that were handed out. None of these adds an entry.
 
-ghost use Rattle.std.specs.Prelude.{◌≡◌, ◌<◌, ◌↔◌, [], length, IfErr, IfOk, IsOkUnless, IsTrue, Ok, OnErr, OnOk, is_ok};
+ghost use Rattle.std.specs.Prelude.{◌≡◌, ◌<◌, ◌↔◌, [], length, IfErr, IfOk, IfSome, IsOkUnless, IsTrue, None, Ok, OnErr, OnOk, is_ok, is_some};
 ghost use Rattle.coll_core.specs.declared.stepped.Stepped.TheVariants.{Quiet};
-ghost use Rattle.coll_core.specs.Steps.{AwaitsWork, CombinesFirst, CommitSteps, IsOut, IsWork, Returns, Steps, ready};
+ghost use Rattle.coll_core.specs.Steps.{AwaitsWork, CombinesFirst, CombinesShort, CommitSteps, HandsOut, IsOut, IsWork, Returns, Steps, ready};
 
 use crate::tally::Entries;
 use crate::traced_core::TracedCore;
-use coll_core::{DoneWork, Stepped, Work};
+use coll_core::{DoneShortWork, DoneWork, ShortWork, Stepped, Work};
 use coll_kinds::Refusal;
 
 impl<L: Entries> TracedCore<L> {
@@ -42,6 +42,33 @@ impl<L: Entries> TracedCore<L> {
         ensures refusal { IsOkUnless result Refusal.NoMemory }
     {
         self.core.move_on()
+    }
+
+    /// The core's `hand_out_short`.
+    pub fn hand_out_short(&mut self) -> Option<ShortWork>
+        ensures short { IsTrue (is_some result) ↔ CombinesShort self.old.core }
+        ensures out { IfSome result (HandsOut self.old.core self.new.core) }
+        ensures none { result ≡ None → self.new ≡ self.old }
+        ensures entries { self.new.entries ≡ self.old.entries }
+        ensures waits { (self.new.waits ≡ self.old.waits) × (self.new.stalled ≡ self.old.stalled) }
+    {
+        self.core.hand_out_short()
+    }
+
+    /// The core's `commit_short`.
+    ///
+    /// # Errors
+    ///
+    /// Stale, with nothing changed, unless the work is out.
+    pub fn commit_short(&mut self, done: DoneShortWork) -> Result<Stepped, Refusal>
+        ensures out { IsTrue (is_ok result) ↔ IsOut self.old.core done.piece }
+        ensures steps { IfOk result (CommitSteps self.old.core self.new.core done) }
+        ensures entries { self.new.entries ≡ self.old.entries }
+        ensures waits { (self.new.waits ≡ self.old.waits) × (self.new.stalled ≡ self.old.stalled) }
+        ensures err { OnErr result (self.new ≡ self.old) }
+        ensures refused { IfErr result (λ why. why ≡ Refusal.Stale) }
+    {
+        self.core.commit_short(done)
     }
 
     /// Whether a request is ready.

@@ -1,5 +1,5 @@
 //! The tests of requests with receipts, in words that outlast the hold of a lock. The state of each is that of `coll_complete`'s call.
-//! That the trace has the entries of the caller's tally is told by `TracedCore::audit`.
+//! `TracedCore::audit` shows that the trace has the entries of the caller's tally.
 
 ghost use Rattle.std.specs.Prelude.{◌≡◌, ◌+◌, ◌≤◌, ◌∷◌, ◌++◌, [], IfOk, IfSome, None, OnErr, OnOk, drop, false, is_some, length, not, position, vec_capacity, vec_len};
 ghost use Rattle.std.specs.List.{list_any};

@@ -91,7 +91,7 @@ impl<L: Entries> TracedCore<L> {
         }
     }
 
-    /// Notes for what a port is to wait, as long as what it awaits isn't the case. Answers whether it needs to wait. Where it waits for
+    /// Notes what a port waits for, unless its wait is over already. Returns whether it needs to wait. Where it waits for
     /// all requests of a list, its last Pending one is noted.
     ///
     /// # Errors

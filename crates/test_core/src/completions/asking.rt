@@ -9,9 +9,9 @@ use coll_core::{Contribution, Core, Outcome};
 use coll_kinds::Refusal;
 use std::alloc::Global;
 
-/// A call over a list, or over the first request of it.
+/// A call over a list, or over its first request.
 #[derive(Clone, Copy)]
-pub(super) enum Call {
+pub(super) enum CompletionCall {
     Test,
     Any,
     All,
@@ -20,9 +20,9 @@ pub(super) enum Call {
     Free,
 }
 
-/// What a call answered.
+/// The answer to a call.
 #[derive(Clone, Copy, PartialEq)]
-pub(super) enum Answer {
+pub(super) enum CompletionAnswer {
     Flag(bool),
     Undefined,
     Unfinished,
@@ -41,10 +41,14 @@ fn value_of(outcome: &Outcome) -> u8 {
     }
 }
 
-/// Positions: of each outcome, with its value; of each list of bytes that came back, with its first, or 0 where it is empty.
-pub(super) type Noted = Vec<(usize, u8)>;
+/// Positions in the list: of each outcome, with its value; of bytes that came back, with the first byte, or 0 if there is none.
+pub(super) type CompletionNoted = Vec<(usize, u8)>;
 
-fn ask_test(core: &mut Core, list: &mut [Request], noted: &mut Noted) -> Result<Answer, Refusal> {
+fn ask_test(
+    core: &mut Core,
+    list: &mut [Request],
+    noted: &mut CompletionNoted,
+) -> Result<CompletionAnswer, Refusal> {
     let Some(request) = list.first_mut() else {
         return Err(Refusal::Torn);
     };
@@ -56,31 +60,35 @@ fn ask_test(core: &mut Core, list: &mut [Request], noted: &mut Noted) -> Result<
             },
         ) => {
             noted.push((0, value_of(&outcome)))?;
-            Ok(Answer::Flag(flag))
+            Ok(CompletionAnswer::Flag(flag))
         }
         Ok(
             Tested {
                 flag,
                 outcome: None,
             },
-        ) => Ok(Answer::Flag(flag)),
-        Err(why) => Ok(Answer::Refused(why)),
+        ) => Ok(CompletionAnswer::Flag(flag)),
+        Err(why) => Ok(CompletionAnswer::Refused(why)),
     }
 }
 
-fn ask_any(core: &mut Core, list: &mut [Request], noted: &mut Noted) -> Result<Answer, Refusal> {
+fn ask_any(
+    core: &mut Core,
+    list: &mut [Request],
+    noted: &mut CompletionNoted,
+) -> Result<CompletionAnswer, Refusal> {
     match test_any(core, 0, list) {
-        Ok(Any::Undefined) => Ok(Answer::Undefined),
-        Ok(Any::Unfinished) => Ok(Answer::Unfinished),
+        Ok(Any::Undefined) => Ok(CompletionAnswer::Undefined),
+        Ok(Any::Unfinished) => Ok(CompletionAnswer::Unfinished),
         Ok(Any::At(position, outcome)) => {
             noted.push((position, value_of(&outcome)))?;
-            Ok(Answer::At(position))
+            Ok(CompletionAnswer::At(position))
         }
-        Err(why) => Ok(Answer::Refused(why)),
+        Err(why) => Ok(CompletionAnswer::Refused(why)),
     }
 }
 
-fn note_all(out: &[(usize, Outcome)], noted: &mut Noted) -> Result<(), Refusal> {
+fn note_all(out: &[(usize, Outcome)], noted: &mut CompletionNoted) -> Result<(), Refusal> {
     for (position, outcome) in out {
         noted.push((*position, value_of(outcome)))?;
     }
@@ -91,8 +99,8 @@ fn ask_all(
     alloc: Global,
     core: &mut Core,
     list: &mut [Request],
-    noted: &mut Noted,
-) -> Result<Answer, Refusal> {
+    noted: &mut CompletionNoted,
+) -> Result<CompletionAnswer, Refusal> {
     if !are_distinct(list) {
         return Err(Refusal::Torn);
     }
@@ -100,8 +108,8 @@ fn ask_all(
     let answer = test_all(core, 0, list, &mut out);
     note_all(&out, noted)?;
     match answer {
-        Ok(flag) => Ok(Answer::Flag(flag)),
-        Err(why) => Ok(Answer::Refused(why)),
+        Ok(flag) => Ok(CompletionAnswer::Flag(flag)),
+        Err(why) => Ok(CompletionAnswer::Refused(why)),
     }
 }
 
@@ -109,8 +117,8 @@ fn ask_some(
     alloc: Global,
     core: &mut Core,
     list: &mut [Request],
-    noted: &mut Noted,
-) -> Result<Answer, Refusal> {
+    noted: &mut CompletionNoted,
+) -> Result<CompletionAnswer, Refusal> {
     if !are_distinct(list) {
         return Err(Refusal::Torn);
     }
@@ -118,12 +126,12 @@ fn ask_some(
     let answer = test_some(core, 0, list, &mut out);
     note_all(&out, noted)?;
     match answer {
-        Ok(count) => Ok(Answer::Count(count)),
-        Err(why) => Ok(Answer::Refused(why)),
+        Ok(count) => Ok(CompletionAnswer::Count(count)),
+        Err(why) => Ok(CompletionAnswer::Refused(why)),
     }
 }
 
-fn note_back(back: &[Contribution], noted: &mut Noted) -> Result<(), Refusal> {
+fn note_back(back: &[Contribution], noted: &mut CompletionNoted) -> Result<(), Refusal> {
     for (position, bytes) in back.iter().enumerate() {
         noted.push((position, bytes.as_slice().first().copied().unwrap_or(0)))?;
     }
@@ -134,8 +142,8 @@ fn ask_start(
     alloc: Global,
     core: &mut Core,
     list: &[Request],
-    noted: &mut Noted,
-) -> Result<Answer, Refusal> {
+    noted: &mut CompletionNoted,
+) -> Result<CompletionAnswer, Refusal> {
     let mut given = Vec::new(alloc);
     let mut value: u8 = 1;
     for _ in list {
@@ -146,37 +154,37 @@ fn ask_start(
         return Err(Refusal::Torn);
     }
     match start_all(core, 0, list, given) {
-        Ok(()) => Ok(Answer::Ok),
+        Ok(()) => Ok(CompletionAnswer::Ok),
         Err(Halted { at, why, back }) => {
             note_back(&back, noted)?;
-            Ok(Answer::Halted(at, why))
+            Ok(CompletionAnswer::Halted(at, why))
         }
     }
 }
 
-fn ask_free(core: &mut Core, list: &mut [Request]) -> Result<Answer, Refusal> {
+fn ask_free(core: &mut Core, list: &mut [Request]) -> Result<CompletionAnswer, Refusal> {
     let Some(request) = list.first_mut() else {
         return Err(Refusal::Torn);
     };
     match request_free(core, 0, request) {
-        Ok(()) => Ok(Answer::Ok),
-        Err(why) => Ok(Answer::Refused(why)),
+        Ok(()) => Ok(CompletionAnswer::Ok),
+        Err(why) => Ok(CompletionAnswer::Refused(why)),
     }
 }
 
 pub(super) fn ask(
     alloc: Global,
     core: &mut Core,
-    call: Call,
+    call: CompletionCall,
     list: &mut [Request],
-    noted: &mut Noted,
-) -> Result<Answer, Refusal> {
+    noted: &mut CompletionNoted,
+) -> Result<CompletionAnswer, Refusal> {
     match call {
-        Call::Test => ask_test(core, list, noted),
-        Call::Any => ask_any(core, list, noted),
-        Call::All => ask_all(alloc, core, list, noted),
-        Call::Some => ask_some(alloc, core, list, noted),
-        Call::Start => ask_start(alloc, core, list, noted),
-        Call::Free => ask_free(core, list),
+        CompletionCall::Test => ask_test(core, list, noted),
+        CompletionCall::Any => ask_any(core, list, noted),
+        CompletionCall::All => ask_all(alloc, core, list, noted),
+        CompletionCall::Some => ask_some(alloc, core, list, noted),
+        CompletionCall::Start => ask_start(alloc, core, list, noted),
+        CompletionCall::Free => ask_free(core, list),
     }
 }

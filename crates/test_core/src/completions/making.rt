@@ -1,4 +1,4 @@
-//! An engine with requests as rows ask for them.
+//! An engine with the requests that rows ask for.
 
 use coll_complete::Request;
 use coll_core::{Config, Contribution, Core, Offer, Phase};
@@ -8,7 +8,7 @@ use std::alloc::Global;
 
 /// A request of rank 0, of another rank, or of none.
 #[derive(Clone, Copy, PartialEq)]
-pub(super) enum Made {
+pub(super) enum Holder {
     Null,
     Idle,
     Pending,
@@ -32,7 +32,7 @@ fn sum(mode: Mode) -> Signature {
     }
 }
 
-/// Member 0's plan of a sum among so many members.
+/// Member 0's plan of a sum among this number of members.
 fn plan_of(alloc: Global, mode: Mode, members: u8) -> Result<Plan, Refusal> {
     if members < 1 || members > 64 {
         return Err(Refusal::Torn);
@@ -40,12 +40,12 @@ fn plan_of(alloc: Global, mode: Mode, members: u8) -> Result<Plan, Refusal> {
     plan(alloc, sum(mode), members, 0)
 }
 
-/// One byte.
+/// A contribution of one byte.
 pub(super) fn byte(alloc: Global, value: u8) -> Result<Contribution, Refusal> {
     Contribution::copy(alloc, &[value])
 }
 
-/// Two ranks: communicator 0 has both, 1 has rank 0 alone, 2 rank 1 alone.
+/// An engine of two ranks: communicator 0 has both, 1 has rank 0 alone, 2 rank 1 alone.
 pub(super) fn open(alloc: Global) -> Result<Core, Refusal> {
     let mut groups = Vec::new(alloc);
     groups.push(Vec::from_slice(alloc, &[0, 1])?)?;
@@ -65,7 +65,7 @@ pub(super) fn open(alloc: Global) -> Result<Core, Refusal> {
     )
 }
 
-/// A post by member 0 of a communicator of so many members.
+/// A post by member 0 of a communicator of this number of members.
 fn post(
     alloc: Global,
     core: &mut Core,
@@ -100,16 +100,16 @@ fn restarted(alloc: Global, core: &mut Core, value: u8) -> Result<Request, Refus
     }
 }
 
-/// A request as it is asked for, once the engine has settled.
-fn make(alloc: Global, core: &mut Core, made: Made, value: u8) -> Result<Request, Refusal> {
+/// A request that will be as it is asked for once the engine has settled.
+fn make(alloc: Global, core: &mut Core, made: Holder, value: u8) -> Result<Request, Refusal> {
     match made {
-        Made::Null => Ok(Request::null()),
-        Made::Idle => Ok(Request::of(init(alloc, core, (0, 2))?)),
-        Made::Pending => post(alloc, core, 0, (0, 2), value),
-        Made::Done => post(alloc, core, 0, (1, 1), value),
-        Made::Restarted => restarted(alloc, core, value),
-        Made::Foreign => post(alloc, core, 1, (2, 1), value),
-        Made::Stale => Ok(Request::of(Ticket {
+        Holder::Null => Ok(Request::null()),
+        Holder::Idle => Ok(Request::of(init(alloc, core, (0, 2))?)),
+        Holder::Pending => post(alloc, core, 0, (0, 2), value),
+        Holder::Done => post(alloc, core, 0, (1, 1), value),
+        Holder::Restarted => restarted(alloc, core, value),
+        Holder::Foreign => post(alloc, core, 1, (2, 1), value),
+        Holder::Stale => Ok(Request::of(Ticket {
             slot: 0,
             generation: 9,
         })),
@@ -120,7 +120,7 @@ fn make(alloc: Global, core: &mut Core, made: Made, value: u8) -> Result<Request
 pub(super) fn make_all(
     alloc: Global,
     core: &mut Core,
-    list: &[Made],
+    list: &[Holder],
 ) -> Result<Vec<Request>, Refusal> {
     let mut requests = Vec::new(alloc);
     let mut value: u8 = 10;
@@ -133,21 +133,25 @@ pub(super) fn make_all(
 }
 
 /// How far a request is, seen from rank 0.
-fn far(core: &Core, request: &Request) -> Made {
+fn far(core: &Core, request: &Request) -> Holder {
     let Some(ticket) = request.ticket() else {
-        return Made::Null;
+        return Holder::Null;
     };
     match core.phase(0, ticket) {
-        Ok(Phase::Idle) => Made::Idle,
-        Ok(Phase::Pending) => Made::Pending,
-        Ok(Phase::Done) => Made::Done,
-        Err(Refusal::NotYours) => Made::Foreign,
-        Err(_) => Made::Stale,
+        Ok(Phase::Idle) => Holder::Idle,
+        Ok(Phase::Pending) => Holder::Pending,
+        Ok(Phase::Done) => Holder::Done,
+        Err(Refusal::NotYours) => Holder::Foreign,
+        Err(_) => Holder::Stale,
     }
 }
 
 /// How far each request is.
-pub(super) fn far_all(alloc: Global, core: &Core, list: &[Request]) -> Result<Vec<Made>, Refusal> {
+pub(super) fn far_all(
+    alloc: Global,
+    core: &Core,
+    list: &[Request],
+) -> Result<Vec<Holder>, Refusal> {
     let mut all = Vec::new(alloc);
     for request in list {
         all.push(far(core, request))?;

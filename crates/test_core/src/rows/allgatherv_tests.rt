@@ -1,7 +1,7 @@
-use crate::rows::answer::Answer;
-use crate::rows::call::Call;
+use crate::rows::answer::CoreAnswer;
+use crate::rows::call::CoreCall;
 use crate::rows::setup::THREE;
-use crate::rows::{Row, assert_answers};
+use crate::rows::{CoreRow, assert_answers};
 use coll_kinds::{Datatype, Kind, Mode, Signature};
 
 /// Two i16 values of member 0, none of member 1 and one of member 2.
@@ -19,16 +19,16 @@ const ROWS: Signature = Signature {
     ]),
 };
 
-// Each lends what it gives and six bytes to get: 10, 6 and 8 in all.
-const LENT_BY_ROWS: &[Row] = &[
-    (Call::PostBytes(0, ROWS, 4), Answer::Accepted),
-    (Call::Lent, Answer::Lent(10)),
-    (Call::PostBytes(1, ROWS, 0), Answer::Accepted),
-    (Call::Lent, Answer::Lent(16)),
-    (Call::PostBytes(2, ROWS, 2), Answer::Accepted),
-    (Call::Lent, Answer::Lent(24)),
-    (Call::Rest, Answer::Accepted),
-    (Call::Lent, Answer::Lent(24)),
+// Each member lends what it gives and six bytes for what it gets: 10, 6 and 8 bytes in all.
+const LENT_BY_ROWS: &[CoreRow] = &[
+    (CoreCall::PostBytes(0, ROWS, 4), CoreAnswer::Accepted),
+    (CoreCall::Lent, CoreAnswer::Lent(10)),
+    (CoreCall::PostBytes(1, ROWS, 0), CoreAnswer::Accepted),
+    (CoreCall::Lent, CoreAnswer::Lent(16)),
+    (CoreCall::PostBytes(2, ROWS, 2), CoreAnswer::Accepted),
+    (CoreCall::Lent, CoreAnswer::Lent(24)),
+    (CoreCall::Rest, CoreAnswer::Accepted),
+    (CoreCall::Lent, CoreAnswer::Lent(24)),
 ];
 
 #[test]

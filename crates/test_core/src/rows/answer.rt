@@ -1,22 +1,22 @@
-use crate::rows::values::Values;
+use crate::rows::values::UpToThree;
 use coll_core::{About, Outcome, Phase, Work};
 use coll_kinds::Refusal;
 
-/// What a call of a row answered.
+/// The answer to a call of a row.
 #[derive(Clone, Copy, Debug, PartialEq)]
-pub enum Answer {
-    /// It was accepted, and has nothing to tell.
+pub enum CoreAnswer {
+    /// The call was accepted, and returned nothing.
     Accepted,
     Refused(Refusal),
-    /// It was refused, and so many bytes came back.
+    /// The call was refused, and this number of bytes came back.
     Back(Refusal, usize),
     Phase(Phase),
     About(Option<About>),
     /// The request to complete isn't Done.
     Unfinished,
     /// An outcome's place, its start and its values.
-    Outcome(u32, u32, Values),
-    /// So many bytes are lent.
+    Outcome(u32, u32, UpToThree),
+    /// This number of bytes is lent.
     Lent(u64),
     Quiet(bool),
     /// No request was ready.
@@ -25,32 +25,32 @@ pub enum Answer {
     Moved,
     /// One action was done, a request's last.
     Finished,
-    /// A combination of these operands is out.
-    Out(Values, Values),
-    /// So many actions were done.
+    /// A combination of these operands was handed out.
+    Out(UpToThree, UpToThree),
+    /// This number of actions was done.
     Settled(u64),
-    /// No combination is held, none came, or one of another ticket.
+    /// No combination is held, none was handed out, or another engine's has another ticket.
     NoWork,
 }
 
-impl Answer {
-    pub fn of_outcome(outcome: &Outcome) -> Answer {
-        Answer::Outcome(
+impl CoreAnswer {
+    pub fn of_outcome(outcome: &Outcome) -> CoreAnswer {
+        CoreAnswer::Outcome(
             outcome.place,
             outcome.start,
-            Values::of(outcome.bytes.as_slice()),
+            UpToThree::of(outcome.bytes.as_slice()),
         )
     }
 
-    pub fn of_work(work: &Work) -> Answer {
-        Answer::Out(Values::of(work.left()), Values::of(work.right()))
+    pub fn of_work(work: &Work) -> CoreAnswer {
+        CoreAnswer::Out(UpToThree::of(work.left()), UpToThree::of(work.right()))
     }
 
-    /// Of a call that gives nothing.
-    pub fn of_call(outcome: Result<(), Refusal>) -> Answer {
+    /// The answer to a call that returns nothing.
+    pub fn of_call(outcome: Result<(), Refusal>) -> CoreAnswer {
         match outcome {
-            Ok(()) => Answer::Accepted,
-            Err(why) => Answer::Refused(why),
+            Ok(()) => CoreAnswer::Accepted,
+            Err(why) => CoreAnswer::Refused(why),
         }
     }
 }

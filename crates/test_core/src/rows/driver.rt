@@ -1,17 +1,17 @@
 //! An engine that makes the calls of a row.
 
-use crate::rows::answer::Answer;
-use crate::rows::call::Call;
+use crate::rows::answer::CoreAnswer;
+use crate::rows::call::CoreCall;
 use crate::rows::calls;
-use crate::rows::setup::{PAIR, Setup};
+use crate::rows::setup::{CoreSetup, PAIR};
 use coll_core::{Contribution, Core, Offer, Work};
 use coll_kinds::{Refusal, Signature, Ticket};
 use coll_plans::{Plan, plan};
 use std::alloc::Global;
 
-/// An engine with the requests that a row made, and the combination that it holds.
+/// An engine with the requests that a row made, and the combination that the row holds.
 #[derive(Drop)]
-pub struct Driver {
+pub struct CoreDriver {
     alloc: Global,
     core: Core,
     size: u8,
@@ -19,7 +19,7 @@ pub struct Driver {
     held: Option<Work>,
 }
 
-/// What a post hands in, or why there is none.
+/// What a post of these values hands in, or why it can't.
 fn offer(
     alloc: Global,
     sig: Signature,
@@ -33,7 +33,7 @@ fn offer(
     })
 }
 
-/// What a post of so many bytes hands in, or why there is none.
+/// What a post of this number of bytes hands in, or why it can't.
 fn offer_of_bytes(
     alloc: Global,
     sig: Signature,
@@ -52,7 +52,7 @@ fn offer_of_bytes(
     })
 }
 
-/// A member's plan; Torn where there is no such member.
+/// A member's plan; `Torn` if there is no such member.
 fn plan_of(alloc: Global, sig: Signature, size: u8, member: u8) -> Result<Plan, Refusal> {
     if member >= size || size > 64 {
         return Err(Refusal::Torn);
@@ -60,7 +60,7 @@ fn plan_of(alloc: Global, sig: Signature, size: u8, member: u8) -> Result<Plan, 
     plan(alloc, sig, size, member)
 }
 
-/// The bytes of i32 values from 0 to 255.
+/// The bytes of i32 values, each from 0 to 255.
 fn bytes_of(alloc: Global, values: &[u8]) -> Result<Contribution, Refusal> {
     let mut bytes = Vec::new(alloc);
     for value in values {
@@ -72,10 +72,10 @@ fn bytes_of(alloc: Global, values: &[u8]) -> Result<Contribution, Refusal> {
     Ok(Contribution::new(bytes))
 }
 
-impl Driver {
-    pub fn open(alloc: Global, setup: &Setup) -> Result<Driver, Refusal> {
+impl CoreDriver {
+    pub fn open(alloc: Global, setup: &CoreSetup) -> Result<CoreDriver, Refusal> {
         let core = calls::open(alloc, setup)?;
-        Ok(Driver {
+        Ok(CoreDriver {
             alloc,
             core,
             size: setup.ranks,
@@ -84,33 +84,33 @@ impl Driver {
         })
     }
 
-    /// Makes a call: what it answers.
-    pub fn answer(&mut self, call: Call) -> Answer {
+    /// Makes a call, and returns its answer.
+    pub fn answer(&mut self, call: CoreCall) -> CoreAnswer {
         let all = self.size;
         match call {
-            Call::Post(rank, sig, values) => self.post(rank, 0, (sig, all, rank), values),
-            Call::PostBytes(rank, sig, count) => self.post_bytes(rank, sig, count),
-            Call::Offer(rank, comm, planned, values) => self.post(rank, comm, planned, values),
-            Call::Init(rank, sig) => self.init(rank, sig),
-            Call::Start(rank, request, values) => self.start(rank, request, values),
-            Call::Free(rank, request) => self.free(rank, request),
-            Call::Phase(rank, request) => calls::phase(&self.core, rank, self.ticket(request)),
-            Call::About(request) => calls::about(&self.core, self.ticket(request)),
-            Call::Retire(rank, request) => self.retire(rank, request),
-            Call::Lent => calls::lent(&self.core),
-            Call::Quiet => calls::quiet(&self.core),
-            Call::Step => self.step(),
-            Call::StepsToWork => self.steps_to_work(),
-            Call::Settle => calls::settle(&mut self.core),
-            Call::Rest => calls::rest(&mut self.core),
-            Call::Commit => self.commit(),
-            Call::Abandon => self.abandon(),
-            Call::CommitForeign(sig, values) => self.commit_foreign(sig, values),
-            Call::AbandonForeign(sig, values) => self.abandon_foreign(sig, values),
+            CoreCall::Post(rank, sig, values) => self.post(rank, 0, (sig, all, rank), values),
+            CoreCall::PostBytes(rank, sig, count) => self.post_bytes(rank, sig, count),
+            CoreCall::Offer(rank, comm, planned, values) => self.post(rank, comm, planned, values),
+            CoreCall::Init(rank, sig) => self.init(rank, sig),
+            CoreCall::Start(rank, request, values) => self.start(rank, request, values),
+            CoreCall::Free(rank, request) => self.free(rank, request),
+            CoreCall::Phase(rank, request) => calls::phase(&self.core, rank, self.ticket(request)),
+            CoreCall::About(request) => calls::about(&self.core, self.ticket(request)),
+            CoreCall::Retire(rank, request) => self.retire(rank, request),
+            CoreCall::Lent => calls::lent(&self.core),
+            CoreCall::Quiet => calls::quiet(&self.core),
+            CoreCall::Step => self.step(),
+            CoreCall::StepsToWork => self.steps_to_work(),
+            CoreCall::Settle => calls::settle(&mut self.core),
+            CoreCall::Rest => calls::rest(&mut self.core),
+            CoreCall::Commit => self.commit(),
+            CoreCall::Abandon => self.abandon(),
+            CoreCall::CommitForeign(sig, values) => self.commit_foreign(sig, values),
+            CoreCall::AbandonForeign(sig, values) => self.abandon_foreign(sig, values),
         }
     }
 
-    /// A request's ticket; where no request has that number, one of a slot that the engine lacks.
+    /// A request's ticket; if no request has that number, a ticket of a slot that the engine doesn't have.
     fn ticket(&self, request: usize) -> Ticket {
         match self.tickets.get(request) {
             Some(ticket) => *ticket,
@@ -121,15 +121,15 @@ impl Driver {
         }
     }
 
-    /// Numbers a request that was made.
-    fn number(&mut self, made: Result<Ticket, Answer>) -> Answer {
+    /// Gives a request the next number.
+    fn number(&mut self, made: Result<Ticket, CoreAnswer>) -> CoreAnswer {
         let ticket = match made {
             Ok(ticket) => ticket,
             Err(answer) => return answer,
         };
         match self.tickets.push(ticket) {
-            Ok(()) => Answer::Accepted,
-            Err(_) => Answer::Refused(Refusal::NoMemory),
+            Ok(()) => CoreAnswer::Accepted,
+            Err(_) => CoreAnswer::Refused(Refusal::NoMemory),
         }
     }
 
@@ -139,55 +139,55 @@ impl Driver {
         comm: u32,
         (sig, size, member): (Signature, u8, u8),
         values: &[u8],
-    ) -> Answer {
+    ) -> CoreAnswer {
         match offer(self.alloc, sig, size, member, values) {
             Ok(offer) => {
                 let made = calls::post(&mut self.core, rank, comm, offer);
                 self.number(made)
             }
-            Err(why) => Answer::Refused(why),
+            Err(why) => CoreAnswer::Refused(why),
         }
     }
 
-    fn post_bytes(&mut self, rank: u8, sig: Signature, count: u8) -> Answer {
+    fn post_bytes(&mut self, rank: u8, sig: Signature, count: u8) -> CoreAnswer {
         match offer_of_bytes(self.alloc, sig, self.size, rank, count) {
             Ok(offer) => {
                 let made = calls::post(&mut self.core, rank, 0, offer);
                 self.number(made)
             }
-            Err(why) => Answer::Refused(why),
+            Err(why) => CoreAnswer::Refused(why),
         }
     }
 
-    fn init(&mut self, rank: u8, sig: Signature) -> Answer {
+    fn init(&mut self, rank: u8, sig: Signature) -> CoreAnswer {
         match plan_of(self.alloc, sig, self.size, rank) {
             Ok(plan) => {
                 let made = calls::init(&mut self.core, rank, 0, plan);
                 self.number(made)
             }
-            Err(why) => Answer::Refused(why),
+            Err(why) => CoreAnswer::Refused(why),
         }
     }
 
-    fn start(&mut self, rank: u8, request: usize, values: &[u8]) -> Answer {
+    fn start(&mut self, rank: u8, request: usize, values: &[u8]) -> CoreAnswer {
         let ticket = self.ticket(request);
         match bytes_of(self.alloc, values) {
             Ok(bytes) => calls::start(&mut self.core, rank, ticket, bytes),
-            Err(why) => Answer::Refused(why),
+            Err(why) => CoreAnswer::Refused(why),
         }
     }
 
-    fn free(&mut self, rank: u8, request: usize) -> Answer {
+    fn free(&mut self, rank: u8, request: usize) -> CoreAnswer {
         let ticket = self.ticket(request);
         calls::free(&mut self.core, rank, ticket)
     }
 
-    fn retire(&mut self, rank: u8, request: usize) -> Answer {
+    fn retire(&mut self, rank: u8, request: usize) -> CoreAnswer {
         let ticket = self.ticket(request);
         calls::retire(&mut self.core, rank, ticket)
     }
 
-    fn step(&mut self) -> Answer {
+    fn step(&mut self) -> CoreAnswer {
         let (answer, work) = calls::step(&mut self.core);
         if work.is_some() {
             self.held = work;
@@ -195,47 +195,47 @@ impl Driver {
         answer
     }
 
-    fn steps_to_work(&mut self) -> Answer {
+    fn steps_to_work(&mut self) -> CoreAnswer {
         for _step in 0..20 {
             let answer = self.step();
-            if matches!(answer, Answer::Out(..)) {
+            if matches!(answer, CoreAnswer::Out(..)) {
                 return answer;
             }
         }
-        Answer::NoWork
+        CoreAnswer::NoWork
     }
 
-    fn commit(&mut self) -> Answer {
+    fn commit(&mut self) -> CoreAnswer {
         match self.held.take() {
             Some(work) => calls::finish(&mut self.core, work),
-            None => Answer::NoWork,
+            None => CoreAnswer::NoWork,
         }
     }
 
-    fn abandon(&mut self) -> Answer {
+    fn abandon(&mut self) -> CoreAnswer {
         match self.held.take() {
             Some(work) => calls::abandon(&mut self.core, work),
-            None => Answer::NoWork,
+            None => CoreAnswer::NoWork,
         }
     }
 
     /// Commits another engine's combination.
-    fn commit_foreign(&mut self, sig: Signature, values: [u8; 2]) -> Answer {
+    fn commit_foreign(&mut self, sig: Signature, values: [u8; 2]) -> CoreAnswer {
         match self.foreign(sig, values) {
             Some(work) => calls::finish(&mut self.core, work),
-            None => Answer::NoWork,
+            None => CoreAnswer::NoWork,
         }
     }
 
     /// Abandons another engine's combination.
-    fn abandon_foreign(&mut self, sig: Signature, values: [u8; 2]) -> Answer {
+    fn abandon_foreign(&mut self, sig: Signature, values: [u8; 2]) -> CoreAnswer {
         match self.foreign(sig, values) {
             Some(work) => calls::abandon(&mut self.core, work),
-            None => Answer::NoWork,
+            None => CoreAnswer::NoWork,
         }
     }
 
-    /// Another engine's combination; none where the one that is held has another ticket.
+    /// Another engine's combination; None if one is held here and has another ticket.
     fn foreign(&self, sig: Signature, values: [u8; 2]) -> Option<Work> {
         let foreign = foreign(self.alloc, sig, values).ok()??;
         if let Some(own) = &self.held
@@ -247,13 +247,13 @@ impl Driver {
     }
 }
 
-/// The first combination of an engine where ranks 0 and 1 post these values.
+/// The first combination of an engine in which ranks 0 and 1 post these values.
 fn foreign(
     alloc: Global,
     sig: Signature,
     [first, second]: [u8; 2],
 ) -> Result<Option<Work>, Refusal> {
-    let mut driver = Driver::open(alloc, &PAIR)?;
+    let mut driver = CoreDriver::open(alloc, &PAIR)?;
     driver.post(0, 0, (sig, 2, 0), &[first]);
     driver.post(1, 0, (sig, 2, 1), &[second]);
     driver.steps_to_work();

@@ -1,9 +1,9 @@
-use crate::rows::answer::Answer;
-use crate::rows::call::Call;
-use crate::rows::setup::{ALONE, PAIR, Setup};
+use crate::rows::answer::CoreAnswer;
+use crate::rows::call::CoreCall;
+use crate::rows::setup::{ALONE, CoreSetup, PAIR};
 use crate::rows::signatures::{PERSISTENT_MAX, PERSISTENT_SUM};
-use crate::rows::values::Values;
-use crate::rows::{Row, assert_answers};
+use crate::rows::values::UpToThree;
+use crate::rows::{CoreRow, assert_answers};
 use coll_core::{About, Phase};
 use coll_kinds::{Mode, Refusal};
 
@@ -20,20 +20,29 @@ const STARTED: About = About {
     ..UNSTARTED
 };
 
-const LIFE: &[Row] = &[
-    (Call::Init(0, PERSISTENT_SUM), Answer::Accepted),
-    (Call::Phase(0, 0), Answer::Phase(Phase::Idle)),
-    (Call::About(0), Answer::About(Some(UNSTARTED))),
-    (Call::Start(0, 0, &[5]), Answer::Accepted),
-    (Call::Start(0, 0, &[6]), Answer::Back(Refusal::Active, 4)),
-    (Call::Free(0, 0), Answer::Refused(Refusal::Active)),
-    (Call::Rest, Answer::Accepted),
-    (Call::Retire(0, 0), Answer::Outcome(0, 0, Values::One(5))),
-    (Call::Retire(0, 0), Answer::Unfinished),
-    (Call::About(0), Answer::About(Some(STARTED))),
-    (Call::Free(0, 0), Answer::Accepted),
-    (Call::Start(0, 0, &[7]), Answer::Back(Refusal::Stale, 4)),
-    (Call::About(0), Answer::About(None)),
+const LIFE: &[CoreRow] = &[
+    (CoreCall::Init(0, PERSISTENT_SUM), CoreAnswer::Accepted),
+    (CoreCall::Phase(0, 0), CoreAnswer::Phase(Phase::Idle)),
+    (CoreCall::About(0), CoreAnswer::About(Some(UNSTARTED))),
+    (CoreCall::Start(0, 0, &[5]), CoreAnswer::Accepted),
+    (
+        CoreCall::Start(0, 0, &[6]),
+        CoreAnswer::Back(Refusal::Active, 4),
+    ),
+    (CoreCall::Free(0, 0), CoreAnswer::Refused(Refusal::Active)),
+    (CoreCall::Rest, CoreAnswer::Accepted),
+    (
+        CoreCall::Retire(0, 0),
+        CoreAnswer::Outcome(0, 0, UpToThree::One(5)),
+    ),
+    (CoreCall::Retire(0, 0), CoreAnswer::Unfinished),
+    (CoreCall::About(0), CoreAnswer::About(Some(STARTED))),
+    (CoreCall::Free(0, 0), CoreAnswer::Accepted),
+    (
+        CoreCall::Start(0, 0, &[7]),
+        CoreAnswer::Back(Refusal::Stale, 4),
+    ),
+    (CoreCall::About(0), CoreAnswer::About(None)),
 ];
 
 #[test]
@@ -42,38 +51,74 @@ fn persistent_life(rt: HostRuntime) {
 }
 
 // Two members start two requests in different orders, three times.
-const OUT_OF_ORDER: &[Row] = &[
-    (Call::Init(0, PERSISTENT_SUM), Answer::Accepted),
-    (Call::Init(0, PERSISTENT_MAX), Answer::Accepted),
-    (Call::Init(1, PERSISTENT_SUM), Answer::Accepted),
-    (Call::Init(1, PERSISTENT_MAX), Answer::Accepted),
-    (Call::Start(0, 0, &[1]), Answer::Accepted),
-    (Call::Start(0, 1, &[10]), Answer::Accepted),
-    (Call::Start(1, 3, &[11]), Answer::Accepted),
-    (Call::Start(1, 2, &[4]), Answer::Accepted),
-    (Call::Rest, Answer::Accepted),
-    (Call::Retire(0, 0), Answer::Outcome(0, 0, Values::One(5))),
-    (Call::Retire(0, 1), Answer::Outcome(1, 0, Values::One(11))),
-    (Call::Retire(1, 2), Answer::Outcome(0, 0, Values::One(5))),
-    (Call::Retire(1, 3), Answer::Outcome(1, 0, Values::One(11))),
-    (Call::Start(0, 0, &[2]), Answer::Accepted),
-    (Call::Start(0, 1, &[20]), Answer::Accepted),
-    (Call::Start(1, 3, &[19]), Answer::Accepted),
-    (Call::Start(1, 2, &[5]), Answer::Accepted),
-    (Call::Rest, Answer::Accepted),
-    (Call::Retire(0, 0), Answer::Outcome(0, 1, Values::One(7))),
-    (Call::Retire(0, 1), Answer::Outcome(1, 1, Values::One(20))),
-    (Call::Retire(1, 2), Answer::Outcome(0, 1, Values::One(7))),
-    (Call::Retire(1, 3), Answer::Outcome(1, 1, Values::One(20))),
-    (Call::Start(0, 0, &[3]), Answer::Accepted),
-    (Call::Start(0, 1, &[30]), Answer::Accepted),
-    (Call::Start(1, 3, &[31]), Answer::Accepted),
-    (Call::Start(1, 2, &[6]), Answer::Accepted),
-    (Call::Rest, Answer::Accepted),
-    (Call::Retire(0, 0), Answer::Outcome(0, 2, Values::One(9))),
-    (Call::Retire(0, 1), Answer::Outcome(1, 2, Values::One(31))),
-    (Call::Retire(1, 2), Answer::Outcome(0, 2, Values::One(9))),
-    (Call::Retire(1, 3), Answer::Outcome(1, 2, Values::One(31))),
+const OUT_OF_ORDER: &[CoreRow] = &[
+    (CoreCall::Init(0, PERSISTENT_SUM), CoreAnswer::Accepted),
+    (CoreCall::Init(0, PERSISTENT_MAX), CoreAnswer::Accepted),
+    (CoreCall::Init(1, PERSISTENT_SUM), CoreAnswer::Accepted),
+    (CoreCall::Init(1, PERSISTENT_MAX), CoreAnswer::Accepted),
+    (CoreCall::Start(0, 0, &[1]), CoreAnswer::Accepted),
+    (CoreCall::Start(0, 1, &[10]), CoreAnswer::Accepted),
+    (CoreCall::Start(1, 3, &[11]), CoreAnswer::Accepted),
+    (CoreCall::Start(1, 2, &[4]), CoreAnswer::Accepted),
+    (CoreCall::Rest, CoreAnswer::Accepted),
+    (
+        CoreCall::Retire(0, 0),
+        CoreAnswer::Outcome(0, 0, UpToThree::One(5)),
+    ),
+    (
+        CoreCall::Retire(0, 1),
+        CoreAnswer::Outcome(1, 0, UpToThree::One(11)),
+    ),
+    (
+        CoreCall::Retire(1, 2),
+        CoreAnswer::Outcome(0, 0, UpToThree::One(5)),
+    ),
+    (
+        CoreCall::Retire(1, 3),
+        CoreAnswer::Outcome(1, 0, UpToThree::One(11)),
+    ),
+    (CoreCall::Start(0, 0, &[2]), CoreAnswer::Accepted),
+    (CoreCall::Start(0, 1, &[20]), CoreAnswer::Accepted),
+    (CoreCall::Start(1, 3, &[19]), CoreAnswer::Accepted),
+    (CoreCall::Start(1, 2, &[5]), CoreAnswer::Accepted),
+    (CoreCall::Rest, CoreAnswer::Accepted),
+    (
+        CoreCall::Retire(0, 0),
+        CoreAnswer::Outcome(0, 1, UpToThree::One(7)),
+    ),
+    (
+        CoreCall::Retire(0, 1),
+        CoreAnswer::Outcome(1, 1, UpToThree::One(20)),
+    ),
+    (
+        CoreCall::Retire(1, 2),
+        CoreAnswer::Outcome(0, 1, UpToThree::One(7)),
+    ),
+    (
+        CoreCall::Retire(1, 3),
+        CoreAnswer::Outcome(1, 1, UpToThree::One(20)),
+    ),
+    (CoreCall::Start(0, 0, &[3]), CoreAnswer::Accepted),
+    (CoreCall::Start(0, 1, &[30]), CoreAnswer::Accepted),
+    (CoreCall::Start(1, 3, &[31]), CoreAnswer::Accepted),
+    (CoreCall::Start(1, 2, &[6]), CoreAnswer::Accepted),
+    (CoreCall::Rest, CoreAnswer::Accepted),
+    (
+        CoreCall::Retire(0, 0),
+        CoreAnswer::Outcome(0, 2, UpToThree::One(9)),
+    ),
+    (
+        CoreCall::Retire(0, 1),
+        CoreAnswer::Outcome(1, 2, UpToThree::One(31)),
+    ),
+    (
+        CoreCall::Retire(1, 2),
+        CoreAnswer::Outcome(0, 2, UpToThree::One(9)),
+    ),
+    (
+        CoreCall::Retire(1, 3),
+        CoreAnswer::Outcome(1, 2, UpToThree::One(31)),
+    ),
 ];
 
 #[test]
@@ -81,20 +126,32 @@ fn starts_out_of_order(rt: HostRuntime) {
     assert_answers(&rt, rt.alloc(), &PAIR, OUT_OF_ORDER);
 }
 
-// A member starts once more while the other hasn't left the start before.
-const OVERLAP: &[Row] = &[
-    (Call::Init(0, PERSISTENT_SUM), Answer::Accepted),
-    (Call::Init(1, PERSISTENT_SUM), Answer::Accepted),
-    (Call::Start(0, 0, &[1]), Answer::Accepted),
-    (Call::Start(1, 1, &[2]), Answer::Accepted),
-    (Call::Rest, Answer::Accepted),
-    (Call::Retire(0, 0), Answer::Outcome(0, 0, Values::One(3))),
-    (Call::Start(0, 0, &[10]), Answer::Accepted),
-    (Call::Retire(1, 1), Answer::Outcome(0, 0, Values::One(3))),
-    (Call::Start(1, 1, &[20]), Answer::Accepted),
-    (Call::Rest, Answer::Accepted),
-    (Call::Retire(0, 0), Answer::Outcome(0, 1, Values::One(30))),
-    (Call::Retire(1, 1), Answer::Outcome(0, 1, Values::One(30))),
+// A member starts again before the other has left the start before.
+const OVERLAP: &[CoreRow] = &[
+    (CoreCall::Init(0, PERSISTENT_SUM), CoreAnswer::Accepted),
+    (CoreCall::Init(1, PERSISTENT_SUM), CoreAnswer::Accepted),
+    (CoreCall::Start(0, 0, &[1]), CoreAnswer::Accepted),
+    (CoreCall::Start(1, 1, &[2]), CoreAnswer::Accepted),
+    (CoreCall::Rest, CoreAnswer::Accepted),
+    (
+        CoreCall::Retire(0, 0),
+        CoreAnswer::Outcome(0, 0, UpToThree::One(3)),
+    ),
+    (CoreCall::Start(0, 0, &[10]), CoreAnswer::Accepted),
+    (
+        CoreCall::Retire(1, 1),
+        CoreAnswer::Outcome(0, 0, UpToThree::One(3)),
+    ),
+    (CoreCall::Start(1, 1, &[20]), CoreAnswer::Accepted),
+    (CoreCall::Rest, CoreAnswer::Accepted),
+    (
+        CoreCall::Retire(0, 0),
+        CoreAnswer::Outcome(0, 1, UpToThree::One(30)),
+    ),
+    (
+        CoreCall::Retire(1, 1),
+        CoreAnswer::Outcome(0, 1, UpToThree::One(30)),
+    ),
 ];
 
 #[test]
@@ -102,28 +159,31 @@ fn starts_overlap(rt: HostRuntime) {
     assert_answers(&rt, rt.alloc(), &PAIR, OVERLAP);
 }
 
-const ONE_PLACE: Setup = Setup { places: 1, ..ALONE };
+const ONE_PLACE: CoreSetup = CoreSetup { places: 1, ..ALONE };
 
 // A place isn't given back by a free.
-const PLACES: &[Row] = &[
-    (Call::Init(0, PERSISTENT_SUM), Answer::Accepted),
-    (Call::Free(0, 0), Answer::Accepted),
+const PLACES: &[CoreRow] = &[
+    (CoreCall::Init(0, PERSISTENT_SUM), CoreAnswer::Accepted),
+    (CoreCall::Free(0, 0), CoreAnswer::Accepted),
     (
-        Call::Init(0, PERSISTENT_SUM),
-        Answer::Refused(Refusal::PlacesUsed),
+        CoreCall::Init(0, PERSISTENT_SUM),
+        CoreAnswer::Refused(Refusal::PlacesUsed),
     ),
 ];
 
-const ONE_START: Setup = Setup { starts: 1, ..ALONE };
+const ONE_START: CoreSetup = CoreSetup { starts: 1, ..ALONE };
 
-const STARTS: &[Row] = &[
-    (Call::Init(0, PERSISTENT_SUM), Answer::Accepted),
-    (Call::Start(0, 0, &[5]), Answer::Accepted),
-    (Call::Rest, Answer::Accepted),
-    (Call::Retire(0, 0), Answer::Outcome(0, 0, Values::One(5))),
+const STARTS: &[CoreRow] = &[
+    (CoreCall::Init(0, PERSISTENT_SUM), CoreAnswer::Accepted),
+    (CoreCall::Start(0, 0, &[5]), CoreAnswer::Accepted),
+    (CoreCall::Rest, CoreAnswer::Accepted),
     (
-        Call::Start(0, 0, &[6]),
-        Answer::Back(Refusal::StartsUsed, 4),
+        CoreCall::Retire(0, 0),
+        CoreAnswer::Outcome(0, 0, UpToThree::One(5)),
+    ),
+    (
+        CoreCall::Start(0, 0, &[6]),
+        CoreAnswer::Back(Refusal::StartsUsed, 4),
     ),
 ];
 

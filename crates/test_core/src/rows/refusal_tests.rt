@@ -1,20 +1,32 @@
-use crate::rows::answer::Answer;
-use crate::rows::call::Call;
-use crate::rows::setup::{ALONE, PAIR, Setup};
+use crate::rows::answer::CoreAnswer;
+use crate::rows::call::CoreCall;
+use crate::rows::setup::{ALONE, CoreSetup, PAIR};
 use crate::rows::signatures::{PERSISTENT_SUM, SUM};
-use crate::rows::values::Values;
-use crate::rows::{Row, assert_answers, first_misfit};
+use crate::rows::values::UpToThree;
+use crate::rows::{CoreRow, assert_answers, first_misfit};
 use coll_core::Phase;
 use coll_kinds::{ConfigField, Refusal, SignatureFault};
 
-const ANOTHER_RANKS: &[Row] = &[
-    (Call::Post(0, SUM, &[1]), Answer::Accepted),
-    (Call::Retire(1, 0), Answer::Refused(Refusal::NotYours)),
-    (Call::Phase(1, 0), Answer::Refused(Refusal::NotYours)),
-    (Call::Free(1, 0), Answer::Refused(Refusal::NotYours)),
-    (Call::Start(1, 0, &[1]), Answer::Back(Refusal::NotYours, 4)),
-    (Call::Phase(0, 0), Answer::Phase(Phase::Pending)),
-    (Call::Free(0, 0), Answer::Refused(Refusal::NotPersistent)),
+const ANOTHER_RANKS: &[CoreRow] = &[
+    (CoreCall::Post(0, SUM, &[1]), CoreAnswer::Accepted),
+    (
+        CoreCall::Retire(1, 0),
+        CoreAnswer::Refused(Refusal::NotYours),
+    ),
+    (
+        CoreCall::Phase(1, 0),
+        CoreAnswer::Refused(Refusal::NotYours),
+    ),
+    (CoreCall::Free(1, 0), CoreAnswer::Refused(Refusal::NotYours)),
+    (
+        CoreCall::Start(1, 0, &[1]),
+        CoreAnswer::Back(Refusal::NotYours, 4),
+    ),
+    (CoreCall::Phase(0, 0), CoreAnswer::Phase(Phase::Pending)),
+    (
+        CoreCall::Free(0, 0),
+        CoreAnswer::Refused(Refusal::NotPersistent),
+    ),
 ];
 
 #[test]
@@ -22,21 +34,27 @@ fn another_ranks_ticket(rt: HostRuntime) {
     assert_answers(&rt, rt.alloc(), &PAIR, ANOTHER_RANKS);
 }
 
-const ONE_SLOT: Setup = Setup {
+const ONE_SLOT: CoreSetup = CoreSetup {
     slots: 1,
     places: 2,
     wear: 1,
     ..ALONE
 };
 
-// Request 1 is never made, so its number stands for a ticket of a slot that the engine lacks.
-const STALE_AND_FULL: &[Row] = &[
-    (Call::Post(0, SUM, &[1]), Answer::Accepted),
-    (Call::Rest, Answer::Accepted),
-    (Call::Retire(0, 0), Answer::Outcome(0, 0, Values::One(1))),
-    (Call::Retire(0, 0), Answer::Refused(Refusal::Stale)),
-    (Call::Post(0, SUM, &[2]), Answer::Back(Refusal::Full, 4)),
-    (Call::Retire(0, 1), Answer::Refused(Refusal::Stale)),
+// Request 1 is never made, so its number stands for a ticket of a slot that the engine doesn't have.
+const STALE_AND_FULL: &[CoreRow] = &[
+    (CoreCall::Post(0, SUM, &[1]), CoreAnswer::Accepted),
+    (CoreCall::Rest, CoreAnswer::Accepted),
+    (
+        CoreCall::Retire(0, 0),
+        CoreAnswer::Outcome(0, 0, UpToThree::One(1)),
+    ),
+    (CoreCall::Retire(0, 0), CoreAnswer::Refused(Refusal::Stale)),
+    (
+        CoreCall::Post(0, SUM, &[2]),
+        CoreAnswer::Back(Refusal::Full, 4),
+    ),
+    (CoreCall::Retire(0, 1), CoreAnswer::Refused(Refusal::Stale)),
 ];
 
 #[test]
@@ -44,13 +62,13 @@ fn stale_ticket_and_full(rt: HostRuntime) {
     assert_answers(&rt, rt.alloc(), &ONE_SLOT, STALE_AND_FULL);
 }
 
-// As many communicators as none may have.
+// One communicator more than an engine may have.
 const SEVENTEEN: [&[u8]; 17] = [&[0]; 17];
 
-// The first field of two that are out of their ranges.
-const FIRST_MISFITS: [(Setup, ConfigField); 6] = [
+// Setups with two fields out of their ranges, and the first of these fields, which is refused.
+const FIRST_MISFITS: [(CoreSetup, ConfigField); 6] = [
     (
-        Setup {
+        CoreSetup {
             ranks: 65,
             slots: 0,
             ..PAIR
@@ -58,7 +76,7 @@ const FIRST_MISFITS: [(Setup, ConfigField); 6] = [
         ConfigField::Ranks,
     ),
     (
-        Setup {
+        CoreSetup {
             groups: &[&[0, 0]],
             slots: 0,
             ..PAIR
@@ -66,7 +84,7 @@ const FIRST_MISFITS: [(Setup, ConfigField); 6] = [
         ConfigField::Groups,
     ),
     (
-        Setup {
+        CoreSetup {
             slots: 0,
             places: 0,
             ..PAIR
@@ -74,7 +92,7 @@ const FIRST_MISFITS: [(Setup, ConfigField); 6] = [
         ConfigField::Slots,
     ),
     (
-        Setup {
+        CoreSetup {
             places: 0,
             wear: 0,
             ..PAIR
@@ -82,7 +100,7 @@ const FIRST_MISFITS: [(Setup, ConfigField); 6] = [
         ConfigField::Places,
     ),
     (
-        Setup {
+        CoreSetup {
             wear: 0,
             starts: 0,
             ..PAIR
@@ -90,7 +108,7 @@ const FIRST_MISFITS: [(Setup, ConfigField); 6] = [
         ConfigField::Wear,
     ),
     (
-        Setup {
+        CoreSetup {
             starts: 0,
             trace: 1,
             ..PAIR
@@ -99,73 +117,73 @@ const FIRST_MISFITS: [(Setup, ConfigField); 6] = [
     ),
 ];
 
-// One field alone is out of its range.
-const LONE_MISFITS: [(Setup, ConfigField); 16] = [
-    (Setup { ranks: 0, ..PAIR }, ConfigField::Ranks),
-    (Setup { ranks: 65, ..PAIR }, ConfigField::Ranks),
+// Setups with one field out of its range, and that field.
+const LONE_MISFITS: [(CoreSetup, ConfigField); 16] = [
+    (CoreSetup { ranks: 0, ..PAIR }, ConfigField::Ranks),
+    (CoreSetup { ranks: 65, ..PAIR }, ConfigField::Ranks),
     (
-        Setup {
+        CoreSetup {
             groups: &[],
             ..PAIR
         },
         ConfigField::Groups,
     ),
     (
-        Setup {
+        CoreSetup {
             groups: &[&[0, 1], &[]],
             ..PAIR
         },
         ConfigField::Groups,
     ),
     (
-        Setup {
+        CoreSetup {
             groups: &[&[1, 1]],
             ..PAIR
         },
         ConfigField::Groups,
     ),
     (
-        Setup {
+        CoreSetup {
             groups: &[&[0, 2]],
             ..PAIR
         },
         ConfigField::Groups,
     ),
     (
-        Setup {
+        CoreSetup {
             groups: &SEVENTEEN,
             ..PAIR
         },
         ConfigField::Groups,
     ),
-    (Setup { slots: 0, ..PAIR }, ConfigField::Slots),
+    (CoreSetup { slots: 0, ..PAIR }, ConfigField::Slots),
     (
-        Setup {
+        CoreSetup {
             slots: 4_097,
             ..PAIR
         },
         ConfigField::Slots,
     ),
-    (Setup { places: 0, ..PAIR }, ConfigField::Places),
+    (CoreSetup { places: 0, ..PAIR }, ConfigField::Places),
     (
-        Setup {
+        CoreSetup {
             places: 65_537,
             ..PAIR
         },
         ConfigField::Places,
     ),
-    (Setup { wear: 0, ..PAIR }, ConfigField::Wear),
-    (Setup { starts: 0, ..PAIR }, ConfigField::Starts),
+    (CoreSetup { wear: 0, ..PAIR }, ConfigField::Wear),
+    (CoreSetup { starts: 0, ..PAIR }, ConfigField::Starts),
     (
-        Setup {
+        CoreSetup {
             starts: 1_048_577,
             ..PAIR
         },
         ConfigField::Starts,
     ),
-    (Setup { trace: 1, ..PAIR }, ConfigField::Trace),
+    (CoreSetup { trace: 1, ..PAIR }, ConfigField::Trace),
     (
-        Setup {
+        CoreSetup {
             trace: 1_048_577,
             ..PAIR
         },
@@ -184,7 +202,7 @@ fn bad_configs(rt: HostRuntime) {
     }
 }
 
-const WITH_ONE: Setup = Setup {
+const WITH_ONE: CoreSetup = CoreSetup {
     groups: &[&[0, 1], &[0]],
     ..PAIR
 };
@@ -205,32 +223,38 @@ const TOO_SHORT: Refusal = Refusal::BadLength { want: 4, got: 3 };
 
 const TOO_LONG: Refusal = Refusal::BadLength { want: 4, got: 8 };
 
-const OFFERS: &[Row] = &[
+const OFFERS: &[CoreRow] = &[
     (
-        Call::Offer(0, 2, (SUM, 2, 0), &[1]),
-        Answer::Back(BAD_COMM, 4),
+        CoreCall::Offer(0, 2, (SUM, 2, 0), &[1]),
+        CoreAnswer::Back(BAD_COMM, 4),
     ),
     (
-        Call::Offer(1, 1, (SUM, 2, 1), &[1]),
-        Answer::Back(NOT_MEMBER, 4),
+        CoreCall::Offer(1, 1, (SUM, 2, 1), &[1]),
+        CoreAnswer::Back(NOT_MEMBER, 4),
     ),
     (
-        Call::Post(0, PERSISTENT_SUM, &[1]),
-        Answer::Back(BAD_MODE, 4),
+        CoreCall::Post(0, PERSISTENT_SUM, &[1]),
+        CoreAnswer::Back(BAD_MODE, 4),
     ),
-    (Call::Init(0, SUM), Answer::Refused(BAD_MODE)),
+    (CoreCall::Init(0, SUM), CoreAnswer::Refused(BAD_MODE)),
     (
-        Call::Offer(0, 0, (SUM, 3, 0), &[1]),
-        Answer::Back(BAD_GROUP, 4),
+        CoreCall::Offer(0, 0, (SUM, 3, 0), &[1]),
+        CoreAnswer::Back(BAD_GROUP, 4),
     ),
     (
-        Call::Offer(0, 0, (SUM, 2, 1), &[1]),
-        Answer::Back(BAD_GROUP, 4),
+        CoreCall::Offer(0, 0, (SUM, 2, 1), &[1]),
+        CoreAnswer::Back(BAD_GROUP, 4),
     ),
-    (Call::PostBytes(0, SUM, 3), Answer::Back(TOO_SHORT, 3)),
-    (Call::Post(0, SUM, &[1, 2]), Answer::Back(TOO_LONG, 8)),
-    (Call::Lent, Answer::Lent(0)),
-    (Call::Quiet, Answer::Quiet(true)),
+    (
+        CoreCall::PostBytes(0, SUM, 3),
+        CoreAnswer::Back(TOO_SHORT, 3),
+    ),
+    (
+        CoreCall::Post(0, SUM, &[1, 2]),
+        CoreAnswer::Back(TOO_LONG, 8),
+    ),
+    (CoreCall::Lent, CoreAnswer::Lent(0)),
+    (CoreCall::Quiet, CoreAnswer::Quiet(true)),
 ];
 
 #[test]

@@ -2,11 +2,11 @@ use coll_core::Config;
 use coll_kinds::Refusal;
 use std::alloc::Global;
 
-/// What a row's engine is opened with.
+/// The configuration of a row's engine.
 #[derive(Clone, Copy)]
-pub struct Setup {
+pub struct CoreSetup {
     pub ranks: u8,
-    /// The ranks of each communicator; communicator 0 has all.
+    /// The ranks of each communicator; communicator 0 has all ranks.
     pub groups: &'static [&'static [u8]],
     pub slots: u32,
     pub places: u32,
@@ -15,7 +15,7 @@ pub struct Setup {
     pub trace: u32,
 }
 
-impl Setup {
+impl CoreSetup {
     /// The engine's configuration.
     pub fn config(&self, alloc: Global) -> Result<Config, Refusal> {
         let mut groups = Vec::new(alloc);
@@ -34,7 +34,7 @@ impl Setup {
     }
 }
 
-pub const ALONE: Setup = Setup {
+pub const ALONE: CoreSetup = CoreSetup {
     ranks: 1,
     groups: &[&[0]],
     slots: 8,
@@ -44,19 +44,19 @@ pub const ALONE: Setup = Setup {
     trace: 64,
 };
 
-pub const PAIR: Setup = Setup {
+pub const PAIR: CoreSetup = CoreSetup {
     ranks: 2,
     groups: &[&[0, 1]],
     ..ALONE
 };
 
-pub const THREE: Setup = Setup {
+pub const THREE: CoreSetup = CoreSetup {
     ranks: 3,
     groups: &[&[0, 1, 2]],
     ..ALONE
 };
 
-pub const FIVE: Setup = Setup {
+pub const FIVE: CoreSetup = CoreSetup {
     ranks: 5,
     groups: &[&[0, 1, 2, 3, 4]],
     ..ALONE

@@ -2,27 +2,27 @@ ghost use Rattle.std.specs.Prelude.{◌+◌, ◌≤◌, length};
 
 /// Up to three i32 values.
 #[derive(Clone, Copy, Debug, PartialEq)]
-pub enum Values {
+pub enum UpToThree {
     Empty,
     One(i32),
     Three(i32, i32, i32),
-    /// As many bytes as no row has.
+    /// Another number of bytes, which no row has.
     Other(usize),
 }
 
-impl Values {
+impl UpToThree {
     /// The values whose bytes these are.
-    pub fn of(bytes: &[u8]) -> Values {
+    pub fn of(bytes: &[u8]) -> UpToThree {
         match bytes.len() {
-            0 => Values::Empty,
-            4 => Values::One(value_at(bytes, 0)),
-            12 => Values::Three(value_at(bytes, 0), value_at(bytes, 4), value_at(bytes, 8)),
-            count => Values::Other(count),
+            0 => UpToThree::Empty,
+            4 => UpToThree::One(value_at(bytes, 0)),
+            12 => UpToThree::Three(value_at(bytes, 0), value_at(bytes, 4), value_at(bytes, 8)),
+            count => UpToThree::Other(count),
         }
     }
 }
 
-/// The value from a byte on.
+/// The i32 value that begins at that byte.
 fn value_at(bytes: &[u8], from: usize) -> i32
     requires { from + 4 ≤ length bytes.now }
 {

@@ -1,28 +1,28 @@
-use crate::rows::answer::Answer;
-use crate::rows::call::Call;
+use crate::rows::answer::CoreAnswer;
+use crate::rows::call::CoreCall;
 use crate::rows::setup::PAIR;
 use crate::rows::signatures::{MAX, SUM};
-use crate::rows::values::Values;
-use crate::rows::{Row, assert_answers};
+use crate::rows::values::UpToThree;
+use crate::rows::{CoreRow, assert_answers};
 use coll_core::Phase;
 use coll_kinds::Refusal;
 
-const OUT: Answer = Answer::Out(Values::One(1), Values::One(2));
+const OUT: CoreAnswer = CoreAnswer::Out(UpToThree::One(1), UpToThree::One(2));
 
-// A combination that is out stops its own request alone.
-const BESIDE_RUNNING: &[Row] = &[
-    (Call::Post(0, SUM, &[1]), Answer::Accepted),
-    (Call::Post(1, SUM, &[2]), Answer::Accepted),
-    (Call::StepsToWork, OUT),
-    (Call::Rest, Answer::Accepted),
-    (Call::Phase(0, 0), Answer::Phase(Phase::Done)),
-    (Call::Phase(1, 1), Answer::Phase(Phase::Pending)),
-    (Call::Quiet, Answer::Quiet(false)),
-    (Call::Commit, Answer::Finished),
-    (Call::Rest, Answer::Accepted),
-    (Call::Quiet, Answer::Quiet(true)),
-    (Call::Phase(0, 0), Answer::Phase(Phase::Done)),
-    (Call::Phase(1, 1), Answer::Phase(Phase::Done)),
+// A combination that is handed out holds up its own request alone.
+const BESIDE_RUNNING: &[CoreRow] = &[
+    (CoreCall::Post(0, SUM, &[1]), CoreAnswer::Accepted),
+    (CoreCall::Post(1, SUM, &[2]), CoreAnswer::Accepted),
+    (CoreCall::StepsToWork, OUT),
+    (CoreCall::Rest, CoreAnswer::Accepted),
+    (CoreCall::Phase(0, 0), CoreAnswer::Phase(Phase::Done)),
+    (CoreCall::Phase(1, 1), CoreAnswer::Phase(Phase::Pending)),
+    (CoreCall::Quiet, CoreAnswer::Quiet(false)),
+    (CoreCall::Commit, CoreAnswer::Finished),
+    (CoreCall::Rest, CoreAnswer::Accepted),
+    (CoreCall::Quiet, CoreAnswer::Quiet(true)),
+    (CoreCall::Phase(0, 0), CoreAnswer::Phase(Phase::Done)),
+    (CoreCall::Phase(1, 1), CoreAnswer::Phase(Phase::Done)),
 ];
 
 #[test]
@@ -30,52 +30,64 @@ fn settle_beside_running(rt: HostRuntime) {
     assert_answers(&rt, rt.alloc(), &PAIR, BESIDE_RUNNING);
 }
 
-// What was abandoned is handed out again by the next step.
-const ABANDONED: &[Row] = &[
-    (Call::Post(0, SUM, &[1]), Answer::Accepted),
-    (Call::Post(1, SUM, &[2]), Answer::Accepted),
-    (Call::StepsToWork, OUT),
-    (Call::Abandon, Answer::Accepted),
-    (Call::Lent, Answer::Lent(16)),
-    (Call::Step, OUT),
-    (Call::Commit, Answer::Finished),
-    (Call::Rest, Answer::Accepted),
-    (Call::Retire(0, 0), Answer::Outcome(0, 0, Values::One(3))),
-    (Call::Retire(1, 1), Answer::Outcome(0, 0, Values::One(3))),
+// An abandoned combination is handed out again by the next step.
+const ABANDONED: &[CoreRow] = &[
+    (CoreCall::Post(0, SUM, &[1]), CoreAnswer::Accepted),
+    (CoreCall::Post(1, SUM, &[2]), CoreAnswer::Accepted),
+    (CoreCall::StepsToWork, OUT),
+    (CoreCall::Abandon, CoreAnswer::Accepted),
+    (CoreCall::Lent, CoreAnswer::Lent(16)),
+    (CoreCall::Step, OUT),
+    (CoreCall::Commit, CoreAnswer::Finished),
+    (CoreCall::Rest, CoreAnswer::Accepted),
+    (
+        CoreCall::Retire(0, 0),
+        CoreAnswer::Outcome(0, 0, UpToThree::One(3)),
+    ),
+    (
+        CoreCall::Retire(1, 1),
+        CoreAnswer::Outcome(0, 0, UpToThree::One(3)),
+    ),
 ];
 
-const STALE: Answer = Answer::Refused(Refusal::Stale);
+const STALE: CoreAnswer = CoreAnswer::Refused(Refusal::Stale);
 
-// Another engine has the same ticket out, for another operation or another operand. What it computed is refused, and the
-// engine's own work is still accepted.
-const FOREIGN: &[Row] = &[
-    (Call::Post(0, SUM, &[1]), Answer::Accepted),
-    (Call::Post(1, SUM, &[2]), Answer::Accepted),
-    (Call::StepsToWork, OUT),
-    (Call::CommitForeign(MAX, [1, 2]), STALE),
-    (Call::CommitForeign(SUM, [3, 2]), STALE),
-    (Call::CommitForeign(SUM, [1, 3]), STALE),
-    (Call::AbandonForeign(MAX, [1, 2]), STALE),
-    (Call::AbandonForeign(SUM, [1, 3]), STALE),
-    (Call::Quiet, Answer::Quiet(false)),
-    (Call::Rest, Answer::Accepted),
-    (Call::Phase(1, 1), Answer::Phase(Phase::Pending)),
-    (Call::Lent, Answer::Lent(16)),
-    (Call::Commit, Answer::Finished),
-    (Call::Quiet, Answer::Quiet(true)),
-    (Call::Retire(0, 0), Answer::Outcome(0, 0, Values::One(3))),
-    (Call::Retire(1, 1), Answer::Outcome(0, 0, Values::One(3))),
+// Another engine has handed out a combination of the same ticket, with another operation or another operand. What it computed
+// is refused, and the engine's own work is still accepted.
+const FOREIGN: &[CoreRow] = &[
+    (CoreCall::Post(0, SUM, &[1]), CoreAnswer::Accepted),
+    (CoreCall::Post(1, SUM, &[2]), CoreAnswer::Accepted),
+    (CoreCall::StepsToWork, OUT),
+    (CoreCall::CommitForeign(MAX, [1, 2]), STALE),
+    (CoreCall::CommitForeign(SUM, [3, 2]), STALE),
+    (CoreCall::CommitForeign(SUM, [1, 3]), STALE),
+    (CoreCall::AbandonForeign(MAX, [1, 2]), STALE),
+    (CoreCall::AbandonForeign(SUM, [1, 3]), STALE),
+    (CoreCall::Quiet, CoreAnswer::Quiet(false)),
+    (CoreCall::Rest, CoreAnswer::Accepted),
+    (CoreCall::Phase(1, 1), CoreAnswer::Phase(Phase::Pending)),
+    (CoreCall::Lent, CoreAnswer::Lent(16)),
+    (CoreCall::Commit, CoreAnswer::Finished),
+    (CoreCall::Quiet, CoreAnswer::Quiet(true)),
+    (
+        CoreCall::Retire(0, 0),
+        CoreAnswer::Outcome(0, 0, UpToThree::One(3)),
+    ),
+    (
+        CoreCall::Retire(1, 1),
+        CoreAnswer::Outcome(0, 0, UpToThree::One(3)),
+    ),
 ];
 
 // A combination is accepted once.
-const SPENT: &[Row] = &[
-    (Call::Post(0, SUM, &[1]), Answer::Accepted),
-    (Call::Post(1, SUM, &[2]), Answer::Accepted),
-    (Call::AbandonForeign(SUM, [1, 2]), STALE),
-    (Call::StepsToWork, OUT),
-    (Call::Commit, Answer::Finished),
-    (Call::AbandonForeign(SUM, [1, 2]), STALE),
-    (Call::CommitForeign(SUM, [1, 2]), STALE),
+const SPENT: &[CoreRow] = &[
+    (CoreCall::Post(0, SUM, &[1]), CoreAnswer::Accepted),
+    (CoreCall::Post(1, SUM, &[2]), CoreAnswer::Accepted),
+    (CoreCall::AbandonForeign(SUM, [1, 2]), STALE),
+    (CoreCall::StepsToWork, OUT),
+    (CoreCall::Commit, CoreAnswer::Finished),
+    (CoreCall::AbandonForeign(SUM, [1, 2]), STALE),
+    (CoreCall::CommitForeign(SUM, [1, 2]), STALE),
 ];
 
 #[test]

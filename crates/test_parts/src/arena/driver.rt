@@ -1,4 +1,4 @@
-//! An arena of one communicator whose calls are rows.
+//! An arena of one communicator, with its calls as rows have them.
 
 ghost use Rattle.std.specs.Prelude.{◌≡◌, ◌<◌, ◌≤◌};
 ghost use Rattle.coll_arena.specs.ListNames.{number_of};
@@ -25,8 +25,8 @@ pub enum Live {
 
 /// A call. A request is named by the number of the `Take` that made it, from 0.
 #[derive(Clone, Copy)]
-pub enum Call {
-    /// The record, its weight, and its list.
+pub enum ArenaCall {
+    /// Takes a slot for a record of that weight, on that list.
     Take(u32, u8, Live),
     Retire(usize),
     Get(usize),
@@ -45,15 +45,15 @@ pub enum Call {
     Lent,
 }
 
-/// What a call answered.
+/// The answer to a call.
 #[derive(Clone, Copy, Debug, PartialEq, Eq)]
-pub enum Answer {
+pub enum ArenaAnswer {
     Accepted,
     Record(u32),
     /// The slot and the generation.
     Ticket(u32, u32),
     Nothing,
-    /// The first slots of a list, and `END` behind them.
+    /// The first slots of a list, and `END` after them.
     Slots([u32; 4]),
     Count(u32),
     Lent(u64),
@@ -68,7 +68,7 @@ pub const END: u32 = u32::MAX;
 
 /// An arena of one communicator, and the tickets that it gave.
 #[derive(Drop)]
-pub struct Driver {
+pub struct ArenaDriver {
     arena: Arena<u32>,
     tickets: Vec<Ticket>,
     ghost one: { arena.comms ≡ 1 },
@@ -99,48 +99,48 @@ impl On {
     }
 }
 
-fn of_call(answer: Result<(), Refusal>) -> Answer {
+fn of_call(answer: Result<(), Refusal>) -> ArenaAnswer {
     match answer {
-        Ok(()) => Answer::Accepted,
-        Err(why) => Answer::Refused(why),
+        Ok(()) => ArenaAnswer::Accepted,
+        Err(why) => ArenaAnswer::Refused(why),
     }
 }
 
-fn of_record(answer: Result<u32, Refusal>) -> Answer {
+fn of_record(answer: Result<u32, Refusal>) -> ArenaAnswer {
     match answer {
-        Ok(record) => Answer::Record(record),
-        Err(why) => Answer::Refused(why),
+        Ok(record) => ArenaAnswer::Record(record),
+        Err(why) => ArenaAnswer::Refused(why),
     }
 }
 
-fn of_ticket(ticket: Option<Ticket>) -> Answer {
+fn of_ticket(ticket: Option<Ticket>) -> ArenaAnswer {
     match ticket {
-        Some(ticket) => Answer::Ticket(ticket.slot, ticket.generation),
-        None => Answer::Nothing,
+        Some(ticket) => ArenaAnswer::Ticket(ticket.slot, ticket.generation),
+        None => ArenaAnswer::Nothing,
     }
 }
 
-/// The first slots of a walk.
-fn of_walk(walk: Tickets<'_, u32>) -> Answer {
+/// The first slots of a walk, as an answer.
+fn of_walk(walk: Tickets<'_, u32>) -> ArenaAnswer {
     let mut slots = [END; 4];
     for (slot, ticket) in slots.iter_mut().zip(walk) {
         *slot = ticket.slot;
     }
-    Answer::Slots(slots)
+    ArenaAnswer::Slots(slots)
 }
 
-impl Driver {
-    /// With so many slots, each of which can be taken so often.
-    pub fn open(alloc: Global, slots: u8, wear: u8) -> Result<Driver, Refusal> {
+impl ArenaDriver {
+    /// An arena with this number of slots, each of which can be taken `wear` times, at least once.
+    pub fn open(alloc: Global, slots: u8, wear: u8) -> Result<ArenaDriver, Refusal> {
         let wear = u32::from(wear).max(1);
         let arena = Arena::open(alloc, u32::from(slots), 1, wear)?;
-        Ok(Driver {
+        Ok(ArenaDriver {
             arena,
             tickets: Vec::new(alloc),
         })
     }
 
-    /// The ticket of the request with that number; of none, one that names nothing.
+    /// The ticket of the request with that number; if there is none, a ticket that names no request.
     fn ticket(&self, number: usize) -> Ticket {
         match self.tickets.get(number) {
             Some(ticket) => *ticket,
@@ -151,90 +151,90 @@ impl Driver {
         }
     }
 
-    fn take(&mut self, record: u32, weight: u8, live: Live) -> Answer {
+    fn take(&mut self, record: u32, weight: u8, live: Live) -> ArenaAnswer {
         match self.arena.take(record, u32::from(weight), live.name()) {
             Ok(ticket) => {
                 let _ = self.tickets.push(ticket);
-                Answer::Ticket(ticket.slot, ticket.generation)
+                ArenaAnswer::Ticket(ticket.slot, ticket.generation)
             }
-            Err(refused) => Answer::Back(refused.why, refused.back),
+            Err(refused) => ArenaAnswer::Back(refused.why, refused.back),
         }
     }
 
-    fn retire(&mut self, number: usize) -> Answer {
+    fn retire(&mut self, number: usize) -> ArenaAnswer {
         let ticket = self.ticket(number);
         of_record(self.arena.retire(ticket))
     }
 
-    fn get(&self, number: usize) -> Answer {
+    fn get(&self, number: usize) -> ArenaAnswer {
         match self.arena.get(self.ticket(number)) {
-            Ok(record) => Answer::Record(*record),
-            Err(why) => Answer::Refused(why),
+            Ok(record) => ArenaAnswer::Record(*record),
+            Err(why) => ArenaAnswer::Refused(why),
         }
     }
 
-    fn set(&mut self, number: usize, record: u32) -> Answer {
+    fn set(&mut self, number: usize, record: u32) -> ArenaAnswer {
         let ticket = self.ticket(number);
         match self.arena.get_mut(ticket) {
             Ok(place) => {
                 *place = record;
-                Answer::Accepted
+                ArenaAnswer::Accepted
             }
-            Err(why) => Answer::Refused(why),
+            Err(why) => ArenaAnswer::Refused(why),
         }
     }
 
-    fn replace(&mut self, number: usize, record: u32, live: Live) -> Answer {
+    fn replace(&mut self, number: usize, record: u32, live: Live) -> ArenaAnswer {
         let ticket = self.ticket(number);
         match self.arena.replace(ticket, record, live.name()) {
-            Ok(earlier) => Answer::Record(earlier),
-            Err(refused) => Answer::Back(refused.why, refused.back),
+            Ok(earlier) => ArenaAnswer::Record(earlier),
+            Err(refused) => ArenaAnswer::Back(refused.why, refused.back),
         }
     }
 
-    fn reweigh(&mut self, number: usize, weight: u8) -> Answer {
+    fn reweigh(&mut self, number: usize, weight: u8) -> ArenaAnswer {
         let ticket = self.ticket(number);
         of_call(self.arena.reweigh(ticket, u32::from(weight)))
     }
 
-    fn shift(&mut self, number: usize, live: Live) -> Answer {
+    fn shift(&mut self, number: usize, live: Live) -> ArenaAnswer {
         let ticket = self.ticket(number);
         of_call(self.arena.shift(ticket, live.name()))
     }
 
-    fn shift_front(&mut self, number: usize, live: Live) -> Answer {
+    fn shift_front(&mut self, number: usize, live: Live) -> ArenaAnswer {
         let ticket = self.ticket(number);
         of_call(self.arena.shift_front(ticket, live.name()))
     }
 
-    /// What the arena tells, with nothing changed.
-    fn told(&self, call: Call) -> Answer {
+    /// The answer to a call that changes nothing.
+    fn told(&self, call: ArenaCall) -> ArenaAnswer {
         match call {
-            Call::Get(number) => self.get(number),
-            Call::Slots(on) => of_walk(self.arena.list(on.name())),
-            Call::SlotsBack(on) => of_walk(self.arena.list_back(on.name())),
-            Call::First(live) => of_ticket(self.arena.first(live.name())),
-            Call::Len(on) => Answer::Count(self.arena.len(on.name())),
-            Call::IsOn(number, live) => {
-                Answer::Is(self.arena.is_on(self.ticket(number), live.name()))
+            ArenaCall::Get(number) => self.get(number),
+            ArenaCall::Slots(on) => of_walk(self.arena.list(on.name())),
+            ArenaCall::SlotsBack(on) => of_walk(self.arena.list_back(on.name())),
+            ArenaCall::First(live) => of_ticket(self.arena.first(live.name())),
+            ArenaCall::Len(on) => ArenaAnswer::Count(self.arena.len(on.name())),
+            ArenaCall::IsOn(number, live) => {
+                ArenaAnswer::Is(self.arena.is_on(self.ticket(number), live.name()))
             }
-            Call::TicketAt(slot) => of_ticket(self.arena.ticket_at(slot)),
-            Call::HasFree => Answer::Is(self.arena.has_free()),
-            Call::Lent => Answer::Lent(self.arena.lent()),
-            _ => Answer::Nothing,
+            ArenaCall::TicketAt(slot) => of_ticket(self.arena.ticket_at(slot)),
+            ArenaCall::HasFree => ArenaAnswer::Is(self.arena.has_free()),
+            ArenaCall::Lent => ArenaAnswer::Lent(self.arena.lent()),
+            _ => ArenaAnswer::Nothing,
         }
     }
 
     /// Makes a call.
-    pub fn answer(&mut self, call: Call) -> Answer {
+    pub fn answer(&mut self, call: ArenaCall) -> ArenaAnswer {
         match call {
-            Call::Take(record, weight, live) => self.take(record, weight, live),
-            Call::Retire(number) => self.retire(number),
-            Call::Set(number, record) => self.set(number, record),
-            Call::Replace(number, record, live) => self.replace(number, record, live),
-            Call::Reweigh(number, weight) => self.reweigh(number, weight),
-            Call::Shift(number, live) => self.shift(number, live),
-            Call::ShiftFront(number, live) => self.shift_front(number, live),
+            ArenaCall::Take(record, weight, live) => self.take(record, weight, live),
+            ArenaCall::Retire(number) => self.retire(number),
+            ArenaCall::Set(number, record) => self.set(number, record),
+            ArenaCall::Replace(number, record, live) => self.replace(number, record, live),
+            ArenaCall::Reweigh(number, weight) => self.reweigh(number, weight),
+            ArenaCall::Shift(number, live) => self.shift(number, live),
+            ArenaCall::ShiftFront(number, live) => self.shift_front(number, live),
             _ => self.told(call),
         }
     }

@@ -8,8 +8,8 @@ use coll_sched::Action;
 use std::alloc::Global;
 use std::test::Fail;
 
-/// A signature, the number of members, and the most exchanges of each.
-type Row = (Signature, u8, usize);
+/// A signature, the number of members, and the greatest number of exchanges that a member may have.
+type ExchangesRow = (Signature, u8, usize);
 
 const BARRIER: Signature = Signature {
     kind: Kind::Barrier,
@@ -91,7 +91,7 @@ const ALLGATHERV_OF_ONE: Signature = Signature {
     ..ALLGATHERV_OF_FIVE
 };
 
-/// How many rounds and exchanges a member's plan has.
+/// The number of rounds and of exchanges of a member's plan.
 fn shape_of(alloc: Global, sig: Signature, n: u8, r: u8) -> Result<(usize, usize), Refusal>
     requires member { r < n }
     requires few { n ≤ 64 }
@@ -101,7 +101,7 @@ fn shape_of(alloc: Global, sig: Signature, n: u8, r: u8) -> Result<(usize, usize
     Ok((schedule.rounds().len(), schedule.exchanges()))
 }
 
-/// The most exchanges of a member.
+/// The greatest number of exchanges of a member.
 fn most_exchanges(alloc: Global, sig: Signature, n: u8) -> Result<usize, Refusal>
     requires few { n ≤ 64 }
 {
@@ -115,8 +115,8 @@ fn most_exchanges(alloc: Global, sig: Signature, n: u8) -> Result<usize, Refusal
     Ok(most)
 }
 
-/// The first row of which a member has more exchanges, by its index. None where there is none.
-fn first_misfit(alloc: Global, rows: &[Row]) -> Result<Option<usize>, Refusal> {
+/// The index of the first row in which a member has more exchanges than the row says; None if there is none.
+fn first_misfit(alloc: Global, rows: &[ExchangesRow]) -> Result<Option<usize>, Refusal> {
     for (index, (sig, n, most)) in rows.iter().enumerate() {
         if *n > 64 || most_exchanges(alloc, *sig, *n)? > *most {
             return Ok(Some(index));
@@ -125,8 +125,8 @@ fn first_misfit(alloc: Global, rows: &[Row]) -> Result<Option<usize>, Refusal> {
     Ok(None)
 }
 
-/// Of the kinds by dissemination and by direct exchanges, among 5 and 64 members.
-const PLANS: &[Row] = &[
+/// Kinds by dissemination and by direct exchanges, among 5 and among 64 members.
+const PLANS: &[ExchangesRow] = &[
     (BARRIER, 5, 3),
     (SCAN, 5, 3),
     (EXSCAN, 5, 3),
@@ -149,7 +149,7 @@ fn plan_exchanges(rt: HostRuntime) -> Result<(), Fail> {
     Ok(())
 }
 
-const ALLREDUCES: &[Row] = &[
+const ALLREDUCES: &[ExchangesRow] = &[
     (ALLREDUCE, 6, 4),
     (ALLREDUCE, 2, 1),
     (ALLREDUCE, 4, 2),
@@ -190,7 +190,7 @@ fn sends_twice(alloc: Global, sig: Signature, n: u8, r: u8) -> Result<bool, Refu
     Ok(false)
 }
 
-const ALLGATHERS: &[Row] = &[
+const ALLGATHERS: &[ExchangesRow] = &[
     (ALLGATHERV_OF_FIVE, 5, 1),
     (ALLGATHERV_OF_ONE, 1, 0),
     (ALLGATHER, 5, 3),
@@ -217,10 +217,10 @@ const SHORT_BCAST: Signature = Signature {
     ..BCAST
 };
 
-/// The rounds and exchanges of each of three members: four segments go along the chain.
+/// The rounds and exchanges of each of three members, when four segments go along the chain.
 const CHAIN: &[(usize, usize)] = &[(5, 4), (5, 5), (5, 4)];
 
-/// Whether each of three members has that shape.
+/// Whether each of three members has these rounds and exchanges.
 fn is_chain(alloc: Global, sig: Signature, shapes: &[(usize, usize)]) -> Result<bool, Refusal> {
     for r in 0..3u8 {
         let shape = shape_of(alloc, sig, 3, r)?;

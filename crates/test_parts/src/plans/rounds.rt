@@ -15,7 +15,7 @@ pub const BARRIER: Signature = Signature {
     each: None,
 };
 
-// What member 0 of three does: it sends to the next and the one behind that, and receives of the others.
+// The rounds of member 0 of three: it sends to member 1 and receives from member 2, and then sends to member 2 and receives from member 1.
 const BARRIER_ROUNDS: &[&[Action]] = &[
     &[
         Action::Send {

@@ -6,19 +6,19 @@ use std::alloc::Global;
 use std::test::Fail;
 
 /// A region: where it begins, and its length.
-pub type Place = (u32, u32);
+pub type BufferPart = (u32, u32);
 
-/// An action in short.
+/// An action in a short form.
 #[derive(Clone, Copy)]
 pub enum Short {
-    Send(u8, Place),
-    Copy(Place, Place),
+    Send(u8, BufferPart),
+    Copy(BufferPart, BufferPart),
     /// A sum of that type, of a left and a right operand, into a place.
-    Sum(Datatype, Place, Place, Place),
-    Recv(u8, Place),
+    Sum(Datatype, BufferPart, BufferPart, BufferPart),
+    Recv(u8, BufferPart),
 }
 
-pub fn region((at, len): Place) -> Region {
+pub fn region((at, len): BufferPart) -> Region {
     Region { at, len }
 }
 
@@ -46,7 +46,7 @@ pub fn action(short: Short) -> Action {
     }
 }
 
-/// The round of some actions.
+/// A round of these actions.
 pub fn round_of(alloc: Global, shorts: &[Short]) -> Result<Round, Refusal> {
     let mut round = Round::with_capacity(alloc, shorts.len())?;
     for short in shorts {
@@ -55,11 +55,11 @@ pub fn round_of(alloc: Global, shorts: &[Short]) -> Result<Round, Refusal> {
     Ok(round)
 }
 
-/// The schedule of two rounds, the first of them empty; None where it isn't accepted.
+/// A schedule of two rounds, the first of them empty; None if it isn't accepted.
 pub fn schedule_of(
     alloc: Global,
     size: u32,
-    (input, output): (Place, Place),
+    (input, output): (BufferPart, BufferPart),
     shorts: &[Short],
 ) -> Result<Option<Schedule>, Refusal> {
     let round = round_of(alloc, shorts)?;
@@ -69,18 +69,18 @@ pub fn schedule_of(
     Ok(Schedule::of_rounds(size, region(input), region(output), rounds))
 }
 
-/// The bytes of a buffer, its input and its output, the actions of a round, and whether that is accepted.
-type Row = (u32, (Place, Place), &'static [Short], bool);
+/// The number of a buffer's bytes, its input and its output, the actions of a round, and whether the schedule is accepted.
+type ScheduleRow = (u32, (BufferPart, BufferPart), &'static [Short], bool);
 
-/// All of a buffer of four bytes.
-const FOUR: Place = (0, 4);
+/// The whole of a buffer of four bytes.
+const FOUR: BufferPart = (0, 4);
 
-/// Four bytes from 2 on leave a buffer of four.
-const PAST: Place = (2, 4);
+/// Four bytes from byte 2 on, which don't fit into a buffer of four.
+const PAST: BufferPart = (2, 4);
 
-const ENDS: (Place, Place) = ((0, 4), (28, 4));
+const ENDS: (BufferPart, BufferPart) = ((0, 4), (28, 4));
 
-const ROWS: &[Row] = &[
+const ROWS: &[ScheduleRow] = &[
     (4, (FOUR, FOUR), &[Short::Send(1, FOUR)], true),
     (4, (PAST, FOUR), &[Short::Send(1, FOUR)], false),
     (4, (FOUR, PAST), &[Short::Send(1, FOUR)], false),
@@ -106,8 +106,8 @@ const ROWS: &[Row] = &[
     ),
 ];
 
-/// The first row that is accepted, or isn't, against what it says, by its index. None where there is none.
-fn first_misfit(alloc: Global, rows: &[Row]) -> Result<Option<usize>, Refusal> {
+/// The index of the first row that is accepted although it says otherwise, or isn't although it should be; None if there is none.
+fn first_misfit(alloc: Global, rows: &[ScheduleRow]) -> Result<Option<usize>, Refusal> {
     for (index, (size, ends, shorts, accepted)) in rows.iter().enumerate() {
         if schedule_of(alloc, *size, *ends, shorts)?.is_some() != *accepted {
             return Ok(Some(index));

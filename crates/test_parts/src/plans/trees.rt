@@ -8,8 +8,8 @@ use coll_trees::{allreduce, bcast, reduce};
 use std::alloc::Global;
 use std::test::Fail;
 
-/// A tree, the number of members, and the most exchanges of each.
-type Row = (Kind, u8, usize);
+/// A tree, the number of members, and the greatest number of exchanges that a member may have.
+type TreeRow = (Kind, u8, usize);
 
 fn signature(kind: Kind) -> Signature {
     Signature {
@@ -40,8 +40,8 @@ fn build(alloc: Global, sig: Signature, n: u8, r: u8) -> Result<Schedule, Refusa
     }
 }
 
-/// Whether no member has more exchanges.
-fn holds(alloc: Global, (kind, n, most): Row) -> Result<bool, Refusal> {
+/// Whether no member has more exchanges than the row says.
+fn holds(alloc: Global, (kind, n, most): TreeRow) -> Result<bool, Refusal> {
     if n > 64 {
         return Ok(false);
     }
@@ -53,7 +53,7 @@ fn holds(alloc: Global, (kind, n, most): Row) -> Result<bool, Refusal> {
     Ok(true)
 }
 
-const EXCHANGES: &[Row] = &[
+const EXCHANGES: &[TreeRow] = &[
     (Kind::Bcast, 1, 0),
     (Kind::Reduce, 1, 0),
     (Kind::Allreduce, 1, 0),

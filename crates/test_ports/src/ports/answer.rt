@@ -1,29 +1,29 @@
-use crate::ports::noted::{Bytes, Noted};
+use crate::ports::noted::{OutcomeBytes, Outcomes};
 use coll_kinds::Refusal;
 
-/// What a call of a row answered.
+/// The answer to a call of a row.
 #[derive(Clone, Copy, Debug, PartialEq)]
-pub enum Answer {
-    /// It was accepted, and has nothing to tell.
+pub enum PortAnswer {
+    /// The call was accepted, and returned nothing.
     Accepted,
     Refused(Refusal),
-    /// The flag of a test of one request or of all, and what was completed. That of a wait for all is true.
-    Flag(bool, Noted),
-    /// Of a call for one of a list: no request is active, none is Done yet, or this one was completed.
+    /// The flag of a test of one request or of all, and what was completed. For a wait for all the flag is true.
+    Flag(bool, Outcomes),
+    /// The answers to a call for one request of a list: no request is active, none is Done yet, or this one was completed.
     Undefined,
     Unfinished,
-    At(usize, Bytes),
-    /// How many requests of a list were completed, and which; none where no request is active.
-    Count(Option<usize>, Noted),
-    /// What a wait for one request told.
-    Outcome(Bytes),
+    At(usize, OutcomeBytes),
+    /// How many requests of a list were completed, and which; None if no request is active.
+    Count(Option<usize>, Outcomes),
+    /// The outcome of a wait for one request.
+    Outcome(OutcomeBytes),
     NoOutcome,
     IsNull(bool),
     Left(usize),
-    /// A port's rank, and how many entries it made.
+    /// A port's rank, and the number of entries that it made.
     Made(u8, u64),
-    /// The same of a port that has ended.
+    /// The rank of a port that has ended, and the number of entries that it made.
     Ended(u8, u64),
-    /// How many combinations a progress thread wrote.
+    /// The number of combinations that a progress thread wrote.
     Worked(u64),
 }

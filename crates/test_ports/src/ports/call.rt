@@ -2,8 +2,8 @@ use coll_kinds::Signature;
 
 /// A call of a row. Requests are numbered from 0 in the order in which they were made.
 #[derive(Clone, Copy)]
-pub enum Call {
-    /// A null request.
+pub enum PortCall {
+    /// Adds a null request.
     Null,
     /// A rank posts on a communicator, and gives these bytes.
     Post(u8, u32, Signature, &'static [u8]),
@@ -19,34 +19,34 @@ pub enum Call {
     TestTicket(u8, usize),
     /// A rank waits for a request.
     Wait(u8, usize),
-    /// Rank 0 posts a request, which has no number, and waits for it.
+    /// Rank 0 posts a request, which gets no number, and waits for it.
     PostAndWait(u32, Signature, &'static [u8]),
-    /// A call of rank 0 over all requests.
+    /// Rank 0 makes a call over all requests.
     Over(ListCall),
-    /// A call of rank 0 over some requests: from that number on, so many.
+    /// Rank 0 makes a call over requests: the number of the first, and how many there are.
     OverSome(ListCall, usize, usize),
-    /// Is a request null?
+    /// Asks whether a request is null.
     IsNull(usize),
-    /// How many requests aren't null.
+    /// Asks how many requests aren't null.
     Left,
-    /// What the port of a rank tells: its rank, and how many entries it made.
+    /// Asks the port of a rank for its rank and the number of entries that it made.
     Made(u8),
-    /// The port of the highest rank that has one ends.
+    /// Ends the port of the highest rank that has one.
     Finish,
-    /// The port of the highest rank that has one is put aside, and doesn't end.
+    /// Puts aside the port of the highest rank that has one, without ending it.
     PutAside,
-    /// Progress threads are to end.
+    /// Asks progress threads to end.
     Stop,
-    /// What a progress thread does.
+    /// Does what a progress thread does.
     Work,
 }
 
-impl Call {
+impl PortCall {
     /// Whether the call may take memory. A test of one request and a free take none.
     pub fn takes_memory(self) -> bool {
         !matches!(
             self,
-            Call::Test(..) | Call::TestTicket(..) | Call::Free(..) | Call::Made(_)
+            PortCall::Test(..) | PortCall::TestTicket(..) | PortCall::Free(..) | PortCall::Made(_)
         )
     }
 }

@@ -1,11 +1,11 @@
-//! Engines that are closed, and that aren't.
+//! Engines that are closed, and engines that can't be.
 
-use crate::ports::answer::Answer;
-use crate::ports::call::Call;
+use crate::ports::answer::PortAnswer;
+use crate::ports::call::PortCall;
 use crate::ports::closed::Closed;
-use crate::ports::noted::{Bytes, Noted};
+use crate::ports::noted::{OutcomeBytes, Outcomes};
 use crate::ports::setup::PAIR;
-use crate::ports::{Row, closed_after};
+use crate::ports::{PortRow, closed_after};
 use crate::signatures::SUM_OF_I32;
 use coll_core::Outcome;
 use coll_kinds::Refusal;
@@ -14,27 +14,27 @@ use std::alloc::Global;
 use std::sync::Wait;
 use std::test::Fail;
 
-const THREE: Answer = Answer::Outcome(Bytes::Four(3, 0, 0, 0));
+const THREE: PortAnswer = PortAnswer::Outcome(OutcomeBytes::Four(3, 0, 0, 0));
 
 // Each rank posts its number, and each gets the sum.
-const SUMS: &[Row] = &[
+const SUMS: &[PortRow] = &[
     (
-        Call::Post(0, 0, SUM_OF_I32, &[1, 0, 0, 0]),
-        Answer::Accepted,
+        PortCall::Post(0, 0, SUM_OF_I32, &[1, 0, 0, 0]),
+        PortAnswer::Accepted,
     ),
     (
-        Call::Post(1, 0, SUM_OF_I32, &[2, 0, 0, 0]),
-        Answer::Accepted,
+        PortCall::Post(1, 0, SUM_OF_I32, &[2, 0, 0, 0]),
+        PortAnswer::Accepted,
     ),
-    (Call::Made(0), Answer::Made(0, 1)),
-    (Call::Made(1), Answer::Made(1, 1)),
-    (Call::Wait(0, 0), THREE),
-    (Call::Made(0), Answer::Made(0, 2)),
-    (Call::Made(1), Answer::Made(1, 1)),
-    (Call::Wait(1, 1), THREE),
+    (PortCall::Made(0), PortAnswer::Made(0, 1)),
+    (PortCall::Made(1), PortAnswer::Made(1, 1)),
+    (PortCall::Wait(0, 0), THREE),
+    (PortCall::Made(0), PortAnswer::Made(0, 2)),
+    (PortCall::Made(1), PortAnswer::Made(1, 1)),
+    (PortCall::Wait(1, 1), THREE),
 ];
 
-/// Whether the report attests an outcome, and doesn't with another byte.
+/// Whether the report attests an outcome, and not the same outcome with another byte.
 fn is_attested(report: &Report, outcome: Outcome) -> bool {
     if !report.attests(&outcome) {
         return false;
@@ -46,7 +46,7 @@ fn is_attested(report: &Report, outcome: Outcome) -> bool {
     !report.attests(&other)
 }
 
-/// How many of the outcomes are.
+/// How many of the outcomes are attested.
 fn count_attested(report: &Report, outcomes: Vec<Outcome>) -> usize {
     let mut count = 0usize;
     for outcome in outcomes {
@@ -66,20 +66,20 @@ fn made_and_attested(rt: HostRuntime) -> Result<(), Fail> {
     Ok(())
 }
 
-/// Why an engine isn't closed after these calls, and how many ends are handed back.
+/// The refusal to close an engine after these calls, and the number of ends that are handed back.
 fn refusal_after<R: Wait>(
     rt: &R,
     alloc: Global,
-    rows: &[Row],
+    rows: &[PortRow],
 ) -> Result<Option<(Refusal, usize)>, Refusal> {
     let closed = closed_after(rt, alloc, &PAIR, rows)?;
     Ok(closed.report.err())
 }
 
-// Both ports end, where rank 1 posted and did no more.
-const POSTED: &[Row] = &[(
-    Call::Post(1, 0, SUM_OF_I32, &[2, 0, 0, 0]),
-    Answer::Accepted,
+// Both ports end, after rank 1 has posted and done no more.
+const POSTED: &[PortRow] = &[(
+    PortCall::Post(1, 0, SUM_OF_I32, &[2, 0, 0, 0]),
+    PortAnswer::Accepted,
 )];
 
 #[test]
@@ -89,20 +89,23 @@ fn close_refuses_active(rt: HostRuntime) -> Result<(), Fail> {
     Ok(())
 }
 
-const STALLED: Answer = Answer::Refused(Refusal::Stalled);
+const STALLED: PortAnswer = PortAnswer::Refused(Refusal::Stalled);
 
 // Rank 0 waits twice for a rank whose port has ended, and keeps its request.
-const STALL: &[Row] = &[
+const STALL: &[PortRow] = &[
     (
-        Call::Post(0, 0, SUM_OF_I32, &[1, 0, 0, 0]),
-        Answer::Accepted,
+        PortCall::Post(0, 0, SUM_OF_I32, &[1, 0, 0, 0]),
+        PortAnswer::Accepted,
     ),
-    (Call::Finish, Answer::Ended(1, 0)),
-    (Call::Wait(0, 0), STALLED),
-    (Call::IsNull(0), Answer::IsNull(false)),
-    (Call::Test(0, 0), Answer::Flag(false, Noted::Nothing)),
-    (Call::Wait(0, 0), STALLED),
-    (Call::Finish, Answer::Ended(0, 1)),
+    (PortCall::Finish, PortAnswer::Ended(1, 0)),
+    (PortCall::Wait(0, 0), STALLED),
+    (PortCall::IsNull(0), PortAnswer::IsNull(false)),
+    (
+        PortCall::Test(0, 0),
+        PortAnswer::Flag(false, Outcomes::Nothing),
+    ),
+    (PortCall::Wait(0, 0), STALLED),
+    (PortCall::Finish, PortAnswer::Ended(0, 1)),
 ];
 
 #[test]
@@ -113,7 +116,7 @@ fn stall_in_one_thread(rt: HostRuntime) -> Result<(), Fail> {
 }
 
 // The port of rank 1 doesn't end.
-const UNENDED: &[Row] = &[(Call::PutAside, Answer::Accepted)];
+const UNENDED: &[PortRow] = &[(PortCall::PutAside, PortAnswer::Accepted)];
 
 #[test]
 fn close_refuses_torn(rt: HostRuntime) -> Result<(), Fail> {

@@ -4,11 +4,11 @@ ghost use Rattle.std.specs.Prelude.{◌≡◌};
 ghost use Rattle.coll_core.specs.Configs.{setting_by};
 
 use crate::calls;
-use crate::ports::answer::Answer;
-use crate::ports::call::{Call, ListCall};
+use crate::ports::answer::PortAnswer;
+use crate::ports::call::{ListCall, PortCall};
 use crate::ports::closed::Closed;
-use crate::ports::noted::Bytes;
-use crate::ports::{Misfit, Row, completions};
+use crate::ports::noted::OutcomeBytes;
+use crate::ports::{Misfit, PortRow, completions};
 use coll_complete::Request;
 use coll_core::{Config, Contribution, Offer, Outcome};
 use coll_kinds::{Refusal, Signature, Ticket};
@@ -19,39 +19,43 @@ use std::alloc::Global;
 use std::sync::Wait;
 use std::sync::ledger::Blank;
 
-pub const NO_MEMORY: Answer = Answer::Refused(Refusal::NoMemory);
+pub const NO_MEMORY: PortAnswer = PortAnswer::Refused(Refusal::NoMemory);
 
-/// An engine with its ports, and the requests that rows made.
+/// An engine with its ports, and with the requests that rows made.
 #[derive(Drop)]
-pub struct Driver<L: Entries> {
+pub struct PortDriver<L: Entries> {
     alloc: Global,
     engine: Engine<L>,
-    /// Those that haven't ended, by their ranks.
+    /// The ports that haven't ended, by their ranks.
     ports: Vec<Port<L>>,
     aside: Option<Port<L>>,
-    /// The ends of those that have ended, the highest rank's first.
+    /// The ends of the ports that have ended, the highest rank's first.
     ended: Vec<Spent<L>>,
     requests: Vec<Request>,
-    /// What each request named when it was made.
+    /// The ticket that each request had when it was made.
     tickets: Vec<Option<Ticket>>,
-    /// What the waits for one request told.
+    /// The outcomes of the waits for one request.
     outcomes: Vec<Outcome>,
 }
 
-impl<L: Entries> Driver<L> {
-    pub fn open(alloc: Global, config: Config, entries: Blank) -> Result<Driver<L>, Refusal>
+impl<L: Entries> PortDriver<L> {
+    pub fn open(alloc: Global, config: Config, entries: Blank) -> Result<PortDriver<L>, Refusal>
         requires name { entries.name ≡ L.name }
         requires parts { (entries.parts ≡ L.parts) × (L.parts ≡ config.ranks) }
         requires setting { L.setting ≡ setting_by config }
     {
         let (engine, ports) = open::<L>(alloc, config, entries)?;
-        Driver::of(alloc, engine, ports)
+        PortDriver::of(alloc, engine, ports)
     }
 
-    /// Of an engine that was opened. Its ports end, and it is closed, without further memory.
-    pub fn of(alloc: Global, engine: Engine<L>, ports: Vec<Port<L>>) -> Result<Driver<L>, Refusal> {
+    /// A driver of an engine that was opened. To end its ports and to close it, it needs no further memory.
+    pub fn of(
+        alloc: Global,
+        engine: Engine<L>,
+        ports: Vec<Port<L>>,
+    ) -> Result<PortDriver<L>, Refusal> {
         let ended = Vec::with_capacity(alloc, ports.len())?;
-        Ok(Driver {
+        Ok(PortDriver {
             alloc,
             engine,
             ports,
@@ -63,8 +67,8 @@ impl<L: Entries> Driver<L> {
         })
     }
 
-    /// Makes the calls of some lists, until one is answered otherwise.
-    pub fn first_misfit<R: Wait>(&mut self, rt: &R, parts: &[&[Row]]) -> Option<Misfit> {
+    /// Makes the calls of some lists. Returns the first call that was answered otherwise.
+    pub fn first_misfit<R: Wait>(&mut self, rt: &R, parts: &[&[PortRow]]) -> Option<Misfit> {
         for rows in parts {
             let misfit = self.misfit_among(rt, rows);
             if misfit.is_some() {
@@ -74,9 +78,9 @@ impl<L: Entries> Driver<L> {
         None
     }
 
-    /// Makes the calls of a list, and once more each that is refused memory and may take some, until one is answered
-    /// otherwise. Else how many were refused memory.
-    pub fn refusals_among<R: Wait>(&mut self, rt: &R, rows: &[Row]) -> Result<u32, Misfit> {
+    /// Makes the calls of a list. A call that is refused memory and may take some is made a second time. Returns the number of
+    /// these refusals, or the first call that was answered otherwise.
+    pub fn refusals_among<R: Wait>(&mut self, rt: &R, rows: &[PortRow]) -> Result<u32, Misfit> {
         let mut refusals = 0u32;
         for (index, (call, want)) in rows.iter().enumerate() {
             let mut got = self.answer(rt, *call);
@@ -91,7 +95,7 @@ impl<L: Entries> Driver<L> {
         Ok(refusals)
     }
 
-    fn misfit_among<R: Wait>(&mut self, rt: &R, rows: &[Row]) -> Option<Misfit> {
+    fn misfit_among<R: Wait>(&mut self, rt: &R, rows: &[PortRow]) -> Option<Misfit> {
         for (index, (call, want)) in rows.iter().enumerate() {
             let got = self.answer(rt, *call);
             if got != *want {
@@ -101,49 +105,49 @@ impl<L: Entries> Driver<L> {
         None
     }
 
-    /// Makes a call.
-    pub fn answer<R: Wait>(&mut self, rt: &R, call: Call) -> Answer {
+    /// Makes a call, and returns its answer.
+    pub fn answer<R: Wait>(&mut self, rt: &R, call: PortCall) -> PortAnswer {
         match self.carry_out(rt, call) {
             Ok(answer) => answer,
-            Err(why) => Answer::Refused(why),
+            Err(why) => PortAnswer::Refused(why),
         }
     }
 
-    /// Makes a call. The Err is its refusal; Torn where there is no such port or request.
-    fn carry_out<R: Wait>(&mut self, rt: &R, call: Call) -> Result<Answer, Refusal> {
+    /// Makes a call. An error is its refusal; `Torn` if there is no such port or request.
+    fn carry_out<R: Wait>(&mut self, rt: &R, call: PortCall) -> Result<PortAnswer, Refusal> {
         match call {
-            Call::Null => self.number(Request::null()),
-            Call::Post(rank, comm, sig, bytes) => {
+            PortCall::Null => self.number(Request::null()),
+            PortCall::Post(rank, comm, sig, bytes) => {
                 let request = self.post(rt, rank, comm, sig, bytes)?;
                 self.number(request)
             }
-            Call::Init(rank, comm, sig) => self.init(rt, rank, comm, sig),
-            Call::Start(rank, number, bytes) => self.start(rt, rank, number, bytes),
-            Call::Free(rank, number) => self.free(rt, rank, number),
-            Call::Test(rank, number) => self.test(rt, rank, number),
-            Call::TestTicket(rank, number) => self.test_ticket(rt, rank, number),
-            Call::Wait(rank, number) => self.wait(rt, rank, number),
-            Call::PostAndWait(comm, sig, bytes) => self.post_and_wait(rt, comm, sig, bytes),
-            Call::IsNull(number) => self.is_null(number),
-            Call::Left => Ok(self.left()),
-            Call::Made(rank) => self.made(rank),
-            Call::Finish => self.finish(rt),
-            Call::PutAside => self.put_aside(),
-            Call::Over(call) => {
+            PortCall::Init(rank, comm, sig) => self.init(rt, rank, comm, sig),
+            PortCall::Start(rank, number, bytes) => self.start(rt, rank, number, bytes),
+            PortCall::Free(rank, number) => self.free(rt, rank, number),
+            PortCall::Test(rank, number) => self.test(rt, rank, number),
+            PortCall::TestTicket(rank, number) => self.test_ticket(rt, rank, number),
+            PortCall::Wait(rank, number) => self.wait(rt, rank, number),
+            PortCall::PostAndWait(comm, sig, bytes) => self.post_and_wait(rt, comm, sig, bytes),
+            PortCall::IsNull(number) => self.is_null(number),
+            PortCall::Left => Ok(self.left()),
+            PortCall::Made(rank) => self.made(rank),
+            PortCall::Finish => self.finish(rt),
+            PortCall::PutAside => self.put_aside(),
+            PortCall::Over(call) => {
                 let count = self.count();
                 self.complete(rt, call, 0, count)
             }
-            Call::OverSome(call, from, count) => self.complete(rt, call, from, count),
-            Call::Stop => Ok(self.stop(rt)),
-            Call::Work => self.work(rt),
+            PortCall::OverSome(call, from, count) => self.complete(rt, call, from, count),
+            PortCall::Stop => Ok(self.stop(rt)),
+            PortCall::Work => self.work(rt),
         }
     }
 
-    /// Numbers a request, for which `room_for_one` has made room.
-    pub fn number(&mut self, request: Request) -> Result<Answer, Refusal> {
+    /// Gives a request the next number. `room_for_one` has made room for it.
+    pub fn number(&mut self, request: Request) -> Result<PortAnswer, Refusal> {
         self.tickets.push(request.ticket())?;
         self.requests.push(request)?;
-        Ok(Answer::Accepted)
+        Ok(PortAnswer::Accepted)
     }
 
     /// Makes room for one more request and for its outcome, so that no refusal of memory can lose it.
@@ -154,12 +158,12 @@ impl<L: Entries> Driver<L> {
         Ok(())
     }
 
-    /// The port of a rank. Torn where there is none.
+    /// The port of a rank. `Torn` if it has none.
     pub fn port(&mut self, rank: u8) -> Result<&mut Port<L>, Refusal> {
         self.ports.get_mut(usize::from(rank)).ok_or(Refusal::Torn)
     }
 
-    /// The port of a rank, and the request of that number. Torn where there isn't such a one.
+    /// The port of a rank, and the request of that number. `Torn` if one of them doesn't exist.
     pub fn port_and_request(
         &mut self,
         rank: u8,
@@ -198,7 +202,7 @@ impl<L: Entries> Driver<L> {
         rank: u8,
         comm: u32,
         sig: Signature,
-    ) -> Result<Answer, Refusal> {
+    ) -> Result<PortAnswer, Refusal> {
         self.room_for_one()?;
         let port = self.ports.get_mut(usize::from(rank)).ok_or(Refusal::Torn)?;
         let plan = port.ready_plan(comm, &sig)?;
@@ -212,31 +216,36 @@ impl<L: Entries> Driver<L> {
         rank: u8,
         number: usize,
         bytes: &[u8],
-    ) -> Result<Answer, Refusal> {
+    ) -> Result<PortAnswer, Refusal> {
         let port = self.ports.get_mut(usize::from(rank)).ok_or(Refusal::Torn)?;
         let request = self.requests.get(number).ok_or(Refusal::Torn)?;
         let own = Contribution::copy(self.alloc, bytes)?;
         match port.start(rt, request, own) {
-            Ok(_receipt) => Ok(Answer::Accepted),
+            Ok(_receipt) => Ok(PortAnswer::Accepted),
             Err(refused) if refused.back.as_slice() == bytes => Err(refused.why),
             Err(_) => Err(Refusal::Torn),
         }
     }
 
-    fn free<R: Wait>(&mut self, rt: &R, rank: u8, number: usize) -> Result<Answer, Refusal> {
+    fn free<R: Wait>(&mut self, rt: &R, rank: u8, number: usize) -> Result<PortAnswer, Refusal> {
         let port = self.ports.get_mut(usize::from(rank)).ok_or(Refusal::Torn)?;
         let request = self.requests.get_mut(number).ok_or(Refusal::Torn)?;
         calls::free(rt, port, request)?;
-        Ok(Answer::Accepted)
+        Ok(PortAnswer::Accepted)
     }
 
-    fn test<R: Wait>(&mut self, rt: &R, rank: u8, number: usize) -> Result<Answer, Refusal> {
+    fn test<R: Wait>(&mut self, rt: &R, rank: u8, number: usize) -> Result<PortAnswer, Refusal> {
         let port = self.ports.get_mut(usize::from(rank)).ok_or(Refusal::Torn)?;
         let request = self.requests.get_mut(number).ok_or(Refusal::Torn)?;
         completions::test(rt, port, number, request)
     }
 
-    fn test_ticket<R: Wait>(&mut self, rt: &R, rank: u8, number: usize) -> Result<Answer, Refusal> {
+    fn test_ticket<R: Wait>(
+        &mut self,
+        rt: &R,
+        rank: u8,
+        number: usize,
+    ) -> Result<PortAnswer, Refusal> {
         let port = self.ports.get_mut(usize::from(rank)).ok_or(Refusal::Torn)?;
         let Some(Some(ticket)) = self.tickets.get(number) else {
             return Err(Refusal::Torn);
@@ -244,7 +253,7 @@ impl<L: Entries> Driver<L> {
         completions::test(rt, port, number, &mut Request::of(*ticket))
     }
 
-    fn wait<R: Wait>(&mut self, rt: &R, rank: u8, number: usize) -> Result<Answer, Refusal> {
+    fn wait<R: Wait>(&mut self, rt: &R, rank: u8, number: usize) -> Result<PortAnswer, Refusal> {
         let port = self.ports.get_mut(usize::from(rank)).ok_or(Refusal::Torn)?;
         let request = self.requests.get_mut(number).ok_or(Refusal::Torn)?;
         self.outcomes.reserve(1)?;
@@ -258,36 +267,36 @@ impl<L: Entries> Driver<L> {
         comm: u32,
         sig: Signature,
         bytes: &[u8],
-    ) -> Result<Answer, Refusal> {
+    ) -> Result<PortAnswer, Refusal> {
         let mut request = self.post(rt, 0, comm, sig, bytes)?;
         let port = self.ports.get_mut(0).ok_or(Refusal::Torn)?;
         let outcome = calls::wait(rt, &NoGate, port, &mut request)?;
         self.keep(outcome)
     }
 
-    /// Keeps what a wait told.
-    fn keep(&mut self, outcome: Option<Outcome>) -> Result<Answer, Refusal> {
+    /// Keeps the outcome of a wait, if it had one.
+    fn keep(&mut self, outcome: Option<Outcome>) -> Result<PortAnswer, Refusal> {
         let Some(outcome) = outcome else {
-            return Ok(Answer::NoOutcome);
+            return Ok(PortAnswer::NoOutcome);
         };
-        let answer = Answer::Outcome(Bytes::of(&outcome));
+        let answer = PortAnswer::Outcome(OutcomeBytes::of(&outcome));
         self.outcomes.push(outcome)?;
         Ok(answer)
     }
 
-    /// How many requests were numbered.
+    /// The number of requests that have a number.
     fn count(&self) -> usize {
         self.requests.len()
     }
 
-    /// A call of rank 0 over some requests: from that number on, so many.
+    /// Makes a call of rank 0 over `count` requests, from the number `from` on.
     fn complete<R: Wait>(
         &mut self,
         rt: &R,
         call: ListCall,
         from: usize,
         count: usize,
-    ) -> Result<Answer, Refusal> {
+    ) -> Result<PortAnswer, Refusal> {
         let port = self.ports.get_mut(0).ok_or(Refusal::Torn)?;
         let (_, rest) = self
             .requests
@@ -304,45 +313,45 @@ impl<L: Entries> Driver<L> {
         }
     }
 
-    fn is_null(&self, number: usize) -> Result<Answer, Refusal> {
+    fn is_null(&self, number: usize) -> Result<PortAnswer, Refusal> {
         let request = self.requests.get(number).ok_or(Refusal::Torn)?;
-        Ok(Answer::IsNull(request.is_null()))
+        Ok(PortAnswer::IsNull(request.is_null()))
     }
 
-    fn left(&self) -> Answer {
+    fn left(&self) -> PortAnswer {
         let left = self.requests.iter().filter(|request| !request.is_null());
-        Answer::Left(left.count())
+        PortAnswer::Left(left.count())
     }
 
-    fn made(&self, rank: u8) -> Result<Answer, Refusal> {
+    fn made(&self, rank: u8) -> Result<PortAnswer, Refusal> {
         let port = self.ports.get(usize::from(rank)).ok_or(Refusal::Torn)?;
-        Ok(Answer::Made(port.rank(), port.made()))
+        Ok(PortAnswer::Made(port.rank(), port.made()))
     }
 
-    fn finish<R: Wait>(&mut self, rt: &R) -> Result<Answer, Refusal> {
+    fn finish<R: Wait>(&mut self, rt: &R) -> Result<PortAnswer, Refusal> {
         self.ended.reserve(1)?;
         let port = self.ports.pop().ok_or(Refusal::Torn)?;
         let spent = port.finish(rt);
-        let answer = Answer::Ended(spent.rank(), spent.made());
+        let answer = PortAnswer::Ended(spent.rank(), spent.made());
         self.ended.push(spent)?;
         Ok(answer)
     }
 
-    fn put_aside(&mut self) -> Result<Answer, Refusal> {
+    fn put_aside(&mut self) -> Result<PortAnswer, Refusal> {
         self.aside = self.ports.pop();
-        Ok(Answer::Accepted)
+        Ok(PortAnswer::Accepted)
     }
 
-    fn stop<R: Wait>(&self, rt: &R) -> Answer {
+    fn stop<R: Wait>(&self, rt: &R) -> PortAnswer {
         self.engine.stop(rt);
-        Answer::Accepted
+        PortAnswer::Accepted
     }
 
-    fn work<R: Wait>(&self, rt: &R) -> Result<Answer, Refusal> {
-        Ok(Answer::Worked(self.engine.work(rt, &NoGate)?))
+    fn work<R: Wait>(&self, rt: &R) -> Result<PortAnswer, Refusal> {
+        Ok(PortAnswer::Worked(self.engine.work(rt, &NoGate)?))
     }
 
-    /// Ends the ports that haven't, but the one that was put aside, and closes the engine.
+    /// Ends all ports that haven't ended, except one that was put aside, and closes the engine.
     pub fn close<R: Wait>(self, rt: &R) -> Result<Closed, Refusal>
         requires { L.parts ≡ L.setting.ranks }
     {
@@ -350,7 +359,7 @@ impl<L: Entries> Driver<L> {
         for _port in 0..driver.ports.len() {
             driver.finish(rt)?;
         }
-        let Driver {
+        let PortDriver {
             engine,
             aside: _aside,
             ended,
@@ -366,7 +375,7 @@ impl<L: Entries> Driver<L> {
     }
 }
 
-/// Closes an engine with these ends.
+/// Closes an engine with these ends of its ports.
 fn report_of<L: Entries, R: Wait>(
     rt: &R,
     engine: Engine<L>,

@@ -1,30 +1,36 @@
-//! Requests of another rank: each call that names one is refused, and nothing changes.
+//! Requests of another rank: each call that names one is refused, and changes nothing.
 
-use crate::ports::answer::Answer;
-use crate::ports::call::{Call, ListCall};
-use crate::ports::noted::Bytes;
+use crate::ports::answer::PortAnswer;
+use crate::ports::call::{ListCall, PortCall};
+use crate::ports::noted::OutcomeBytes;
 use crate::ports::setup::{ALONE, BOTH, TWO_GROUPS};
-use crate::ports::{Row, assert_answers};
+use crate::ports::{PortRow, assert_answers};
 use crate::signatures::{PERSISTENT_SUM, SUM};
 use coll_kinds::Refusal;
 
-const NOT_YOURS: Answer = Answer::Refused(Refusal::NotYours);
+const NOT_YOURS: PortAnswer = PortAnswer::Refused(Refusal::NotYours);
 
 // Rank 1 names a request of rank 0 that is Done, and one that is Idle.
-const FOREIGN: &[Row] = &[
-    (Call::Post(0, ALONE, SUM, &[10]), Answer::Accepted),
-    (Call::Init(0, ALONE, PERSISTENT_SUM), Answer::Accepted),
-    (Call::Test(1, 0), NOT_YOURS),
-    (Call::TestTicket(1, 0), NOT_YOURS),
-    (Call::Wait(1, 0), NOT_YOURS),
-    (Call::Test(1, 1), NOT_YOURS),
-    (Call::Start(1, 1, &[5]), NOT_YOURS),
-    (Call::Free(1, 1), NOT_YOURS),
-    (Call::Made(1), Answer::Made(1, 0)),
-    (Call::Left, Answer::Left(2)),
-    (Call::Wait(0, 0), Answer::Outcome(Bytes::One(10))),
-    (Call::Free(0, 1), Answer::Accepted),
-    (Call::Made(0), Answer::Made(0, 4)),
+const FOREIGN: &[PortRow] = &[
+    (PortCall::Post(0, ALONE, SUM, &[10]), PortAnswer::Accepted),
+    (
+        PortCall::Init(0, ALONE, PERSISTENT_SUM),
+        PortAnswer::Accepted,
+    ),
+    (PortCall::Test(1, 0), NOT_YOURS),
+    (PortCall::TestTicket(1, 0), NOT_YOURS),
+    (PortCall::Wait(1, 0), NOT_YOURS),
+    (PortCall::Test(1, 1), NOT_YOURS),
+    (PortCall::Start(1, 1, &[5]), NOT_YOURS),
+    (PortCall::Free(1, 1), NOT_YOURS),
+    (PortCall::Made(1), PortAnswer::Made(1, 0)),
+    (PortCall::Left, PortAnswer::Left(2)),
+    (
+        PortCall::Wait(0, 0),
+        PortAnswer::Outcome(OutcomeBytes::One(10)),
+    ),
+    (PortCall::Free(0, 1), PortAnswer::Accepted),
+    (PortCall::Made(0), PortAnswer::Made(0, 4)),
 ];
 
 #[test]
@@ -32,16 +38,19 @@ fn another_ranks_ticket(rt: HostRuntime) {
     assert_answers(&rt, rt.alloc(), &TWO_GROUPS, &[FOREIGN]);
 }
 
-// A list of rank 0 in which a request of rank 1 stands behind one that is Done.
-const MIXED: &[Row] = &[
-    (Call::Post(0, ALONE, SUM, &[10]), Answer::Accepted),
-    (Call::Post(1, BOTH, SUM, &[20]), Answer::Accepted),
+// A list of rank 0 in which a request of rank 1 stands after one that is Done.
+const MIXED: &[PortRow] = &[
+    (PortCall::Post(0, ALONE, SUM, &[10]), PortAnswer::Accepted),
+    (PortCall::Post(1, BOTH, SUM, &[20]), PortAnswer::Accepted),
 ];
 
-const KEPT: &[Row] = &[
-    (Call::Made(0), Answer::Made(0, 1)),
-    (Call::Left, Answer::Left(2)),
-    (Call::Wait(0, 0), Answer::Outcome(Bytes::One(10))),
+const KEPT: &[PortRow] = &[
+    (PortCall::Made(0), PortAnswer::Made(0, 1)),
+    (PortCall::Left, PortAnswer::Left(2)),
+    (
+        PortCall::Wait(0, 0),
+        PortAnswer::Outcome(OutcomeBytes::One(10)),
+    ),
 ];
 
 const CALLS: &[ListCall] = &[
@@ -56,7 +65,7 @@ const CALLS: &[ListCall] = &[
 #[test]
 fn lists_with_another_ranks_ticket(rt: HostRuntime) {
     for call in CALLS {
-        let row = [(Call::Over(*call), NOT_YOURS)];
+        let row = [(PortCall::Over(*call), NOT_YOURS)];
         assert_answers(&rt, rt.alloc(), &TWO_GROUPS, &[MIXED, &row, KEPT]);
     }
 }

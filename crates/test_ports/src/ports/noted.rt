@@ -4,57 +4,60 @@ use coll_core::Outcome;
 
 /// The bytes of an outcome.
 #[derive(Clone, Copy, Debug, PartialEq)]
-pub enum Bytes {
+pub enum OutcomeBytes {
     One(u8),
     Two(u8, u8),
     Four(u8, u8, u8, u8),
-    /// So many times the same byte.
+    /// The same byte, this number of times.
     Same(usize, u8),
-    /// None, or as many as no row has.
+    /// No byte, or a number of bytes that no row has.
     Other(usize),
 }
 
 /// The outcomes of a call, each with its position in the list.
 #[derive(Clone, Copy, Debug, PartialEq)]
-pub enum Noted {
+pub enum Outcomes {
     Nothing,
-    One(usize, Bytes),
-    Two((usize, Bytes), (usize, Bytes)),
+    One(usize, OutcomeBytes),
+    Two((usize, OutcomeBytes), (usize, OutcomeBytes)),
     /// More than any row has.
     Many(usize),
 }
 
-impl Bytes {
-    pub fn of(outcome: &Outcome) -> Bytes {
+impl OutcomeBytes {
+    pub fn of(outcome: &Outcome) -> OutcomeBytes {
         match outcome.bytes.as_slice() {
-            [one] => Bytes::One(*one),
-            [one, two] => Bytes::Two(*one, *two),
-            [one, two, three, four] => Bytes::Four(*one, *two, *three, *four),
+            [one] => OutcomeBytes::One(*one),
+            [one, two] => OutcomeBytes::Two(*one, *two),
+            [one, two, three, four] => OutcomeBytes::Four(*one, *two, *three, *four),
             [first, rest @ ..] if rest.iter().all(|byte| byte == first) => {
-                Bytes::Same(rest.len().saturating_add(1), *first)
+                OutcomeBytes::Same(rest.len().saturating_add(1), *first)
             }
-            bytes => Bytes::Other(bytes.len()),
+            bytes => OutcomeBytes::Other(bytes.len()),
         }
     }
 }
 
-impl Noted {
-    pub fn of(out: &[(usize, Outcome)]) -> Noted {
+impl Outcomes {
+    pub fn of(out: &[(usize, Outcome)]) -> Outcomes {
         match out {
-            [] => Noted::Nothing,
-            [(at, outcome)] => Noted::One(*at, Bytes::of(outcome)),
+            [] => Outcomes::Nothing,
+            [(at, outcome)] => Outcomes::One(*at, OutcomeBytes::of(outcome)),
             [(at, first), (next, second)] => {
-                Noted::Two((*at, Bytes::of(first)), (*next, Bytes::of(second)))
+                Outcomes::Two(
+                    (*at, OutcomeBytes::of(first)),
+                    (*next, OutcomeBytes::of(second)),
+                )
             }
-            out => Noted::Many(out.len()),
+            out => Outcomes::Many(out.len()),
         }
     }
 
-    /// Of the test of one request, which stands at that position.
-    pub fn of_one(at: usize, outcome: Option<&Outcome>) -> Noted {
+    /// The outcome of the test of one request, which stands at that position.
+    pub fn of_one(at: usize, outcome: Option<&Outcome>) -> Outcomes {
         match outcome {
-            Some(outcome) => Noted::One(at, Bytes::of(outcome)),
-            None => Noted::Nothing,
+            Some(outcome) => Outcomes::One(at, OutcomeBytes::of(outcome)),
+            None => Outcomes::Nothing,
         }
     }
 }

@@ -2,18 +2,18 @@ use coll_core::Config;
 use coll_kinds::Refusal;
 use std::alloc::Global;
 
-/// What a row's engine is opened with.
+/// The configuration of a row's engine.
 #[derive(Clone, Copy)]
-pub struct Setup {
+pub struct PortSetup {
     pub ranks: u8,
-    /// The ranks of each communicator; communicator 0 has all.
+    /// The ranks of each communicator; communicator 0 has all ranks.
     pub groups: &'static [&'static [u8]],
     pub slots: u32,
     pub places: u32,
     pub trace: u32,
 }
 
-impl Setup {
+impl PortSetup {
     /// The engine's configuration.
     pub fn config(&self, alloc: Global) -> Result<Config, Refusal> {
         let mut groups = Vec::new(alloc);
@@ -32,8 +32,8 @@ impl Setup {
     }
 }
 
-/// One rank.
-pub const LONE: Setup = Setup {
+/// An engine of one rank.
+pub const LONE: PortSetup = PortSetup {
     ranks: 1,
     groups: &[&[0]],
     slots: 4,
@@ -41,8 +41,8 @@ pub const LONE: Setup = Setup {
     trace: 8,
 };
 
-/// Two ranks in one communicator.
-pub const PAIR: Setup = Setup {
+/// An engine of two ranks in one communicator.
+pub const PAIR: PortSetup = PortSetup {
     ranks: 2,
     groups: &[&[0, 1]],
     slots: 4,
@@ -50,8 +50,8 @@ pub const PAIR: Setup = Setup {
     trace: 16,
 };
 
-/// Two ranks: communicator `BOTH` has both, and `ALONE` has rank 0.
-pub const TWO_GROUPS: Setup = Setup {
+/// An engine of two ranks: communicator `BOTH` has both, and `ALONE` has rank 0.
+pub const TWO_GROUPS: PortSetup = PortSetup {
     ranks: 2,
     groups: &[&[0, 1], &[0]],
     slots: 8,

@@ -1,7 +1,7 @@
 use Rattle.std.proofs.Common.{◌∙◌, refl}
 use Rattle.worzsunab.specs.Answers.{done, refused}
 use Rattle.worzsunab.specs.Forms.{named_by}
-use Rattle.worzsunab.proofs.Answering.{not_started, started, was_open}
+use Rattle.worzsunab.proofs.Answering.{begun, not_started, was_open}
 use Rattle.worzsunab.proofs.Coding.{coded}
 use Rattle.worzsunab.proofs.wz_start.Goals as goal
 
@@ -10,7 +10,7 @@ returns-in-Ok c =
     let p = c.deref_mut.result.now in let r = c.start-answer.new.self in
     record {
       answers = done p r (was_open c.args.handle.now.held.engine c.in-Some.engine.value p c.in-Some.ensures.found c.deref_mut.ensures.value) c.put.ensures.engine c.in-Ok.ensures.setting (c.put.ensures.reason ∙ c.take.ensures.reason)
-          (started p r c.args.rank c.held.result (named_by c.args.request.now) c.args.bytes.now c.held.ensures c.in-Ok.ensures.starts) refl;
+          (begun p r c.args.rank c.held.result (named_by c.args.request.now) c.args.bytes.now c.held.ensures c.in-Ok.ensures.starts c.in-Ok.ensures.begins) refl;
     }
 
 pub returns-in-Err : goal.returns-in-Err

@@ -3,7 +3,7 @@ use Rattle.std.specs.Prelude.{codes}
 use Rattle.coll_diagnosis.proofs.text_form.headline.Goals as goal
 
 pub returns-in-Never-default : goal.returns-in-Never-default
-returns-in-Never-default c = rw c.in-Never-default.is-0 (codes ": each wait ends in every run, with any MPI library", refl)
+returns-in-Never-default c = rw c.in-Never-default.is-0 (codes ", in any run, with any MPI library (proved)", refl)
 
 pub returns-in-NeverHere-Some-Best : goal.returns-in-NeverHere-Some-Best
 returns-in-NeverHere-Some-Best c = rw c.in-NeverHere-Some-Best.is-0 (codes ", but a library whose collectives wait for all their members does", refl)
@@ -16,3 +16,9 @@ returns-in-Perhaps-Some-Last c = rw c.in-Perhaps-Some-Last.is-0 (codes ", neithe
 
 pub returns-in-Perhaps-default : goal.returns-in-Perhaps-default
 returns-in-Perhaps-default c = rw c.in-Perhaps-default.is-0 (codes ", neither proved to end nor proved to stall: which request a waitany, waitsome or test takes depends on time", refl)
+
+pub returns-in-AlwaysHere-default : goal.returns-in-AlwaysHere-default
+returns-in-AlwaysHere-default c = rw c.in-AlwaysHere-default.is-0 (codes "", refl)
+
+pub returns-in-Always-default : goal.returns-in-Always-default
+returns-in-Always-default c = rw c.in-Always-default.is-0 (codes " (proved)", refl)

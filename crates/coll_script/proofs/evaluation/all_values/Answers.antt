@@ -3,7 +3,7 @@ use Rattle.std.specs.Global.{Global}
 use Rattle.coll_history.specs.declared.request.Request as rust
 use Rattle.coll_history.specs.Requests.{Request}
 use Rattle.coll_history.proofs.Lists.{AllByRecursion-read}
-use Rattle.coll_script.specs.declared.values.Values.{Values}
+use Rattle.coll_script.specs.declared.values.MemberValues.{MemberValues}
 use Rattle.coll_script.specs.Outcomes.{AreMatched, group_values, group_view, values_view}
 use Rattle.coll_script.specs.PostingViews.{lists_view, all_lists_view}
 use Rattle.coll_script.proofs.Loops.{map-more, drop-view, at-view}
@@ -23,6 +23,6 @@ pub loop-lists-preserved : goal.loop-lists-preserved
 loop-lists-preserved c =
     let made : group_view c.in_ok-group_values.field-0.items ≡ group_values (lists_view c.lists-item.result.items) =
     c.in_ok-group_values.ensures.ok ∙ ap (λ (l : List (Vec rust.Request Global)). group_values (lists_view l)) c.deref.ensures.value in
-    rw (c.in_ok-push.ensures.items, map-push (λ (places : Vec (Vec Values Global) Global). group_view places.items) c.loop-lists.groups.items c.in_ok-group_values.field-0 (group_view c.in_ok-group_values.field-0.items) refl)
+    rw (c.in_ok-push.ensures.items, map-push (λ (places : Vec (Vec MemberValues Global) Global). group_view places.items) c.loop-lists.groups.items c.in_ok-group_values.field-0 (group_view c.in_ok-group_values.field-0.items) refl)
     (map-more group_values (all_lists_view c.args.all.now) c.loop-lists.lists-index (lists_view c.lists-item.result.items) (values_view c.loop-lists.groups.items) _ (group_view c.in_ok-group_values.field-0.items)
     (drop-view (λ (v : Vec (Vec rust.Request Global) Global). lists_view v.items) c.args.all.now c.loop-lists.lists-index c.lists-item.result c.loop-lists-test.true c.lists-item.is) made c.loop-lists.invariant)

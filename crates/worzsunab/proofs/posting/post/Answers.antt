@@ -8,7 +8,7 @@ pub returns-in-Ok-clause-answers : goal.returns-in-Ok-clause-answers
 returns-in-Ok-clause-answers c =
     let p = c.deref_mut.result.now in let r = c.post-answer.new.self in
     done p r (was_open c.args.handle.now.held.engine c.in-Some.engine.value p c.in-Some.ensures.found c.deref_mut.ensures.value) c.put.ensures.engine c.in-Ok.ensures.setting (c.put.ensures.reason ∙ c.take.ensures.reason)
-    (record { request = c.in-Ok.made; makes = c.in-Ok.ensures.posted; given_is = c.of.ensures }) refl
+    (record { request = c.in-Ok.made; makes = record { posts = c.in-Ok.ensures.posted; begins = c.in-Ok.ensures.begins }; given_is = c.of.ensures }) refl
 
 pub returns-in-Err-clause-answers : goal.returns-in-Err-clause-answers
 returns-in-Err-clause-answers c =

@@ -1,6 +1,6 @@
 use Rattle.std.proofs.Common.{◌≡◌, ◌<◌, ◌+◌, List, [], ◌∷◌, ◌++◌, ℕ, length, take, ap, subst, arith}
 use Rattle.coll_history.proofs.Lists.{AllByRecursion-read, take-more, take-all}
-use Rattle.coll_history.specs.declared.section.Entry.{Entry}
+use Rattle.coll_history.specs.declared.section.SectionEntry.{SectionEntry}
 use Rattle.coll_history.proofs.Keeping.{AreWaited, wait_each-kept}
 use Rattle.coll_history.proofs.Waiting.{AreWaited-more}
 use Rattle.coll_history.proofs.section.Section.wait_each.Goals as goal
@@ -13,7 +13,7 @@ loop-index-preserved c =
     let below = AllByRecursion-read _ qs i 0 c.requires within in
     let known : c.get-q.result < length c.args.self.now.entries.items = rw c.get-q.ensures below in
     let named : take (i + 1) qs ≡ take i qs ++ c.get-q.result ∷ [] = rw c.get-q.ensures (take-more qs i 0 within) in
-    let idle = ap (λ (p : Entry). record p { since = 0 }) c.index_mut.ensures.value in
+    let idle = ap (λ (p : SectionEntry). record p { since = 0 }) c.index_mut.ensures.value in
     record {
       waited = c.loop-index.invariant.waited;
       are = rw named (AreWaited-more (take i qs) c.get-q.result c.args.self.now.entries.items c.loop-index.self.entries.items _ _ known c.loop-index.invariant.are idle);

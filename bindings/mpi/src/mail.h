@@ -1,0 +1,46 @@
+/* Messages on their way: each rank has a mailbox. */
+#ifndef WZ_MAIL_H
+#define WZ_MAIL_H
+
+#include "collectives.h"
+
+struct message {
+    long comm;      /* its serial number */
+    int group_rank; /* the sender's, in its group */
+    int tag;
+    size_t length;
+    struct signature signature;
+    int basic; /* the basic type of all elements; 0 where there are several */
+    const char *site;
+    struct request *awaited_by; /* the synchronous send that ends once it is received; NULL: none */
+    struct rank *author;
+    struct message *later;
+    char bytes[];
+};
+
+/* Begin a send, and a receive, that is active. */
+void mpi_start_send(struct request *send);
+void mpi_start_receive(struct request *receive);
+/* Whether a message is there that a receive, or a probe, asks for; it stays there. */
+bool mpi_has_come(const struct request *probe, MPI_Status *status);
+/* Takes it out, for this rank alone; NULL: it isn't there. */
+struct message *mpi_take_message(const struct request *probe);
+/* Gives a receive what was taken out. */
+void mpi_receive_taken(struct message *message, struct request *receive);
+/* Gives up a receive that nothing has come for. Whether it could. */
+bool mpi_cancel_receive(struct request *receive);
+void mpi_write_status(MPI_Status *status, const struct message *message); /* NULL: of MPI_PROC_NULL */
+
+/* ---- messages.c: the arguments of a message's call */
+struct words {
+    const void *from;
+    void *to;
+    MPI_Count many;
+    MPI_Datatype type;
+    int other, tag;
+    MPI_Comm comm;
+    const char *call;
+};
+int mpi_make_message(const struct words *words, enum sort sort, bool synchronous, struct request **made);
+
+#endif

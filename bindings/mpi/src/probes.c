@@ -1,0 +1,147 @@
+/* The calls that look for a message, take it out for one receive, and give up a receive. */
+#include "counted.h"
+#include "mail.h"
+#include "tell.h"
+
+#include <sched.h>
+
+/* A probe as a request that is active, with what it asks for. */
+static int make_probe(int source, int tag, MPI_Comm comm, struct request **made, const char *call) {
+    char byte;
+    int code = mpi_make_message(&(struct words){ NULL, &byte, 0, MPI_BYTE, source, tag, comm, call }, RECEIVING, false, made);
+    if (code != MPI_SUCCESS) return code;
+    (*made)->sort = PROBING;
+    (*made)->active = true;
+    return code;
+}
+
+/* Whether a message is there; where it is waited for, it is in the end. */
+static bool look(struct request *it, bool waits, MPI_Status *status) {
+    struct request *only[1] = { it };
+    mpi_empty_status(status);
+    if (it->other == MPI_PROC_NULL) {
+        mpi_write_status(status, NULL);
+        return true;
+    }
+    if (waits && !mpi_has_come(it, MPI_STATUS_IGNORE)) mpi_wait_for(it->name, only, 1, false);
+    bool there = mpi_has_come(it, status);
+    if (!there) sched_yield();
+    return there;
+}
+
+static int probe(int source, int tag, MPI_Comm comm, int *flag, MPI_Status *status, const char *call) {
+    struct request *it;
+    int code = make_probe(source, tag, comm, &it, call);
+    if (code != MPI_SUCCESS) return code;
+    bool there = look(it, flag == NULL, status);
+    if (flag != NULL) *flag = there;
+    mpi_drop_request(it);
+    return code;
+}
+
+int MPI_Probe(int source, int tag, MPI_Comm comm, MPI_Status *status) { return probe(source, tag, comm, NULL, status, "MPI_Probe"); }
+
+int MPI_Iprobe(int source, int tag, MPI_Comm comm, int *flag, MPI_Status *status) { return probe(source, tag, comm, flag, status, "MPI_Iprobe"); }
+
+/* ---- messages that were taken out (MPI 4.1, 3.8.2) */
+
+struct taken {
+    struct message *message;
+    MPI_Comm comm;
+};
+
+static int take(int source, int tag, MPI_Comm comm, int *flag, MPI_Message *handle, MPI_Status *status, const char *call) {
+    struct request *it;
+    int code = make_probe(source, tag, comm, &it, call);
+    *handle = MPI_MESSAGE_NULL;
+    if (code != MPI_SUCCESS) return code;
+    bool there = look(it, flag == NULL, status);
+    if (flag != NULL) *flag = there;
+    if (there && source == MPI_PROC_NULL) *handle = MPI_MESSAGE_NO_PROC;
+    else if (there) {
+        struct taken *taken = mpi_must(malloc(sizeof *taken));
+        *taken = (struct taken){ mpi_take_message(it), comm };
+        *handle = (MPI_Message)mpi_add(TAKEN, taken);
+    }
+    mpi_drop_request(it);
+    return code;
+}
+
+int MPI_Mprobe(int source, int tag, MPI_Comm comm, MPI_Message *message, MPI_Status *status) {
+    return take(source, tag, comm, NULL, message, status, "MPI_Mprobe");
+}
+
+int MPI_Improbe(int source, int tag, MPI_Comm comm, int *flag, MPI_Message *message, MPI_Status *status) {
+    return take(source, tag, comm, flag, message, status, "MPI_Improbe");
+}
+
+/* An active receive of what was taken out. */
+static int receive(void *into, MPI_Count many, MPI_Datatype type, MPI_Message *handle, struct request **made, const char *call) {
+    mpi_self(call);
+    bool nobody = *handle == MPI_MESSAGE_NO_PROC;
+    struct taken *taken = nobody ? NULL : mpi_find(TAKEN, *handle);
+    if (!nobody && taken == NULL) return mpi_refuse(NULL, MPI_ERR_REQUEST, call, "there is no such message, or it was received before");
+    struct words words = { NULL, into, many, type, MPI_PROC_NULL, MPI_ANY_TAG, MPI_COMM_SELF, call };
+    if (!nobody) words = (struct words){ NULL, into, many, type, taken->message->group_rank, taken->message->tag, taken->comm, call };
+    int code = mpi_make_message(&words, RECEIVING, false, made);
+    if (code != MPI_SUCCESS) return code;
+    (*made)->active = true;
+    if (nobody) atomic_store(&(*made)->arrived, true);
+    else {
+        mpi_receive_taken(taken->message, *made);
+        mpi_remove(TAKEN, *handle);
+        free(taken);
+    }
+    *handle = MPI_MESSAGE_NULL;
+    return code;
+}
+
+int mpi_Mrecv(void *into, MPI_Count many, MPI_Datatype type, MPI_Message *message, MPI_Status *status) {
+    struct request *it;
+    int code = receive(into, many, type, message, &it, "MPI_Mrecv");
+    return code == MPI_SUCCESS ? mpi_complete(it, status, "MPI_Mrecv") : code;
+}
+
+int mpi_Imrecv(void *into, MPI_Count many, MPI_Datatype type, MPI_Message *message, MPI_Request *request) {
+    struct request *it;
+    int code = receive(into, many, type, message, &it, "MPI_Imrecv");
+    if (code == MPI_SUCCESS) {
+        *request = mpi_publish(it);
+        mpi_lend(it);
+    }
+    return code;
+}
+
+/* ---- giving up (MPI 4.1, 3.8.4): a receive that nothing has come for. A send has copied what it sends, so it isn't cancelled. */
+
+int MPI_Cancel(MPI_Request *handle) {
+    const char *call = "MPI_Cancel";
+    struct request *it;
+    mpi_self(call);
+    int code = mpi_request(*handle, call, &it);
+    if (code != MPI_SUCCESS) return code;
+    if (it == NULL) return mpi_refuse(NULL, MPI_ERR_REQUEST, call, "the request is MPI_REQUEST_NULL");
+    if (it->sort == COLLECTIVE) return mpi_refuse(it->comm, MPI_ERR_REQUEST, call, "the request of %s is a collective's, which can't be cancelled (MPI 4.1, 6.12)", it->site);
+    if (!it->active) return mpi_refuse(it->comm, MPI_ERR_REQUEST, call, "the request of %s isn't active", it->site);
+    if (it->sort == RECEIVING && it->other != MPI_PROC_NULL) it->cancelled = mpi_cancel_receive(it);
+    return MPI_SUCCESS;
+}
+
+/* ---- a buffer isn't needed: each send has its own memory */
+
+static __thread void *attached;
+static __thread int attached_size;
+
+int MPI_Buffer_attach(void *buffer, int size) {
+    attached = buffer;
+    attached_size = size;
+    return MPI_SUCCESS;
+}
+
+int MPI_Buffer_detach(void *buffer, int *size) {
+    *(void **)buffer = attached;
+    *size = attached_size;
+    attached = NULL;
+    attached_size = 0;
+    return MPI_SUCCESS;
+}

@@ -1,0 +1,58 @@
+/* A rank's part of the job text, for those who write it: record.c, as the rank makes its calls, and unreached.c, at the end of a run. Whoever writes or reads one
+   has locked its text by flockfile. */
+#ifndef WZ_RECORDING_H
+#define WZ_RECORDING_H
+
+#include "record.h"
+#include "tell.h"
+
+enum { MOST_POSTS = 4096, MOST_COMMS = 15, MOST_TEXT = 1000000, MESSAGE_COMM = -1 };
+
+/* A post or an initialisation that the text has. */
+struct made {
+    int comm;       /* as the text names it */
+    uint32_t place; /* among those of its rank on that communicator */
+    bool persistent, freed;
+    uint32_t starts;
+    wz_call call; /* count is that of the text */
+    size_t begin, end; /* of its signature, in the text */
+    const char *name, *site;
+};
+
+struct outcome {
+    int request;
+    uint32_t start;
+    char *line;
+};
+
+struct recording {
+    FILE *text;
+    char *bytes; /* once the text is flushed */
+    size_t length;
+    int requests, outcomes;
+    struct made *made; /* as many as there are requests */
+    uint32_t places[MOST_COMMS + 1];
+    struct outcome *got;
+    bool full, left_out; /* left_out: calls on communicators that the text has no room for */
+};
+
+/* A communicator of the text, number 0 being MPI_COMM_WORLD. */
+struct text_comm {
+    long serial; /* MESSAGE_COMM: its one collective stands for a message */
+    int size, ranks[MOST_RANKS];
+    char name[NAME_TEXT];
+};
+
+struct recording *mpi_record_part(struct rank *rank);
+
+/* How many communicators the text has, and one of them. */
+int mpi_record_comms(void);
+const struct text_comm *mpi_record_comm(int number);
+/* One more, for a message that the first of some ranks waits for. Its number; -1: there is no room. */
+int mpi_record_add_comm(const int *ranks, int size, const char *name);
+
+/* Begins the line of a post or an initialisation, up to where its signature begins. Whether there is room for it. */
+bool mpi_record_begin_post(struct recording *to, const struct made *made);
+void mpi_record_end_signature(struct recording *to);
+
+#endif

@@ -1,0 +1,40 @@
+-- What is reported of a text that is checked.
+use Rattle.std.specs.Prelude.{◌≡◌, ◌++◌, ℕ, ◌∷◌, Bool, false, List, codes, MatchResult}
+use Rattle.coll_history.specs.declared.fault.Fault.{Fault}
+use Rattle.coll_script.specs.Meaning.{meaning}
+use Rattle.coll_diagnosis.specs.declared.explaining.ExplainOptions.{ExplainOptions}
+use Rattle.coll_diagnosis.specs.declared.explaining.Form.TheVariants as explain_form
+use Rattle.coll_diagnosis.specs.Verdicts as verdicts
+use Rattle.coll_check.specs.declared.checking.CheckForm.{CheckForm}
+use Rattle.coll_check.specs.declared.checking.CheckForm.TheVariants.{Text, Json}
+use Rattle.coll_check.specs.Reports.{ReportsAll, checked_object}
+
+-- ---- of a text with a fault
+
+-- its first fault is reported first, then further ones, and at the end how many they are
+abbrev pub TellsFault : CheckForm → List ℕ → Fault → List ℕ → Type 0
+TellsFault form name fault lines = (further : List Fault) × (cut : Bool) × ReportsAll form name (fault ∷ further) cut lines
+
+-- ---- of a text without one
+
+-- how it is explained
+abbrev pub explained_as : CheckForm → ExplainOptions
+explained_as (Text colored) = record { form = explain_form.Text; is_strict = false; is_whole = false; is_colored = colored }
+explained_as Json = record { form = explain_form.Json; is_strict = false; is_whole = false; is_colored = false }
+
+-- what stands before the explanation of a text of that name
+abbrev pub faultless_head : CheckForm → List ℕ → ℕ → List ℕ
+faultless_head (Text colored) name status = name ++ codes ": no fault\n"
+faultless_head Json name status = checked_object 0 false status
+
+-- that it has no fault, and then its explanation, whose verdict is true of the text and whose status is that of the check
+abbrev pub TellsNone : CheckForm → List ℕ → List ℕ → ℕ → List ℕ → Type 0
+TellsNone form name text status lines =
+    (explanation : List ℕ)
+    × (lines ≡ faultless_head form name status ++ explanation)
+    × verdicts.IsTrueOf text (explained_as form) status explanation
+
+-- what is said of a text of that name, with that status
+abbrev pub Says : CheckForm → List ℕ → List ℕ → ℕ → List ℕ → Type 0
+Says form name text status lines =
+    MatchResult (meaning text) (λ outcomes. TellsNone form name text status lines) (λ fault. TellsFault form name fault lines)

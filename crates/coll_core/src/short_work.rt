@@ -1,0 +1,178 @@
+//! Combinations of a few bytes, which are handed out by value.
+
+ghost use Rattle.std.specs.Prelude.{◌≡◌, ◌%◌, length, IsTrue};
+ghost use Rattle.coll_kinds.specs.Checks.{allowed};
+ghost use Rattle.coll_kinds.specs.Elements.{width};
+ghost use Rattle.coll_ops.specs.Combinations.{combined as combination};
+ghost use Rattle.coll_core.specs.Works.{IsPiece, result_of};
+
+use crate::word::{WORD, Word};
+use coll_bytes::Bytes;
+use coll_kinds::{Datatype, Op, Ticket};
+use coll_ops::combine_into;
+use std::marker::Model;
+
+/// A combination of operands of up to eight bytes that was handed out by value, to be computed outside the engine. It is spent by
+/// `commit_short`.
+#[derive(Debug, Drop)]
+pub struct ShortWork {
+    ticket: Ticket,
+    round: usize,
+    index: usize,
+    op: Op,
+    ty: Datatype,
+    left: Word,
+    right: Word,
+}
+
+impl Model for ShortWork {
+    ghost use Rattle.coll_core.specs.Works.{Piece, IsPiece};
+
+    ghost Value = { Piece };
+
+    ghost view = { λ w. record { ticket = w.ticket; round = w.round; index = w.index; op = w.op; ty = w.ty; left = w.left; right = w.right } };
+
+    ghost invariant = { λ w. IsPiece (record { ticket = w.ticket; round = w.round; index = w.index; op = w.op; ty = w.ty; left = w.left; right = w.right }) };
+}
+
+/// Such a combination with its result.
+#[derive(Debug, Drop)]
+pub struct DoneShortWork {
+    work: ShortWork,
+    result: Word,
+}
+
+impl Model for DoneShortWork {
+    ghost use Rattle.std.specs.Prelude.{◌≡◌};
+    ghost use Rattle.coll_core.specs.Works.{Made, result_of};
+
+    ghost Value = { Made };
+
+    ghost view = { λ d. record { piece = d.work; bytes = d.result } };
+
+    ghost invariant = { λ d. d.result ≡ result_of d.work };
+}
+
+/// The combination of two operands, `left` being the first.
+#[inline(always)]
+fn combined_words(op: Op, ty: Datatype, left: &Word, right: &Word) -> Word
+    requires allowed { IsTrue (allowed op ty) }
+    requires whole { length left.now % width ty ≡ 0 }
+    requires same { length right.now ≡ length left.now }
+    ensures { result ≡ combination op ty left.now right.now }
+{
+    let first = left.as_slice();
+    let mut row = [0; WORD];
+    let out = &mut row[..first.len()];
+    out.copy_from_slice(first);
+    combine_into(op, ty, out, right.as_slice());
+    Word::of(out)
+}
+
+impl ShortWork {
+    /// A combination of the request's action at a point, with its operands.
+    pub(crate) fn new(
+        ticket: Ticket,
+        round: usize,
+        index: usize,
+        op: Op,
+        ty: Datatype,
+        left: Word,
+        right: Word,
+    ) -> ShortWork
+        requires { IsPiece (record { ticket = ticket; round = round; index = index; op = op; ty = ty; left = left; right = right }) }
+        ensures { result ≡ record { ticket = ticket; round = round; index = index; op = op; ty = ty; left = left; right = right } }
+    {
+        ShortWork {
+            ticket,
+            round,
+            index,
+            op,
+            ty,
+            left,
+            right,
+        }
+    }
+
+    /// The request whose action it is.
+    pub fn ticket(&self) -> Ticket
+        ensures { result ≡ self.now.ticket }
+    {
+        self.ticket
+    }
+
+    /// The action's round.
+    pub fn round(&self) -> usize
+        ensures { result ≡ self.now.round }
+    {
+        self.round
+    }
+
+    /// The action's index in its round.
+    pub fn index(&self) -> usize
+        ensures { result ≡ self.now.index }
+    {
+        self.index
+    }
+
+    pub fn op(&self) -> Op
+        ensures { result ≡ self.now.op }
+    {
+        self.op
+    }
+
+    pub fn ty(&self) -> Datatype
+        ensures { result ≡ self.now.ty }
+    {
+        self.ty
+    }
+
+    /// The first operand.
+    pub fn left(&self) -> &[u8]
+        ensures { result.now ≡ self.now.left }
+    {
+        self.left.as_slice()
+    }
+
+    /// The second operand.
+    pub fn right(&self) -> &[u8]
+        ensures { result.now ≡ self.now.right }
+    {
+        self.right.as_slice()
+    }
+
+    /// Computes the combination. It takes no memory.
+    #[inline(always)]
+    pub fn run(self) -> DoneShortWork
+        ensures { result.piece ≡ self }
+    {
+        let result = combined_words(self.op, self.ty, &self.left, &self.right);
+        DoneShortWork { work: self, result }
+    }
+}
+
+impl DoneShortWork {
+    /// The work whose result it is.
+    pub fn work(&self) -> &ShortWork
+        ensures { result.now ≡ self.now.piece }
+    {
+        &self.work
+    }
+
+    /// The combination of the work's operands.
+    pub fn result(&self) -> &[u8]
+        ensures is { result.now ≡ self.now.bytes }
+        ensures combined { self.now.bytes ≡ result_of self.now.piece }
+    {
+        self.result.as_slice()
+    }
+
+    /// The result, while the operands go.
+    #[inline(always)]
+    pub(crate) fn into_result(self) -> Bytes
+        ensures is { result ≡ self.bytes }
+        ensures combined { self.bytes ≡ result_of self.piece }
+    {
+        Bytes::few(self.result.as_slice())
+    }
+}

@@ -1,0 +1,7 @@
+use Rattle.coll_diagnosis.proofs.explaining.explain_text.Goals as goal
+
+pub returns-clause-verdict : goal.returns-clause-verdict
+returns-clause-verdict c = record {
+  says = record { verdict = c.in_ok-explanation.explanation.verdict; status_is = c.status-status.ensures.status; words = c.in_ok-lines.ensures.words; object = c.in_ok-lines.ensures.object };
+  means = c.in_ok-explanation.ensures.means;
+}

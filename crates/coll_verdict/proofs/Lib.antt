@@ -1,0 +1,16 @@
+mod Listed
+mod Sketched
+mod Agreeing
+mod Changing
+mod Tracking
+mod Blocking
+mod Telling
+mod Checked
+mod Rows
+mod Placing
+mod Keeping
+mod Sure
+mod Passing
+mod Ordered
+mod Lasting
+mod LastRows

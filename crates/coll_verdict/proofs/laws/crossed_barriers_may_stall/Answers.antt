@@ -1,0 +1,5 @@
+use Rattle.coll_verdict.proofs.Rows.{crossed_barriers_may_stall}
+use Rattle.coll_verdict.proofs.laws.crossed_barriers_may_stall.Goals as goal
+
+pub returns : goal.returns
+returns c = crossed_barriers_may_stall

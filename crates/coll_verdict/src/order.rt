@@ -1,0 +1,317 @@
+//! Ranks that carry their commands out, one after the other, each when it can.
+
+ghost use Rattle.std.specs.Prelude.{◌≡◌, true, IsTrue, IfOk, Some, count_by, length, slice_get};
+ghost use Rattle.std.specs.List.{list_any, list_all, range_with_len};
+ghost use Rattle.coll_history.specs.Code.{rows_view};
+ghost use Rattle.coll_history.specs.Histories.{History};
+ghost use Rattle.coll_verdict.specs.Checking.{all_come, apart_at, are_apart, begun_as, can_pass, free_at, has_come, has_made, has_made_before, has_seat, is_at_beginning, is_at_end, is_come, is_joined, is_seat, made_as, next_can_pass, peer_has_begun, peer_is_come, sure_at};
+ghost use Rattle.coll_verdict.specs.Stalls.{makes_in, makes_on};
+ghost use Rattle.coll_verdict.specs.Code.{Advances, AreStood, IsAhead};
+
+use crate::known::{KnownRequest, note, place_on};
+use crate::stood::Stood;
+use coll_history::{Command, Named};
+use coll_kinds::member_of;
+use std::alloc::AllocError;
+
+/// Lets a rank carry its next command out. Returns whether it could.
+pub(crate) fn pass(ranks: &mut Vec<Stood>, groups: &[Vec<u8>], rank: u8) -> Result<bool, AllocError>
+    ensures { IfOk result (λ has_passed. IsTrue has_passed → (h : History) → AreStood h ranks.old.items → rows_view groups.now ≡ h.groups → are_apart groups.now ≡ true → Advances h ranks.old.items ranks.new.items) }
+{
+    if rank as usize >= ranks.len() {
+        return Ok(false);
+    }
+    if !can_go_on(ranks, groups, &ranks[rank as usize]) {
+        return Ok(false);
+    }
+    let own = &mut ranks[rank as usize];
+    let has_gone = go_on(own)?;
+    Ok(has_gone)
+}
+
+/// Whether no rank has carried anything out.
+pub(crate) fn are_at_beginnings(ranks: &[Stood]) -> bool
+    ensures { result ≡ list_all is_at_beginning ranks.now }
+{
+    ranks.iter().all(|own| own.stand == 0)
+}
+
+/// Whether each rank has carried all its commands out.
+pub(crate) fn are_at_ends(ranks: &[Stood]) -> bool
+    ensures { result ≡ list_all is_at_end ranks.now }
+{
+    ranks.iter().all(|own| own.stand == own.commands.len())
+}
+
+/// Takes in a rank's next command. Returns whether there is one, and the request that it starts was made.
+fn go_on(own: &mut Stood) -> Result<bool, AllocError>
+    ensures { IfOk result (λ has_gone. IsTrue has_gone → IsAhead own.old own.new) }
+{
+    let Some(command) = own.commands.get(own.stand) else {
+        return Ok(false);
+    };
+    if !note(&mut own.requests, command)? {
+        return Ok(false);
+    }
+    if own.stand == usize::MAX {
+        return Ok(false);
+    }
+    own.stand += 1;
+    Ok(true)
+}
+
+fn can_go_on(ranks: &[Stood], groups: &[Vec<u8>], own: &Stood) -> bool
+    ensures { result ≡ next_can_pass ranks.now groups.now own.now (slice_get own.now.commands.items own.now.stand) }
+{
+    match own.commands.get(own.stand) {
+        Some(command) => can_pass(ranks, groups, own, command),
+        None => false,
+    }
+}
+
+fn can_pass(ranks: &[Stood], groups: &[Vec<u8>], own: &Stood, command: &Command) -> bool
+    ensures { result ≡ can_pass ranks.now groups.now own.now command.now }
+{
+    match command {
+        Command::Post { .. } | Command::Start { .. } => true,
+        Command::Test(_) | Command::Free(_) => true,
+        Command::Init { comm, .. } => all_come(ranks, groups, own, *comm),
+        Command::Wait(q) => is_free(ranks, groups, own, *q as usize),
+        Command::WaitAny(named) => {
+            all_are_free(ranks, groups, own, named) || one_is_sure(ranks, groups, own, named)
+        }
+        Command::WaitSome(named) => {
+            all_are_free(ranks, groups, own, named) || one_is_sure(ranks, groups, own, named)
+        }
+        Command::WaitAll(named) => all_are_free(ranks, groups, own, named),
+    }
+}
+
+/// Whether each member has come to the request that the rank makes next on the communicator.
+fn all_come(ranks: &[Stood], groups: &[Vec<u8>], own: &Stood, comm: u8) -> bool
+    ensures { result ≡ all_come ranks.now groups.now own.now comm }
+{
+    match groups.get(comm as usize) {
+        Some(group) => are_come(ranks, group, comm, place_on(&own.requests, comm)),
+        None => false,
+    }
+}
+
+fn are_come(ranks: &[Stood], group: &[u8], comm: u8, place: usize) -> bool
+    ensures { result ≡ list_all (peer_is_come ranks.now comm place) group.now }
+{
+    group
+        .iter()
+        .all(|peer| peer_is_come(ranks, comm, place, *peer))
+}
+
+fn peer_is_come(ranks: &[Stood], comm: u8, place: usize, peer: u8) -> bool
+    ensures { result ≡ peer_is_come ranks.now comm place peer }
+{
+    match ranks.get(peer as usize) {
+        Some(peer) => is_come(peer, comm, place),
+        None => false,
+    }
+}
+
+/// Whether a rank has made its request at that place of a communicator, or makes it next.
+fn is_come(peer: &Stood, comm: u8, place: usize) -> bool
+    ensures { result ≡ is_come comm place (Some peer.now) }
+{
+    has_made(peer, comm, place) || (makes_next(peer, comm) && has_made_before(peer, comm, place))
+}
+
+/// Whether a rank has made its request before that place of a communicator, if there is one.
+fn has_made_before(peer: &Stood, comm: u8, place: usize) -> bool
+    ensures { result ≡ has_made_before comm place peer.now }
+{
+    place == 0 || has_made(peer, comm, place - 1)
+}
+
+/// Whether a rank has made its request at that place of a communicator.
+fn has_made(peer: &Stood, comm: u8, place: usize) -> bool
+    ensures { result ≡ has_made comm place peer.now }
+{
+    match peer.numbers.get(comm as usize) {
+        Some(numbers) => one_is_at(numbers, &peer.requests, comm, place),
+        None => false,
+    }
+}
+
+fn one_is_at(numbers: &[usize], requests: &[KnownRequest], comm: u8, place: usize) -> bool
+    ensures { result ≡ made_as comm place requests.now (slice_get numbers.now place) }
+{
+    match numbers.get(place) {
+        Some(q) => is_at(requests, *q, comm, place),
+        None => false,
+    }
+}
+
+fn is_at(requests: &[KnownRequest], q: usize, comm: u8, place: usize) -> bool
+    ensures { result ≡ made_as comm place requests.now (Some q) }
+{
+    match requests.get(q) {
+        Some(request) => request.comm == comm && request.place == place,
+        None => false,
+    }
+}
+
+fn makes_next(peer: &Stood, comm: u8) -> bool
+    ensures { result ≡ makes_in comm (slice_get peer.now.commands.items peer.now.stand) }
+{
+    match peer.commands.get(peer.stand) {
+        Some(command) => makes_on(command, comm),
+        None => false,
+    }
+}
+
+/// Whether the command makes a request on that communicator.
+fn makes_on(command: &Command, on: u8) -> bool
+    ensures { result ≡ makes_on on command.now }
+{
+    match command {
+        Command::Post { comm, .. } => *comm == on,
+        Command::Init { comm, .. } => *comm == on,
+        Command::Start { .. } | Command::Wait(_) | Command::Test(_) | Command::Free(_) => false,
+        Command::WaitAny(_) | Command::WaitSome(_) | Command::WaitAll(_) => false,
+    }
+}
+
+fn all_are_free(ranks: &[Stood], groups: &[Vec<u8>], own: &Stood, named: &Named) -> bool
+    ensures { result ≡ list_all (free_at ranks.now groups.now own.now) named.now }
+{
+    let mut holds = true;
+    for index in 0..named.len() {
+        holds = holds && is_free(ranks, groups, own, named.get(index));
+    }
+    holds
+}
+
+fn one_is_sure(ranks: &[Stood], groups: &[Vec<u8>], own: &Stood, named: &Named) -> bool
+    ensures { result ≡ list_any (sure_at ranks.now groups.now own.now) named.now }
+{
+    let mut is_found = false;
+    for index in 0..named.len() {
+        is_found = is_found || is_sure(ranks, groups, own, named.get(index));
+    }
+    is_found
+}
+
+/// Whether a request is inactive, or all members have come to its start.
+fn is_free(ranks: &[Stood], groups: &[Vec<u8>], own: &Stood, q: usize) -> bool
+    ensures { result ≡ free_at ranks.now groups.now own.now q }
+{
+    match own.requests.get(q) {
+        Some(request) => request.starts == 0
+            || request.is_rested
+            || is_joined(ranks, groups, request),
+        None => false,
+    }
+}
+
+/// Whether a request is active in every run, and all members have come to its start.
+fn is_sure(ranks: &[Stood], groups: &[Vec<u8>], own: &Stood, q: usize) -> bool
+    ensures { result ≡ sure_at ranks.now groups.now own.now q }
+{
+    match own.requests.get(q) {
+        Some(request) => request.starts > 0
+            && !request.is_named
+            && is_joined(ranks, groups, request),
+        None => false,
+    }
+}
+
+fn is_joined(ranks: &[Stood], groups: &[Vec<u8>], own: &KnownRequest) -> bool
+    ensures { result ≡ is_joined ranks.now groups.now own.now }
+{
+    match groups.get(own.comm as usize) {
+        Some(group) => all_have_begun(ranks, group, own),
+        None => false,
+    }
+}
+
+fn all_have_begun(ranks: &[Stood], group: &[u8], own: &KnownRequest) -> bool
+    ensures { result ≡ list_all (peer_has_begun ranks.now own.now) group.now }
+{
+    group.iter().all(|peer| peer_has_begun(ranks, own, *peer))
+}
+
+fn peer_has_begun(ranks: &[Stood], own: &KnownRequest, peer: u8) -> bool
+    ensures { result ≡ peer_has_begun ranks.now own.now peer }
+{
+    match ranks.get(peer as usize) {
+        Some(peer) => has_come(peer, own),
+        None => false,
+    }
+}
+
+/// Whether a rank has come to the start that the request is in.
+fn has_come(peer: &Stood, own: &KnownRequest) -> bool
+    ensures { result ≡ has_come own.now peer.now }
+{
+    match peer.numbers.get(own.comm as usize) {
+        Some(numbers) => one_has_begun(numbers, &peer.requests, own),
+        None => false,
+    }
+}
+
+fn one_has_begun(numbers: &[usize], requests: &[KnownRequest], own: &KnownRequest) -> bool
+    ensures { result ≡ begun_as own.now requests.now (slice_get numbers.now own.now.place) }
+{
+    match numbers.get(own.place) {
+        Some(q) => has_begun(requests, *q, own),
+        None => false,
+    }
+}
+
+fn has_begun(requests: &[KnownRequest], q: usize, own: &KnownRequest) -> bool
+    ensures { result ≡ begun_as own.now requests.now (Some q) }
+{
+    match requests.get(q) {
+        Some(request) => request.comm == own.comm
+            && request.place == own.place
+            && own.starts <= request.starts,
+        None => false,
+    }
+}
+
+/// Whether no rank is a member of a communicator twice.
+pub(crate) fn are_apart(groups: &[Vec<u8>]) -> bool
+    ensures { result ≡ are_apart groups.now }
+{
+    (0..groups.len()).all(|comm| is_apart(groups, comm))
+}
+
+fn is_apart(groups: &[Vec<u8>], comm: usize) -> bool
+    ensures { result ≡ apart_at groups.now comm }
+{
+    match groups.get(comm) {
+        Some(group) => all_have_seats(group),
+        None => false,
+    }
+}
+
+fn all_have_seats(group: &[u8]) -> bool
+    ensures { result ≡ list_all (has_seat group.now) (range_with_len 0 (length group.now)) }
+{
+    (0..group.len()).all(|i| has_seat(group, i))
+}
+
+fn has_seat(group: &[u8], i: usize) -> bool
+    ensures { result ≡ has_seat group.now i }
+{
+    match group.get(i) {
+        Some(peer) => is_seat(group, i, *peer),
+        None => false,
+    }
+}
+
+/// Whether no earlier member is that rank, which is the member of that number.
+fn is_seat(group: &[u8], i: usize, peer: u8) -> bool
+    ensures { result ≡ is_seat group.now i (Some peer) }
+{
+    match member_of(peer, group) {
+        Some(member) => member == i,
+        None => false,
+    }
+}
