@@ -11,6 +11,7 @@ use Rattle.coll_kinds.specs.declared.signature.Signature.{Signature}
 use Rattle.coll_history.specs.declared.command.Command.TheVariants.{Post, Wait}
 use Rattle.coll_history.specs.declared.issued_command.IssuedCommand.{IssuedCommand}
 use Rattle.coll_history.specs.declared.request.Request.{Request}
+use Rattle.coll_history.specs.declared.request.Start.{Start}
 use Rattle.coll_diagnosis.specs.declared.lack.Lack.{Lack}
 use Rattle.coll_diagnosis.specs.declared.pending.Pending.{Pending}
 use Rattle.coll_diagnosis.specs.declared.stuck.Stuck.{Stuck}
@@ -29,20 +30,20 @@ crossed =
     ∷ record { line = 10; rank = 1; command = Post 0 barrier [] }
     ∷ []
 
--- where a request's contributions and a list of members lie is left open
+-- where a request's starts and a list of members lie is left open
 abbrev Starts : Type 0
-Starts = Vec (Bor (List ℕ)) Global
+Starts = Vec Start Global
 
 abbrev of_rank_0 : Starts → List Request
 of_rank_0 starts =
-    record { line = 4; comm = 0; member = 0; sig = barrier; starts = starts }
-    ∷ record { line = 6; comm = 1; member = 0; sig = barrier; starts = starts }
+    record { line = 4; comm = 0; place = 0; member = 0; sig = barrier; starts = starts }
+    ∷ record { line = 6; comm = 1; place = 0; member = 0; sig = barrier; starts = starts }
     ∷ []
 
 abbrev of_rank_1 : Starts → List Request
 of_rank_1 starts =
-    record { line = 8; comm = 1; member = 1; sig = barrier; starts = starts }
-    ∷ record { line = 10; comm = 0; member = 1; sig = barrier; starts = starts }
+    record { line = 8; comm = 1; place = 0; member = 1; sig = barrier; starts = starts }
+    ∷ record { line = 10; comm = 0; place = 0; member = 1; sig = barrier; starts = starts }
     ∷ []
 
 abbrev its_first : List Request → Option Request
@@ -117,7 +118,7 @@ another_member : (starts : Starts) (kind : Bor (List ℕ)) (lacks : Vec Lack Glo
 another_member starts kind lacks = refl
 
 -- a member of a barrier on which nothing is said to rest
-nothing_rests : (starts : Starts) → need_holds (record { line = 4; comm = 0; member = 0; sig = barrier; starts = starts }) 2 (lacking 1 10 9 false) ≡ false
+nothing_rests : (starts : Starts) → need_holds (record { line = 4; comm = 0; place = 0; member = 0; sig = barrier; starts = starts }) 2 (lacking 1 10 9 false) ≡ false
 nothing_rests starts = refl
 
 -- a line of the lacking rank before that in which it waits

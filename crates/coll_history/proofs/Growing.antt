@@ -14,7 +14,7 @@ use Rattle.coll_history.specs.declared.issued_command.IssuedCommand.{IssuedComma
 use Rattle.coll_history.specs.Cutting.{words_of}
 use Rattle.coll_history.specs.Reading.{Reading, and_then, ◌>>=◌, give, fault, known, must, end, numbers}
 use Rattle.coll_history.specs.Histories.{History, Posting}
-use Rattle.coll_history.specs.Requests.{Request, request, requests_after, requests_of, changed_at, started}
+use Rattle.coll_history.specs.Requests.{Request, place_on, request, requests_after, requests_of, changed_at, started}
 use Rattle.coll_history.specs.Lines.{number_within, rank_in, next, command_of, ranks, comm, section, issue, command, later, line_by, line}
 use Rattle.coll_history.specs.Judging.{in_line, judged}
 
@@ -201,15 +201,15 @@ one-adds old p = record { more = posting_of p ∷ []; parts = map-append posting
 adds-then : (a b c : List Request) → AddsTo a b → AddsTo b c → AddsTo a c
 adds-then a b c x y = record { more = x.more ++ y.more; parts = y.parts ∙ ap (λ (ps : List Posting). ps ++ y.more) x.parts ∙ append_assoc (map posting_of a) x.more y.more }
 
-map-changed_same : (q : ℕ) (given : List ℕ) (requests : List Request) → map posting_of (changed_at q (started given) requests) ≡ map posting_of requests
-map-changed_same q given [] = refl
-map-changed_same zero given (p ∷ requests) = refl
-map-changed_same (suc q) given (p ∷ requests) = ap (λ (ps : List Posting). posting_of p ∷ ps) (map-changed_same q given requests)
+map-changed_same : (q line : ℕ) (given : List ℕ) (requests : List Request) → map posting_of (changed_at q (started line given) requests) ≡ map posting_of requests
+map-changed_same q line given [] = refl
+map-changed_same zero line given (p ∷ requests) = refl
+map-changed_same (suc q) line given (p ∷ requests) = ap (λ (ps : List Posting). posting_of p ∷ ps) (map-changed_same q line given requests)
 
 after-adds : (groups : List (List ℕ)) (line rank : ℕ) (c : Command) (requests : List Request) → AddsTo requests (requests_after groups line rank c requests)
-after-adds groups line rank (Post comm sig given) requests = one-adds requests (request groups line rank comm sig (given ∷ []))
-after-adds groups line rank (Init comm sig) requests = one-adds requests (request groups line rank comm sig [])
-after-adds groups line rank (Start q given) requests = same-adds requests (changed_at q (started given) requests) (map-changed_same q given requests)
+after-adds groups line rank (Post comm sig given) requests = one-adds requests (started line given (request groups line rank comm (place_on comm requests) sig))
+after-adds groups line rank (Init comm sig) requests = one-adds requests (request groups line rank comm (place_on comm requests) sig)
+after-adds groups line rank (Start q given) requests = same-adds requests (changed_at q (started line given) requests) (map-changed_same q line given requests)
 after-adds groups line rank (Wait q) requests = same-adds requests requests refl
 after-adds groups line rank (Test q) requests = same-adds requests requests refl
 after-adds groups line rank (Free q) requests = same-adds requests requests refl

@@ -7,6 +7,7 @@ mod Texts
 mod First
 mod Inactive
 mod Numbers
+mod Placed
 mod Counted
 mod Marks
 mod Keeping

@@ -15,7 +15,7 @@ use Rattle.coll_history.specs.declared.command.Command.{Command}
 use Rattle.coll_history.specs.declared.command.Command.TheVariants.{Post, Init, Start, Wait, Test, Free, WaitAny, WaitSome, WaitAll}
 use Rattle.coll_history.specs.declared.issued_command.IssuedCommand.{IssuedCommand}
 use Rattle.coll_history.specs.Histories.{History, Posting, posting, postings, issued_by, group_of}
-use Rattle.coll_history.specs.Requests.{Request, request, started, changed_at, requests_after, requests_of}
+use Rattle.coll_history.specs.Requests.{Request, place_on, request, started, changed_at, requests_after, requests_of}
 use Rattle.coll_history.specs.declared.request.Request as rust_request
 use Rattle.coll_history.specs.Code.{request_view, requests_view, IsNamed}
 use Rattle.coll_history.specs.Sound.{IsPosting, MayIssue, AreAllowed, IsHistory, IsRequest, IsSound}
@@ -37,30 +37,29 @@ later-all issued more groups rank requests le are = AllByRecursion-weaker (IsReq
 member-is : (groups : List (List ℕ)) (rank comm : ℕ) (group : List ℕ) (member : ℕ) → slice_get groups comm ≡ Some group → member_of rank group ≡ Some member → unwrap_or (member_of rank (group_of groups comm)) 0 ≡ member
 member-is groups rank comm group member known is = ap (λ (g : List ℕ). unwrap_or (member_of rank g) 0) (get_or_from_slice_get groups comm group [] known) ∙ ap (λ (m : Option ℕ). unwrap_or m 0) is
 
-new-request : (issued line : ℕ) (groups : List (List ℕ)) (rank comm : ℕ) (sig : Signature) (starts : List (List ℕ)) → (is : IsPosting groups rank comm sig) → AllByRecursion (λ given. length given ≡ given_len sig (length is.group) is.member) starts → length starts ≤ issued + 1
-    → IsRequest (issued + 1) groups rank (request groups line rank comm sig starts)
-new-request issued line groups rank comm sig starts is given few = record {
+new-request : (issued line : ℕ) (groups : List (List ℕ)) (rank comm place : ℕ) (sig : Signature) → IsPosting groups rank comm sig → IsRequest issued groups rank (request groups line rank comm place sig)
+new-request issued line groups rank comm place sig is = record {
   group = is.group;
   known = is.known;
   member = is.is_member ∙ ap Some (sym (member-is groups rank comm is.group is.member is.known is.is_member));
   checked = is.checked;
-  given = rw (member-is groups rank comm is.group is.member is.known is.is_member) given;
-  few = few;
+  given = tt;
+  few = omega arith;
 }
 
-map-changed_same : (q : ℕ) (given : List ℕ) (requests : List Request) → map posting_of (changed_at q (started given) requests) ≡ map posting_of requests
-map-changed_same q given [] = refl
-map-changed_same zero given (p ∷ requests) = refl
-map-changed_same (suc q) given (p ∷ requests) = ap (λ (ps : List Posting). posting_of p ∷ ps) (map-changed_same q given requests)
+map-changed_same : (q line : ℕ) (given : List ℕ) (requests : List Request) → map posting_of (changed_at q (started line given) requests) ≡ map posting_of requests
+map-changed_same q line given [] = refl
+map-changed_same zero line given (p ∷ requests) = refl
+map-changed_same (suc q) line given (p ∷ requests) = ap (λ (ps : List Posting). posting_of p ∷ ps) (map-changed_same q line given requests)
 
 changed-all : (P Q : Request → Type 0) (f : Request → Request) (q : ℕ) (requests : List Request) → ((p : Request) → P p → Q p) → ((p : Request) → slice_get requests q ≡ Some p → P p → Q (f p)) → AllByRecursion P requests → AllByRecursion Q (changed_at q f requests)
 changed-all P Q f q [] others here are = tt
 changed-all P Q f zero (p ∷ requests) others here are = (here p refl are.0, AllByRecursion-weaker P Q others requests are.1)
 changed-all P Q f (suc q) (p ∷ requests) others here are = (others p are.0, changed-all P Q f q requests others here are.1)
 
-started-request : (issued : ℕ) (groups : List (List ℕ)) (rank : ℕ) (given : List ℕ) (p : Request) → IsRequest issued groups rank p → length given ≡ given_len p.sig (length (group_of groups p.comm)) (unwrap_or (member_of rank (group_of groups p.comm)) 0)
-    → IsRequest (issued + 1) groups rank (started given p)
-started-request issued groups rank given p is fits =
+started-request : (issued line : ℕ) (groups : List (List ℕ)) (rank : ℕ) (given : List ℕ) (p : Request) → IsRequest issued groups rank p → length given ≡ given_len p.sig (length (group_of groups p.comm)) (unwrap_or (member_of rank (group_of groups p.comm)) 0)
+    → IsRequest (issued + 1) groups rank (started line given p)
+started-request issued line groups rank given p is fits =
     let group : group_of groups p.comm ≡ is.group = get_or_from_slice_get groups p.comm is.group [] is.known in
     let due = fits ∙ ap (λ (g : List ℕ). given_len p.sig (length g) (unwrap_or (member_of rank (group_of groups p.comm)) 0)) group ∙ ap (given_len p.sig (length is.group)) (member-is groups rank p.comm is.group p.member is.known is.member) in
     record {
@@ -88,19 +87,19 @@ posts-one issued line groups rank commands requests c p posts is are = (
 requested-step : (issued line : ℕ) (groups : List (List ℕ)) (rank : ℕ) (commands : List Command) (requests : List Request) (c : Command) → MayIssue groups rank commands c → AreRequested issued groups rank commands requests
     → AreRequested (issued + 1) groups rank (commands ++ c ∷ []) (requests_after groups line rank c requests)
 requested-step issued line groups rank commands requests (Post comm sig given) may are =
-    let is = may.0 in
-    let group : group_of groups comm ≡ is.group = get_or_from_slice_get groups comm is.group [] is.known in
-    let due = may.1 ∙ ap (λ (g : List ℕ). given_len sig (length g) (unwrap_or (member_of rank (group_of groups comm)) 0)) group ∙ ap (given_len sig (length is.group)) (member-is groups rank comm is.group is.member is.known is.is_member) in
-    posts-one issued line groups rank commands requests (Post comm sig given) (request groups line rank comm sig (given ∷ [])) refl (new-request issued line groups rank comm sig (given ∷ []) is (due, tt) (omega arith)) are
+    let p = request groups line rank comm (place_on comm requests) sig in
+    let is = new-request issued line groups rank comm (place_on comm requests) sig may.0 in
+    posts-one issued line groups rank commands requests (Post comm sig given) (started line given p) refl (started-request issued line groups rank given p is may.1) are
 requested-step issued line groups rank commands requests (Init comm sig) may are =
-    posts-one issued line groups rank commands requests (Init comm sig) (request groups line rank comm sig []) refl (new-request issued line groups rank comm sig [] may tt (omega arith)) are
+    let p = request groups line rank comm (place_on comm requests) sig in
+    posts-one issued line groups rank commands requests (Init comm sig) p refl (new-request (issued + 1) line groups rank comm (place_on comm requests) sig may) are
 requested-step issued line groups rank commands requests (Start q given) may are = (
-  map-changed_same q given requests ∙ (posts-nothing issued groups rank commands requests (Start q given) refl are).0,
-  changed-all (IsRequest issued groups rank) (IsRequest (issued + 1) groups rank) (started given) q requests (λ p is. IsRequest-later issued (issued + 1) groups rank p (omega arith) is)
+  map-changed_same q line given requests ∙ (posts-nothing issued groups rank commands requests (Start q given) refl are).0,
+  changed-all (IsRequest issued groups rank) (IsRequest (issued + 1) groups rank) (started line given) q requests (λ p is. IsRequest-later issued (issued + 1) groups rank p (omega arith) is)
       (λ p at is.
       let there : Some (posting_of p) ≡ Some may.p = sym (ap (option_map posting_of) at) ∙ sym (slice_get-map posting_of requests q) ∙ ap (λ (ps : List Posting). slice_get ps q) are.0 ∙ may.known in
       let same : posting_of p ≡ may.p = same_Some (posting_of p) may.p there in
-      started-request issued groups rank given p is (may.fits ∙ ap (λ (r : Posting). given_len r.sig (length (group_of groups r.comm)) (unwrap_or (member_of rank (group_of groups r.comm)) 0)) (sym same)))
+      started-request issued line groups rank given p is (may.fits ∙ ap (λ (r : Posting). given_len r.sig (length (group_of groups r.comm)) (unwrap_or (member_of rank (group_of groups r.comm)) 0)) (sym same)))
       are.1,
 )
 requested-step issued line groups rank commands requests (Wait q) may are = posts-nothing issued groups rank commands requests (Wait q) refl are

@@ -1,6 +1,6 @@
 -- What the code's functions owe to the definitions.
 use Rattle.std.specs.Prelude.{◌≡◌, ℕ, ◌<◌, ◌≤◌, nat_lt, pos, false, if◌then◌else◌, Some, IfSome, is_some, unwrap_or}
-use Rattle.std.specs.Prelude.{List, [], ◌∷◌, length, map, flat_map, slice_get, slice_index, Vec, Result, Ok, Err}
+use Rattle.std.specs.Prelude.{List, [], ◌∷◌, ◌++◌, ◌==◌, length, map, flat_map, count_by, slice_get, slice_index, Vec, Result, Ok, Err}
 use Rattle.std.specs.Global.{Global}
 use Rattle.std.specs.List.{list_any, list_all, AllByRecursion, range_with_len}
 use denote.Ref.{Bor}
@@ -14,6 +14,7 @@ use Rattle.coll_history.specs.declared.fault.ScriptFault.{ScriptFault}
 use Rattle.coll_history.specs.declared.fault.ScriptFault.TheVariants as script
 use Rattle.coll_history.specs.declared.reader.Reader.{Reader}
 use Rattle.coll_history.specs.declared.request.Request as rust_request
+use Rattle.coll_history.specs.declared.request.Start as rust_start
 use Rattle.coll_history.specs.declared.section.SectionEntry.{SectionEntry}
 use Rattle.coll_history.specs.declared.section.Section.{Section}
 use Rattle.coll_history.specs.Histories.{History, Posting, postings, issued_by, may_be_active, frees, total}
@@ -38,9 +39,14 @@ texts words = map (λ word. word.now) words
 abbrev pub rows_view : List (Vec ℕ Global) → List (List ℕ)
 rows_view rows = map (λ row. row.items) rows
 
+-- what starts give
+abbrev pub givens : List rust_start.Start → List (List ℕ)
+givens starts = map (λ s. s.given.now) starts
+
 -- a request as the definitions have it
 abbrev pub request_view : rust_request.Request → Request
-request_view p = record { line = p.line; comm = p.comm; member = p.member; sig = p.sig; starts = texts p.starts.items }
+request_view p =
+    record { line = p.line; comm = p.comm; place = p.place; member = p.member; sig = p.sig; starts = givens p.starts.items; lines = map (λ s. s.line) p.starts.items }
 
 -- the requests of each rank
 abbrev pub requests_view : List (Vec rust_request.Request Global) → List (List Request)
@@ -135,6 +141,25 @@ fault_in_line number lines.NoMemory = script.NoMemory
 -- the history of a job of n ranks that has said nothing else
 abbrev pub begun : ℕ → History → History
 begun n h = record h { ranks = Some n; groups = range_with_len 0 n ∷ [] }
+
+-- ---- places
+
+-- the communicator and the place of a request
+abbrev pub spot : Request → ℕ × ℕ
+spot p = (p.comm, p.place)
+
+-- the place that these leave on a communicator
+abbrev pub places_left : ℕ → List (ℕ × ℕ) → ℕ
+places_left comm spots = count_by (λ s. s.0 == comm) spots
+
+-- each of these stands at the place that those before it leave
+abbrev pub ArePlacedAfter : List (ℕ × ℕ) → List (ℕ × ℕ) → Type 0
+ArePlacedAfter before [] = Unit {0}
+ArePlacedAfter before (s ∷ spots) = (s.1 ≡ places_left s.0 before) × ArePlacedAfter (before ++ s ∷ []) spots
+
+-- and so do these requests of a rank
+abbrev pub ArePlaced : List Request → Type 0
+ArePlaced requests = ArePlacedAfter [] (map spot requests)
 
 -- ---- counters
 

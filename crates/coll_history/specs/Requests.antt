@@ -1,5 +1,5 @@
 -- The requests of a rank: a post and an init make one each, numbered from 0, and a start gives to one of them.
-use Rattle.std.specs.Prelude.{ℕ, zero, suc, ◌==◌, List, [], ◌∷◌, ◌++◌, map, fold, filter, unwrap_or}
+use Rattle.std.specs.Prelude.{ℕ, zero, suc, ◌==◌, List, [], ◌∷◌, ◌++◌, map, fold, filter, count_by, unwrap_or}
 use Rattle.std.specs.List.{range_with_len}
 use Rattle.coll_kinds.specs.declared.signature.Signature.{Signature}
 use Rattle.coll_kinds.specs.Groups.{member_of}
@@ -12,18 +12,26 @@ use Rattle.coll_history.specs.Histories.{History, group_of}
 pub record Request : Type 0 where
   pub line : ℕ  -- the line that makes it
   pub comm : ℕ  -- its communicator
+  pub place : ℕ  -- how many requests the rank made there before
   pub member : ℕ  -- its rank's number there
   pub sig : Signature  -- its signature, mode included
   pub starts : List (List ℕ)  -- the rank's contribution at each start; a post is one
+  pub lines : List ℕ  -- the line of each start
 
--- the request that a rank's line makes on a communicator
-abbrev pub request : List (List ℕ) → ℕ → ℕ → ℕ → Signature → List (List ℕ) → Request
-request groups line rank comm sig starts = record {
+-- the place of a rank's next request on a communicator, after these
+abbrev pub place_on : ℕ → List Request → ℕ
+place_on comm requests = count_by (λ p. p.comm == comm) requests
+
+-- the request that a rank's line makes at a place of a communicator, before its first start
+abbrev pub request : List (List ℕ) → ℕ → ℕ → ℕ → ℕ → Signature → Request
+request groups line rank comm place sig = record {
   line = line;
   comm = comm;
+  place = place;
   member = unwrap_or (member_of rank (group_of groups comm)) 0;
   sig = sig;
-  starts = starts;
+  starts = [];
+  lines = [];
 }
 
 -- the list with one place changed
@@ -32,18 +40,18 @@ changed_at k f [] = []
 changed_at zero f (x ∷ xs) = f x ∷ xs
 changed_at (suc k) f (x ∷ xs) = x ∷ changed_at k f xs
 
--- the request with one more start, which gives these bytes
-abbrev pub started : List ℕ → Request → Request
-started given p = record p { starts = p.starts ++ given ∷ [] }
+-- the request with one more start, in that line, which gives these bytes
+abbrev pub started : ℕ → List ℕ → Request → Request
+started line given p = record p { starts = p.starts ++ given ∷ []; lines = p.lines ++ line ∷ [] }
 
 -- the requests of a rank after a command of it, in that line
 abbrev pub requests_after : List (List ℕ) → ℕ → ℕ → Command → List Request → List Request
 requests_after groups line rank (Post comm sig given) requests =
-    requests ++ request groups line rank comm sig (given ∷ []) ∷ []
+    requests ++ started line given (request groups line rank comm (place_on comm requests) sig) ∷ []
 requests_after groups line rank (Init comm sig) requests =
-    requests ++ request groups line rank comm sig [] ∷ []
+    requests ++ request groups line rank comm (place_on comm requests) sig ∷ []
 requests_after groups line rank (Start q given) requests =
-    changed_at q (started given) requests
+    changed_at q (started line given) requests
 requests_after groups line rank command requests = requests
 
 -- the requests of one rank after all its commands

@@ -4,7 +4,7 @@ use Rattle.std.specs.Prelude.{refl}
 use Rattle.coll_kinds.specs.declared.datatype.Datatype.TheVariants.{I8}
 use Rattle.coll_kinds.specs.declared.operation.Op.TheVariants.{Sum}
 use Rattle.coll_kinds.specs.declared.kind.Kind.TheVariants.{Allreduce}
-use Rattle.coll_kinds.specs.declared.kind.Mode.TheVariants.{Persistent}
+use Rattle.coll_kinds.specs.declared.kind.Mode.TheVariants.{Once, Persistent}
 use Rattle.coll_kinds.specs.declared.signature.Signature.{Signature}
 use Rattle.coll_history.specs.declared.cause.Cause.{Cause}
 use Rattle.coll_history.specs.declared.cause.Cause.TheVariants.{MissingRanks, UnknownCommand, OutOfPlace, BadWords}
@@ -12,12 +12,14 @@ use Rattle.coll_history.specs.declared.cause.Cause.TheVariants.{BadNumber, BadRa
 use Rattle.coll_history.specs.declared.cause.Cause.TheVariants.{WrongValueCount, BadValue, UnknownRequest, NamedTwice}
 use Rattle.coll_history.specs.declared.cause.Cause.TheVariants.{NotStartable}
 use Rattle.coll_history.specs.declared.fault.Fault.{Fault}
-use Rattle.coll_history.specs.declared.command.Command.TheVariants.{Init, Start, WaitAny, WaitAll}
+use Rattle.coll_history.specs.declared.command.Command.TheVariants.{Post, Init, Start, Wait, WaitAny, WaitAll}
+use Rattle.coll_history.specs.declared.issued_command.IssuedCommand.{IssuedCommand}
 use Rattle.coll_history.specs.Histories.{History, beginning}
 use Rattle.coll_history.specs.Lines.{fields, signature, values, post, init, startable, start, free}
 use Rattle.coll_history.specs.Lines.{ranks, comm, section, command, line}
 use Rattle.coll_history.specs.Cutting.{lines_of}
 use Rattle.coll_history.specs.Judging.{judged}
+use Rattle.coll_history.specs.Requests.{requests_of}
 use Rattle.coll_history.specs.Writing.{text_of}
 
 -- the line and the cause of a fault, if there is one
@@ -290,6 +292,28 @@ told : judged 1 beginning told_lines
     })
 unfolding line ranks comm section command post init start startable free signature fields values
 told = refl
+
+-- ---- requests
+
+-- commands of rank 1, and one of rank 0 among them
+abbrev asked : List IssuedCommand
+asked =
+    record { line = 5; rank = 1; command = Init 1 sum }
+    ∷ record { line = 6; rank = 0; command = Init 0 sum }
+    ∷ record { line = 7; rank = 1; command = Post 0 (record sum { mode = Once }) (1 ∷ 2 ∷ []) }
+    ∷ record { line = 8; rank = 1; command = Init 1 sum }
+    ∷ record { line = 9; rank = 1; command = Start 0 (5 ∷ 255 ∷ []) }
+    ∷ record { line = 10; rank = 1; command = Wait 0 }
+    ∷ record { line = 11; rank = 1; command = Start 0 (6 ∷ 7 ∷ []) }
+    ∷ []
+
+-- places are counted on each communicator by itself, and each start has its line; a post is a start in its own line
+requested : requests_of ((0 ∷ 1 ∷ []) ∷ (1 ∷ []) ∷ []) 1 asked
+    ≡ record { line = 5; comm = 1; place = 0; member = 0; sig = sum; starts = (5 ∷ 255 ∷ []) ∷ (6 ∷ 7 ∷ []) ∷ []; lines = 9 ∷ 11 ∷ [] }
+    ∷ record { line = 7; comm = 0; place = 0; member = 1; sig = record sum { mode = Once }; starts = (1 ∷ 2 ∷ []) ∷ []; lines = 7 ∷ [] }
+    ∷ record { line = 8; comm = 1; place = 1; member = 0; sig = sum; starts = []; lines = [] }
+    ∷ []
+requested = refl
 
 -- ---- what is accepted could have been said
 

@@ -115,7 +115,7 @@ impl History {
         Ok(commands)
     }
 
-    /// The requests of each rank. Linear in the commands.
+    /// The requests of each rank. Linear in the commands, and for each communicator in the requests.
     pub fn requests<'a>(&'a self, alloc: Global) -> Result<Vec<Vec<Request<'a>>>, AllocError>
         ensures view { IfOk result (λ ranks. requests_view ranks.items ≡ requests self.now) }
         ensures sound { OnOk result (IsSound self.now) }

@@ -14,7 +14,7 @@
 //! | `signatures`, `communicators`, `values`, `requests` | readers of a line's words, from the left |
 //! | `verb`, `commands`, `lines` | what a line says |
 //! | `section`, `reader` | what is kept of a section and of a text while their lines are read |
-//! | `history`, `request` | `History`, what the lines have said, and `Request` |
+//! | `history`, `request` | `History`, what the lines have said; `Request`, and `Start`, one of its starts |
 //! | `laws` | laws of all texts |
 #![tactic(auto)]
 
@@ -49,4 +49,4 @@ pub use history::History;
 pub use issued_command::IssuedCommand;
 pub use named::Named;
 pub use posted::OwnSignature;
-pub use request::Request;
+pub use request::{Request, Start};

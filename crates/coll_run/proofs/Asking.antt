@@ -8,7 +8,7 @@ use Rattle.std.proofs.lemmas.List.{length-map, map-append}
 use Rattle.std.proofs.lemmas.Option.{slice_get_within}
 use Rattle.coll_history.specs.Histories.{History, commands_of, issued_by, postings}
 use Rattle.coll_history.specs.Requests as history
-use Rattle.coll_history.specs.Requests.{Request, request, requests, requests_after, started}
+use Rattle.coll_history.specs.Requests.{Request, place_on, request, requests, requests_after, started}
 use Rattle.coll_history.specs.Code.{request_view, requests_view}
 use Rattle.coll_history.specs.Sound.{IsRequest, IsSound}
 use Rattle.coll_history.specs.declared.request.Request as rust
@@ -23,19 +23,20 @@ use Rattle.coll_run.specs.Commands.{all_traced, as_asked, commands_by, traced}
 use Rattle.coll_run.specs.Index.{IsFew}
 use Rattle.coll_run.specs.Laws.{CommandsAsk}
 
-start_seen : (given : List ℕ) (q : ℕ) (xs : List Request)
-    → changed_at q (one_more given) (map as_asked xs) ≡ map as_asked (history.changed_at q (started given) xs)
-start_seen given q [] = refl
-start_seen given zero (p ∷ xs) = refl
-start_seen given (suc q) (p ∷ xs) = ap (λ (l : List Asked). as_asked p ∷ l) (start_seen given q xs)
+start_seen : (n : ℕ) (given : List ℕ) (q : ℕ) (xs : List Request)
+    → changed_at q (one_more given) (map as_asked xs) ≡ map as_asked (history.changed_at q (started n given) xs)
+start_seen n given q [] = refl
+start_seen n given zero (p ∷ xs) = refl
+start_seen n given (suc q) (p ∷ xs) = ap (λ (l : List Asked). as_asked p ∷ l) (start_seen n given q xs)
 
 -- one command asks for what its line makes
 one_seen : (groups : List (List ℕ)) (n rank : ℕ) (c : text.Command) (xs : List Request)
     → asked_from (map as_asked xs) (traced c ∷ []) ≡ map as_asked (requests_after groups n rank c xs)
 one_seen groups n rank (line.Post comm sig given) xs =
-    sym (map-append as_asked xs (request groups n rank comm sig (given ∷ []) ∷ []))
-one_seen groups n rank (line.Init comm sig) xs = sym (map-append as_asked xs (request groups n rank comm sig [] ∷ []))
-one_seen groups n rank (line.Start q given) xs = start_seen given q xs
+    sym (map-append as_asked xs (started n given (request groups n rank comm (place_on comm xs) sig) ∷ []))
+one_seen groups n rank (line.Init comm sig) xs =
+    sym (map-append as_asked xs (request groups n rank comm (place_on comm xs) sig ∷ []))
+one_seen groups n rank (line.Start q given) xs = start_seen n given q xs
 one_seen groups n rank (line.Wait q) xs = refl
 one_seen groups n rank (line.Test q) xs = refl
 one_seen groups n rank (line.Free q) xs = refl

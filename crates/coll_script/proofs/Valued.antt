@@ -12,9 +12,9 @@ use Rattle.coll_kinds.specs.Checks.{broken}
 use Rattle.coll_ops.specs.Contributions.{AreGiven}
 use Rattle.coll_ops.specs.Values.{row_of}
 use Rattle.coll_history.specs.declared.request.Request as rust
+use Rattle.coll_history.specs.declared.request.Start as rust_start
 use Rattle.coll_history.specs.Requests.{Request}
-use denote.Ref.{Bor}
-use Rattle.coll_history.specs.Code.{request_view, rows_view, texts}
+use Rattle.coll_history.specs.Code.{request_view, rows_view, givens}
 use Rattle.coll_history.proofs.Lists.{slice_get-view, AllByRecursion-read}
 use Rattle.coll_script.specs.Matching.{first_list}
 use Rattle.coll_script.specs.Meaning.{given_by, given_at}
@@ -29,8 +29,8 @@ length-lists_view lists = length-map lists _
 pub length-rows_view : (rows : List (Vec ℕ Global)) → length (rows_view rows) ≡ length rows
 length-rows_view rows = length-map rows _
 
-pub length-texts : (rows : List (Bor (List ℕ))) → length (texts rows) ≡ length rows
-length-texts rows = length-map rows _
+pub length-givens : (starts : List rust_start.Start) → length (givens starts) ≡ length starts
+length-givens starts = length-map starts _
 
 pub list_at-view : (lists : List (Vec rust.Request Global)) (i : ℕ) (l : Vec rust.Request Global) → i < length lists → l ≡ get_or lists i l → list_at (lists_view lists) i ≡ list_view l.items
 list_at-view lists i l lt is = ap (λ (o : Option (List Request)). unwrap_or o []) (slice_get-view (λ (v : Vec rust.Request Global). list_view v.items) lists i l lt is)

@@ -33,7 +33,7 @@ fn given_at(
 {
     let mut rows = Vec::new(alloc);
     for list in lists {
-        rows.push(Vec::from_slice(alloc, list[place].starts[start])?)?;
+        rows.push(Vec::from_slice(alloc, list[place].starts[start].given)?)?;
     }
     Ok(rows)
 }

@@ -7,7 +7,7 @@ use Rattle.coll_script.specs.Outcomes.{start_values, members_view, place_view}
 use Rattle.coll_script.specs.PostingViews.{lists_view}
 use Rattle.coll_script.proofs.Loops.{map_range-more}
 use Rattle.coll_script.proofs.Posted.{map-push}
-use Rattle.coll_script.proofs.Valued.{length-lists_view, length-texts, HaveStart-matched, broken-matched, AreGiven-matched}
+use Rattle.coll_script.proofs.Valued.{length-lists_view, length-givens, HaveStart-matched, broken-matched, AreGiven-matched}
 use Rattle.coll_script.proofs.evaluation.place_values.Goals as goal
 
 pub start_values-requires-clause-checked : goal.start_values-requires-clause-checked
@@ -15,12 +15,12 @@ start_values-requires-clause-checked c = broken-matched (length c.args.lists.now
 
 pub start_values-requires-clause-starts : goal.start_values-requires-clause-starts
 start_values-requires-clause-starts c =
-    let len = length-texts c.args.request.now.starts.items in
+    let len = length-givens c.args.request.now.starts.items in
     HaveStart-matched (length c.args.lists.now) c.args.place c.loop-start.start (lists_view c.args.lists.now) (request_view c.args.request.now) c.requires.matched c.requires.there (omega (arith, c.loop-start-test.true, c.len-start-end.ensures, c.args.request.now.starts.ok, len))
 
 pub start_values-requires-clause-given : goal.start_values-requires-clause-given
 start_values-requires-clause-given c =
-    let len = length-texts c.args.request.now.starts.items in
+    let len = length-givens c.args.request.now.starts.items in
     AreGiven-matched (length c.args.lists.now) c.args.place c.loop-start.start (lists_view c.args.lists.now) (request_view c.args.request.now) c.requires.matched c.requires.there (omega (arith, c.loop-start-test.true, c.len-start-end.ensures, c.args.request.now.starts.ok, len))
 
 pub loop-start-preserved : goal.loop-start-preserved

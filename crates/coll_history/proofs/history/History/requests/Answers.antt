@@ -7,10 +7,11 @@ use Rattle.coll_history.specs.declared.issued_command.IssuedCommand.{IssuedComma
 use Rattle.coll_history.specs.Histories.{History}
 use Rattle.coll_history.specs.Requests.{Request, requests_after, requests_of}
 use Rattle.coll_history.specs.Sound.{IsHistory}
-use Rattle.coll_history.specs.Code.{rows_view, request_view, requests_view}
+use Rattle.coll_history.specs.Code.{rows_view, request_view, requests_view, ArePlaced}
 use Rattle.coll_history.proofs.Lists.{take-all}
 use Rattle.coll_history.proofs.Keeping.{each-set}
 use Rattle.coll_history.proofs.Sounds.{few-members}
+use Rattle.coll_history.proofs.Placed.{placed-of}
 use Rattle.coll_history.proofs.Requested.{requests-own, requests-other}
 use Rattle.coll_history.proofs.Soundly.{IsHistory-sound, next-allowed, take-next, may-name, all-step, views-range}
 use Rattle.coll_history.proofs.history.History.requests.Goals as goal
@@ -47,6 +48,20 @@ note-requires-clause-known c =
     let made : map request_view c.index_mut.result.now.items ≡ requests_of h.groups t.rank (take i h.commands) = rw at at (c.loop-issued.invariant.made t.rank) in
     let long : length c.index_mut.result.now.items ≡ length (requests_of h.groups t.rank (take i h.commands)) = sym (length-map c.index_mut.result.now.items request_view) ∙ ap length made in
     may-name h.groups (take i h.commands) t (length c.index_mut.result.now.items) c.loop-issued.invariant.all long next.0.1
+
+pub note-requires-clause-placed : goal.note-requires-clause-placed
+note-requires-clause-placed c =
+    let h = c.args.self.now in
+    let i = c.loop-issued.issued-index in
+    let t = c.issued-item.result in
+    let same : c.deref-issued-items.result.now ≡ h.commands = c.deref-issued-items.ensures.value ∙ ap (λ (x : History). x.commands) c.self.view_is in
+    let lt : i < length h.commands = omega (arith, c.loop-issued-test.true, ap length same) in
+    let is : t ≡ get_or h.commands i t = c.issued-item.is ∙ ap (λ (ts : List IssuedCommand). get_or ts i t) same in
+    let next = next-allowed (unwrap_or h.ranks 0) h.groups h.commands i t lt is c.loop-issued.invariant.allowed in
+    let within : t.rank < length c.loop-issued.ranks.items = omega (arith, next.0.0, c.loop-issued.invariant.count) in
+    let at = slice_get_read c.loop-issued.ranks.items (length c.loop-issued.ranks.items) t.rank c.index_mut.result.now refl within c.index_mut.ensures.value in
+    let made : map request_view c.index_mut.result.now.items ≡ requests_of h.groups t.rank (take i h.commands) = rw at at (c.loop-issued.invariant.made t.rank) in
+    subst ArePlaced (sym made) (placed-of h.groups t.rank (take i h.commands))
 
 pub loop-issued-preserved : goal.loop-issued-preserved
 loop-issued-preserved c =
