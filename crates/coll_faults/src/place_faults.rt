@@ -2,9 +2,8 @@
 
 use crate::difference::{Difference, differences};
 use crate::draft::Written;
-use crate::postings::{ComparedRequest, PostingList, all_postings};
-use coll_history::History;
-use coll_kinds::Signature;
+use crate::postings::{PostingList, all_postings};
+use coll_history::{History, Request};
 use coll_script::Cause;
 use std::alloc::{AllocError, Global};
 
@@ -122,29 +121,25 @@ fn push_by_line(mismatches: &mut Vec<Mismatch>, mismatch: Mismatch) -> Result<()
     Ok(())
 }
 
-/// A request at a place, as far as it is compared with the others there.
+/// A request at a place, with its rank.
 #[derive(Clone, Copy)]
-struct PlaceRequest {
+struct Seat<'p> {
     rank: u8,
-    line: u32,
-    sig: Signature,
-    starts: usize,
+    request: &'p Request<'p>,
 }
 
 /// The requests at a place, of the members that have one.
-fn at_place(
+fn at_place<'p>(
     alloc: Global,
-    lists: &[PostingList],
+    lists: &'p [PostingList<'p>],
     place: usize,
-) -> Result<Vec<PlaceRequest>, AllocError> {
+) -> Result<Vec<Seat<'p>>, AllocError> {
     let mut seats = Vec::new(alloc);
     for list in lists {
-        if let Some(posted) = list.posted.get(place) {
-            seats.push(PlaceRequest {
-                rank: posted.rank,
-                line: posted.line,
-                sig: posted.sig,
-                starts: posted.starts.len(),
+        if let Some(request) = list.requests.get(place) {
+            seats.push(Seat {
+                rank: list.rank,
+                request,
             })?;
         }
     }
@@ -152,11 +147,11 @@ fn at_place(
 }
 
 /// The request in the earliest line.
-fn earliest(seats: &[PlaceRequest]) -> Option<PlaceRequest> {
-    let mut earliest: Option<PlaceRequest> = None;
+fn earliest<'p>(seats: &[Seat<'p>]) -> Option<Seat<'p>> {
+    let mut earliest: Option<Seat<'p>> = None;
     for seat in seats {
         let is_earlier = match earliest {
-            Some(first) => seat.line < first.line,
+            Some(first) => seat.request.line < first.request.line,
             None => true,
         };
         if is_earlier {
@@ -170,25 +165,25 @@ fn earliest(seats: &[PlaceRequest]) -> Option<PlaceRequest> {
 fn places(lists: &[PostingList]) -> usize {
     let mut places: usize = 0;
     for list in lists {
-        places = places.max(list.posted.len());
+        places = places.max(list.requests.len());
     }
     places
 }
 
-fn standing_of(written: &Written, seat: PlaceRequest, first: PlaceRequest) -> PlacedRequest {
+fn standing_of(written: &Written, seat: Seat<'_>, first: Seat<'_>) -> PlacedRequest {
     PlacedRequest {
         rank: seat.rank,
-        line: written.of(seat.line),
-        agrees: seat.sig == first.sig,
+        line: written.of(seat.request.line),
+        agrees: seat.request.sig == first.request.sig,
     }
 }
 
 /// The request in the earliest line, of those that differ from the earliest request at their place, with that place.
-fn first_to_differ(
+fn first_to_differ<'p>(
     alloc: Global,
-    lists: &[PostingList],
-) -> Result<Option<(usize, PlaceRequest)>, AllocError> {
-    let mut least: Option<(usize, PlaceRequest)> = None;
+    lists: &'p [PostingList<'p>],
+) -> Result<Option<(usize, Seat<'p>)>, AllocError> {
+    let mut least: Option<(usize, Seat<'p>)> = None;
     for place in 0..places(lists) {
         let seats = at_place(alloc, lists, place)?;
         if let Some(first) = earliest(&seats) {
@@ -199,19 +194,19 @@ fn first_to_differ(
 }
 
 /// The request in the earliest line: `least`, or one of this place that differs from the earliest request there.
-fn lesser(
-    least: Option<(usize, PlaceRequest)>,
+fn lesser<'p>(
+    least: Option<(usize, Seat<'p>)>,
     place: usize,
-    first: PlaceRequest,
-    seats: &[PlaceRequest],
-) -> Option<(usize, PlaceRequest)> {
+    first: Seat<'p>,
+    seats: &[Seat<'p>],
+) -> Option<(usize, Seat<'p>)> {
     let mut least = least;
     for seat in seats {
         let is_lesser = match least {
-            Some((_, other)) => seat.line < other.line,
+            Some((_, other)) => seat.request.line < other.request.line,
             None => true,
         };
-        if is_lesser && seat.sig != first.sig {
+        if is_lesser && seat.request.sig != first.request.sig {
             least = Some((place, *seat));
         }
     }
@@ -241,7 +236,7 @@ fn mismatch_on(
         place,
         first: standing_of(written, first, first),
         differs: standing_of(written, differs, first),
-        fields: differences(alloc, &differs.sig, &first.sig)?,
+        fields: differences(alloc, &differs.request.sig, &first.request.sig)?,
         members,
         elsewhere: elsewhere(written, lists, differs, first),
     }))
@@ -251,13 +246,13 @@ fn mismatch_on(
 fn elsewhere(
     written: &Written,
     lists: &[PostingList],
-    differs: PlaceRequest,
-    first: PlaceRequest,
+    differs: Seat<'_>,
+    first: Seat<'_>,
 ) -> Option<(usize, u32)> {
     let list = lists.iter().find(|list| list.rank == differs.rank)?;
-    for (place, posted) in list.posted.iter().enumerate() {
-        if posted.sig == first.sig {
-            return Some((place, written.of(posted.line)));
+    for request in &list.requests {
+        if request.sig == first.request.sig {
+            return Some((request.place, written.of(request.line)));
         }
     }
     None
@@ -272,7 +267,7 @@ fn missing_place(
 ) -> Result<Option<MissingPlace>, AllocError> {
     let mut least = places(lists);
     for list in lists {
-        least = least.min(list.posted.len());
+        least = least.min(list.requests.len());
     }
     let seats = at_place(alloc, lists, least)?;
     let Some(first) = earliest(&seats) else {
@@ -280,8 +275,8 @@ fn missing_place(
     };
     let mut lacking = Vec::new(alloc);
     for list in lists {
-        if list.posted.len() <= least {
-            lacking.push((list.rank, list.posted.len()))?;
+        if list.requests.len() <= least {
+            lacking.push((list.rank, list.requests.len()))?;
         }
     }
     Ok(Some(MissingPlace {
@@ -321,29 +316,33 @@ fn all_started(
 ) -> Result<Vec<(u8, u32, Vec<u32>)>, AllocError> {
     let mut members = Vec::new(alloc);
     for list in lists {
-        if let Some(posted) = list.posted.get(place) {
-            members.push(started(alloc, written, posted)?)?;
+        if let Some(request) = list.requests.get(place) {
+            members.push(started(alloc, written, list.rank, request)?)?;
         }
     }
     Ok(members)
 }
 
-/// The rank of a request, its line, and the lines of its starts.
+/// A rank, the line of its request, and the lines of the request's starts.
 fn started(
     alloc: Global,
     written: &Written,
-    posted: &ComparedRequest,
+    rank: u8,
+    request: &Request<'_>,
 ) -> Result<(u8, u32, Vec<u32>), AllocError> {
     let mut starts = Vec::new(alloc);
-    for line in &posted.starts {
-        starts.push(written.of(*line))?;
+    for start in &request.starts {
+        starts.push(written.of(start.line))?;
     }
-    Ok((posted.rank, written.of(posted.line), starts))
+    Ok((rank, written.of(request.line), starts))
 }
 
-fn are_started_alike(seats: &[PlaceRequest]) -> bool {
+fn are_started_alike(seats: &[Seat<'_>]) -> bool {
     match seats.first() {
-        Some(first) => seats.iter().all(|seat| seat.starts == first.starts),
+        Some(first) => {
+            let starts = first.request.starts.len();
+            seats.iter().all(|seat| seat.request.starts.len() == starts)
+        }
         None => true,
     }
 }
