@@ -5,9 +5,7 @@ use Rattle.std.specs.List.{zip}
 use Rattle.std.proofs.lemmas.Option.{get_or_from_slice_get, slice_get-get_or}
 use Rattle.coll_kinds.specs.declared.refusal.Refusal.{Refusal}
 use Rattle.coll_kinds.specs.declared.ticket.Ticket.{Ticket}
-use Rattle.coll_machine.specs.Settings.{Setting}
-use Rattle.coll_machine.specs.Calls.{Call}
-use Rattle.coll_machine.specs.States.{Machine}
+use Rattle.coll_machine.specs.Common.{Setting, Call, Machine}
 use Rattle.coll_complete.specs.Starting.{Begun, DeniesAt, StartsAll, StartsAt, unused}
 
 starts-take : (g : Setting) (rank : ℕ) (bs : List Begun) (i : ℕ) (d : Begun) (m n k : Machine) → i < length bs

@@ -6,8 +6,7 @@ use Rattle.std.specs.Option.{option_or}
 use Rattle.std.proofs.lemmas.List.{drop_all}
 use Rattle.std.proofs.lemmas.Iterator.Adapters.{position_from-zero}
 use Rattle.coll_kinds.specs.declared.ticket.Ticket.{Ticket}
-use Rattle.coll_machine.specs.Settings.{Setting}
-use Rattle.coll_machine.specs.States.{Machine}
+use Rattle.coll_machine.specs.Common.{Setting, Machine}
 use Rattle.coll_complete.specs.declared.survey.Survey.{Survey}
 use Rattle.coll_complete.specs.Requests.{is_active, is_done, is_pending, list_refusal}
 

@@ -7,10 +7,7 @@ use Rattle.std.proofs.lemmas.List.{append-nil, map-append}
 use Rattle.std.proofs.lemmas.List.Elements.{filter-append}
 use Rattle.std.proofs.lemmas.Option.{get_or_from_slice_get, slice_get-get_or, slice_get_within}
 use Rattle.coll_kinds.specs.declared.ticket.Ticket.{Ticket}
-use Rattle.coll_machine.specs.Settings.{Setting}
-use Rattle.coll_machine.specs.States.{Machine, Request, State, found}
-use Rattle.coll_machine.specs.Refusals.{first_of, naming_refusals}
-use Rattle.coll_machine.specs.Runs.{Event, Runs}
+use Rattle.coll_machine.specs.Common.{Setting, Machine, Request, State, found, first_of, naming_refusals, Event, Runs}
 use Rattle.coll_core.specs.declared.outcome.Outcome.{Outcome}
 use Rattle.coll_core.specs.Phases.{phase_by, phase_of}
 use Rattle.coll_complete.specs.Requests.{AreDistinct, done_by, is_done, left_of, list_refusal, refusal_at, hold_after, hold_by}

@@ -1,8 +1,7 @@
 -- What a test for one request of a list returns (MPI 4.1, 3.7.5).
 use Rattle.std.specs.Prelude.{Bool, true, false, ℕ, List, [], Option, Some, None, slice_index_or, slice_set}
 use Rattle.coll_kinds.specs.declared.ticket.Ticket.{Ticket}
-use Rattle.coll_machine.specs.States.{Machine}
-use Rattle.coll_machine.specs.Runs.{Event}
+use Rattle.coll_machine.specs.Common.{Machine, Event}
 use Rattle.coll_complete.specs.declared.any.Any.{Any}
 use Rattle.coll_complete.specs.declared.any.Any.TheVariants.{Undefined, Unfinished, At}
 use Rattle.coll_complete.specs.Completing.{completion}

@@ -2,10 +2,8 @@
 use Rattle.std.specs.Prelude.{◌≡◌, ℕ, List, [], ◌∷◌, ◌++◌, filter, length, map, slice_index_or, Option, Some, None}
 use Rattle.std.specs.List.{flat_map, range_with_len}
 use Rattle.coll_kinds.specs.declared.ticket.Ticket.{Ticket}
-use Rattle.coll_machine.specs.Calls.{Free, Nothing, Outcome as Completed, Retire}
-use Rattle.coll_machine.specs.Runs.{Event, Runs}
-use Rattle.coll_machine.specs.Settings.{Setting}
-use Rattle.coll_machine.specs.States.{Machine}
+use Rattle.coll_machine.specs.Common.{Free, Nothing, Retire, Event, Runs, Setting, Machine}
+use Rattle.coll_machine.specs.Calls.{Outcome as Completed}
 use Rattle.coll_core.specs.declared.outcome.Outcome.{Outcome}
 use Rattle.coll_complete.specs.Requests.{is_done}
 

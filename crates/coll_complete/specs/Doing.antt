@@ -1,9 +1,7 @@
 -- What a core did: a run of the machine, in one setting.
 use Rattle.std.specs.Prelude.{◌≡◌, List, [], ◌∷◌, ◌++◌, refl}
 use Rattle.std.proofs.Common.{subst, sym, ◌∙◌}
-use Rattle.coll_machine.specs.Runs.{Event, Runs}
-use Rattle.coll_machine.specs.Settings.{Setting}
-use Rattle.coll_machine.specs.States.{Machine}
+use Rattle.coll_machine.specs.Common.{Event, Runs, Setting, Machine}
 use Rattle.coll_core.specs.Cores.{Parts, seen, setting}
 
 abbrev pub DidOn : Parts → List Event → Parts → Type 0

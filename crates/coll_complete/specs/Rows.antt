@@ -6,8 +6,7 @@ use Rattle.coll_kinds.specs.declared.kind.Mode.{Mode}
 use Rattle.coll_kinds.specs.declared.kind.Mode.TheVariants.{Once, Persistent}
 use Rattle.coll_kinds.specs.declared.refusal.Refusal.TheVariants.{Active, NotPersistent, NotYours, Stale}
 use Rattle.coll_kinds.specs.declared.ticket.Ticket.{Ticket}
-use Rattle.coll_machine.specs.Settings.{Setting}
-use Rattle.coll_machine.specs.States.{Machine, Request}
+use Rattle.coll_machine.specs.Common.{Setting, Machine, Request}
 use Rattle.coll_complete.specs.Anys.{left_at}
 use Rattle.coll_complete.specs.Completing.{done_positions}
 use Rattle.coll_complete.specs.Requests.{free_refusal, is_active, is_done, is_pending, left_of, list_refusal}

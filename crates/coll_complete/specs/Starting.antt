@@ -3,10 +3,7 @@ use Rattle.std.specs.Prelude.{◌≡◌, ℕ, List, [], ◌∷◌, ◌++◌, dro
 use Rattle.coll_kinds.specs.declared.refusal.Refusal.{Refusal}
 use Rattle.coll_kinds.specs.declared.refusal.Refusal.TheVariants.{Stale}
 use Rattle.coll_kinds.specs.declared.ticket.Ticket.{Ticket}
-use Rattle.coll_machine.specs.Settings.{Setting}
-use Rattle.coll_machine.specs.States.{Machine}
-use Rattle.coll_machine.specs.Calls.{Call, Nothing, Start}
-use Rattle.coll_machine.specs.Machines.{StepsTo}
+use Rattle.coll_machine.specs.Common.{Setting, Machine, Call, Nothing, Start, StepsTo}
 use Rattle.coll_core.specs.Calls.{Refuses}
 
 -- a request, and the bytes that its start is given

@@ -6,8 +6,7 @@ use Rattle.std.proofs.lemmas.Option.{none-some, same_Some}
 use Rattle.coll_kinds.specs.declared.ticket.Ticket.{Ticket}
 use Rattle.coll_kinds.proofs.Puts.{put_same, put_other}
 use Rattle.coll_sched.specs.declared.action.Action.{Action}
-use Rattle.coll_sched.specs.Points.{Over}
-use Rattle.coll_sched.specs.Worlds.{Progress}
+use Rattle.coll_sched.specs.Common.{Over, Progress}
 use Rattle.coll_arena.specs.declared.list_name.ListName.{ListName}
 use Rattle.coll_arena.specs.declared.list_name.ListName.TheVariants.{Free, Worn, Ready, Running, Idle, Queue, Done}
 use Rattle.coll_arena.specs.ListNames.{number_of}
@@ -18,10 +17,7 @@ use Rattle.coll_arena.specs.Sound.{IsSound}
 use Rattle.coll_arena.proofs.Sounds.{Named-names}
 use Rattle.coll_queues.specs.Postings.{Postings}
 use Rattle.coll_match.specs.Instances.{mail}
-use Rattle.coll_machine.specs.Settings.{Setting}
-use Rattle.coll_machine.specs.States.{Machine}
-use Rattle.coll_machine.specs.Calls.{Finish, Nothing}
-use Rattle.coll_machine.specs.Machines.{MachineStep, finish, MayFinish}
+use Rattle.coll_machine.specs.Common.{Setting, Machine, Finish, Nothing, MachineStep, finish, MayFinish}
 use Rattle.coll_tables.specs.Requests.{Live, advanced, key}
 use Rattle.coll_tables.specs.Tables.{is_done, machine}
 use Rattle.coll_tables.specs.Shown.{Instances, tables}

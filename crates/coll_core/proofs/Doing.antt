@@ -8,8 +8,7 @@ use Rattle.coll_lists.specs.Neighbours.{first_in}
 use Rattle.coll_sched.specs.declared.action.Action.{Action}
 use Rattle.coll_sched.specs.declared.action.Action.TheVariants.{Recv}
 use Rattle.coll_sched.specs.declared.region.Region.{Region}
-use Rattle.coll_sched.specs.Actions.{IsLocal, wrote}
-use Rattle.coll_sched.specs.Regions.{written}
+use Rattle.coll_sched.specs.Common.{IsLocal, wrote, written, put_mail}
 use Rattle.coll_arena.specs.ListNames.{number_of}
 use Rattle.coll_arena.specs.Changes.{rewritten}
 use Rattle.coll_arena.specs.Slots.{Slots, home, record_in, weight_of}
@@ -17,7 +16,6 @@ use Rattle.coll_arena.specs.Sound.{IsSound}
 use Rattle.coll_arena.proofs.Sounds.{Named-names}
 use Rattle.coll_queues.specs.Postings.{Postings}
 use Rattle.coll_machine.specs.declared.key.Key.{Key}
-use Rattle.coll_sched.specs.Worlds.{put_mail}
 use Rattle.coll_machine.specs.Changes.{put_key}
 use Rattle.coll_match.specs.Instances.{mail}
 use Rattle.coll_tables.specs.Shown.{Instances}

@@ -12,8 +12,7 @@ use Rattle.coll_kinds.specs.declared.signature.Signature.{Signature}
 use Rattle.coll_kinds.specs.declared.refusal.Refusal.{Refusal}
 use Rattle.coll_kinds.specs.declared.refusal.Refusal.TheVariants.{BadLength, Full}
 use Rattle.coll_kinds.specs.Lengths.{given_len}
-use Rattle.coll_machine.specs.Calls.{Planned, Post, Init}
-use Rattle.coll_machine.specs.Refusals.{first_of, unless, wrong_length, plan_refusals}
+use Rattle.coll_machine.specs.Common.{Planned, Post, Init, first_of, unless, wrong_length, plan_refusals}
 use Rattle.coll_queues.specs.Postings.{Postings, member_of, number_of, size}
 use Rattle.coll_queues.specs.Refusing.{judge_refusal, member_refusal}
 use Rattle.coll_tables.specs.Engines.{entry_refusals}

@@ -13,10 +13,8 @@ use Rattle.coll_kinds.specs.declared.refusal.Refusal.TheVariants.{BadSignature}
 use Rattle.coll_kinds.specs.declared.refusal.SignatureFault.{SignatureFault}
 use Rattle.coll_kinds.specs.declared.refusal.SignatureFault.TheVariants.{Mode as WrongMode, Group as WrongGroup}
 use Rattle.coll_kinds.specs.declared.signature.Signature.{Signature}
-use Rattle.coll_kinds.specs.Checks.{broken}
-use Rattle.coll_kinds.specs.Sameness.{mode_number}
-use Rattle.coll_machine.specs.Refusals.{first_of, unless, plan_refusals}
-use Rattle.coll_machine.specs.Calls.{Planned}
+use Rattle.coll_kinds.specs.Common.{broken, mode_number}
+use Rattle.coll_machine.specs.Common.{first_of, unless, plan_refusals, Planned}
 
 -- the answer of a signature's check, as a refusal
 pub checked : {T : Type 0} (o : Option SignatureFault) (r : Result T Refusal)

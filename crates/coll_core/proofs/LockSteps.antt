@@ -1,9 +1,7 @@
 -- What is out was read where its member stands in lock-step.
 use Rattle.std.proofs.Common.{◌≡◌, ◌∙◌, ap, sym}
 use Rattle.coll_sched.specs.declared.region.Region.{Region}
-use Rattle.coll_sched.specs.Families.{Family, lock_step}
-use Rattle.coll_sched.specs.Regions.{read_of}
-use Rattle.coll_sched.specs.Worlds.{filled}
+use Rattle.coll_sched.specs.Common.{Family, lock_step, read_of, filled}
 use Rattle.coll_plans.specs.Plans.{family}
 use Rattle.coll_match.specs.Instances.{given}
 use Rattle.coll_tables.proofs.EngineStatements.{AreOperands}

@@ -2,9 +2,7 @@
 use Rattle.std.proofs.Common.{◌≡◌, ◌≢◌, ◌∙◌, ◌==◌, ◌<◌, ◌+◌, ◌*◌, [], ℕ, true, cond, List, Option, Some, None, ap, refl, sym, subst, arith}
 use Rattle.std.proofs.lemmas.Bool.Decides.{nat_tests}
 use Rattle.std.proofs.lemmas.Option.{none-some}
-use Rattle.coll_kinds.specs.Elements.{AreBytes}
-use Rattle.coll_kinds.specs.Lengths.{lent}
-use Rattle.coll_kinds.specs.Puts.{put}
+use Rattle.coll_kinds.specs.Common.{AreBytes, lent, put}
 use Rattle.coll_kinds.specs.declared.signature.Signature.{Signature}
 use Rattle.coll_kinds.specs.declared.ticket.Ticket.{Ticket}
 use Rattle.coll_lists.specs.Moves.{moved_back}
@@ -12,17 +10,13 @@ use Rattle.coll_arena.specs.Lookups.{PutsSlot}
 use Rattle.coll_arena.specs.Slots.{Slots, home}
 use Rattle.coll_arena.proofs.Sounds.{free_first}
 use Rattle.coll_arena.specs.Sound.{IsSound as IsArena}
-use Rattle.coll_machine.specs.Calls.{Call, Planned, Post, Init, Ticketed}
-use Rattle.coll_machine.specs.Machines.{MachineStep, refuse, short, takes_memory, StepsTo}
-use Rattle.coll_machine.specs.Settings.{Setting}
+use Rattle.coll_machine.specs.Common.{Call, Planned, Post, Init, Ticketed, MachineStep, refuse, short, StepsTo, Setting, put_key, refusal}
+use Rattle.coll_machine.specs.Machines.{takes_memory}
 use Rattle.coll_machine.specs.declared.key.Key.{Key}
-use Rattle.coll_machine.specs.Changes.{put_key}
 use Rattle.coll_match.specs.Instances.{given, mail, members, seats}
 use Rattle.coll_plans.specs.Plans.{family}
 use Rattle.coll_queues.specs.Postings.{Postings, place_of}
-use Rattle.coll_sched.specs.Families.{laid_in}
-use Rattle.coll_sched.specs.Points.{Over}
-use Rattle.coll_sched.specs.Worlds.{Progress}
+use Rattle.coll_sched.specs.Common.{laid_in, Over, Progress}
 use Rattle.coll_tables.specs.Cores as tabled
 use Rattle.coll_tables.specs.Shown as tabled_parts
 use Rattle.coll_tables.proofs.EngineChanges.{Initialises, IsFree, IsOffered, Posts, made}
@@ -40,7 +34,6 @@ use Rattle.coll_core.specs.Posts.{next_instance, refused_in}
 use Rattle.coll_core.specs.Calls.{Refuses}
 use Rattle.coll_kinds.specs.declared.refusal.Refusal.{Refusal}
 use Rattle.coll_kinds.specs.declared.refusal.Refusal.TheVariants.{NoMemory}
-use Rattle.coll_machine.specs.Refusals.{refusal}
 use Rattle.coll_tables.proofs.EngineCalls.{free_low, free_spare, init_core, post_core}
 use Rattle.coll_tables.proofs.Lefts.{left_idle}
 use Rattle.coll_core.proofs.Progressing.{begins_schedule, keeps_progress, left_without, three_free, three_idle}

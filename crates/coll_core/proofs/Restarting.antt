@@ -12,9 +12,7 @@ use Rattle.coll_arena.specs.Slots.{Slots, generation_of, home, names, record_in}
 use Rattle.coll_arena.specs.Sound.{IsSound as IsArena}
 use Rattle.coll_arena.proofs.Sounds.{Named-names}
 use Rattle.coll_match.specs.Instances.{mail, size}
-use Rattle.coll_machine.specs.Calls.{Nothing, Start}
-use Rattle.coll_machine.specs.Machines.{refuse, short, StepsTo}
-use Rattle.coll_machine.specs.Refusals.{refusal}
+use Rattle.coll_machine.specs.Common.{Nothing, Start, refuse, short, StepsTo, refusal}
 use Rattle.coll_tables.specs.Cores as tabled
 use Rattle.coll_tables.specs.Requests.{Live, begun as begun_at}
 use Rattle.coll_tables.specs.Shown.{Instances, listed}

@@ -18,10 +18,7 @@ use Rattle.coll_sched.specs.Regions.{read_of}
 use Rattle.coll_queues.specs.Postings.{groups_of}
 use Rattle.coll_machine.specs.declared.key.Key.{Key}
 use Rattle.coll_match.specs.Instances.{mail, seats}
-use Rattle.coll_machine.specs.Settings.{size}
-use Rattle.coll_machine.specs.Calls.{Nothing, Outcome, Retire}
-use Rattle.coll_machine.specs.Machines.{MachineStep, wait}
-use Rattle.coll_machine.specs.Refusals.{refusal}
+use Rattle.coll_machine.specs.Common.{size, Nothing, Outcome, Retire, MachineStep, wait, refusal}
 use Rattle.coll_tables.specs.Cores as tabled
 use Rattle.coll_tables.proofs.EngineChanges.{IsLeft}
 use Rattle.coll_tables.specs.Engines.{Rests, given_up}

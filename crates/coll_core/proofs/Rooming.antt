@@ -4,9 +4,8 @@ use Rattle.std.specs.Prelude.{OnOk, OnErr}
 use Rattle.std.proofs.lemmas.Bool.Decides.{nat_tests}
 use Rattle.coll_arena.specs.Slots.{count}
 use Rattle.coll_kinds.specs.declared.refusal.Refusal.{Refusal}
-use Rattle.coll_machine.specs.Settings.{Setting, size}
+use Rattle.coll_machine.specs.Common.{Setting, size, put_key, same_key}
 use Rattle.coll_machine.specs.declared.key.Key.{Key}
-use Rattle.coll_machine.specs.Changes.{put_key, same_key}
 use Rattle.coll_match.specs.Instances.{LookUps, given, look_ups, mail, members, roomed, seats}
 use Rattle.coll_match.specs.Instances as instances
 use Rattle.coll_queues.specs.Postings.{Postings}

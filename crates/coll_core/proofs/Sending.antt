@@ -9,12 +9,11 @@ use Rattle.coll_lists.specs.Layouts.{sequence}
 use Rattle.coll_lists.specs.Neighbours.{first_in}
 use Rattle.coll_sched.specs.declared.action.Action.TheVariants.{Send}
 use Rattle.coll_sched.specs.declared.region.Region.{Region}
-use Rattle.coll_sched.specs.Regions.{read_of}
+use Rattle.coll_sched.specs.Common.{read_of, put_mail}
 use Rattle.coll_arena.specs.ListNames.{number_of}
 use Rattle.coll_arena.specs.Slots.{Slots, count, generation_of, home, names, record_in, weight_of}
 use Rattle.coll_queues.specs.Postings.{Postings}
 use Rattle.coll_machine.specs.declared.key.Key.{Key}
-use Rattle.coll_sched.specs.Worlds.{put_mail}
 use Rattle.coll_machine.specs.Changes.{put_key}
 use Rattle.coll_match.specs.Instances.{given, mail}
 use Rattle.coll_match.proofs.Standing.{put_key_at}

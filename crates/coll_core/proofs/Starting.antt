@@ -15,13 +15,9 @@ use Rattle.coll_lists.specs.Moves.{moved_back}
 use Rattle.coll_kinds.specs.declared.refusal.Refusal.{Refusal}
 use Rattle.coll_kinds.specs.declared.refusal.Refusal.TheVariants.{Active, BadLength, NotPersistent, NotYours, Stale, StartsUsed}
 use Rattle.coll_kinds.specs.declared.signature.Signature.{Signature}
-use Rattle.coll_machine.specs.Settings.{size}
-use Rattle.coll_machine.specs.Calls.{Free, Nothing, Start}
-use Rattle.coll_machine.specs.Machines.{MachineStep}
-use Rattle.coll_machine.specs.Refusals.{first_of, idle_refusals, naming_refusals, refusal, start_refusals, unless, wrong_length}
-use Rattle.coll_machine.specs.States.{Request as Asked, found}
-use Rattle.coll_kinds.specs.Lengths.{given_len}
-use Rattle.coll_kinds.specs.Sameness.{mode_number}
+use Rattle.coll_machine.specs.Common.{size, Free, Nothing, Start, MachineStep, first_of, idle_refusals, naming_refusals, refusal, start_refusals, unless, wrong_length, found}
+use Rattle.coll_machine.specs.States.{Request as Asked}
+use Rattle.coll_kinds.specs.Common.{given_len, mode_number}
 use Rattle.coll_kinds.specs.declared.kind.Mode.TheVariants.{Persistent}
 use Rattle.coll_tables.specs.Shown.{listed}
 use Rattle.coll_core.proofs.Found.{found_some}

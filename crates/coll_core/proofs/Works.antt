@@ -7,12 +7,11 @@ use Rattle.coll_kinds.specs.declared.operation.Op.{Op}
 use Rattle.coll_sched.specs.declared.action.Action.{Action}
 use Rattle.coll_sched.specs.declared.action.Action.TheVariants.{Send, Copy, Combine, Recv}
 use Rattle.coll_sched.specs.declared.region.Region.{Region}
-use Rattle.coll_sched.specs.Regions.{read_of, Inside}
+use Rattle.coll_sched.specs.Common.{read_of, Inside, Fits}
 use Rattle.coll_tables.specs.Requests.{Live}
 use Rattle.coll_core.specs.Requests.{next_of}
 use Rattle.coll_core.specs.Works.{Made, Piece, StandsAt, result_of}
 use Rattle.coll_ops.proofs.RowLists.{length-combined}
-use Rattle.coll_sched.specs.Actions.{Fits}
 use Rattle.std.specs.Prelude.{IfSome, Option, length, ◌%◌}
 use Rattle.coll_kinds.specs.Elements.{width}
 use Rattle.coll_sched.proofs.Buffers.{length_read}

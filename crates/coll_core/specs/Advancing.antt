@@ -2,8 +2,7 @@
 use Rattle.std.specs.Prelude.{◌≡◌, ◌≢◌, ◌<◌, ◌≤◌, ◌⊎◌, ℕ, suc, Bool, true, false, length, Some, None}
 use Rattle.coll_kinds.specs.declared.ticket.Ticket.{Ticket}
 use Rattle.coll_lists.specs.Moves.{moved_back}
-use Rattle.coll_sched.specs.Points.{Over}
-use Rattle.coll_sched.specs.Worlds.{Progress}
+use Rattle.coll_sched.specs.Common.{Over, Progress}
 use Rattle.coll_arena.specs.declared.list_name.ListName.{ListName}
 use Rattle.coll_arena.specs.declared.list_name.ListName.TheVariants.{Free, Worn, Ready, Running, Idle, Queue, Done}
 use Rattle.coll_arena.specs.ListNames.{number_of}

@@ -13,10 +13,8 @@ use Rattle.coll_arena.specs.Homes.{StandsAtHome}
 use Rattle.coll_arena.specs.ListNames.{number_of}
 use Rattle.coll_arena.specs.Slots.{home, lent, record_in}
 use Rattle.coll_match.specs.Instances.{mail}
-use Rattle.coll_machine.specs.Lents.{lent_bytes}
-use Rattle.coll_machine.specs.Settings.{size}
-use Rattle.coll_machine.specs.States.{Request as Asked, key_of, signature_of}
-use Rattle.coll_machine.specs.Steps.{IsReady, filled}
+use Rattle.coll_machine.specs.Common.{lent_bytes, size, key_of, signature_of, IsReady, filled}
+use Rattle.coll_machine.specs.States.{Request as Asked}
 use Rattle.coll_tables.specs.FreeLocks.{LiesBy}
 use Rattle.coll_tables.specs.Requests.{key}
 use Rattle.coll_tables.specs.Sound.{Doable, Lies}

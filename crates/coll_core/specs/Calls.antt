@@ -1,9 +1,6 @@
 -- What calls answer, in the machine's words.
 use Rattle.coll_kinds.specs.declared.refusal.Refusal.{Refusal}
-use Rattle.coll_machine.specs.Settings.{Setting}
-use Rattle.coll_machine.specs.States.{Machine}
-use Rattle.coll_machine.specs.Calls.{Call, Refused}
-use Rattle.coll_machine.specs.Machines.{MachineStep}
+use Rattle.coll_machine.specs.Common.{Setting, Machine, Call, Refused, MachineStep}
 
 -- the machine refuses the call so
 abbrev pub Refuses : Setting → Machine → Call → Refusal → Type 0

@@ -3,8 +3,7 @@ use Rattle.std.specs.Prelude.{◌≡◌, ◌<◌, ℕ, true, length, Some, None}
 use Rattle.coll_kinds.specs.declared.ticket.Ticket.{Ticket}
 use Rattle.coll_sched.specs.Regions.{Inside}
 use Rattle.coll_arena.specs.Slots.{Slots, names, record_in}
-use Rattle.coll_machine.specs.Calls.{Retire}
-use Rattle.coll_machine.specs.Refusals.{refusal}
+use Rattle.coll_machine.specs.Common.{Retire, refusal}
 use Rattle.coll_core.specs.declared.request.Request.{Request}
 use Rattle.coll_core.specs.Requests.{schedule, shown}
 use Rattle.coll_core.specs.Cores.{Parts, seen, setting}

@@ -7,9 +7,7 @@ use Rattle.coll_kinds.specs.declared.refusal.ConfigField.{ConfigField}
 use Rattle.coll_kinds.specs.declared.refusal.ConfigField.TheVariants.{Ranks, Groups, Slots, Places, Wear, Starts, Trace}
 use Rattle.coll_kinds.specs.Groups.{IsGroup}
 use Rattle.coll_kinds.specs.Limits.{max_communicators, max_entries, max_places, max_ranks, max_slots, max_starts}
-use Rattle.coll_machine.specs.Settings.{Setting}
-use Rattle.coll_machine.specs.States.{Machine, nothing}
-use Rattle.coll_machine.specs.Machines.{phased}
+use Rattle.coll_machine.specs.Common.{Setting, Machine, nothing, phased}
 use Rattle.coll_core.specs.declared.config.Config.{Config}
 
 -- at least one member, each of them one of n ranks, and none twice

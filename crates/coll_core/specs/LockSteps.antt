@@ -2,9 +2,7 @@
 use Rattle.std.specs.Prelude.{◌≡◌, Some}
 use Rattle.coll_sched.specs.declared.action.Action.TheVariants.{Combine}
 use Rattle.coll_sched.specs.declared.region.Region.{Region}
-use Rattle.coll_sched.specs.Families.{lock_step}
-use Rattle.coll_sched.specs.Regions.{read_of}
-use Rattle.coll_sched.specs.Worlds.{filled}
+use Rattle.coll_sched.specs.Common.{lock_step, read_of, filled}
 use Rattle.coll_plans.specs.Plans.{family}
 use Rattle.coll_arena.specs.Slots.{record_in}
 use Rattle.coll_match.specs.Instances.{given}

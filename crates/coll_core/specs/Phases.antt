@@ -3,12 +3,11 @@ use Rattle.std.specs.Prelude.{◌≡◌, ◌≢◌, ◌<◌, ℕ, Bool, true, fa
 use Rattle.coll_lists.specs.Layouts.{sequence}
 use Rattle.coll_arena.specs.declared.list_name.ListName.TheVariants.{Ready, Running, Done as DoneList}
 use Rattle.coll_arena.specs.ListNames.{number_of}
-use Rattle.coll_machine.specs.States.{Machine, Request, found}
+use Rattle.coll_machine.specs.Common.{Machine, Request, found, size}
 use Rattle.coll_kinds.specs.declared.ticket.Ticket.{Ticket}
 use Rattle.coll_core.specs.declared.phase.Phase.{Phase}
 use Rattle.coll_core.specs.declared.phase.Phase.TheVariants.{Idle, Pending, Done}
 use Rattle.coll_core.specs.declared.about.About.{About}
-use Rattle.coll_machine.specs.Settings.{size}
 use Rattle.coll_tables.specs.Requests.{Live, key}
 use Rattle.coll_core.specs.Cores.{Parts, setting, tables}
 

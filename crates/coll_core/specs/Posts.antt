@@ -5,8 +5,7 @@ use Rattle.coll_plans.specs.Plans.{Planned as Plan, family}
 use Rattle.coll_queues.specs.Postings.{Postings, HasRoom, place_of}
 use Rattle.coll_machine.specs.declared.key.Key.{Key}
 use Rattle.coll_match.specs.Instances as instances
-use Rattle.coll_machine.specs.Calls.{Call, Planned, Post, Init}
-use Rattle.coll_machine.specs.Refusals.{refusal}
+use Rattle.coll_machine.specs.Common.{Call, Planned, Post, Init, refusal}
 use Rattle.coll_sched.specs.Families.{laid_in}
 use Rattle.coll_core.specs.declared.offer.Offer.{Offer}
 use Rattle.coll_core.specs.Cores.{Parts, seen, setting}

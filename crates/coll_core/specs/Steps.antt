@@ -7,19 +7,13 @@ use Rattle.coll_lists.specs.Neighbours.{first_in}
 use Rattle.coll_sched.specs.declared.action.Action.{Action}
 use Rattle.coll_sched.specs.declared.action.Action.TheVariants.{Combine, Send}
 use Rattle.coll_sched.specs.declared.region.Region.{Region}
-use Rattle.coll_sched.specs.Actions.{Fits, IsCombine}
-use Rattle.coll_sched.specs.Points.{Over}
-use Rattle.coll_sched.specs.Regions.{written}
-use Rattle.coll_sched.specs.Worlds.{Progress}
+use Rattle.coll_sched.specs.Common.{Fits, IsCombine, Over, written, Progress}
 use Rattle.coll_arena.specs.declared.list_name.ListName.TheVariants.{Ready, Running, Queue}
 use Rattle.coll_arena.specs.Changes.{shifted, shifted_front}
 use Rattle.coll_arena.specs.ListNames.{number_of}
 use Rattle.coll_arena.specs.Slots.{home, names, record_in}
 use Rattle.coll_match.specs.Instances.{mail}
-use Rattle.coll_machine.specs.Settings.{Setting}
-use Rattle.coll_machine.specs.States.{Machine}
-use Rattle.coll_machine.specs.Calls.{Finish, Nothing}
-use Rattle.coll_machine.specs.Machines.{MachineStep}
+use Rattle.coll_machine.specs.Common.{Setting, Machine, Finish, Nothing, MachineStep}
 use Rattle.coll_tables.specs.Remaining.{actions_left}
 use Rattle.coll_tables.specs.Sound.{Doable}
 use Rattle.coll_core.specs.declared.request.Request.{Request}

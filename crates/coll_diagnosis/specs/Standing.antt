@@ -3,9 +3,7 @@ use Rattle.std.specs.Prelude.{◌≡◌, ℕ, ◌==◌, nat_lt, Bool, true, fals
 use Rattle.std.specs.List.{list_any, list_all, range_with_len}
 use Rattle.std.specs.Global.{Global}
 use Rattle.std.specs.Str.{bytes_eq}
-use Rattle.coll_kinds.specs.Groups.{is_among}
-use Rattle.coll_kinds.specs.Needs.{needs}
-use Rattle.coll_kinds.specs.Words.{kind_word}
+use Rattle.coll_kinds.specs.Common.{is_among, needs, kind_word}
 use Rattle.coll_kinds.specs.declared.kind.Mode.{Mode}
 use Rattle.coll_history.specs.declared.command.Command.{Command}
 use Rattle.coll_history.specs.declared.command.Command.TheVariants.{Post, Init, Start, Wait, Test, Free}

@@ -5,8 +5,7 @@ use Rattle.std.specs.List.{AllByRecursion, cons_option}
 use Rattle.std.proofs.lemmas.Option.{none-some, same_Some}
 use Rattle.coll_sched.specs.declared.action.Action.{Action}
 use Rattle.coll_sched.specs.declared.action.Action.TheVariants.{Send, Copy, Combine, Recv}
-use Rattle.coll_sched.specs.Actions.{EachFollows, IsAmong}
-use Rattle.coll_sched.specs.Families.{Family, IsLawful, actions_at, out_link, len_of, members}
+use Rattle.coll_sched.specs.Common.{EachFollows, IsAmong, Family, IsLawful, actions_at, out_link, len_of, members}
 use Rattle.coll_sched.proofs.Each.{all_at, all_from_at}
 use Rattle.coll_sched.proofs.Rounds.{out_link_at, round_at}
 use Rattle.coll_draw.specs.Drawings.{step_of, steps, round_steps, rounds_of, arrow_of, arrows}

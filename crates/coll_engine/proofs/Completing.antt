@@ -7,10 +7,8 @@ use Rattle.coll_kinds.specs.declared.kind.Mode.{Mode}
 use Rattle.coll_kinds.specs.declared.kind.Mode.TheVariants.{Once, Persistent}
 use Rattle.coll_kinds.specs.declared.refusal.Refusal.{Refusal}
 use Rattle.coll_kinds.specs.declared.ticket.Ticket.{Ticket}
-use Rattle.coll_machine.specs.Settings.{Setting}
-use Rattle.coll_machine.specs.States.{Machine, Request, found}
+use Rattle.coll_machine.specs.Common.{Setting, Machine, Request, found, Runs}
 use Rattle.coll_complete.specs.Completing.{completion}
-use Rattle.coll_machine.specs.Runs.{Runs}
 use Rattle.coll_complete.specs.Requests.{hold_after, hold_by, is_done, left_of, refusal_at}
 use Rattle.coll_engine.specs.declared.part.Part.{Part}
 use Rattle.coll_engine.specs.declared.test.Test.{Test}

@@ -10,8 +10,7 @@ use Rattle.coll_kinds.specs.declared.refusal.Refusal.TheVariants.{BadLength}
 use Rattle.coll_kinds.specs.declared.ticket.Ticket.{Ticket}
 use Rattle.coll_kinds.specs.Lengths.{got_len}
 use Rattle.coll_machine.proofs.Accepted.{found_is}
-use Rattle.coll_machine.specs.Settings.{Setting, size}
-use Rattle.coll_machine.specs.States.{Machine}
+use Rattle.coll_machine.specs.Common.{Setting, size, Machine}
 use Rattle.coll_core.specs.declared.phase.Phase.TheVariants.{Done}
 use Rattle.coll_core.specs.Cores.{Parts, seen, setting}
 use Rattle.coll_core.specs.Phases.{phase_in}

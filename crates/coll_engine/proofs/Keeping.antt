@@ -4,11 +4,7 @@ use Rattle.std.specs.Prelude.{OnErr, OnOk, slice_get, slice_set}
 use Rattle.std.proofs.lemmas.Option.{slice_get-get_or}
 use Rattle.coll_kinds.specs.declared.refusal.Refusal.{Refusal}
 use Rattle.coll_kinds.specs.declared.ticket.Ticket.{Ticket}
-use Rattle.coll_machine.specs.Calls.{Call, Init, Nothing, Planned, Post, Ticketed}
-use Rattle.coll_machine.specs.Machines.{MachineStep, StepsTo}
-use Rattle.coll_machine.specs.Runs.{Runs}
-use Rattle.coll_machine.specs.Settings.{Setting}
-use Rattle.coll_machine.specs.States.{Machine}
+use Rattle.coll_machine.specs.Common.{Call, Init, Nothing, Planned, Post, Ticketed, MachineStep, StepsTo, Runs, Setting, Machine}
 use Rattle.coll_core.specs.declared.outcome.Outcome.{Outcome}
 use Rattle.coll_core.specs.Cores.{Parts, seen, setting, Unchanged}
 use Rattle.coll_core.specs.declared.config.Config.{Config}

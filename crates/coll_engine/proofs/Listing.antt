@@ -8,12 +8,7 @@ use Rattle.std.proofs.Math.Seq.{map-set_same}
 use Rattle.coll_kinds.specs.declared.signature.Signature.{Signature}
 use Rattle.coll_kinds.specs.declared.ticket.Ticket.{Ticket}
 use Rattle.coll_machine.specs.Calls as calls
-use Rattle.coll_machine.specs.Changes.{holding, rested}
-use Rattle.coll_machine.specs.Machines.{MachineStep, retire}
-use Rattle.coll_machine.specs.Runs.{Event, Runs}
-use Rattle.coll_machine.specs.Settings.{Setting}
-use Rattle.coll_machine.specs.States.{Machine, Request, State, found, key_of}
-use Rattle.coll_machine.specs.Steps.{Clears}
+use Rattle.coll_machine.specs.Common.{holding, rested, MachineStep, retire, Event, Runs, Setting, Machine, Request, State, found, key_of, Clears}
 use Rattle.coll_core.specs.declared.outcome.Outcome.{Outcome}
 use Rattle.coll_core.specs.Phases.{phase_by, phase_of}
 use Rattle.coll_complete.specs.Completing.{completion_if, done_positions}

@@ -9,18 +9,10 @@ use Rattle.coll_kinds.specs.declared.refusal.Refusal.TheVariants.{BadSignature}
 use Rattle.coll_kinds.specs.declared.refusal.SignatureFault.TheVariants.{Group as WrongGroup}
 use Rattle.coll_kinds.specs.declared.signature.Signature.{Signature}
 use Rattle.coll_kinds.specs.declared.ticket.Ticket.{Ticket}
-use Rattle.coll_kinds.specs.Groups.{member_of}
-use Rattle.coll_kinds.specs.Lengths.{got_len}
-use Rattle.coll_kinds.specs.Puts.{put}
+use Rattle.coll_kinds.specs.Common.{member_of, got_len, put}
 use Rattle.coll_kinds.proofs.Puts.{put_same, put_other}
 use Rattle.coll_plans.specs.Plans.{family}
-use Rattle.coll_machine.specs.Settings.{Setting, group, size}
-use Rattle.coll_machine.specs.States.{Machine, State, Request, signature_of, key_of}
-use Rattle.coll_machine.specs.Calls.{Call, Planned, Post, Init, Reply, Ticketed, Outcome, Nothing, Refused}
-use Rattle.coll_machine.specs.Changes.{new_request, created, started, once_more, rested, rested_by, holding}
-use Rattle.coll_machine.specs.Machines.{MachineStep, post, init, start, finish, retire, wait, free, refuse, short, MayFinish, StepsTo}
-use Rattle.coll_machine.specs.Refusals.{refusal, refusals}
-use Rattle.coll_machine.specs.Steps.{Posts, Inits, Starts, Frees, Retires, Clears}
+use Rattle.coll_machine.specs.Common.{Setting, group, size, Machine, State, Request, signature_of, key_of, Call, Planned, Post, Init, Reply, Ticketed, Outcome, Nothing, Refused, new_request, created, started, once_more, rested, rested_by, holding, MachineStep, post, init, start, finish, retire, wait, free, refuse, short, MayFinish, StepsTo, refusal, refusals, Posts, Inits, Starts, Frees, Retires, Clears}
 use Rattle.coll_machine.proofs.Puts.{put2_same}
 use Rattle.coll_machine.proofs.Pushed.{get_pushed}
 use Rattle.coll_machine.proofs.Posted.{still_there}

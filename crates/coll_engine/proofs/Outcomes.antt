@@ -10,11 +10,7 @@ use Rattle.coll_sched.specs.declared.region.Region.{Region}
 use Rattle.coll_sched.specs.Regions.{read_of}
 use Rattle.coll_plans.specs.Plans.{family}
 use Rattle.coll_machine.specs.Calls as calls
-use Rattle.coll_machine.specs.Machines.{MachineStep, retire}
-use Rattle.coll_machine.specs.Runs.{Runs}
-use Rattle.coll_machine.specs.Settings.{Setting, size}
-use Rattle.coll_machine.specs.States.{Machine, State, Request, found, signature_of}
-use Rattle.coll_machine.specs.Steps.{Retires, filled}
+use Rattle.coll_machine.specs.Common.{MachineStep, retire, Runs, Setting, size, Machine, State, Request, found, signature_of, Retires, filled}
 use Rattle.coll_machine.proofs.Accepted.{found_is}
 use Rattle.coll_tables.specs.FreeLocks.{FreeLock}
 use Rattle.coll_tables.specs.Requests.{Live, as_request, before, key}

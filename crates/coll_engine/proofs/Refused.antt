@@ -6,15 +6,10 @@ use Rattle.std.proofs.lemmas.Option.{none-some}
 use Rattle.coll_kinds.specs.declared.refusal.Refusal.{Refusal}
 use Rattle.coll_kinds.specs.declared.refusal.Refusal.TheVariants.{BadComm, BadSignature, NoMemory, NotMember}
 use Rattle.coll_kinds.specs.declared.refusal.SignatureFault.{SignatureFault}
-use Rattle.coll_kinds.specs.Checks.{broken}
-use Rattle.coll_kinds.specs.Groups.{member_of}
+use Rattle.coll_kinds.specs.Common.{broken, member_of}
 use Rattle.coll_kinds.specs.declared.signature.Signature.{Signature}
-use Rattle.coll_machine.specs.Machines.{refuse}
-use Rattle.coll_machine.specs.Refusals.{first_of, refusal, refusals, unless, unseated}
-use Rattle.coll_machine.specs.Settings.{Setting, group, group_in, size}
-use Rattle.coll_machine.specs.States.{Machine, State}
+use Rattle.coll_machine.specs.Common.{refuse, first_of, refusal, refusals, unless, unseated, Setting, group, group_in, size, Machine, State, Start}
 use Rattle.coll_kinds.specs.declared.ticket.Ticket.{Ticket}
-use Rattle.coll_machine.specs.Calls.{Start}
 use Rattle.coll_core.specs.Calls.{Refuses}
 use Rattle.coll_core.specs.Cores.{Parts, seen, setting}
 use Rattle.coll_engine.specs.Calls.{Denies, DeniesStart, early_refusal, early_refusals, init_by, post_by}

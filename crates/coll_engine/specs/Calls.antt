@@ -4,14 +4,8 @@ use Rattle.coll_kinds.specs.declared.refusal.Refusal.{Refusal}
 use Rattle.coll_kinds.specs.declared.refusal.Refusal.TheVariants.{BadComm, BadLength, BadSignature, NoMemory, NotMember, Stale}
 use Rattle.coll_kinds.specs.declared.signature.Signature.{Signature}
 use Rattle.coll_kinds.specs.declared.ticket.Ticket.{Ticket}
-use Rattle.coll_kinds.specs.Checks.{broken}
-use Rattle.coll_kinds.specs.Groups.{member_of}
-use Rattle.coll_machine.specs.Calls.{Call, Init, Planned, Post, Retire, Ticketed}
-use Rattle.coll_machine.specs.Machines.{MachineStep, StepsTo}
-use Rattle.coll_machine.specs.Refusals.{first_of, refusal, unless}
-use Rattle.coll_machine.specs.Runs.{Runs}
-use Rattle.coll_machine.specs.Settings.{Setting, group, size}
-use Rattle.coll_machine.specs.States.{Machine, State}
+use Rattle.coll_kinds.specs.Common.{broken, member_of}
+use Rattle.coll_machine.specs.Common.{Call, Init, Planned, Post, Retire, Ticketed, MachineStep, StepsTo, first_of, refusal, unless, Runs, Setting, group, size, Machine, State}
 use Rattle.coll_sched.specs.Schedules.{Parts as Schedule}
 use Rattle.coll_plans.specs.Plans.{family}
 use Rattle.coll_core.specs.Calls.{Refuses}

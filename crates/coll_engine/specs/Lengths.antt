@@ -4,9 +4,7 @@ use Rattle.coll_kinds.specs.declared.signature.Signature.{Signature}
 use Rattle.coll_kinds.specs.declared.ticket.Ticket.{Ticket}
 use Rattle.coll_kinds.specs.Lengths.{got_len}
 use Rattle.coll_plans.specs.Plans.{family}
-use Rattle.coll_machine.specs.Calls.{Planned}
-use Rattle.coll_machine.specs.Settings.{Setting, size}
-use Rattle.coll_machine.specs.States.{Machine, Request, State, found, signature_of}
+use Rattle.coll_machine.specs.Common.{Planned, Setting, size, Machine, Request, State, found, signature_of}
 use Rattle.coll_complete.specs.Requests.{is_done}
 
 -- the length of a plan's outcome

@@ -1,9 +1,7 @@
 -- What the calls over lists of requests do, and how they are refused.
 use Rattle.std.specs.Prelude.{◌≡◌, ◌⊎◌, ◌≤◌, ◌+◌, ◌++◌, ℕ, Bool, true, false, List, [], ◌∷◌, drop, length, map, slice_get, slice_index, slice_set, take, Option, Some, None, is_some, if◌then◌else◌}
 use Rattle.coll_kinds.specs.declared.refusal.Refusal.{Refusal}
-use Rattle.coll_machine.specs.Runs.{Runs}
-use Rattle.coll_machine.specs.Settings.{Setting}
-use Rattle.coll_machine.specs.States.{Machine, State}
+use Rattle.coll_machine.specs.Common.{Runs, Setting, Machine, State}
 use Rattle.coll_core.specs.declared.outcome.Outcome.{Outcome}
 use Rattle.coll_complete.specs.Completing.{CompletesDone, completion_if}
 use Rattle.coll_complete.specs.Requests.{is_done, left_of, list_refusal}

@@ -1,9 +1,7 @@
 -- What the posting lists have at a place.
 use Rattle.std.specs.Prelude.{ℕ, Option, option_map}
 use Rattle.coll_kinds.specs.declared.signature.Signature.{Signature}
-use Rattle.coll_machine.specs.Refusals.{first_there}
-use Rattle.coll_machine.specs.Settings.{Setting, size}
-use Rattle.coll_machine.specs.States.{State}
+use Rattle.coll_machine.specs.Common.{first_there, Setting, size, State}
 
 -- the signature of the lowest member that has the place, which a Mismatch names
 abbrev pub signature_at : Setting → State → ℕ → ℕ → Option Signature

@@ -18,12 +18,9 @@ use Rattle.coll_kinds.specs.declared.operation.Op.TheVariants.{Max, Min, Sum, Pr
 use Rattle.coll_kinds.specs.declared.kind.Kind.{Kind}
 use Rattle.coll_kinds.specs.declared.kind.Kind.TheVariants.{Barrier, Bcast, Gather, Scatter, Allgather, Allgatherv, Alltoall, Reduce, Allreduce, Rsblock, Scan, Exscan}
 use Rattle.coll_kinds.specs.declared.signature.Signature.{Signature}
-use Rattle.coll_kinds.specs.Checks.{has_root, has_operation, is_barrier, has_counts, broken}
-use Rattle.coll_kinds.specs.Limits.{max_ranks}
-use Rattle.coll_kinds.specs.Elements.{Element, whole, pair, is_signed, is_pair, limit, in_range, IsElement, element_bytes}
-use Rattle.coll_kinds.specs.Texts.{number_of, number_in, pair_of, value_of, text_of}
+use Rattle.coll_kinds.specs.Common.{has_root, has_operation, is_barrier, has_counts, broken, max_ranks, Element, whole, pair, is_signed, is_pair, limit, in_range, IsElement, element_bytes, number_in, pair_of, value_of, text_of, kind_word, operation_word, datatype_word, kind_of, operation_of, datatype_of}
+use Rattle.coll_kinds.specs.Texts.{number_of}
 use Rattle.coll_history.specs.declared.cause.Cause.TheVariants.{BadSignature, NamedTwice}
-use Rattle.coll_kinds.specs.Words.{kind_word, operation_word, datatype_word, kind_of, operation_of, datatype_of}
 use Rattle.coll_history.specs.Reading.{and_then, ◌>>=◌, give, numbers_from}
 use Rattle.coll_history.specs.Lines.{number_within, request_in, next, values, count_in, counts_from, some_counts, fields, signature}
 use Rattle.coll_history.specs.Writing.{NoneTwice, AreValues, value_words, operation_words, count_words, signature_words, AreCounts, HasWords}

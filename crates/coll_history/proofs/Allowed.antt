@@ -11,11 +11,8 @@ use Rattle.coll_kinds.specs.declared.datatype.Datatype.TheVariants.{I8, I16, I32
 use Rattle.coll_kinds.specs.declared.kind.Mode.{Mode}
 use Rattle.coll_kinds.specs.declared.kind.Mode.TheVariants.{Once, Persistent}
 use Rattle.coll_kinds.specs.declared.signature.Signature.{Signature}
-use Rattle.coll_kinds.specs.Checks.{broken}
-use Rattle.coll_kinds.specs.Elements.{Element, whole, element_bytes, width}
-use Rattle.coll_kinds.specs.Groups.{member_of, is_among}
-use Rattle.coll_kinds.specs.Texts.{number_of, value_of}
-use Rattle.coll_kinds.specs.Words.{kind_of}
+use Rattle.coll_kinds.specs.Common.{broken, Element, whole, element_bytes, width, member_of, is_among, value_of, kind_of}
+use Rattle.coll_kinds.specs.Texts.{number_of}
 use Rattle.coll_history.specs.declared.cause.Cause.{Cause}
 use Rattle.coll_history.specs.declared.cause.Cause.TheVariants.{BadNumber, BadRank, BadCommunicator, BadSignature, BadValue, WrongValueCount, UnknownRequest, NamedTwice, NotStartable, TooManyRequests}
 use Rattle.coll_history.specs.declared.command.Command.{Command}

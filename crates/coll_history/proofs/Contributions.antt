@@ -6,8 +6,7 @@ use Rattle.coll_kinds.specs.declared.datatype.Datatype.TheVariants.{I8, I16, I32
 use Rattle.coll_kinds.specs.declared.kind.Kind.{Kind}
 use Rattle.coll_kinds.specs.declared.kind.Kind.TheVariants.{Barrier, Bcast, Gather, Scatter, Allgather, Allgatherv, Alltoall, Reduce, Allreduce, Rsblock, Scan, Exscan}
 use Rattle.coll_kinds.specs.declared.signature.Signature.{Signature}
-use Rattle.coll_kinds.specs.Elements.{width}
-use Rattle.coll_kinds.specs.Lengths.{count_at, row_len, given_by, given_len}
+use Rattle.coll_kinds.specs.Common.{width, count_at, row_len, given_by, given_len}
 
 pub width-positive : (ty : Datatype) → 0 < width ty
 width-positive I8 = omega arith

@@ -15,12 +15,8 @@ use Rattle.coll_kinds.specs.declared.kind.Mode.{Mode}
 use Rattle.coll_kinds.specs.declared.kind.Mode.TheVariants.{Once, Persistent}
 use Rattle.coll_kinds.specs.declared.operation.Op.{Op}
 use Rattle.coll_kinds.specs.declared.signature.Signature.{Signature}
-use Rattle.coll_kinds.specs.Checks.{has_root, has_operation, is_barrier, has_counts, broken}
-use Rattle.coll_kinds.specs.Limits.{max_ranks}
-use Rattle.coll_kinds.specs.Elements.{Element, whole, pair, width, is_pair, in_range, element_bytes, IsElement}
-use Rattle.coll_kinds.specs.Groups.{is_among}
-use Rattle.coll_kinds.specs.Texts.{number_of, whole_number_of, number_in, pair_of, value_of}
-use Rattle.coll_kinds.specs.Words.{kind_of, operation_of, datatype_of}
+use Rattle.coll_kinds.specs.Common.{has_root, has_operation, is_barrier, has_counts, broken, max_ranks, Element, whole, pair, width, is_pair, in_range, element_bytes, IsElement, is_among, number_in, pair_of, value_of, kind_of, operation_of, datatype_of}
+use Rattle.coll_kinds.specs.Texts.{number_of, whole_number_of}
 use Rattle.coll_history.specs.declared.cause.Cause.{Cause}
 use Rattle.coll_history.specs.declared.cause.Cause.TheVariants.{BadSignature, BadValue, WrongValueCount, NamedTwice}
 use Rattle.coll_history.specs.declared.command.Command.{Command}

@@ -13,16 +13,13 @@ use Rattle.coll_kinds.specs.declared.operation.Op.TheVariants.{Max, Min, Sum, Pr
 use Rattle.coll_kinds.specs.declared.kind.Kind.{Kind}
 use Rattle.coll_kinds.specs.declared.kind.Kind.TheVariants.{Barrier, Bcast, Gather, Scatter, Allgather, Allgatherv, Alltoall, Reduce, Allreduce, Rsblock, Scan, Exscan}
 use Rattle.coll_kinds.specs.declared.signature.Signature.{Signature}
-use Rattle.coll_kinds.specs.Checks.{has_root, is_barrier, has_counts}
-use Rattle.coll_kinds.specs.Limits.{max_ranks}
-use Rattle.coll_kinds.specs.Elements.{Element, whole, pair, is_pair, in_range, IsElement}
+use Rattle.coll_kinds.specs.Common.{has_root, is_barrier, has_counts, max_ranks, Element, whole, pair, is_pair, in_range, IsElement, kind_word, operation_word, datatype_word}
 use Rattle.coll_kinds.specs.Texts.{text_of as element_text}
 use Rattle.coll_history.specs.declared.cause.Cause.{Cause}
 use Rattle.coll_history.specs.declared.cause.Cause.TheVariants.{BadRank}
 use Rattle.coll_history.specs.declared.command.Command.{Command}
 use Rattle.coll_history.specs.declared.command.Command.TheVariants.{Post, Init, Start, Wait, Test, Free, WaitAny, WaitSome, WaitAll}
 use Rattle.coll_history.specs.Cutting.{lines_of, words_of}
-use Rattle.coll_kinds.specs.Words.{kind_word, operation_word, datatype_word}
 use Rattle.coll_history.specs.Reading.{and_then, numbers_from, numbers}
 use Rattle.coll_history.specs.Histories.{History, beginning}
 use Rattle.coll_history.specs.Lines.{rank_in, ranks, comm, section, line}

@@ -25,8 +25,7 @@ use Rattle.coll_history.specs.declared.cause.Cause.TheVariants.{BadValue}
 use Rattle.coll_history.specs.declared.verb.Verb.{Verb}
 use Rattle.coll_history.specs.declared.verb.Verb.TheVariants as verb
 use Rattle.coll_kinds.specs.declared.datatype.Datatype.{Datatype}
-use Rattle.coll_kinds.specs.Elements.{whole, element_bytes}
-use Rattle.coll_kinds.specs.Texts.{value_of}
+use Rattle.coll_kinds.specs.Common.{whole, element_bytes, value_of}
 use Rattle.coll_history.specs.Sound.{IsHistory}
 
 -- ---- views: what lies in memory, without where it lies

@@ -11,11 +11,8 @@ use Rattle.coll_kinds.specs.declared.kind.Mode.{Mode}
 use Rattle.coll_kinds.specs.declared.kind.Mode.TheVariants.{Once, Persistent}
 use Rattle.coll_kinds.specs.declared.operation.Op.{Op}
 use Rattle.coll_kinds.specs.declared.signature.Signature.{Signature}
-use Rattle.coll_kinds.specs.Elements.{whole, width, element_bytes}
-use Rattle.coll_kinds.specs.Texts.{number_of, value_of}
-use Rattle.coll_kinds.specs.Lengths.{given_len}
-use Rattle.coll_kinds.specs.Checks.{has_root, has_operation, is_barrier, has_counts, broken}
-use Rattle.coll_kinds.specs.Limits.{max_ranks}
+use Rattle.coll_kinds.specs.Common.{whole, width, element_bytes, value_of, given_len, has_root, has_operation, is_barrier, has_counts, broken, max_ranks, kind_of, operation_of, datatype_of, member_of}
+use Rattle.coll_kinds.specs.Texts.{number_of}
 use Rattle.coll_history.specs.declared.cause.Cause.{Cause}
 use Rattle.coll_history.specs.declared.cause.Cause.TheVariants.{MissingRanks, UnknownCommand, OutOfPlace, BadWords}
 use Rattle.coll_history.specs.declared.cause.Cause.TheVariants.{BadNumber, BadRank, BadCommunicator, BadSignature}
@@ -24,8 +21,6 @@ use Rattle.coll_history.specs.declared.cause.Cause.TheVariants.{NotStartable, To
 use Rattle.coll_history.specs.declared.command.Command.{Command}
 use Rattle.coll_history.specs.declared.command.Command.TheVariants.{Post, Init, Start, Wait, Test, Free}
 use Rattle.coll_history.specs.declared.command.Command.TheVariants.{WaitAny, WaitSome, WaitAll}
-use Rattle.coll_kinds.specs.Words.{kind_of, operation_of, datatype_of}
-use Rattle.coll_kinds.specs.Groups.{member_of}
 use Rattle.coll_history.specs.Reading.{Reading, and_then, ◌>>=◌, give, fault, known, must, word, end, numbers}
 use Rattle.coll_history.specs.Histories.{History, group_of, Posting, postings, issued_by, is_startable, total}
 

@@ -3,9 +3,8 @@ use Rattle.std.proofs.Common.{◌≡◌, ℕ, zero, suc, ◌<◌, ◌≤◌, Boo
 use Rattle.std.proofs.lemmas.Bool.{and_parts, cases_lt, leb-true}
 use Rattle.coll_kinds.specs.declared.signature.Signature.{Signature}
 use Rattle.coll_kinds.specs.declared.refusal.SignatureFault.{SignatureFault}
-use Rattle.coll_kinds.specs.Limits.{max_len}
-use Rattle.coll_kinds.specs.Lengths.{given_len, got_len}
-use Rattle.coll_kinds.specs.Checks.{AreLengthsSmall, broken, count_fits, operation_fits, root_fits, size_fits, sizes_fit}
+use Rattle.coll_kinds.specs.Common.{max_len, given_len, got_len, broken, root_fits, sizes_fit}
+use Rattle.coll_kinds.specs.Checks.{AreLengthsSmall, count_fits, operation_fits, size_fits}
 
 -- nothing is refused only where each test is passed
 passed : (test : Bool) (rest : Option SignatureFault) (fault : SignatureFault) → cond test rest (Some fault) ≡ None → (test ≡ true) × (rest ≡ None)

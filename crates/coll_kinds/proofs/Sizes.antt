@@ -5,10 +5,8 @@ use Rattle.std.proofs.lemmas.Nat.{mul-le}
 use Rattle.coll_kinds.specs.declared.kind.Kind.{Kind}
 use Rattle.coll_kinds.specs.declared.kind.Kind.TheVariants.{Barrier, Bcast, Gather, Scatter, Allgather, Allgatherv, Alltoall, Reduce, Allreduce, Rsblock, Scan, Exscan}
 use Rattle.coll_kinds.specs.declared.signature.Signature.{Signature}
-use Rattle.coll_kinds.specs.Limits.{max_len}
-use Rattle.coll_kinds.specs.Elements.{width}
-use Rattle.coll_kinds.specs.Lengths.{block_len, count_at, row_len, total, given_by, given_len, got_by, got_len}
-use Rattle.coll_kinds.specs.Checks.{size_fits, sizes_fit}
+use Rattle.coll_kinds.specs.Common.{max_len, width, block_len, count_at, row_len, total, given_by, given_len, got_by, got_len, sizes_fit}
+use Rattle.coll_kinds.specs.Checks.{size_fits}
 
 either-≤ : (test : Bool) (x y w : ℕ) → x ≤ w → y ≤ w → cond test x y ≤ w
 either-≤ true x y w first second = first

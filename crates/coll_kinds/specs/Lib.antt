@@ -14,3 +14,5 @@ pub mod Rows
 -- what functions promise one another: equality as it is computed, and a function changed at one number
 pub mod Sameness
 pub mod Puts
+-- these, passed on from one place
+pub mod Common

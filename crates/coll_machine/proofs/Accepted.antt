@@ -11,13 +11,8 @@ use Rattle.coll_kinds.specs.declared.refusal.Refusal.TheVariants.{BadSignature, 
 use Rattle.coll_kinds.specs.declared.kind.Mode.{Mode}
 use Rattle.coll_kinds.specs.declared.kind.Mode.TheVariants.{Once, Persistent}
 use Rattle.coll_kinds.specs.declared.ticket.Ticket.{Ticket}
-use Rattle.coll_kinds.specs.Checks.{broken}
-use Rattle.coll_kinds.specs.Groups.{member_of}
-use Rattle.coll_kinds.specs.Sameness.{mode_number}
-use Rattle.coll_machine.specs.Settings.{Setting, group, size}
-use Rattle.coll_machine.specs.States.{State, Request, found}
-use Rattle.coll_machine.specs.Calls.{Planned, Post, Init, Start, Retire, Free}
-use Rattle.coll_machine.specs.Refusals.{first_of, unless, mismatch_in, naming_refusals, idle_refusals, start_refusals, refusals, refusal}
+use Rattle.coll_kinds.specs.Common.{broken, member_of, mode_number}
+use Rattle.coll_machine.specs.Common.{Setting, group, size, State, Request, found, Planned, Post, Init, Start, Retire, Free, first_of, unless, mismatch_in, naming_refusals, idle_refusals, start_refusals, refusals, refusal}
 
 -- where no condition is the first, none holds
 pub all_none : (xs : List (Option Refusal)) → first_of xs ≡ None → AllByRecursion (λ (o : Option Refusal). o ≡ None) xs

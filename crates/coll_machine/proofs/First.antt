@@ -5,12 +5,9 @@ use Rattle.std.specs.Option.{option_or}
 use Rattle.std.proofs.lemmas.Option.{none-some}
 use Rattle.std.proofs.lemmas.Bool.{cases_eq}
 use Rattle.coll_kinds.specs.declared.signature.Signature.{Signature}
-use Rattle.coll_kinds.specs.Refusals.{mismatch_at}
-use Rattle.coll_kinds.specs.Sameness.{same_signature}
+use Rattle.coll_kinds.specs.Common.{mismatch_at, same_signature}
 use Rattle.coll_kinds.proofs.Sameness.{same_signature-Decides}
-use Rattle.coll_machine.specs.Settings.{Setting, group, size, rank_of}
-use Rattle.coll_machine.specs.States.{State}
-use Rattle.coll_machine.specs.Refusals.{unless, first_there, mismatch_in}
+use Rattle.coll_machine.specs.Common.{Setting, group, size, rank_of, State, unless, first_there, mismatch_in}
 use Rattle.coll_machine.proofs.Accepted.{fits}
 
 pub record There (lists : ℕ → List Signature) (place from n : ℕ) : Type 0 where

@@ -7,15 +7,8 @@ use Rattle.coll_kinds.specs.declared.signature.Signature.{Signature}
 use Rattle.coll_kinds.specs.declared.ticket.Ticket.{Ticket}
 use Rattle.coll_kinds.specs.Puts.{put}
 use Rattle.coll_kinds.proofs.Puts.{put_same, put_other, put_cases}
-use Rattle.coll_machine.specs.Settings.{Setting, size}
+use Rattle.coll_machine.specs.Common.{Setting, size, Request, State, Machine, nothing, key_of, put_key, new_request, created, started, rested, holding, forgotten, Call, Reply, IsOver, Clears, MachineStep, post, init, start, finish, retire, wait, free, refuse, short, Event, Runs, ArePosted}
 use Rattle.coll_machine.specs.declared.key.Key.{Key}
-use Rattle.coll_machine.specs.States.{Request, State, Machine, nothing, key_of}
-use Rattle.coll_machine.specs.Changes.{put_key, new_request, created, started, rested, holding, forgotten}
-use Rattle.coll_machine.specs.Calls.{Call, Reply}
-use Rattle.coll_machine.specs.Steps.{IsOver, Clears}
-use Rattle.coll_machine.specs.Machines.{MachineStep, post, init, start, finish, retire, wait, free, refuse, short}
-use Rattle.coll_machine.specs.Runs.{Event, Runs}
-use Rattle.coll_machine.specs.Postings.{ArePosted}
 use Rattle.coll_machine.specs.Laws.{IsHeld, DoneIsHeld, TracesArePosted, RunsArePosted}
 use Rattle.coll_machine.proofs.Puts.{put_key_cases}
 use Rattle.coll_machine.proofs.Accepted.{found_is, started_mine, freed_mine}

@@ -5,18 +5,10 @@ use Rattle.coll_kinds.specs.declared.kind.Mode.{Mode}
 use Rattle.coll_kinds.specs.declared.kind.Mode.TheVariants.{Once, Persistent}
 use Rattle.coll_kinds.specs.declared.signature.Signature.{Signature}
 use Rattle.coll_kinds.specs.declared.ticket.Ticket.{Ticket}
-use Rattle.coll_kinds.specs.Groups.{member_of}
-use Rattle.coll_kinds.specs.Lengths.{lent}
-use Rattle.coll_kinds.specs.Puts.{put}
+use Rattle.coll_kinds.specs.Common.{member_of, lent, put}
 use Rattle.coll_kinds.proofs.Puts.{put_same}
-use Rattle.coll_machine.specs.Settings.{Setting, group, size}
-use Rattle.coll_machine.specs.States.{Request, State, nothing, found, key_of}
-use Rattle.coll_machine.specs.Changes.{new_request, created, once_more, started, rested, rested_by, holding}
-use Rattle.coll_machine.specs.Steps.{IsNew, Clears}
-use Rattle.coll_machine.specs.Entries.{Posted, Inited, Started, Retired, Freed}
-use Rattle.coll_machine.specs.Traces.{over_slots}
-use Rattle.coll_machine.specs.Lents.{lent_at, lent_by, lent_bytes}
-use Rattle.coll_machine.specs.Postings.{IsPosted, ArePosted}
+use Rattle.coll_machine.specs.Common.{Setting, group, size, Request, State, nothing, found, key_of, new_request, created, once_more, started, rested, rested_by, holding, IsNew, Clears, Posted, Inited, Started, Retired, Freed, over_slots, lent_bytes, IsPosted, ArePosted}
+use Rattle.coll_machine.specs.Lents.{lent_at, lent_by}
 use Rattle.coll_machine.specs.Laws.{LentChanges}
 use Rattle.coll_machine.proofs.Puts.{put2_same}
 use Rattle.coll_machine.proofs.Pushed.{get_pushed}

@@ -6,18 +6,9 @@ use Rattle.coll_kinds.specs.declared.kind.Mode.{Mode}
 use Rattle.coll_kinds.specs.declared.kind.Mode.TheVariants.{Once, Persistent}
 use Rattle.coll_kinds.specs.declared.signature.Signature.{Signature}
 use Rattle.coll_kinds.specs.declared.ticket.Ticket.{Ticket}
-use Rattle.coll_kinds.specs.Checks.{broken}
-use Rattle.coll_kinds.specs.Groups.{member_of}
-use Rattle.coll_kinds.specs.Puts.{put}
+use Rattle.coll_kinds.specs.Common.{broken, member_of, put}
 use Rattle.coll_kinds.proofs.Puts.{put_same, put_cases}
-use Rattle.coll_machine.specs.Settings.{Setting, group, size}
-use Rattle.coll_machine.specs.States.{Request, State, nothing, key_of, signature_of}
-use Rattle.coll_machine.specs.Changes.{new_request, created, once_more, started, rested, rested_by, holding}
-use Rattle.coll_machine.specs.Calls.{Planned}
-use Rattle.coll_machine.specs.Steps.{Clears}
-use Rattle.coll_machine.specs.Entries.{Entry, Posted, Inited, Started, Retired, Freed}
-use Rattle.coll_machine.specs.Traces.{Enters, Leads}
-use Rattle.coll_machine.specs.Postings.{IsPosted, ArePosted}
+use Rattle.coll_machine.specs.Common.{Setting, group, size, Request, State, nothing, key_of, signature_of, new_request, created, once_more, started, rested, rested_by, holding, Planned, Clears, Entry, Posted, Inited, Started, Retired, Freed, Enters, Leads, IsPosted, ArePosted}
 use Rattle.coll_machine.proofs.Puts.{put2_same, put2_cases}
 use Rattle.coll_machine.proofs.Pushed.{get_pushed, get_front, get_either}
 use Rattle.coll_machine.proofs.First.{agrees_with}

@@ -2,15 +2,10 @@
 use Rattle.std.proofs.Common.{◌≡◌, ℕ, ◌+◌, ◌≤◌, inl, inr, Bool, cond, eqb, [], ◌∷◌, ◌++◌, length, Some, None, suc, refl, sym, ap, ◌∙◌, arith}
 use Rattle.coll_kinds.specs.declared.kind.Mode.{Mode}
 use Rattle.coll_kinds.specs.declared.kind.Mode.TheVariants.{Once, Persistent}
-use Rattle.coll_kinds.specs.Puts.{put}
+use Rattle.coll_kinds.specs.Common.{put, mode_number}
 use Rattle.coll_kinds.proofs.Puts.{put_same}
-use Rattle.coll_machine.specs.Settings.{Setting}
-use Rattle.coll_machine.specs.States.{Request, State, nothing, key_of}
-use Rattle.coll_machine.specs.Changes.{new_request, once_more, rested, rested_by, holding}
-use Rattle.coll_machine.specs.Steps.{Clears}
-use Rattle.coll_machine.specs.Entries.{Entry, Posted, Inited, Started, Retired, Freed}
-use Rattle.coll_kinds.specs.Sameness.{mode_number}
-use Rattle.coll_machine.specs.Traces.{reserved_for, reserved, Enters, over_slots}
+use Rattle.coll_machine.specs.Common.{Setting, Request, State, nothing, key_of, new_request, once_more, rested, rested_by, holding, Clears, Entry, Posted, Inited, Started, Retired, Freed, reserved, Enters, over_slots}
+use Rattle.coll_machine.specs.Traces.{reserved_for}
 use Rattle.coll_machine.specs.Laws.{ReservedChanges, HasRoom, LegalGoesOn}
 use Rattle.coll_machine.proofs.Pushed.{length_pushed}
 use Rattle.coll_machine.proofs.Accepted.{found_is, started_mine, freed_mine}

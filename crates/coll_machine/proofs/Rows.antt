@@ -3,14 +3,9 @@ use Rattle.std.proofs.Common.{◌≡◌, ◌≢◌, ℕ, suc, ◌<◌, ◌⊎◌
 use Rattle.std.proofs.lemmas.Bool.{cases_eq, and_parts, eqb-true, ltb-true, false≢true}
 use Rattle.std.proofs.lemmas.Option.{none-some, same_Some}
 use Rattle.coll_kinds.specs.Needs.{needs}
-use Rattle.coll_machine.specs.Settings.{size}
+use Rattle.coll_machine.specs.Common.{size, Request, State, nothing, key_of, signature_of, once_more, holding, Works, IsOver, Entry, Posted, Inited, Started, Retired, Freed, Enters, Leads, two_ranks, ticket, key, i32, plan, bcast, left_late, late_bcast, gather, freed, two_starts, barrier}
 use Rattle.coll_machine.specs.declared.key.Key.{Key}
-use Rattle.coll_machine.specs.States.{Request, State, nothing, key_of, signature_of}
-use Rattle.coll_machine.specs.Changes.{once_more, holding}
-use Rattle.coll_machine.specs.Steps.{Works, IsOver}
-use Rattle.coll_machine.specs.Entries.{Entry, Posted, Inited, Started, Retired, Freed}
-use Rattle.coll_machine.specs.Traces.{Enters, Leads}
-use Rattle.coll_machine.specs.Rows.{two_ranks, ticket, key, i32, plan, bcast, request_of, posted, left, posted_late, left_late, late_bcast, gather, idle, inited_one, inited, started_one, started_both, left_one, ahead, left_both, level, ended_one, ended, freed_one, freed, two_starts, RowsAreLegal, barrier, waiting, BarrierWaits}
+use Rattle.coll_machine.specs.Rows.{request_of, posted, left, posted_late, idle, inited_one, inited, started_one, started_both, left_one, ahead, left_both, level, ended_one, ended, freed_one, RowsAreLegal, waiting, BarrierWaits}
 use Rattle.coll_machine.proofs.Slots.{AreLow, low_put, live_low}
 use Rattle.coll_machine.proofs.Tracing.{leads_push}
 

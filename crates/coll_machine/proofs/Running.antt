@@ -2,13 +2,8 @@
 use Rattle.std.proofs.Common.{◌≡◌, ℕ, ◌⊎◌, inl, inr, Bool, true, false, List, [], ◌∷◌, refl, sym, ap, ◌∙◌}
 use Rattle.coll_kinds.specs.Puts.{put}
 use Rattle.coll_kinds.proofs.Puts.{put_same, put_other, put_cases}
-use Rattle.coll_machine.specs.Settings.{Setting}
-use Rattle.coll_machine.specs.States.{State, Machine, nothing}
+use Rattle.coll_machine.specs.Common.{Setting, State, Machine, nothing, phased, post, init, start, finish, retire, free, Event, Runs, Entry, Posted, Inited, Started, Retired, Freed, Leads}
 use Rattle.coll_machine.specs.Calls as calls
-use Rattle.coll_machine.specs.Machines.{phased, post, init, start, finish, retire, free}
-use Rattle.coll_machine.specs.Runs.{Event, Runs}
-use Rattle.coll_machine.specs.Entries.{Entry, Posted, Inited, Started, Retired, Freed}
-use Rattle.coll_machine.specs.Traces.{Leads}
 use Rattle.coll_machine.specs.Laws.{Shows, TracesAreRun}
 use Rattle.coll_machine.proofs.Accepted.{found_is}
 

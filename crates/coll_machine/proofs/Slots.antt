@@ -5,12 +5,7 @@ use Rattle.std.proofs.lemmas.Bool.{cases_eq}
 use Rattle.coll_kinds.specs.declared.kind.Mode.TheVariants.{Once, Persistent}
 use Rattle.coll_kinds.specs.Puts.{put}
 use Rattle.coll_kinds.proofs.Puts.{put_other, put_at, put_cases}
-use Rattle.coll_machine.specs.Settings.{Setting}
-use Rattle.coll_machine.specs.States.{Request, State, nothing, key_of}
-use Rattle.coll_machine.specs.Changes.{new_request, created, once_more, started, rested, holding, forgotten}
-use Rattle.coll_machine.specs.Steps.{Clears}
-use Rattle.coll_machine.specs.Entries.{Entry, Posted, Inited, Started, Retired, Freed}
-use Rattle.coll_machine.specs.Traces.{Enters, Leads, over_slots}
+use Rattle.coll_machine.specs.Common.{Setting, Request, State, nothing, key_of, new_request, created, once_more, started, rested, holding, forgotten, Clears, Entry, Posted, Inited, Started, Retired, Freed, Enters, Leads, over_slots}
 use Rattle.coll_machine.proofs.Accepted.{found_is}
 
 abbrev pub Slots : Type 0

@@ -2,14 +2,8 @@
 use Rattle.std.proofs.Common.{List, [], ◌∷◌, ◌++◌, refl, sym, ap, subst}
 use Rattle.coll_kinds.specs.declared.refusal.Refusal.{Refusal}
 use Rattle.coll_kinds.specs.declared.refusal.Refusal.TheVariants.{NoMemory}
-use Rattle.coll_machine.specs.Settings.{Setting}
-use Rattle.coll_machine.specs.States.{State, Machine, nothing}
-use Rattle.coll_machine.specs.Calls.{Call}
+use Rattle.coll_machine.specs.Common.{Setting, State, Machine, nothing, Call, Entry, Posted, Inited, Started, Retired, Freed, MachineStep, post, init, start, finish, retire, wait, free, refuse, short, Event, Runs, Enters, Leads}
 use Rattle.coll_machine.specs.Calls as calls
-use Rattle.coll_machine.specs.Entries.{Entry, Posted, Inited, Started, Retired, Freed}
-use Rattle.coll_machine.specs.Machines.{MachineStep, post, init, start, finish, retire, wait, free, refuse, short}
-use Rattle.coll_machine.specs.Runs.{Event, Runs}
-use Rattle.coll_machine.specs.Traces.{Enters, Leads}
 use Rattle.coll_machine.specs.Laws.{Adds, StepsAreTraced, Shows, RunsAreTraced}
 
 -- one entry more

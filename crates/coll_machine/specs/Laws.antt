@@ -1,8 +1,7 @@
 -- What holds of every run and of every legal trace.
 use Rattle.std.specs.Prelude.{◌≡◌, ◌+◌, ◌≤◌, ℕ, true, List, [], ◌∷◌, ◌++◌, length, unwrap_or, option_map, Some}
 use Rattle.coll_kinds.specs.declared.signature.Signature.{Signature}
-use Rattle.coll_kinds.specs.Groups.{member_of}
-use Rattle.coll_kinds.specs.Lengths.{lent}
+use Rattle.coll_kinds.specs.Common.{member_of, lent}
 use Rattle.coll_machine.specs.Settings.{Setting, group, size}
 use Rattle.coll_machine.specs.States.{Request, State, Machine, nothing, found}
 use Rattle.coll_machine.specs.Calls.{Call, Post, Init, Start, Retire, Free, Reply, Ticketed, Outcome, Nothing}

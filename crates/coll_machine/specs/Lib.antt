@@ -17,3 +17,5 @@ pub mod Laws
 pub mod Postings
 -- worked rows
 pub mod Rows
+-- these, passed on from one place
+pub mod Common

@@ -2,8 +2,7 @@
 -- (MPI 4.1, 6.12).
 use Rattle.std.specs.Prelude.{◌≡◌, ◌<◌, ℕ, slice_get, Some, None}
 use Rattle.coll_kinds.specs.declared.signature.Signature.{Signature}
-use Rattle.coll_kinds.specs.Checks.{broken}
-use Rattle.coll_kinds.specs.Groups.{member_of}
+use Rattle.coll_kinds.specs.Common.{broken, member_of}
 use Rattle.coll_machine.specs.Settings.{Setting, group, size}
 use Rattle.coll_machine.specs.States.{Request, State, signature_of}
 

@@ -8,11 +8,7 @@ use Rattle.coll_kinds.specs.declared.signature.Signature.{Signature}
 use Rattle.coll_kinds.specs.declared.refusal.Refusal.{Refusal}
 use Rattle.coll_kinds.specs.declared.refusal.Refusal.TheVariants.{BadComm, NotMember, BadSignature, BadLength, Stale, NotYours, Active, NotPersistent, PlacesUsed, StartsUsed, Full}
 use Rattle.coll_kinds.specs.declared.refusal.SignatureFault.TheVariants.{Mode as WrongMode, Group as WrongGroup}
-use Rattle.coll_kinds.specs.Refusals.{mismatch_at}
-use Rattle.coll_kinds.specs.Checks.{broken}
-use Rattle.coll_kinds.specs.Groups.{member_of}
-use Rattle.coll_kinds.specs.Lengths.{given_len}
-use Rattle.coll_kinds.specs.Sameness.{mode_number, same_signature}
+use Rattle.coll_kinds.specs.Common.{mismatch_at, broken, member_of, given_len, mode_number, same_signature}
 use Rattle.coll_machine.specs.Settings.{Setting, group, group_in, size}
 use Rattle.coll_machine.specs.States.{State, Request, found, signature_of}
 use Rattle.coll_machine.specs.Calls.{Planned, Call, Post, Init, Start, Retire, Free, Finish}

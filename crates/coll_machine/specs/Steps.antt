@@ -4,10 +4,7 @@ use Rattle.std.specs.List.{range_with_len}
 use Rattle.coll_kinds.specs.declared.kind.Mode.TheVariants.{Once, Persistent}
 use Rattle.coll_kinds.specs.declared.signature.Signature.{Signature}
 use Rattle.coll_kinds.specs.declared.ticket.Ticket.{Ticket}
-use Rattle.coll_kinds.specs.Groups.{member_of}
-use Rattle.coll_kinds.specs.Lengths.{given_len}
-use Rattle.coll_kinds.specs.Needs.{needs}
-use Rattle.coll_kinds.specs.Puts.{put}
+use Rattle.coll_kinds.specs.Common.{member_of, given_len, needs, put}
 use Rattle.coll_ops.specs.Values.{value}
 use Rattle.coll_machine.specs.Settings.{Setting, group, size}
 use Rattle.coll_machine.specs.declared.key.Key.{Key}

@@ -3,8 +3,7 @@ use Rattle.std.specs.Prelude.{◌≡◌, ℕ, Bool, false, List, length, unwrap_
 use Rattle.std.specs.Map.{lookup}
 use Rattle.coll_kinds.specs.Puts.{put}
 use Rattle.coll_machine.specs.declared.key.Key.{Key}
-use Rattle.coll_machine.specs.Changes.{put_in, put_key, same_key}
-use Rattle.coll_machine.specs.Steps.{AllHaveLeft}
+use Rattle.coll_machine.specs.Common.{put_in, put_key, same_key, AllHaveLeft}
 use Rattle.coll_sched.specs.Worlds.{put_mail}
 use Rattle.coll_match.specs.Held.{Held, given_in, mail_in, seat_in}
 

@@ -5,12 +5,10 @@ use Rattle.std.proofs.lemmas.Bool.{and_from, or_left, lt-ltb, le-leb}
 use Rattle.coll_kinds.specs.declared.datatype.Datatype.{Datatype}
 use Rattle.coll_kinds.specs.declared.operation.Op.{Op}
 use Rattle.coll_kinds.specs.declared.operation.Op.TheVariants.{Sum}
-use Rattle.coll_kinds.specs.Lengths.{block_len}
+use Rattle.coll_kinds.specs.Common.{block_len, has_root, needs_of}
 use Rattle.std.specs.Bool.{IsTrue}
 use Rattle.coll_kinds.specs.declared.kind.Kind.TheVariants.{Barrier, Bcast, Gather, Scatter, Allgather, Allgatherv, Alltoall, Reduce, Allreduce, Rsblock, Scan, Exscan}
 use Rattle.coll_kinds.specs.declared.kind.Kind.{Kind}
-use Rattle.coll_kinds.specs.Checks.{has_root}
-use Rattle.coll_kinds.specs.Needs.{needs_of}
 use Rattle.coll_ops.specs.Combinations.{combination}
 use Rattle.coll_ops.specs.Values.{block, row_of, all_rows, value_by}
 use Rattle.coll_ops.proofs.Given.{root-member}

@@ -6,14 +6,13 @@ use Rattle.std.specs.List.{flat_map}
 use Rattle.coll_kinds.specs.declared.kind.Kind.{Kind}
 use Rattle.coll_kinds.specs.declared.operation.Op.TheVariants.{Sum}
 use Rattle.coll_kinds.specs.declared.signature.Signature.{Signature}
-use Rattle.coll_kinds.specs.Lengths.{block_len, row_len, given_by}
+use Rattle.coll_kinds.specs.Common.{block_len, row_len, given_by, has_root, broken, root_fits}
 use Rattle.coll_ops.specs.Contributions.{rows_of, AreGiven}
 use Rattle.coll_ops.specs.Values.{part, row_of, all_rows, value, value_by}
 use Rattle.std.proofs.lemmas.Bool.{false≢true, ltb-true}
 use Rattle.coll_kinds.specs.declared.refusal.SignatureFault.{SignatureFault}
 use Rattle.coll_kinds.specs.declared.refusal.Refusal.{Refusal}
 use Rattle.coll_kinds.specs.declared.refusal.Refusal.TheVariants.{BadSignature}
-use Rattle.coll_kinds.specs.Checks.{has_root, broken, root_fits}
 use Rattle.coll_ops.proofs.RowLists.{row_of-rows_of, length-rows_of}
 
 -- one fact of an Ok for another

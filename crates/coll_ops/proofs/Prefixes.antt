@@ -7,8 +7,7 @@ use Rattle.std.proofs.lemmas.List.{take-take}
 use Rattle.std.proofs.lemmas.List.FromFn.{length-map-range_with_len, get_or-map-range_with_len, map-range_with_len_more}
 use Rattle.coll_kinds.specs.declared.operation.Op.{Op}
 use Rattle.coll_kinds.specs.declared.datatype.Datatype.{Datatype}
-use Rattle.coll_kinds.specs.Elements.{width, AreBytes}
-use Rattle.coll_kinds.specs.Checks.{allowed}
+use Rattle.coll_kinds.specs.Common.{width, AreBytes, allowed}
 use Rattle.coll_ops.specs.Combinations.{combined, combination}
 use Rattle.coll_ops.specs.Laws.{IsRow}
 use Rattle.coll_ops.specs.Values.{row_of}

@@ -3,9 +3,7 @@ use Rattle.std.specs.Prelude.{◌≡◌, ℕ, ◌%◌, ◌<◌, List, length, sl
 use Rattle.coll_kinds.specs.declared.datatype.Datatype.{Datatype}
 use Rattle.coll_kinds.specs.declared.operation.Op.{Op}
 use Rattle.coll_kinds.specs.declared.signature.Signature.{Signature}
-use Rattle.coll_kinds.specs.Elements.{Element, width, IsElement}
-use Rattle.coll_kinds.specs.Checks.{allowed, broken}
-use Rattle.coll_kinds.specs.Needs.{needs}
+use Rattle.coll_kinds.specs.Common.{Element, width, IsElement, allowed, broken, needs}
 use Rattle.coll_ops.specs.Operations.{applied}
 use Rattle.coll_ops.specs.Combinations.{combined}
 use Rattle.coll_ops.specs.Values.{value, row_of}

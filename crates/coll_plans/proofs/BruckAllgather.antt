@@ -6,14 +6,11 @@ use Rattle.std.specs.List.{AllByRecursion}
 use Rattle.coll_kinds.specs.declared.signature.Signature.{Signature}
 use Rattle.coll_kinds.specs.declared.kind.Kind.TheVariants.{Allgather}
 use Rattle.coll_kinds.specs.declared.operation.Op.TheVariants.{Sum}
-use Rattle.coll_kinds.specs.Lengths.{block_len, row_len, given_by, got_by}
-use Rattle.coll_kinds.specs.Needs.{needs_of}
+use Rattle.coll_kinds.specs.Common.{block_len, row_len, given_by, got_by, needs_of}
 use Rattle.coll_ops.specs.Values.{row_of, all_rows, value_by}
 use Rattle.coll_sched.specs.declared.region.Region.{Region}
 use Rattle.coll_sched.specs.declared.action.Action.{Action}
-use Rattle.coll_sched.specs.Schedules.{Parts}
-use Rattle.coll_sched.specs.Regions.{read_of, front}
-use Rattle.coll_sched.specs.Families.{actions_at, lock_step, result_at, Heard, IsLawful}
+use Rattle.coll_sched.specs.Common.{Parts, read_of, front, actions_at, lock_step, result_at, Heard, IsLawful}
 use Rattle.coll_sched.proofs.Rounds.{GivenFits}
 use Rattle.coll_sched.proofs.Builders.{input_held}
 use Rattle.coll_trees.specs.Columns.{Column, rounds_of}

@@ -3,11 +3,8 @@
 use Rattle.std.proofs.Common.{◌≡◌, ℕ, zero, suc, ◌+◌, ◌-◌, ◌*◌, ◌%◌, ◌^◌, ◌<◌, ◌≤◌, ◌⊎◌, inl, inr, eqb, List, [], ◌∷◌, length, Some, None, refl, sym, ap, subst, ◌∙◌, arith, eq-eqb, ne_eqb, mod-eq_of_lt, mod-lt, pow-suc}
 use Rattle.std.proofs.lemmas.Bool.{cases_eq, cases_lt, cond-true, cond-false}
 use Rattle.std.specs.List.{AllByRecursion}
-use Rattle.coll_sched.specs.Regions.{Inside, read_of}
-use Rattle.coll_sched.specs.Actions.{AllApart, writes}
-use Rattle.coll_sched.specs.Schedules.{IsRound}
+use Rattle.coll_sched.specs.Common.{Inside, read_of, AllApart, writes, IsRound, Family, actions_at, in_link, out_link, len_of, lock_step, messages, Receives, Heard, IsLawful}
 use Rattle.coll_sched.specs.declared.action.Action.TheVariants.{Send, Copy, Recv}
-use Rattle.coll_sched.specs.Families.{Family, actions_at, in_link, out_link, len_of, lock_step, messages, Receives, Heard, IsLawful}
 use Rattle.coll_sched.proofs.Buffers.{flip}
 use Rattle.coll_sched.proofs.Rounds.{GivenFits}
 use Rattle.coll_sched.proofs.Builders.{Has, round_held, round_kept, message_is}

@@ -7,10 +7,9 @@ use Rattle.coll_kinds.specs.declared.operation.Op.{Op}
 use Rattle.coll_kinds.specs.declared.operation.Op.TheVariants.{Sum}
 use Rattle.coll_kinds.specs.declared.datatype.Datatype.{Datatype}
 use Rattle.coll_kinds.specs.declared.datatype.Datatype.TheVariants.{I8, I16, I32, I64, U8, U16, U32, U64, Byte, Pair}
-use Rattle.coll_kinds.specs.Elements.{width}
-use Rattle.coll_kinds.specs.Checks.{broken, counts_fit, has_counts, is_barrier, one_count_fits}
+use Rattle.coll_kinds.specs.Common.{width, broken, has_counts, is_barrier, block_len, row_len}
+use Rattle.coll_kinds.specs.Checks.{counts_fit, one_count_fits}
 use Rattle.coll_kinds.specs.declared.signature.Signature.{Signature}
-use Rattle.coll_kinds.specs.Lengths.{block_len, row_len}
 use Rattle.coll_sched.specs.declared.region.Region.{Region}
 use Rattle.coll_sched.specs.declared.action.Action.{Action}
 use Rattle.coll_sched.specs.Points.{remaining}

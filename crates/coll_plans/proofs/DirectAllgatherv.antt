@@ -4,14 +4,10 @@ use Rattle.std.proofs.lemmas.Bool.{and_parts, ltb-true}
 use Rattle.coll_kinds.specs.declared.signature.Signature.{Signature}
 use Rattle.coll_kinds.specs.declared.kind.Kind.TheVariants.{Allgatherv}
 use Rattle.coll_kinds.specs.declared.operation.Op.TheVariants.{Sum}
-use Rattle.coll_kinds.specs.Checks.{broken}
-use Rattle.coll_kinds.specs.Lengths.{block_len, row_len, total, given_by, got_by}
-use Rattle.coll_kinds.specs.Limits.{max_len}
-use Rattle.coll_kinds.specs.Needs.{needs_of}
+use Rattle.coll_kinds.specs.Common.{broken, block_len, row_len, total, given_by, got_by, max_len, needs_of}
 use Rattle.coll_kinds.proofs.Lengths.{lengths_are_small}
 use Rattle.coll_ops.specs.Values.{row_of, all_rows, value_by}
-use Rattle.coll_sched.specs.Regions.{front, read_of}
-use Rattle.coll_sched.specs.Families.{lock_step, result_at, IsLawful}
+use Rattle.coll_sched.specs.Common.{front, read_of, lock_step, result_at, IsLawful}
 use Rattle.coll_sched.proofs.Builders.{input_held}
 use Rattle.coll_trees.proofs.Columns.{lawful_columns}
 use Rattle.coll_trees.specs.Depths.{direct_bound}

@@ -4,8 +4,7 @@ use Rattle.std.proofs.lemmas.Bool.{and_parts, ltb-true}
 use Rattle.coll_kinds.specs.declared.signature.Signature.{Signature}
 use Rattle.coll_kinds.specs.declared.kind.Kind.TheVariants.{Alltoall}
 use Rattle.coll_kinds.specs.declared.operation.Op.TheVariants.{Sum}
-use Rattle.coll_kinds.specs.Lengths.{block_len, row_len, given_by, got_by}
-use Rattle.coll_kinds.specs.Needs.{needs_of}
+use Rattle.coll_kinds.specs.Common.{block_len, row_len, given_by, got_by, needs_of}
 use Rattle.coll_ops.specs.Values.{block, row_of, value_by}
 use Rattle.coll_sched.specs.Families.{result_at, IsLawful}
 use Rattle.coll_trees.proofs.Columns.{lawful_columns}

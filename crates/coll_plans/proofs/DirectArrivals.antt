@@ -2,8 +2,7 @@
 use Rattle.std.proofs.Common.{◌≡◌, ℕ, zero, suc, ◌+◌, ◌-◌, ◌*◌, ◌<◌, ◌≤◌, inl, true, List, [], ◌∷◌, ◌++◌, take, drop, length, flat_map, sym, ap, ◌∙◌, arith, zero-mul, suc-mul, add_comm, drop-drop}
 use Rattle.std.proofs.lemmas.List.{drop-take, take-take}
 use Rattle.coll_ops.specs.Values.{part, row_of}
-use Rattle.coll_sched.specs.Regions.{read_of}
-use Rattle.coll_sched.specs.Families.{Family, actions_at, lock_step, Heard, IsLawful}
+use Rattle.coll_sched.specs.Common.{read_of, Family, actions_at, lock_step, Heard, IsLawful}
 use Rattle.coll_sched.proofs.Rounds.{GivenFits}
 use Rattle.coll_sched.proofs.Builders.{read_split, input_held}
 use Rattle.coll_plans.specs.declared.direct_blocks.Blocks.{Blocks}

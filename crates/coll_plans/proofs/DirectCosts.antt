@@ -4,8 +4,7 @@ use Rattle.std.proofs.lemmas.Bool.{cond_both}
 use Rattle.std.specs.List.{AllByRecursion, list_any}
 use Rattle.coll_sched.specs.declared.region.Region.{Region}
 use Rattle.coll_sched.specs.declared.action.Action.{Action}
-use Rattle.coll_sched.specs.Schedules.{has_peer}
-use Rattle.coll_sched.specs.Families.{Family, family_exchanges}
+use Rattle.coll_sched.specs.Common.{has_peer, Family, family_exchanges}
 use Rattle.coll_trees.specs.Columns.{Column, family_with}
 use Rattle.coll_trees.proofs.Columns.{column_of, round-column, IsLocalColumn, Costs, free, local_round, exchange, few_exchanges, no_exchanges}
 use Rattle.coll_plans.specs.declared.direct_pattern.Pattern.{Pattern}

@@ -4,9 +4,7 @@ use Rattle.std.proofs.lemmas.Bool.{eqb-false, cond-true, cond-false, cond_both, 
 use Rattle.std.specs.List.{AllByRecursion}
 use Rattle.coll_sched.specs.declared.action.Action.{Action}
 use Rattle.coll_sched.specs.declared.action.Action.TheVariants.{Send, Copy, Recv}
-use Rattle.coll_sched.specs.Regions.{Inside, Apart, read_of}
-use Rattle.coll_sched.specs.Actions.{Fits, Follows, EachFollows, IsAmong}
-use Rattle.coll_sched.specs.Families.{Family, actions_at, out_link, in_link, len_of, lock_step, Heard, IsLawful}
+use Rattle.coll_sched.specs.Common.{Inside, Apart, read_of, Fits, Follows, EachFollows, IsAmong, Family, actions_at, out_link, in_link, len_of, lock_step, Heard, IsLawful}
 use Rattle.coll_sched.proofs.Rounds.{GivenFits}
 use Rattle.coll_sched.proofs.Builders.{Has, has_left, has_right, all_append, each_append, receives_has, out_link_has, in_link_has, NotTo, NotOf, out_link_none, in_link_none, round_held, message_is}
 use Rattle.coll_trees.proofs.Columns.{IsLawfulColumn}

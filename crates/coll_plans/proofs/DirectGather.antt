@@ -5,12 +5,10 @@ use Rattle.std.proofs.Math.Nat.{mul-zero}
 use Rattle.coll_kinds.specs.declared.signature.Signature.{Signature}
 use Rattle.coll_kinds.specs.declared.kind.Kind.TheVariants.{Gather}
 use Rattle.coll_kinds.specs.declared.operation.Op.TheVariants.{Sum}
-use Rattle.coll_kinds.specs.Lengths.{block_len, row_len, given_by, got_by}
-use Rattle.coll_kinds.specs.Needs.{needs_of}
+use Rattle.coll_kinds.specs.Common.{block_len, row_len, given_by, got_by, needs_of}
 use Rattle.coll_ops.specs.Values.{part, row_of, all_rows, value_by}
 use Rattle.coll_ops.proofs.Given.{flat_map-part_whole}
-use Rattle.coll_sched.specs.Regions.{Inside, read_of, front, nothing}
-use Rattle.coll_sched.specs.Families.{lock_step, result_at, Heard, IsLawful}
+use Rattle.coll_sched.specs.Common.{Inside, read_of, front, nothing, lock_step, result_at, Heard, IsLawful}
 use Rattle.coll_sched.proofs.Track.{heard_self}
 use Rattle.coll_trees.proofs.Columns.{lawful_columns}
 use Rattle.coll_plans.specs.declared.direct_pattern.Pattern.TheVariants.{ToRoot}

@@ -7,10 +7,7 @@ use Rattle.coll_kinds.specs.declared.kind.Kind.TheVariants.{Rsblock}
 use Rattle.coll_kinds.specs.declared.operation.Op.{Op}
 use Rattle.coll_kinds.specs.declared.operation.Op.TheVariants.{Sum}
 use Rattle.coll_kinds.specs.declared.datatype.Datatype.{Datatype}
-use Rattle.coll_kinds.specs.Elements.{width}
-use Rattle.coll_kinds.specs.Lengths.{block_len, row_len, given_by, got_by}
-use Rattle.coll_kinds.specs.Needs.{needs_of}
-use Rattle.coll_kinds.specs.Checks.{allowed, has_operation, broken}
+use Rattle.coll_kinds.specs.Common.{width, block_len, row_len, given_by, got_by, needs_of, allowed, has_operation, broken}
 use Rattle.coll_ops.specs.Combinations.{combination}
 use Rattle.coll_ops.specs.Values.{part, block, row_of, value_by}
 use Rattle.coll_ops.proofs.Blocks.{combination-parts}
@@ -18,9 +15,7 @@ use Rattle.coll_ops.proofs.Given.{blocks-around}
 use Rattle.coll_ops.proofs.RowLists.{combination-last}
 use Rattle.coll_sched.specs.declared.region.Region.{Region}
 use Rattle.coll_sched.specs.declared.action.Action.{Action}
-use Rattle.coll_sched.specs.Regions.{read_of}
-use Rattle.coll_sched.specs.Schedules.{Parts}
-use Rattle.coll_sched.specs.Families.{actions_at, lock_step, result_at, IsLawful}
+use Rattle.coll_sched.specs.Common.{read_of, Parts, actions_at, lock_step, result_at, IsLawful}
 use Rattle.coll_trees.specs.Columns.{rounds_of}
 use Rattle.coll_trees.proofs.Checked.{checked, operation_allowed, block_whole}
 use Rattle.coll_trees.proofs.Columns.{column_of, round-column, lawful_columns}

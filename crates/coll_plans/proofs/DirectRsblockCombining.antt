@@ -3,16 +3,13 @@ use Rattle.std.proofs.Common.{◌≡◌, ℕ, zero, suc, ◌+◌, ◌-◌, ◌*�
 use Rattle.std.specs.List.{AllByRecursion}
 use Rattle.coll_kinds.specs.declared.operation.Op.{Op}
 use Rattle.coll_kinds.specs.declared.datatype.Datatype.{Datatype}
-use Rattle.coll_kinds.specs.Elements.{width}
-use Rattle.coll_kinds.specs.Checks.{allowed}
+use Rattle.coll_kinds.specs.Common.{width, allowed}
 use Rattle.coll_ops.specs.Combinations.{combined, combination}
 use Rattle.coll_ops.specs.Values.{row_of}
 use Rattle.coll_ops.proofs.RowLists.{combination-drop}
 use Rattle.coll_sched.specs.declared.action.Action.{Action}
 use Rattle.coll_sched.specs.declared.action.Action.TheVariants.{Combine}
-use Rattle.coll_sched.specs.Regions.{read_of}
-use Rattle.coll_sched.specs.Actions.{AllApart, writes}
-use Rattle.coll_sched.specs.Families.{Family, actions_at, lock_step, IsLawful}
+use Rattle.coll_sched.specs.Common.{read_of, AllApart, writes, Family, actions_at, lock_step, IsLawful}
 use Rattle.coll_sched.proofs.Rounds.{GivenFits}
 use Rattle.coll_sched.proofs.Builders.{Has, round_held, round_kept}
 use Rattle.coll_trees.specs.Columns.{rounds_of}

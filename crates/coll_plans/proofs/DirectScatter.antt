@@ -5,12 +5,9 @@ use Rattle.std.proofs.Math.Nat.{mul-zero}
 use Rattle.coll_kinds.specs.declared.signature.Signature.{Signature}
 use Rattle.coll_kinds.specs.declared.kind.Kind.TheVariants.{Scatter}
 use Rattle.coll_kinds.specs.declared.operation.Op.TheVariants.{Sum}
-use Rattle.coll_kinds.specs.Lengths.{block_len, row_len, given_by, got_by}
-use Rattle.coll_kinds.specs.Needs.{needs_of}
-use Rattle.coll_kinds.specs.Checks.{has_root, broken}
+use Rattle.coll_kinds.specs.Common.{block_len, row_len, given_by, got_by, needs_of, has_root, broken}
 use Rattle.coll_ops.specs.Values.{block, row_of, value_by}
-use Rattle.coll_sched.specs.Regions.{Inside, read_of, front, nothing}
-use Rattle.coll_sched.specs.Families.{lock_step, result_at, IsLawful}
+use Rattle.coll_sched.specs.Common.{Inside, read_of, front, nothing, lock_step, result_at, IsLawful}
 use Rattle.coll_sched.proofs.Rounds.{GivenFits}
 use Rattle.coll_trees.proofs.Checked.{checked, root_low}
 use Rattle.coll_trees.proofs.Columns.{lawful_columns}

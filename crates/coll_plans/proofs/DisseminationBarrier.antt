@@ -5,14 +5,11 @@ use Rattle.std.specs.List.{AllByRecursion}
 use Rattle.coll_kinds.specs.declared.signature.Signature.{Signature}
 use Rattle.coll_kinds.specs.declared.kind.Kind.TheVariants.{Barrier}
 use Rattle.coll_kinds.specs.declared.operation.Op.TheVariants.{Sum}
-use Rattle.coll_kinds.specs.Lengths.{block_len, row_len, given_by, got_by}
-use Rattle.coll_kinds.specs.Needs.{needs_of, needs}
+use Rattle.coll_kinds.specs.Common.{block_len, row_len, given_by, got_by, needs_of, needs}
 use Rattle.coll_ops.specs.Values.{value_by}
-use Rattle.coll_sched.specs.Schedules.{IsRound}
-use Rattle.coll_sched.specs.Families.{actions_at, out_link, in_link, len_of, Receives, Heard}
+use Rattle.coll_sched.specs.Common.{IsRound, actions_at, out_link, in_link, len_of, Receives, Heard, nothing}
 use Rattle.coll_trees.specs.Columns.{Column}
 use Rattle.coll_trees.specs.Depths.{depth}
-use Rattle.coll_sched.specs.Regions.{nothing}
 use Rattle.coll_trees.specs.Trees.{IsNarrowFor}
 use Rattle.coll_trees.proofs.Columns.{IsColumn, column_of, round-column, length-rounds, lawful_family, narrow_family, few_exchanges, Costs, free, exchange}
 use Rattle.coll_trees.proofs.Depths.{depth_reaches, depth_short}

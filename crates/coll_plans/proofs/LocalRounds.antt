@@ -3,9 +3,7 @@ use Rattle.std.proofs.Common.{◌≡◌, ℕ, ◌<◌, ◌≤◌, false, List, [
 use Rattle.std.specs.List.{AllByRecursion, list_any}
 use Rattle.coll_sched.specs.declared.action.Action.{Action}
 use Rattle.coll_sched.specs.declared.action.Action.TheVariants.{Send, Copy, Combine, Recv}
-use Rattle.coll_sched.specs.Actions.{IsAmong, IsLocal}
-use Rattle.coll_sched.specs.Schedules.{IsRound, has_peer}
-use Rattle.coll_sched.specs.Families.{in_link, out_link, len_of, is_send, is_recv}
+use Rattle.coll_sched.specs.Common.{IsAmong, IsLocal, IsRound, has_peer, in_link, out_link, len_of, is_send, is_recv}
 use Rattle.coll_sched.proofs.Orders.{count_cons}
 use Rattle.coll_trees.specs.Columns.{Column}
 use Rattle.coll_trees.proofs.Columns.{IsColumn, IsLocalColumn}

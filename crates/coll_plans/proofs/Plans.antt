@@ -7,11 +7,8 @@ use Rattle.coll_kinds.specs.declared.signature.Signature.{Signature}
 use Rattle.coll_kinds.specs.declared.refusal.Refusal.{Refusal}
 use Rattle.coll_kinds.specs.declared.refusal.Refusal.TheVariants.{BadSignature, NoMemory}
 use Rattle.coll_kinds.specs.declared.refusal.SignatureFault.{SignatureFault}
-use Rattle.coll_kinds.specs.Checks.{broken}
-use Rattle.coll_kinds.specs.Lengths.{block_len}
-use Rattle.coll_sched.specs.Schedules.{Parts}
-use Rattle.coll_sched.specs.Families.{IsNarrow, family_exchanges}
-use Rattle.coll_sched.specs.Served.{Serves}
+use Rattle.coll_kinds.specs.Common.{broken, block_len}
+use Rattle.coll_sched.specs.Common.{Parts, IsNarrow, family_exchanges, Serves}
 use Rattle.coll_trees.specs.Depths.{depth}
 use Rattle.coll_trees.specs.Trees.{IsNarrowFor, bcast_family}
 use Rattle.coll_trees.proofs.Depths.{depth-most}

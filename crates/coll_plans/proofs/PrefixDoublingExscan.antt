@@ -7,10 +7,7 @@ use Rattle.coll_kinds.specs.declared.kind.Kind.TheVariants.{Exscan}
 use Rattle.coll_kinds.specs.declared.operation.Op.{Op}
 use Rattle.coll_kinds.specs.declared.operation.Op.TheVariants.{Sum}
 use Rattle.coll_kinds.specs.declared.datatype.Datatype.{Datatype}
-use Rattle.coll_kinds.specs.Elements.{width, AreBytes}
-use Rattle.coll_kinds.specs.Lengths.{block_len, row_len, given_by, given_len, got_by, got_len}
-use Rattle.coll_kinds.specs.Needs.{needs_of, needs}
-use Rattle.coll_kinds.specs.Checks.{allowed, has_operation, broken}
+use Rattle.coll_kinds.specs.Common.{width, AreBytes, block_len, row_len, given_by, given_len, got_by, got_len, needs_of, needs, allowed, has_operation, broken}
 use Rattle.coll_ops.specs.Combinations.{combined, combination}
 use Rattle.coll_ops.specs.Values.{row_of, value_by, value}
 use Rattle.coll_ops.specs.Contributions.{AreGiven}
@@ -18,9 +15,7 @@ use Rattle.coll_ops.specs.Laws.{IsRow}
 use Rattle.coll_sched.specs.declared.region.Region.{Region}
 use Rattle.coll_sched.specs.declared.action.Action.{Action}
 use Rattle.coll_sched.specs.declared.action.Action.TheVariants.{Copy, Combine}
-use Rattle.coll_sched.specs.Schedules.{Parts, IsRound}
-use Rattle.coll_sched.specs.Regions.{Inside, read_of, front, behind, nothing}
-use Rattle.coll_sched.specs.Families.{actions_at, lock_step, result_at, Heard, IsLawful}
+use Rattle.coll_sched.specs.Common.{Parts, IsRound, Inside, read_of, front, behind, nothing, actions_at, lock_step, result_at, Heard, IsLawful}
 use Rattle.coll_sched.proofs.Rounds.{GivenFits}
 use Rattle.coll_sched.proofs.Builders.{Has, round_held, input_held}
 use Rattle.coll_trees.specs.Columns.{Column, rounds_of}

@@ -12,10 +12,7 @@ use Rattle.coll_ops.specs.Laws.{IsRow}
 use Rattle.coll_sched.specs.declared.region.Region.{Region}
 use Rattle.coll_sched.specs.declared.action.Action.{Action}
 use Rattle.coll_sched.specs.declared.action.Action.TheVariants.{Send, Combine, Recv}
-use Rattle.coll_sched.specs.Regions.{Inside, Apart, read_of, front, behind}
-use Rattle.coll_sched.specs.Actions.{IsAmong, AllApart, writes}
-use Rattle.coll_sched.specs.Schedules.{IsRound}
-use Rattle.coll_sched.specs.Families.{Family, actions_at, in_link, out_link, len_of, lock_step, Heard, IsLawful, is_send, is_recv}
+use Rattle.coll_sched.specs.Common.{Inside, Apart, read_of, front, behind, IsAmong, AllApart, writes, IsRound, Family, actions_at, in_link, out_link, len_of, lock_step, Heard, IsLawful, is_send, is_recv}
 use Rattle.coll_sched.proofs.Rounds.{GivenFits}
 use Rattle.coll_sched.proofs.Builders.{Has, receives_has, round_held, round_kept, message_is}
 use Rattle.coll_trees.specs.Columns.{Column}

@@ -7,19 +7,14 @@ use Rattle.coll_kinds.specs.declared.kind.Kind.TheVariants.{Scan}
 use Rattle.coll_kinds.specs.declared.operation.Op.{Op}
 use Rattle.coll_kinds.specs.declared.operation.Op.TheVariants.{Sum}
 use Rattle.coll_kinds.specs.declared.datatype.Datatype.{Datatype}
-use Rattle.coll_kinds.specs.Elements.{width, AreBytes}
-use Rattle.coll_kinds.specs.Lengths.{block_len, row_len, given_by, given_len, got_by}
-use Rattle.coll_kinds.specs.Needs.{needs_of, needs}
-use Rattle.coll_kinds.specs.Checks.{allowed, has_operation, broken}
+use Rattle.coll_kinds.specs.Common.{width, AreBytes, block_len, row_len, given_by, given_len, got_by, needs_of, needs, allowed, has_operation, broken}
 use Rattle.coll_ops.specs.Combinations.{combination}
 use Rattle.coll_ops.specs.Values.{row_of, value_by, value}
 use Rattle.coll_ops.specs.Contributions.{AreGiven}
 use Rattle.coll_ops.specs.Laws.{IsRow}
 use Rattle.coll_sched.specs.declared.action.Action.{Action}
 use Rattle.coll_sched.specs.declared.action.Action.TheVariants.{Combine}
-use Rattle.coll_sched.specs.Schedules.{Parts, IsRound}
-use Rattle.coll_sched.specs.Regions.{read_of, front, behind}
-use Rattle.coll_sched.specs.Families.{actions_at, lock_step, result_at, Heard, IsLawful}
+use Rattle.coll_sched.specs.Common.{Parts, IsRound, read_of, front, behind, actions_at, lock_step, result_at, Heard, IsLawful}
 use Rattle.coll_sched.proofs.Rounds.{GivenFits}
 use Rattle.coll_sched.proofs.Builders.{Has, input_held}
 use Rattle.coll_trees.specs.Columns.{Column, rounds_of}

@@ -7,9 +7,7 @@ use Rattle.coll_kinds.specs.declared.datatype.Datatype.{Datatype}
 use Rattle.coll_ops.specs.Combinations.{combined}
 use Rattle.coll_ops.specs.Laws.{IsRow}
 use Rattle.coll_sched.specs.declared.action.Action.TheVariants.{Send, Combine, Recv}
-use Rattle.coll_sched.specs.Regions.{read_of, front, behind, Inside}
-use Rattle.coll_sched.specs.Actions.{AllApart, writes}
-use Rattle.coll_sched.specs.Families.{Family, actions_at, lock_step, Receives, Heard, IsLawful}
+use Rattle.coll_sched.specs.Common.{read_of, front, behind, Inside, AllApart, writes, Family, actions_at, lock_step, Receives, Heard, IsLawful}
 use Rattle.coll_sched.proofs.Rounds.{GivenFits}
 use Rattle.coll_sched.proofs.Builders.{Has, round_held, round_kept, message_is}
 use Rattle.coll_trees.proofs.Columns.{column_of}

@@ -4,14 +4,10 @@ use Rattle.std.proofs.lemmas.Bool.{cases_eq}
 use Rattle.std.specs.List.{AllByRecursion, list_any}
 use Rattle.coll_kinds.specs.declared.operation.Op.{Op}
 use Rattle.coll_kinds.specs.declared.datatype.Datatype.{Datatype}
-use Rattle.coll_kinds.specs.Elements.{width}
-use Rattle.coll_kinds.specs.Checks.{allowed}
+use Rattle.coll_kinds.specs.Common.{width, allowed}
 use Rattle.coll_sched.specs.declared.action.Action.{Action}
 use Rattle.coll_sched.specs.declared.action.Action.TheVariants.{Combine}
-use Rattle.coll_sched.specs.Regions.{front, behind}
-use Rattle.coll_sched.specs.Actions.{IsAmong}
-use Rattle.coll_sched.specs.Schedules.{IsRound, has_peer}
-use Rattle.coll_sched.specs.Families.{in_link, out_link, len_of, is_send, is_recv}
+use Rattle.coll_sched.specs.Common.{front, behind, IsAmong, IsRound, has_peer, in_link, out_link, len_of, is_send, is_recv}
 use Rattle.coll_trees.specs.Columns.{Column}
 use Rattle.coll_trees.proofs.Columns.{IsColumn, IsLocalColumn, column_of, column-left, column-right, all_append, Costs, free, local_round, exchange, costs_append, costs_more}
 use Rattle.coll_plans.specs.declared.recursive_doubling_fold.FoldPart.{FoldPart}

@@ -6,8 +6,7 @@ use Rattle.coll_kinds.specs.declared.signature.Signature.{Signature}
 use Rattle.coll_kinds.specs.Lengths.{block_len}
 use Rattle.coll_sched.specs.declared.region.Region.{Region}
 use Rattle.coll_sched.specs.declared.action.Action.TheVariants.{Send, Copy, Recv}
-use Rattle.coll_sched.specs.Families.{Family}
-use Rattle.coll_sched.specs.Regions.{front}
+use Rattle.coll_sched.specs.Common.{Family, front}
 use Rattle.coll_trees.specs.Columns.{Column, family_of}
 use Rattle.coll_trees.specs.Depths.{depth}
 

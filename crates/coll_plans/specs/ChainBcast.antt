@@ -6,8 +6,7 @@ use Rattle.coll_kinds.specs.Lengths.{block_len}
 use Rattle.coll_sched.specs.declared.region.Region.{Region}
 use Rattle.coll_sched.specs.declared.action.Action.{Action}
 use Rattle.coll_sched.specs.declared.action.Action.TheVariants.{Send, Recv}
-use Rattle.coll_sched.specs.Families.{Family}
-use Rattle.coll_sched.specs.Regions.{front, nothing}
+use Rattle.coll_sched.specs.Common.{Family, front, nothing}
 use Rattle.coll_trees.specs.Columns.{Column, family_of}
 use Rattle.coll_trees.specs.BinomialTreeBcast.{from_root, member_at}
 

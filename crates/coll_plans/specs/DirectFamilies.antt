@@ -8,10 +8,8 @@ use Rattle.coll_kinds.specs.declared.signature.Signature.{Signature}
 use Rattle.coll_kinds.specs.Lengths.{block_len, row_len, total}
 use Rattle.coll_sched.specs.declared.region.Region.{Region}
 use Rattle.coll_sched.specs.declared.action.Action.TheVariants.{Combine}
-use Rattle.coll_sched.specs.Families.{Family, family_exchanges}
-use Rattle.coll_sched.specs.Served.{Serves}
+use Rattle.coll_sched.specs.Common.{Family, family_exchanges, Serves, front, nothing}
 use Rattle.coll_trees.specs.Columns.{Column, family_with}
-use Rattle.coll_sched.specs.Regions.{front, nothing}
 use Rattle.coll_plans.specs.declared.direct_blocks.Blocks.{Blocks}
 use Rattle.coll_plans.specs.declared.direct_pattern.Pattern.TheVariants.{ToAll, ToRoot, FromRoot}
 use Rattle.coll_plans.specs.DirectExchange.{place, exchange, exchange_by}

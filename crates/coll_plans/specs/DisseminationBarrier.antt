@@ -3,10 +3,9 @@
 use Rattle.std.specs.Prelude.{ℕ, zero, suc, ◌+◌, ◌-◌, ◌%◌, ◌^◌, List, [], ◌∷◌}
 use Rattle.coll_kinds.specs.declared.signature.Signature.{Signature}
 use Rattle.coll_sched.specs.declared.action.Action.TheVariants.{Send, Recv}
-use Rattle.coll_sched.specs.Families.{Family}
+use Rattle.coll_sched.specs.Common.{Family, nothing}
 use Rattle.coll_trees.specs.Columns.{Column, family_of}
 use Rattle.coll_trees.specs.Depths.{depth}
-use Rattle.coll_sched.specs.Regions.{nothing}
 
 -- the step at distance s
 abbrev pub barrier_round : ℕ → ℕ → Column

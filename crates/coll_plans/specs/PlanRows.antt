@@ -8,9 +8,8 @@ use Rattle.coll_kinds.specs.declared.datatype.Datatype.TheVariants.{I8, I32}
 use Rattle.coll_kinds.specs.declared.signature.Signature.{Signature}
 use Rattle.coll_ops.specs.Values.{row_of}
 use Rattle.coll_sched.specs.declared.action.Action.TheVariants.{Send, Copy, Combine, Recv}
-use Rattle.coll_sched.specs.Families.{result_at, family_exchanges}
+use Rattle.coll_sched.specs.Common.{result_at, family_exchanges, front, behind, nothing}
 use Rattle.coll_trees.specs.Depths.{depth}
-use Rattle.coll_sched.specs.Regions.{front, behind, nothing}
 use Rattle.coll_plans.specs.DisseminationBarrier.{barrier_round}
 use Rattle.coll_plans.specs.PrefixDoubling.{third, shift, join, join_both, scan_family, exscan_family}
 use Rattle.coll_plans.specs.Plans.{family, most_exchanges}

@@ -3,12 +3,8 @@ use Rattle.std.specs.Prelude.{◌≡◌, ℕ, ◌+◌, ◌<◌, ◌≤◌, Bool,
 use Rattle.coll_kinds.specs.declared.kind.Kind.{Kind}
 use Rattle.coll_kinds.specs.declared.kind.Kind.TheVariants.{Barrier, Bcast, Gather, Scatter, Allgather, Allgatherv, Alltoall, Reduce, Allreduce, Rsblock, Scan, Exscan}
 use Rattle.coll_kinds.specs.declared.signature.Signature.{Signature}
-use Rattle.coll_kinds.specs.Checks.{broken}
-use Rattle.coll_kinds.specs.Lengths.{block_len}
-use Rattle.coll_sched.specs.Schedules.{Parts}
-use Rattle.coll_sched.specs.Families.{Family, IsNarrow, family_exchanges}
-use Rattle.coll_sched.specs.Points.{remaining}
-use Rattle.coll_sched.specs.Served.{Serves}
+use Rattle.coll_kinds.specs.Common.{broken, block_len}
+use Rattle.coll_sched.specs.Common.{Parts, Family, IsNarrow, family_exchanges, remaining, Serves}
 use Rattle.coll_trees.specs.Depths.{depth, direct_bound}
 use Rattle.coll_trees.specs.Trees.{bcast_family, reduce_family}
 use Rattle.coll_plans.specs.DisseminationBarrier.{barrier_family}

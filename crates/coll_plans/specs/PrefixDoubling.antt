@@ -10,10 +10,9 @@ use Rattle.coll_kinds.specs.Lengths.{block_len}
 use Rattle.coll_sched.specs.declared.region.Region.{Region}
 use Rattle.coll_sched.specs.declared.action.Action.{Action}
 use Rattle.coll_sched.specs.declared.action.Action.TheVariants.{Send, Copy, Combine, Recv}
-use Rattle.coll_sched.specs.Families.{Family}
+use Rattle.coll_sched.specs.Common.{Family, front, behind, nothing}
 use Rattle.coll_trees.specs.Columns.{Column, family_of}
 use Rattle.coll_trees.specs.Depths.{depth}
-use Rattle.coll_sched.specs.Regions.{front, behind, nothing}
 
 -- the third block of a buffer: in an exscan, the combination of the rows before the member's own
 abbrev pub third : ℕ → Region

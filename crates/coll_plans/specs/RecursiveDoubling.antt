@@ -9,8 +9,7 @@ use Rattle.coll_kinds.specs.declared.signature.Signature.{Signature}
 use Rattle.coll_kinds.specs.Lengths.{block_len}
 use Rattle.coll_sched.specs.declared.action.Action.{Action}
 use Rattle.coll_sched.specs.declared.action.Action.TheVariants.{Send, Combine, Recv}
-use Rattle.coll_sched.specs.Families.{Family}
-use Rattle.coll_sched.specs.Regions.{front, behind}
+use Rattle.coll_sched.specs.Common.{Family, front, behind}
 use Rattle.coll_trees.specs.Columns.{Column, family_of}
 use Rattle.coll_plans.specs.declared.recursive_doubling_fold.FoldPart.{FoldPart}
 use Rattle.coll_plans.specs.declared.recursive_doubling_fold.FoldPart.TheVariants.{Lower, Upper, Alone}

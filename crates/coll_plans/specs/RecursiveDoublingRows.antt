@@ -5,8 +5,7 @@ use Rattle.coll_kinds.specs.declared.operation.Op.TheVariants.{LastNz}
 use Rattle.coll_kinds.specs.declared.datatype.Datatype.TheVariants.{I32}
 use Rattle.coll_ops.specs.Values.{row_of}
 use Rattle.coll_sched.specs.declared.action.Action.TheVariants.{Combine}
-use Rattle.coll_sched.specs.Regions.{front, behind}
-use Rattle.coll_sched.specs.Families.{result_at, family_exchanges}
+use Rattle.coll_sched.specs.Common.{front, behind, result_at, family_exchanges}
 use Rattle.coll_plans.specs.declared.recursive_doubling_fold.FoldPart.TheVariants.{Lower, Upper, Alone}
 use Rattle.coll_plans.specs.RecursiveDoublingHypercube.{dimension, extra, fold_part, corner, lowest, across, mate}
 use Rattle.coll_plans.specs.RecursiveDoubling.{joined, allreduce_family, most_trades}

@@ -2,16 +2,14 @@
 use Rattle.std.proofs.Common.{◌≡◌, ℕ, ◌<◌, List, [], ◌∷◌, ◌++◌, length, get_or, set, refl, sym, ap, subst, ◌∙◌, Option, Some, None, arith, inl, inr}
 use Rattle.std.proofs.lemmas.Bool.{cases_lt}
 use Rattle.std.proofs.lemmas.Option.{slice_get_past}
-use Rattle.coll_machine.specs.Settings.{group_in}
+use Rattle.coll_machine.specs.Common.{group_in, put2, first_of}
 use Rattle.std.specs.Prelude.{nat_lt, is_some, option_map, slice_get, unwrap_or}
 use Rattle.coll_kinds.specs.declared.signature.Signature.{Signature}
 use Rattle.coll_kinds.specs.declared.refusal.Refusal.TheVariants.{BadComm, NotMember, BadSignature, PlacesUsed}
-use Rattle.coll_kinds.specs.Checks.{broken}
+use Rattle.coll_kinds.specs.Common.{broken, put}
 use Rattle.coll_kinds.specs.Groups as membership
-use Rattle.coll_kinds.specs.Puts.{put}
 use Rattle.coll_kinds.proofs.Puts.{put_at, put_cases}
-use Rattle.coll_machine.specs.Changes.{put2}
-use Rattle.coll_machine.specs.Refusals.{first_of, member_refusals}
+use Rattle.coll_machine.specs.Refusals.{member_refusals}
 use Rattle.coll_queues.specs.Lists.{Lists, posts_in, signed_in}
 use Rattle.coll_queues.specs.Postings.{HasRoom, Postings, groups_of, lists_at, member_of, no_lists, number_of, place_of, posts, signed, size}
 use Rattle.coll_queues.specs.Refusing.{judge_refusal, member_refusal, place_refusals, refusal_in}

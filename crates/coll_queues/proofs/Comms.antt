@@ -8,8 +8,7 @@ use Rattle.std.proofs.Math.Seq.{map-set_same}
 use Rattle.coll_kinds.specs.declared.signature.Signature.{Signature}
 use Rattle.coll_kinds.specs.Puts.{put}
 use Rattle.coll_kinds.proofs.Puts.{put_at, put_other}
-use Rattle.coll_machine.specs.Refusals.{first_there}
-use Rattle.coll_machine.specs.Settings.{group_in}
+use Rattle.coll_machine.specs.Common.{first_there, group_in}
 use Rattle.coll_queues.specs.Lists.{Lists, posts_in, signed_in}
 use Rattle.coll_queues.specs.Postings.{Postings, groups_of, lists_at, no_lists, posts, signed}
 use Rattle.coll_queues.proofs.Fronts.{slice_get-push}

@@ -10,13 +10,10 @@ use Rattle.coll_kinds.specs.declared.signature.Signature.{Signature}
 use Rattle.coll_kinds.specs.declared.refusal.Refusal.{Refusal}
 use Rattle.coll_kinds.specs.declared.refusal.Refusal.TheVariants.{BadComm, NotMember, BadSignature, PlacesUsed}
 use Rattle.coll_kinds.specs.declared.refusal.SignatureFault.{SignatureFault}
-use Rattle.coll_kinds.specs.Checks.{broken}
+use Rattle.coll_kinds.specs.Common.{broken, mismatch_at, same_signature}
 use Rattle.coll_kinds.proofs.Members.{member_of-place}
 use Rattle.coll_kinds.proofs.Sameness.{same_signature-Decides}
-use Rattle.coll_kinds.specs.Refusals.{mismatch_at}
-use Rattle.coll_kinds.specs.Sameness.{same_signature}
-use Rattle.coll_machine.specs.Refusals.{first_of, first_there, mismatch_in, unless}
-use Rattle.coll_machine.specs.Settings.{group_in}
+use Rattle.coll_machine.specs.Common.{first_of, first_there, mismatch_in, unless, group_in}
 use Rattle.coll_queues.specs.Lists.{Lists, posts_in, signed_in}
 use Rattle.coll_queues.specs.Postings.{Postings, groups_of, lists_at, member_of, number_of, place_of, posts}
 use Rattle.coll_queues.specs.Refusing.{judge_refusal, member_refusal, place_refusals, refusal_in}

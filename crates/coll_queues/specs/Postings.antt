@@ -2,8 +2,7 @@
 use Rattle.std.specs.Prelude.{ℕ, ◌<◌, List, [], length, map, slice_get, unwrap_or, Option, option_map}
 use Rattle.coll_kinds.specs.declared.signature.Signature.{Signature}
 use Rattle.coll_kinds.specs.Groups as membership
-use Rattle.coll_machine.specs.Refusals.{first_there}
-use Rattle.coll_machine.specs.Settings.{group_in}
+use Rattle.coll_machine.specs.Common.{first_there, group_in}
 use Rattle.coll_queues.specs.Lists.{Lists, posts_in}
 
 -- the lists of each communicator's members, and how long a list may get

@@ -5,14 +5,10 @@ use Rattle.std.proofs.lemmas.Option.{none-some, same_Some}
 use Rattle.std.proofs.lemmas.Bool.{cases_eq, eqb-true, false≢true}
 use Rattle.coll_report.specs.Scripts.{Asked, one_more, changed_at, on, at_place, IsAsked}
 use Rattle.coll_kinds.proofs.Puts.{put_same, put_other, put_cases}
-use Rattle.coll_kinds.specs.Puts.{put}
+use Rattle.coll_kinds.specs.Common.{put, member_of}
 use Rattle.coll_machine.proofs.Pushed.{get_either, length_pushed}
-use Rattle.coll_machine.specs.Changes.{once_more}
-use Rattle.coll_machine.specs.Settings.{Setting, group}
-use Rattle.coll_machine.specs.States.{Request, State}
+use Rattle.coll_machine.specs.Common.{once_more, Setting, group, Request, State, ArePosted}
 use Rattle.coll_report.proofs.Lists.{on_pushed, on_others, placed, grown, Grows}
-use Rattle.coll_kinds.specs.Groups.{member_of}
-use Rattle.coll_machine.specs.Postings.{ArePosted}
 use Rattle.coll_report.proofs.Standing.{Known, Stands, Requests, Tickets}
 
 abbrev pub Slots : Type 0

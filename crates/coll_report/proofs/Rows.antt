@@ -2,8 +2,7 @@
 use Rattle.std.proofs.Common.{◌≡◌, ◌≤◌, ◌<◌, ℕ, zero, suc, false, List, [], ◌⊎◌, inl, inr, None, refl, sym, ◌∙◌, arith}
 use Rattle.std.proofs.lemmas.Bool.{cases_eq}
 use Rattle.std.proofs.lemmas.Option.{none-some}
-use Rattle.coll_machine.specs.States.{State}
-use Rattle.coll_machine.specs.Rows.{two_ranks, left_late, late_bcast, freed, two_starts}
+use Rattle.coll_machine.specs.Common.{State, two_ranks, left_late, late_bcast, freed, two_starts}
 use Rattle.coll_machine.proofs.Rows.{rows_are_legal}
 use Rattle.coll_machine.proofs.Slots.{AreLow, live_low}
 use Rattle.coll_report.specs.Scripts.{Command}

@@ -11,22 +11,13 @@ use Rattle.coll_kinds.specs.declared.kind.Mode.TheVariants.{Once, Persistent}
 use Rattle.coll_ops.specs.Values.{value}
 use Rattle.coll_report.specs.Scripts.{Command, Post, Init, Start, Other, Asked, asked_at, one_more, changed_at, asked_from, outcome, Says}
 use Rattle.coll_kinds.proofs.Puts.{put_same, put_other, put_at, put_cases}
-use Rattle.coll_kinds.specs.Groups.{member_of}
-use Rattle.coll_kinds.specs.Puts.{put}
+use Rattle.coll_kinds.specs.Common.{member_of, put}
 use Rattle.coll_kinds.specs.declared.ticket.Ticket.{Ticket}
 use Rattle.coll_machine.proofs.Accepted.{found_is, retired_mine, started_mine, freed_mine}
 use Rattle.coll_machine.proofs.Pushed.{get_pushed}
-use Rattle.coll_machine.specs.Calls.{Planned}
-use Rattle.coll_machine.specs.Changes.{holding, created, new_request, started, rested, rested_by, forgotten}
-use Rattle.coll_machine.specs.Entries.{Entry, Posted, Inited, Started, Retired, Freed}
-use Rattle.coll_machine.specs.Reports.{posts_of}
-use Rattle.coll_machine.specs.Settings.{Setting, size, group, AreGroups}
-use Rattle.coll_machine.specs.States.{Request, State, key_of}
-use Rattle.coll_machine.specs.Steps.{filled, Posts, Inits, Starts, Frees, Retires, Clears, IsNew}
-use Rattle.coll_machine.specs.Traces.{Leads}
+use Rattle.coll_machine.specs.Common.{Planned, holding, created, new_request, started, rested, rested_by, forgotten, Entry, Posted, Inited, Started, Retired, Freed, posts_of, Setting, size, group, AreGroups, Request, State, key_of, filled, Posts, Inits, Starts, Frees, Retires, Clears, IsNew, Leads, ArePosted}
 use Rattle.coll_report.proofs.Counted.{Fair, IsSame, fair_created, fair_started, fair_freed, fair_retired}
 use Rattle.coll_report.proofs.Lists.{changed_last, Grows, grows_asked}
-use Rattle.coll_machine.specs.Postings.{ArePosted}
 use Rattle.coll_machine.proofs.Posted.{are_entered}
 use Rattle.coll_report.proofs.Standing.{Requests, Tickets, Known, Stands, stands_created, grows_new, stands_started, grows_started, at_started, stands_holding, stands_forgotten, known_rested}
 use Rattle.coll_report.proofs.Valued.{value_is}

@@ -1,12 +1,7 @@
 -- The traces of the worked rows are those of their scripts.
 use Rattle.std.proofs.Common.{ℕ, zero, suc, ◌≤◌, List, [], refl, sym, subst, arith}
 use Rattle.coll_kinds.proofs.Members.{IsGroup-none, IsGroup-range}
-use Rattle.coll_machine.specs.Settings.{AreGroups}
-use Rattle.coll_machine.specs.States.{State, nothing}
-use Rattle.coll_machine.specs.Entries.{Entry}
-use Rattle.coll_machine.specs.Reports.{posts_of}
-use Rattle.coll_machine.specs.Traces.{Leads}
-use Rattle.coll_machine.specs.Rows.{two_ranks, late_bcast, left_late, two_starts, freed}
+use Rattle.coll_machine.specs.Common.{AreGroups, State, nothing, Entry, posts_of, Leads, two_ranks, late_bcast, left_late, two_starts, freed}
 use Rattle.coll_machine.proofs.Rows.{rows_are_legal}
 use Rattle.coll_report.specs.Scripts.{Says}
 use Rattle.coll_report.specs.ScriptRows.{bcasts, gathers, RowsAreTold}

@@ -9,16 +9,12 @@ use Rattle.coll_kinds.specs.declared.kind.Mode.{Mode}
 use Rattle.coll_kinds.specs.declared.kind.Mode.TheVariants.{Once, Persistent}
 use Rattle.coll_report.specs.Scripts.{Asked, asked_at, one_more, changed_at, on, at_place}
 use Rattle.coll_kinds.proofs.Puts.{put_same, put_cases}
-use Rattle.coll_kinds.specs.Groups.{member_of}
-use Rattle.coll_kinds.specs.Puts.{put}
+use Rattle.coll_kinds.specs.Common.{member_of, put}
 use Rattle.coll_kinds.specs.declared.ticket.Ticket.{Ticket}
 use Rattle.coll_machine.proofs.Pushed.{get_pushed, get_front, get_either, length_pushed}
 use Rattle.coll_machine.proofs.Puts.{put2_cases, put_key_cases}
-use Rattle.coll_machine.specs.Changes.{put_key, holding, created, new_request, once_more, started, rested, rested_by, forgotten}
-use Rattle.coll_machine.specs.Settings.{Setting, group, size, rank_of, AreGroups}
+use Rattle.coll_machine.specs.Common.{put_key, holding, created, new_request, once_more, started, rested, rested_by, forgotten, Setting, group, size, rank_of, AreGroups, Request, State, nothing, key_of, IsNew}
 use Rattle.coll_machine.specs.declared.key.Key.{Key}
-use Rattle.coll_machine.specs.States.{Request, State, nothing, key_of}
-use Rattle.coll_machine.specs.Steps.{IsNew}
 use Rattle.coll_report.proofs.Lists.{get_longer, take_front, take_pushed, map_pushed, length-changed, get_changed, get_unchanged, on_pushed, on_others, placed, grown, signatures_changed, place_unchanged, Grows, grows_push, grows_change, grows_self}
 
 -- what each rank has asked for, and the tickets of its requests

@@ -1,12 +1,7 @@
 -- Whoever isn't a rank has no entry.
 use Rattle.std.proofs.Common.{◌≡◌, ℕ, ◌<◌, ◌≤◌, cond, eqb, List, [], ◌∷◌, Some, refl, ap, subst, ◌∙◌, arith, ne_eqb}
 use Rattle.coll_kinds.specs.Groups.{member_of}
-use Rattle.coll_machine.specs.Settings.{Setting, group, AreGroups}
-use Rattle.coll_machine.specs.States.{State, nothing}
-use Rattle.coll_machine.specs.Entries.{Entry, Posted, Inited, Started, Retired, Freed}
-use Rattle.coll_machine.specs.Reports.{posts_of}
-use Rattle.coll_machine.specs.Traces.{Leads}
-use Rattle.coll_machine.specs.Postings.{ArePosted}
+use Rattle.coll_machine.specs.Common.{Setting, group, AreGroups, State, nothing, Entry, Posted, Inited, Started, Retired, Freed, posts_of, Leads, ArePosted}
 use Rattle.coll_machine.proofs.Members.{member_at}
 use Rattle.coll_machine.proofs.Accepted.{found_is, started_mine}
 use Rattle.coll_machine.proofs.Posted.{are_nothing, are_entered}

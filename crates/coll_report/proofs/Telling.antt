@@ -7,9 +7,7 @@ use Rattle.std.proofs.lemmas.List.Elements.{All-contains, All-from_recursion}
 use Rattle.std.proofs.lemmas.List.Sums.{sum_by-cons}
 use Rattle.coll_kinds.specs.declared.ticket.Ticket.{Ticket}
 use Rattle.coll_machine.specs.declared.key.Key.{Key}
-use Rattle.coll_machine.specs.States.{State}
-use Rattle.coll_machine.specs.Entries.{Entry, Posted, Inited, Started, Retired, Freed}
-use Rattle.coll_machine.specs.Reports.{posts_of}
+use Rattle.coll_machine.specs.Common.{State, Entry, Posted, Inited, Started, Retired, Freed, posts_of}
 use Rattle.coll_report.specs.Scripts.{Command, Asked, asked, at_place, outcome, Says, IsAsked}
 use Rattle.coll_report.specs.Told.{HasValue, retires, IsTraceOf, IsIdle, Counts}
 use Rattle.coll_report.proofs.Strangers.{strangers_are_silent}

@@ -4,9 +4,7 @@ use Rattle.std.specs.List.{count_by}
 use Rattle.std.proofs.lemmas.Option.{none-some}
 use Rattle.coll_report.specs.Scripts.{Command, Asked, asked, IsAsked}
 use Rattle.std.proofs.lemmas.Bool.{false≢true}
-use Rattle.coll_machine.specs.Entries.{Entry}
-use Rattle.coll_machine.specs.Settings.{Setting}
-use Rattle.coll_machine.specs.States.{State, nothing}
+use Rattle.coll_machine.specs.Common.{Entry, Setting, State, nothing}
 use Rattle.coll_report.proofs.Counted.{Fair, unasked, going, over}
 use Rattle.coll_report.proofs.Running.{Ends, run}
 use Rattle.coll_machine.proofs.Posted.{are_nothing}

@@ -6,20 +6,14 @@ use Rattle.std.proofs.lemmas.Option.{same_Some, slice_get-get_or}
 use Rattle.std.proofs.lemmas.Bool.{and_parts, ltb-true}
 use Rattle.std.proofs.lemmas.List.{length-map}
 use Rattle.coll_kinds.specs.declared.signature.Signature.{Signature}
-use Rattle.coll_kinds.specs.Lengths.{given_len}
-use Rattle.coll_kinds.specs.Checks.{broken}
-use Rattle.coll_kinds.specs.Needs.{needs, needs_of}
+use Rattle.coll_kinds.specs.Common.{given_len, broken, needs, needs_of, member_of}
 use Rattle.coll_ops.specs.Values.{value, row_of}
 use Rattle.coll_ops.proofs.Agreeing.{values_read_needs}
 use Rattle.coll_report.specs.Scripts.{Asked, on, at_place, given_by, contributions, value_for, outcome}
-use Rattle.coll_kinds.specs.Groups.{member_of}
 use Rattle.coll_machine.proofs.Members.{member_at}
-use Rattle.coll_machine.specs.Settings.{Setting, group, size, rank_of}
+use Rattle.coll_machine.specs.Common.{Setting, group, size, rank_of, Request, State, key_of, signature_of, filled, IsPosted, ArePosted}
 use Rattle.coll_machine.specs.declared.key.Key.{Key}
-use Rattle.coll_machine.specs.States.{Request, State, key_of, signature_of}
-use Rattle.coll_machine.specs.Steps.{filled}
 use Rattle.coll_report.proofs.Lists.{get_longer, get_map, placed, grown, Grows}
-use Rattle.coll_machine.specs.Postings.{IsPosted, ArePosted}
 use Rattle.coll_report.proofs.Standing.{Requests, Tickets, Known, Stands}
 
 get_range : {X : Type 0} (f : ℕ → X) (k n i : ℕ) → i < n → slice_get (map f (range_with_len k n)) i ≡ Some (f (k + i))

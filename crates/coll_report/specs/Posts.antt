@@ -1,7 +1,6 @@
 -- A walk along a rank's posts, initialisations and starts.
 use Rattle.std.specs.Prelude.{List}
-use Rattle.coll_machine.specs.Entries.{Entry}
-use Rattle.coll_machine.specs.Reports.{posts_of}
+use Rattle.coll_machine.specs.Common.{Entry, posts_of}
 use Rattle.coll_report.specs.declared.posts.Posts.{Posts}
 use Rattle.coll_report.specs.Views.{trace_seen}
 

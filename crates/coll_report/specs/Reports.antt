@@ -1,9 +1,6 @@
 -- What a closed engine leaves.
 use Rattle.std.specs.Prelude.{List}
-use Rattle.coll_machine.specs.Settings.{Setting, AreGroups}
-use Rattle.coll_machine.specs.States.{State}
-use Rattle.coll_machine.specs.Entries.{Entry}
-use Rattle.coll_machine.specs.Traces.{LegalTrace}
+use Rattle.coll_machine.specs.Common.{Setting, AreGroups, State, Entry, LegalTrace}
 use Rattle.coll_report.specs.Told.{IsIdle}
 use Rattle.coll_core.specs.declared.config.Config.{Config}
 use Rattle.coll_core.specs.Configs.{setting_by}

@@ -1,9 +1,7 @@
 -- Worked rows, computed: what the traces of coll_machine's rows say.
 use Rattle.std.specs.Prelude.{◌≡◌, List, [], ◌∷◌, true, false, refl}
 use Rattle.std.proofs.Common.{lit<}
-use Rattle.coll_machine.specs.Reports.{posts_of}
-use Rattle.coll_machine.specs.Entries.{Entry, Posted, Inited, Started, Retired}
-use Rattle.coll_machine.specs.Rows.{bcast, gather, i32, key, late_bcast, ticket, two_ranks, two_starts}
+use Rattle.coll_machine.specs.Common.{posts_of, Entry, Posted, Inited, Started, Retired, bcast, gather, i32, key, late_bcast, ticket, two_ranks, two_starts}
 use Rattle.coll_report.specs.Scripts.{Start}
 use Rattle.coll_report.specs.ScriptRows.{bcasts, gathers}
 use Rattle.coll_report.specs.Attested.{IsAttested, attests}

@@ -1,7 +1,6 @@
 -- Worked rows, computed: the two ranks of coll_machine's rows, and what each had to do.
 use Rattle.std.specs.Prelude.{◌≡◌, ℕ, zero, suc, List, [], ◌∷◌, Some, refl}
-use Rattle.coll_machine.specs.Reports.{posts_of}
-use Rattle.coll_machine.specs.Rows.{two_ranks, key, i32, bcast, late_bcast, left_late, gather, two_starts, freed}
+use Rattle.coll_machine.specs.Common.{posts_of, two_ranks, key, i32, bcast, late_bcast, left_late, gather, two_starts, freed}
 use Rattle.coll_report.specs.Scripts.{Command, Post, Init, Start, Other, Asked, asked_at, asked, at_place, contributions, outcome, Says}
 use Rattle.coll_report.specs.Told.{IsTraceOf}
 

@@ -4,9 +4,8 @@ use Rattle.coll_kinds.specs.declared.signature.Signature.{Signature}
 use Rattle.coll_kinds.specs.declared.ticket.Ticket.{Ticket}
 use Rattle.coll_kinds.specs.Groups.{member_of}
 use Rattle.coll_ops.specs.Values.{value}
-use Rattle.coll_machine.specs.Settings.{Setting, group}
+use Rattle.coll_machine.specs.Common.{Setting, group, Entry, Posted, Inited, Started}
 use Rattle.coll_machine.specs.declared.key.Key.{Key}
-use Rattle.coll_machine.specs.Entries.{Entry, Posted, Inited, Started}
 
 pub data Command : Type 0 where
   Post : (comm : ℕ) (sig : Signature) (given : List ℕ) → Command

@@ -1,11 +1,7 @@
 -- What a legal trace says of the outcomes in it, where the ranks did what a script says.
 use Rattle.std.specs.Prelude.{◌≡◌, ◌==◌, ◌&&◌, ◌≤◌, ℕ, Bool, false, List, [], Some}
 use Rattle.std.specs.List.{AllByRecursion, count_by}
-use Rattle.coll_machine.specs.Settings.{Setting, AreGroups}
-use Rattle.coll_machine.specs.States.{Request, State, nothing}
-use Rattle.coll_machine.specs.Entries.{Entry, Posted, Inited, Started, Retired, Freed}
-use Rattle.coll_machine.specs.Reports.{posts_of}
-use Rattle.coll_machine.specs.Traces.{Leads}
+use Rattle.coll_machine.specs.Common.{Setting, AreGroups, Request, State, nothing, Entry, Posted, Inited, Started, Retired, Freed, posts_of, Leads}
 use Rattle.coll_report.specs.Scripts.{Command, Asked, asked, outcome, Says, IsAsked}
 
 -- a trace from the opening on, in which each rank posts, initialises and starts what its commands say, in their order

@@ -16,9 +16,8 @@ use Rattle.coll_script.specs.Postings.{posted_on, requests_of}
 use Rattle.coll_script.specs.Jobs.{Job, job_of}
 use Rattle.coll_script.specs.Meaning as script
 use Rattle.coll_script.specs.Meaning.{outcome_line, given_at, lists_of, start_line, request_lines, lines_behind, rank_lines, job_lines}
-use Rattle.coll_machine.specs.Settings.{Setting, group}
+use Rattle.coll_machine.specs.Common.{Setting, group, Entry, Posted, Inited, Started, Retired, Freed}
 use Rattle.coll_machine.specs.declared.key.Key.{Key}
-use Rattle.coll_machine.specs.Entries.{Entry, Posted, Inited, Started, Retired, Freed}
 use Rattle.coll_report.specs.Scripts.{Asked, asked, on, at_place, given_by, contributions, value_for, outcome}
 use Rattle.coll_report.specs.Told.{HasValue, retires}
 use Rattle.coll_report.proofs.Lists.{get_map, placed}

@@ -8,9 +8,7 @@ use Rattle.coll_sched.specs.declared.action.Action.{Action}
 use Rattle.coll_sched.specs.declared.action.Action.TheVariants.{Send, Copy, Combine, Recv}
 use Rattle.coll_kinds.specs.Elements.{width}
 use Rattle.coll_ops.specs.Combinations.{combined}
-use Rattle.coll_sched.specs.Regions.{read_of, written, Inside}
-use Rattle.coll_sched.specs.Actions.{wrote, wrote_all, writes, AllApart, Fits, Follows, EachFollows}
-use Rattle.coll_sched.specs.Families.{Family, actions_at, messages, lock_step, read_at, IsLawful, out_link, in_link, IsRecvOf, Receives}
+use Rattle.coll_sched.specs.Common.{read_of, written, Inside, wrote, wrote_all, writes, AllApart, Fits, Follows, EachFollows, Family, actions_at, messages, lock_step, read_at, IsLawful, out_link, in_link, IsRecvOf, Receives}
 use Rattle.coll_sched.proofs.Buffers.{flip, length_read}
 use Rattle.coll_ops.proofs.RowLists.{length-combined}
 use Rattle.coll_sched.proofs.Each.{all_map}

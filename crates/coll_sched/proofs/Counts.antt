@@ -7,11 +7,10 @@ use Rattle.std.specs.List.{AllByRecursion}
 use Rattle.coll_sched.specs.declared.region.Region.{Region}
 use Rattle.coll_sched.specs.declared.action.Action.{Action}
 use Rattle.coll_sched.specs.declared.action.Action.TheVariants.{Send, Copy, Combine, Recv}
-use Rattle.coll_sched.specs.Actions.{Follows, EachFollows, IsLocal}
-use Rattle.coll_sched.specs.Families.{Family, actions_at, laid_in, IsRecvOf, Receives}
+use Rattle.coll_sched.specs.Common.{Follows, EachFollows, IsLocal, Family, actions_at, laid_in, IsRecvOf, Receives, Progress, World, put_mail, acted, turned, joined, IsNext, outs, ins, total, done_by, done_at, standing}
 use Rattle.coll_kinds.specs.Puts.{put}
-use Rattle.coll_sched.specs.Worlds.{Progress, World, put_mail, acted, turned, left, joined, IsNext}
-use Rattle.coll_sched.specs.Tracks.{outs, ins, total, done_by, done_at, standing, Balanced}
+use Rattle.coll_sched.specs.Worlds.{left}
+use Rattle.coll_sched.specs.Tracks.{Balanced}
 use Rattle.coll_sched.proofs.Rounds.{before_at, actions_past, take_nil}
 
 pub put_same : {X : Type 0} (f : ℕ → X) (k : ℕ) (v : X) → put f k v k ≡ v

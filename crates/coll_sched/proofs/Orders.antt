@@ -8,10 +8,8 @@ use Rattle.coll_ops.specs.Combinations.{combined}
 use Rattle.coll_sched.specs.declared.region.Region.{Region}
 use Rattle.coll_sched.specs.declared.action.Action.{Action}
 use Rattle.coll_sched.specs.declared.action.Action.TheVariants.{Send, Copy, Combine, Recv}
-use Rattle.coll_sched.specs.Regions.{Inside, Apart, read_of, written}
-use Rattle.coll_sched.specs.Actions.{writes, Fits, AllApart, Follows, EachFollows, wrote, wrote_all}
-use Rattle.coll_sched.specs.Schedules.{has_peer, exchanges}
-use Rattle.coll_sched.specs.Families.{Family, actions_at, lock_step, messages, members, is_exchange}
+use Rattle.coll_sched.specs.Common.{Inside, Apart, read_of, written, writes, Fits, AllApart, Follows, EachFollows, wrote, wrote_all, has_peer, Family, actions_at, lock_step, messages, members, is_exchange}
+use Rattle.coll_sched.specs.Schedules.{exchanges}
 use Rattle.coll_sched.specs.Orders.{Reordered, same, swap, under, both, Commutes, BoundsMembers}
 use Rattle.coll_sched.proofs.Buffers.{flip, length_read, written_swap}
 use Rattle.coll_ops.proofs.RowLists.{length-combined}

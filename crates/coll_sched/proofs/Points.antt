@@ -2,11 +2,9 @@
 use Rattle.std.proofs.Common.{◌≡◌, ℕ, zero, suc, ◌+◌, ◌-◌, ◌<◌, ◌≤◌, ◌⊎◌, inl, inr, List, [], ◌∷◌, length, slice_get, unwrap_or, Option, Some, refl, sym, ap, subst, ◌∙◌, arith, add-suc, add-zero}
 use Rattle.std.proofs.lemmas.Bool.{cases_eq}
 use Rattle.coll_sched.specs.declared.action.Action.{Action}
-use Rattle.coll_sched.specs.Schedules.{Parts}
+use Rattle.coll_sched.specs.Common.{Parts, Progress, Tracks, actions_of, Over, IsPoint, left_in, remaining}
 use Rattle.coll_kinds.specs.Puts.{put}
-use Rattle.coll_sched.specs.Worlds.{Progress}
-use Rattle.coll_sched.specs.Tracks.{Tracks}
-use Rattle.coll_sched.specs.Points.{actions_of, at_point, Over, IsPoint, left_in, remaining, KeepsRemaining, LowersRemaining, EndsRemaining, Ends, GoesOver}
+use Rattle.coll_sched.specs.Points.{at_point, KeepsRemaining, LowersRemaining, EndsRemaining, Ends, GoesOver}
 use Rattle.coll_sched.proofs.Counts.{put_same, put_other}
 use Rattle.coll_sched.proofs.Views.{tracks_agrees, skips}
 

@@ -6,10 +6,7 @@ use Rattle.std.specs.List.{AllByRecursion}
 use Rattle.coll_sched.specs.declared.region.Region.{Region}
 use Rattle.coll_sched.specs.declared.action.Action.{Action}
 use Rattle.coll_sched.specs.declared.action.Action.TheVariants.{Send, Copy, Combine, Recv}
-use Rattle.coll_sched.specs.Actions.{IsAmong, Follows, EachFollows}
-use Rattle.coll_sched.specs.Families.{Family, actions_at, out_link, len_of, IsLawful}
-use Rattle.coll_sched.specs.Worlds.{Progress, World}
-use Rattle.coll_sched.specs.Tracks.{outs, ins, total, done_by, done_at, standing, Tracks}
+use Rattle.coll_sched.specs.Common.{IsAmong, Follows, EachFollows, Family, actions_at, out_link, len_of, IsLawful, Progress, World, outs, ins, total, done_by, done_at, standing, Tracks}
 use Rattle.coll_sched.specs.Heart.{IsQuiet, Finishes}
 use Rattle.coll_sched.proofs.Each.{all_at}
 use Rattle.coll_sched.proofs.Rounds.{round_at, before_at, in_link_at}

@@ -9,10 +9,9 @@ use Rattle.coll_sched.specs.declared.action.Action.{Action}
 use Rattle.coll_sched.specs.declared.action.Action.TheVariants.{Send, Copy, Combine, Recv}
 use Rattle.coll_kinds.specs.Elements.{width}
 use Rattle.coll_ops.specs.Combinations.{combined}
-use Rattle.coll_sched.specs.Regions.{read_of, written, Inside, Apart}
-use Rattle.coll_sched.specs.Actions.{IsAmong, wrote, wrote_all, reads, writes, AllApart, Fits, Follows, EachFollows}
-use Rattle.coll_sched.specs.Schedules.{Parts, IsRound, IsSchedule}
-use Rattle.coll_sched.specs.Families.{Family, actions_at, out_link, in_link, read_at, sent, laid_in, lock_step, messages, IsRecvOf, Receives, Heard, len_of, IsLawful}
+use Rattle.coll_sched.specs.Common.{read_of, written, Inside, Apart, IsAmong, wrote, wrote_all, writes, AllApart, Fits, Follows, EachFollows, Parts, IsRound, IsSchedule, Family, actions_at, out_link, in_link, read_at, laid_in, lock_step, messages, IsRecvOf, Receives, Heard, len_of, IsLawful}
+use Rattle.coll_sched.specs.Actions.{reads}
+use Rattle.coll_sched.specs.Families.{sent}
 use Rattle.coll_sched.specs.Tracks.{moment}
 use Rattle.coll_sched.proofs.Buffers.{length_read, length_written, read_apart}
 use Rattle.coll_ops.proofs.RowLists.{length-combined}

@@ -7,13 +7,9 @@ use Rattle.coll_kinds.specs.declared.signature.Signature.{Signature}
 use Rattle.coll_sched.specs.declared.action.Action.{Action}
 use Rattle.coll_sched.specs.declared.action.Action.TheVariants.{Send, Copy, Combine, Recv}
 use Rattle.coll_ops.specs.Values.{row_of}
-use Rattle.coll_sched.specs.Regions.{read_of}
+use Rattle.coll_sched.specs.Common.{read_of, IsAmong, Family, actions_at, Receives, Heard, IsLawful, Progress, World, filled, Tracks, Serves}
 use Rattle.coll_kinds.specs.Elements.{AreBytes}
-use Rattle.coll_sched.specs.Actions.{IsAmong}
-use Rattle.coll_sched.specs.Families.{Family, actions_at, Receives, Heard, IsLawful}
-use Rattle.coll_sched.specs.Worlds.{Progress, World, filled}
-use Rattle.coll_sched.specs.Tracks.{Tracks}
-use Rattle.coll_sched.specs.Served.{listing, Serves, HoldsValue, HeldValue}
+use Rattle.coll_sched.specs.Served.{listing, HoldsValue, HeldValue}
 use Rattle.coll_sched.proofs.Rounds.{lock_step_agrees}
 use Rattle.coll_sched.proofs.Track.{tracks, holds, filled_fits}
 

@@ -7,13 +7,11 @@ use Rattle.coll_kinds.specs.declared.operation.Op.{Op}
 use Rattle.coll_kinds.specs.declared.datatype.Datatype.{Datatype}
 use Rattle.coll_sched.specs.declared.action.Action.{Action}
 use Rattle.coll_sched.specs.declared.action.Action.TheVariants.{Send, Copy, Combine, Recv}
-use Rattle.coll_sched.specs.Regions.{read_of, written}
-use Rattle.coll_kinds.specs.Elements.{AreBytes}
-use Rattle.coll_sched.specs.Actions.{wrote, IsLocal}
-use Rattle.coll_sched.specs.Families.{Family, read_at, actions_at, sent, laid_in, lock_step, messages, result_at, IsRecvOf, Receives, Heard, IsLawful}
-use Rattle.coll_kinds.specs.Puts.{put}
-use Rattle.coll_sched.specs.Worlds.{Progress, World, empty, put_mail, filled, joined, acted, turned, left, IsNext, Step, join, send, compute, receive, turn, leave, Reached, begun, stepped}
-use Rattle.coll_sched.specs.Tracks.{moment, OnTrack, InTransit, Tracks}
+use Rattle.coll_sched.specs.Common.{read_of, written, wrote, IsLocal, Family, read_at, actions_at, laid_in, lock_step, messages, result_at, IsRecvOf, Receives, Heard, IsLawful, Progress, World, empty, put_mail, filled, joined, acted, turned, IsNext, send, compute, receive, Tracks}
+use Rattle.coll_kinds.specs.Common.{AreBytes, put}
+use Rattle.coll_sched.specs.Families.{sent}
+use Rattle.coll_sched.specs.Worlds.{left, Step, join, turn, leave, Reached, begun, stepped}
+use Rattle.coll_sched.specs.Tracks.{moment, OnTrack, InTransit}
 use Rattle.coll_sched.specs.Heart.{Holds, Heart}
 use Rattle.coll_sched.proofs.Rounds.{round_at, MessageFits, message_fits, length_lock_step, length_moment, GivenFits, out_link_at, reads_at_moment, moment_next, moment_end, moment_past, lock_step_agrees, moment_agrees}
 use Rattle.coll_sched.proofs.Each.{all_at}

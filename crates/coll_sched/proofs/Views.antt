@@ -6,11 +6,9 @@ use Rattle.std.specs.List.{AllByRecursion}
 use Rattle.coll_sched.specs.declared.region.Region.{Region}
 use Rattle.coll_sched.specs.declared.action.Action.{Action}
 use Rattle.coll_sched.specs.declared.action.Action.TheVariants.{Send, Copy, Combine, Recv}
-use Rattle.coll_sched.specs.Actions.{IsAmong, Follows, EachFollows}
-use Rattle.coll_sched.specs.Families.{Family, actions_at, in_link, out_link, len_of, IsLawful}
+use Rattle.coll_sched.specs.Common.{IsAmong, Follows, EachFollows, Family, actions_at, in_link, out_link, len_of, IsLawful, Progress, World, turned, send, compute, receive, outs, ins, total, done_by, done_at, standing, Tracks}
 use Rattle.coll_kinds.specs.Puts.{put}
-use Rattle.coll_sched.specs.Worlds.{Progress, World, turned, Reached, begun, stepped, Step, join, send, compute, receive, turn, leave}
-use Rattle.coll_sched.specs.Tracks.{outs, ins, total, done_by, done_at, standing, Tracks}
+use Rattle.coll_sched.specs.Worlds.{Reached, begun, stepped, Step, join, turn, leave}
 use Rattle.coll_sched.specs.Views.{Agrees, skipped, Skips, Empties}
 use Rattle.coll_sched.proofs.Counts.{put_same, put_other, balanced_same, later_outs, none_standing, total_zero}
 use Rattle.coll_sched.proofs.Track.{track_extends, transit_extends, tracks_turn, tracks}

@@ -4,9 +4,7 @@ use Rattle.std.proofs.lemmas.Bool.{cases_Bool, cond-true, cond-false, false≢tr
 use Rattle.std.specs.List.{AllByRecursion, list_any}
 use Rattle.coll_sched.specs.declared.region.Region.{Region}
 use Rattle.coll_sched.specs.declared.action.Action.{Action}
-use Rattle.coll_sched.specs.Regions.{Inside, Apart, read_of}
-use Rattle.coll_sched.specs.Actions.{writes, Fits, AllApart, wrote, wrote_all}
-use Rattle.coll_sched.specs.Families.{actions_at, lock_step, messages}
+use Rattle.coll_sched.specs.Common.{Inside, Apart, read_of, writes, Fits, AllApart, wrote, wrote_all, actions_at, lock_step, messages}
 use Rattle.coll_sched.specs.Writers.{shares, touches, writers, RestsOnWriters}
 use Rattle.coll_sched.proofs.Orders.{EachApart, each_apart, wrote_swap}
 use Rattle.coll_sched.proofs.Rounds.{MessageFits, length_wrote, length_wrote_all, read_wrote, message_fits, length_lock_step, round_at}

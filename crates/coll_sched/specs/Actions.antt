@@ -1,8 +1,7 @@
 -- Actions on one member's buffer, and when two of them may stand in one round
 use Rattle.std.specs.Prelude.{◌≡◌, ◌≢◌, ℕ, ◌%◌, ◌<◌, ◌≤◌, List, [], ◌∷◌, IsTrue}
 use Rattle.std.specs.List.{AllByRecursion}
-use Rattle.coll_kinds.specs.Elements.{width}
-use Rattle.coll_kinds.specs.Checks.{allowed}
+use Rattle.coll_kinds.specs.Common.{width, allowed}
 use Rattle.coll_ops.specs.Combinations.{combined}
 use Rattle.coll_sched.specs.declared.region.Region.{Region}
 use Rattle.coll_sched.specs.declared.action.Action.{Action}

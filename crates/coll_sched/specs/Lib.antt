@@ -16,3 +16,5 @@ pub mod Orders
 pub mod Writers
 -- worked rows
 pub mod Rows
+-- these, passed on from one place
+pub mod Common

@@ -1,12 +1,10 @@
 -- A family that serves a signature, and what its members hold in the end
 use Rattle.std.specs.Prelude.{◌≡◌, ℕ, zero, suc, ◌<◌, ◌≢◌, true, List, [], ◌∷◌, length, Some, None}
 use Rattle.coll_kinds.specs.declared.signature.Signature.{Signature}
-use Rattle.coll_kinds.specs.Lengths.{given_len, got_len}
-use Rattle.coll_kinds.specs.Needs.{needs}
+use Rattle.coll_kinds.specs.Common.{given_len, got_len, needs, AreBytes}
 use Rattle.coll_ops.specs.Values.{row_of, value}
 use Rattle.coll_ops.specs.Contributions.{AreGiven}
 use Rattle.coll_sched.specs.Regions.{read_of}
-use Rattle.coll_kinds.specs.Elements.{AreBytes}
 use Rattle.coll_sched.specs.Families.{Family, result_at, Heard, IsLawful}
 use Rattle.coll_sched.specs.Worlds.{Progress, World, Reached, filled}
 

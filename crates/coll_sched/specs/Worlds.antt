@@ -1,11 +1,10 @@
 -- One instance as it runs: members join, act one action at a time in any order, and leave
 use Rattle.std.specs.Prelude.{◌≡◌, ℕ, suc, ◌<◌, ◌==◌, ◌&&◌, cond, List, [], length, replicate, slice_get, unwrap_or, Option, Some, None}
-use Rattle.coll_kinds.specs.Puts.{put}
+use Rattle.coll_kinds.specs.Common.{put, AreBytes}
 use Rattle.coll_sched.specs.declared.region.Region.{Region}
 use Rattle.coll_sched.specs.declared.action.Action.{Action}
 use Rattle.coll_sched.specs.declared.action.Action.TheVariants.{Send, Recv}
 use Rattle.coll_sched.specs.Regions.{read_of, written}
-use Rattle.coll_kinds.specs.Elements.{AreBytes}
 use Rattle.coll_sched.specs.Actions.{wrote, IsLocal}
 use Rattle.coll_sched.specs.Families.{Family, actions_at, laid_in}
 

@@ -5,8 +5,7 @@ use Rattle.std.proofs.lemmas.List.{append-nil, length-drop}
 use Rattle.std.proofs.lemmas.List.Concat.{flat_map-cons}
 use Rattle.std.proofs.Math.Nat.{mul-le-mul_right}
 use Rattle.coll_kinds.specs.declared.datatype.Datatype.{Datatype}
-use Rattle.coll_kinds.specs.Elements.{Element, width, element_at}
-use Rattle.coll_kinds.specs.Texts.{text_of}
+use Rattle.coll_kinds.specs.Common.{Element, width, element_at, text_of}
 use Rattle.coll_ops.specs.Combinations.{elements}
 use Rattle.coll_history.proofs.Contributions.{width-positive}
 use Rattle.coll_script.specs.Meaning.{element_text}

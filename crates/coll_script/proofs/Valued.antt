@@ -7,8 +7,7 @@ use Rattle.std.specs.Option.{option_map}
 use Rattle.std.proofs.lemmas.List.{length-map}
 use Rattle.std.proofs.lemmas.Option.{slice_get-map, slice_get_within, unwrap_or-slice_get, same_Some}
 use Rattle.coll_kinds.specs.declared.signature.Signature.{Signature}
-use Rattle.coll_kinds.specs.Lengths.{given_len}
-use Rattle.coll_kinds.specs.Checks.{broken}
+use Rattle.coll_kinds.specs.Common.{given_len, broken}
 use Rattle.coll_ops.specs.Contributions.{AreGiven}
 use Rattle.coll_ops.specs.Values.{row_of}
 use Rattle.coll_history.specs.declared.request.Request as rust

@@ -4,8 +4,7 @@ use Rattle.std.specs.Prelude.{List, [], ◌∷◌, ◌++◌, length, map, flat_m
 use Rattle.std.specs.List.{range_with_len}
 use Rattle.std.specs.Fmt.{decimal}
 use Rattle.coll_kinds.specs.declared.datatype.Datatype.{Datatype}
-use Rattle.coll_kinds.specs.Elements.{Element, width}
-use Rattle.coll_kinds.specs.Texts.{text_of}
+use Rattle.coll_kinds.specs.Common.{Element, width, text_of}
 use Rattle.coll_ops.specs.Combinations.{elements}
 use Rattle.coll_ops.specs.Values.{value}
 use Rattle.coll_history.specs.declared.fault.Fault.{Fault}

@@ -5,8 +5,7 @@ use Rattle.std.specs.List.{range_with_len, AllByRecursion}
 use Rattle.std.specs.Global.{Global}
 use Rattle.coll_kinds.specs.declared.kind.Kind.{Kind}
 use Rattle.coll_kinds.specs.declared.kind.Kind.TheVariants.{Barrier, Bcast, Allgather, Allgatherv, Allreduce}
-use Rattle.coll_kinds.specs.Lengths.{given_len}
-use Rattle.coll_kinds.specs.Checks.{broken}
+use Rattle.coll_kinds.specs.Common.{given_len, broken}
 use Rattle.coll_ops.specs.Values.{value}
 use Rattle.coll_history.specs.Requests.{Request}
 use Rattle.coll_history.specs.Code.{rows_view}

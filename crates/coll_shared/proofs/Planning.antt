@@ -6,8 +6,7 @@ use Rattle.coll_kinds.specs.declared.refusal.Refusal.TheVariants.{BadSignature, 
 use Rattle.coll_kinds.specs.declared.refusal.SignatureFault.{SignatureFault}
 use Rattle.coll_kinds.specs.declared.signature.Signature.{Signature}
 use Rattle.coll_kinds.specs.Checks.{broken}
-use Rattle.coll_machine.specs.Refusals.{unseated}
-use Rattle.coll_machine.specs.Settings.{group_in}
+use Rattle.coll_machine.specs.Common.{unseated, group_in}
 use Rattle.coll_shared.specs.Ports.{Holding, IsFault, IsUnplanned}
 
 is_fault : {T : Type 0} (b : Option SignatureFault) (r : Result T Refusal) (why : Refusal) → r ≡ Err why

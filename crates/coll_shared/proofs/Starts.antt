@@ -5,8 +5,7 @@ use Rattle.std.specs.List.{zip}
 use Rattle.std.proofs.lemmas.List.{append-nil, take_more}
 use Rattle.coll_kinds.specs.declared.ticket.Ticket.{Ticket}
 use Rattle.coll_kinds.specs.declared.refusal.Refusal.{Refusal}
-use Rattle.coll_machine.specs.Entries.{Entry}
-use Rattle.coll_machine.specs.Settings.{Setting}
+use Rattle.coll_machine.specs.Common.{Entry, Setting}
 use Rattle.coll_complete.specs.Starting.{Begun}
 use Rattle.coll_traced.specs.Calls.{IsStarted}
 use Rattle.coll_traced.specs.Denials.{DeniesStart}

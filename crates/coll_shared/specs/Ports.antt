@@ -4,12 +4,10 @@ use Rattle.coll_kinds.specs.declared.refusal.Refusal.{Refusal}
 use Rattle.coll_kinds.specs.declared.refusal.Refusal.TheVariants.{BadSignature, NoMemory}
 use Rattle.coll_kinds.specs.declared.signature.Signature.{Signature}
 use Rattle.coll_kinds.specs.declared.refusal.SignatureFault.{SignatureFault}
-use Rattle.coll_kinds.specs.Checks.{broken}
-use Rattle.coll_kinds.specs.Groups.{member_of}
+use Rattle.coll_kinds.specs.Common.{broken, member_of}
 use Rattle.coll_core.specs.declared.offer.Offer.{Offer}
 use Rattle.coll_core.specs.Posts.{post_of}
-use Rattle.coll_machine.specs.Refusals.{unseated}
-use Rattle.coll_machine.specs.Settings.{Setting, group_in}
+use Rattle.coll_machine.specs.Common.{unseated, Setting, group_in}
 use Rattle.coll_traced.specs.Denials.{IsDenied}
 
 pub record Holding : Type 0 where

@@ -1,10 +1,7 @@
 -- What a port publishes, and what the combiner makes of it.
 use Rattle.std.specs.Prelude.{◌≡◌, ◌<◌, ◌+◌, ◌++◌, ◌⊎◌, ℕ, List, [], ◌∷◌, None, Some, length, slice_get, slice_set}
 use Rattle.coll_kinds.specs.declared.ticket.Ticket.{Ticket}
-use Rattle.coll_machine.specs.Calls.{Retire}
-use Rattle.coll_machine.specs.Entries.{Entry}
-use Rattle.coll_machine.specs.Refusals.{refusal}
-use Rattle.coll_machine.specs.Settings.{Setting}
+use Rattle.coll_machine.specs.Common.{Retire, Entry, refusal, Setting}
 use Rattle.coll_core.specs.declared.phase.Phase.TheVariants.{Pending}
 use Rattle.coll_core.specs.Cores.{Parts, seen, setting}
 use Rattle.coll_core.specs.Phases.{phase_in}

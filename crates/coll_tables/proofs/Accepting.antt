@@ -8,14 +8,9 @@ use Rattle.coll_kinds.specs.declared.signature.Signature.{Signature}
 use Rattle.coll_kinds.specs.declared.refusal.Refusal.{Refusal}
 use Rattle.coll_kinds.specs.declared.kind.Mode.{Mode}
 use Rattle.coll_kinds.specs.declared.kind.Mode.TheVariants.{Once, Persistent}
-use Rattle.coll_kinds.specs.Checks.{broken}
-use Rattle.coll_kinds.specs.Groups.{member_of}
-use Rattle.coll_kinds.specs.Lengths.{given_len}
-use Rattle.coll_machine.specs.Settings.{group, size}
-use Rattle.coll_machine.specs.States.{Request}
-use Rattle.coll_machine.specs.Changes.{new_request}
-use Rattle.coll_machine.specs.Calls.{Planned, Post, Init, Start, Free}
-use Rattle.coll_machine.specs.Refusals.{first_of, mismatch_in, wrong_length, posting_refusals, naming_refusals, idle_refusals, start_refusals, refusals, refusal}
+use Rattle.coll_kinds.specs.Common.{broken, member_of, given_len}
+use Rattle.coll_machine.specs.Common.{group, size, Request, new_request, Planned, Post, Init, Start, Free, first_of, mismatch_in, wrong_length, naming_refusals, idle_refusals, start_refusals, refusals, refusal}
+use Rattle.coll_machine.specs.Refusals.{posting_refusals}
 use Rattle.coll_machine.proofs.Accepted.{all_none, fits, unbroken, same_mode, started_mine, freed_mine}
 use Rattle.coll_machine.proofs.First.{agrees_with}
 use Rattle.coll_machine.proofs.Members.{member_at}

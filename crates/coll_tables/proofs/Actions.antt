@@ -5,15 +5,12 @@ use Rattle.std.proofs.lemmas.Bool.{cases_eq}
 use Rattle.coll_sched.specs.Worlds.{Progress}
 use Rattle.coll_kinds.specs.Puts.{put}
 use Rattle.coll_kinds.proofs.Puts.{put_same}
-use Rattle.coll_machine.specs.Settings.{size}
+use Rattle.coll_machine.specs.Common.{size, Machine, put_in, MayFinish}
 use Rattle.coll_machine.specs.declared.key.Key.{Key}
-use Rattle.coll_machine.specs.States.{Machine}
 use Rattle.coll_tables.specs.Requests.{Live, key, advanced}
 use Rattle.coll_tables.specs.Tables.{Mail, Tables, Paths, is_done, state, machine}
 use Rattle.coll_tables.specs.Sound.{Stands, ready, running, idle, queued, done, Lies, Sound, IsSound, Called}
-use Rattle.coll_machine.specs.Changes.{put_in}
 use Rattle.coll_tables.specs.Changes.{acting, rehoming, received, delivered}
-use Rattle.coll_machine.specs.Machines.{MayFinish}
 use Rattle.coll_tables.proofs.Calls.{Away, Acting, Waking}
 use Rattle.coll_tables.proofs.Sounds.{all_stand, Sent, sound_compute, sound_receive, sent, none_called, delivered as wakened}
 use Rattle.coll_tables.proofs.Stepping.{done_changes, may_finish, acted_state, acted_steps, woken_same}

@@ -5,17 +5,13 @@ use Rattle.std.proofs.lemmas.Bool.{false≢true}
 use Rattle.coll_kinds.specs.declared.signature.Signature.{Signature}
 use Rattle.coll_kinds.specs.declared.kind.Mode.{Mode}
 use Rattle.coll_kinds.specs.declared.kind.Mode.TheVariants.{Once, Persistent}
-use Rattle.coll_sched.specs.Families.{Family}
-use Rattle.coll_sched.specs.Worlds.{Progress, World, empty, joined}
+use Rattle.coll_sched.specs.Common.{Family, Progress, World, empty, joined, Tracks, Serves}
 use Rattle.coll_kinds.specs.Puts.{put}
-use Rattle.coll_sched.specs.Tracks.{Tracks}
-use Rattle.coll_sched.specs.Served.{Serves}
 use Rattle.coll_kinds.proofs.Puts.{put_same}
 use Rattle.coll_sched.proofs.Track.{tracks_join, tracks_empty, tracks_leave, not_begun, heard_self}
 use Rattle.coll_sched.proofs.Views.{tracks_agrees}
-use Rattle.coll_machine.specs.Settings.{size}
+use Rattle.coll_machine.specs.Common.{size, put_key, put_in}
 use Rattle.coll_machine.specs.declared.key.Key.{Key}
-use Rattle.coll_machine.specs.Changes.{put_key, put_in}
 use Rattle.coll_plans.specs.Plans.{family}
 use Rattle.coll_tables.specs.Requests.{Live, at, key, progress, advanced, begun, at_rest, rests, rests_by}
 use Rattle.coll_tables.specs.Tables.{Mail, Tables, Paths, no_signature, family_at, world}

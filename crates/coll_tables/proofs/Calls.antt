@@ -4,23 +4,14 @@ use Rattle.coll_kinds.specs.declared.kind.Mode.{Mode}
 use Rattle.coll_kinds.specs.declared.kind.Mode.TheVariants.{Once, Persistent}
 use Rattle.coll_kinds.specs.declared.signature.Signature.{Signature}
 use Rattle.coll_kinds.specs.declared.ticket.Ticket.{Ticket}
-use Rattle.coll_kinds.specs.Elements.{AreBytes}
-use Rattle.coll_kinds.specs.Groups.{member_of}
-use Rattle.coll_kinds.specs.Lengths.{given_len}
+use Rattle.coll_kinds.specs.Common.{AreBytes, member_of, given_len}
 use Rattle.coll_sched.specs.declared.action.Action.{Action}
-use Rattle.coll_sched.specs.Families.{laid_in}
-use Rattle.coll_sched.specs.Points.{Over}
-use Rattle.coll_sched.specs.Regions.{read_of}
-use Rattle.coll_sched.specs.Worlds.{Progress}
+use Rattle.coll_sched.specs.Common.{laid_in, Over, read_of, Progress}
 use Rattle.coll_plans.specs.Plans.{IsPlanned, family}
 use Rattle.coll_arena.specs.declared.list_name.ListName.TheVariants.{Ready, Running, Idle, Done}
 use Rattle.coll_arena.specs.ListNames.{number_of}
-use Rattle.coll_machine.specs.Settings.{group, size}
+use Rattle.coll_machine.specs.Common.{group, size, new_request, Planned, Retire, refusal, AllHaveLeft}
 use Rattle.coll_machine.specs.declared.key.Key.{Key}
-use Rattle.coll_machine.specs.Changes.{new_request}
-use Rattle.coll_machine.specs.Calls.{Planned, Retire}
-use Rattle.coll_machine.specs.Refusals.{refusal}
-use Rattle.coll_machine.specs.Steps.{AllHaveLeft}
 use Rattle.coll_tables.specs.Requests.{Live, at, key, begun, as_request}
 use Rattle.coll_tables.specs.Tables.{Tables, state}
 use Rattle.coll_tables.specs.Sound.{next, Stands, Called, Lies}

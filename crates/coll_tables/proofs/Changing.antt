@@ -2,9 +2,8 @@
 use Rattle.std.proofs.Common.{◌≡◌, ℕ, ◌<◌, ◌≢◌, ◌⊎◌, inl, inr, true, List, length, slice_get, Option, Some, None, refl, sym, ap, subst, ◌∙◌}
 use Rattle.std.proofs.lemmas.Option.{same_Some, slice_get_within}
 use Rattle.std.proofs.lemmas.Bool.{cases_eq}
-use Rattle.coll_sched.specs.Worlds.{Progress, World}
+use Rattle.coll_sched.specs.Common.{Progress, World, Tracks}
 use Rattle.coll_kinds.specs.Puts.{put}
-use Rattle.coll_sched.specs.Tracks.{Tracks}
 use Rattle.coll_sched.specs.Views.{Agrees}
 use Rattle.coll_kinds.proofs.Puts.{put_other}
 use Rattle.coll_sched.proofs.Counts.{put_cases}

@@ -7,22 +7,18 @@ use Rattle.coll_kinds.specs.Puts.{put}
 use Rattle.coll_sched.specs.declared.action.Action.{Action}
 use Rattle.coll_sched.specs.declared.action.Action.TheVariants.{Send, Combine, Recv}
 use Rattle.coll_sched.specs.declared.region.Region.{Region}
-use Rattle.coll_sched.specs.Points.{Over}
-use Rattle.coll_sched.specs.Regions.{read_of}
-use Rattle.coll_sched.specs.Worlds.{Progress, put_mail}
+use Rattle.coll_sched.specs.Common.{Over, read_of, Progress, put_mail}
 use Rattle.coll_plans.specs.Plans.{family}
 use Rattle.coll_arena.specs.Slots.{Slots, generation_of, home, record_in, weight_of}
 use Rattle.coll_queues.specs.Postings.{Postings, posts, signed}
 use Rattle.coll_machine.specs.declared.key.Key.{Key}
-use Rattle.coll_machine.specs.Changes.{put_key}
+use Rattle.coll_machine.specs.Common.{put_key, Setting, size, MayFinish}
 use Rattle.coll_match.specs.Instances.{mail}
-use Rattle.coll_machine.specs.Settings.{Setting, size}
 use Rattle.coll_tables.specs.Requests.{Live, key, advanced}
 use Rattle.coll_tables.specs.Tables.{Mail, Tables, machine}
 use Rattle.coll_tables.specs.Sound.{next, Doable, Stands, ready, running, idle, queued, done, Called, IsSound}
 use Rattle.coll_tables.specs.Changes.{acting, rehoming, delivered, received}
 use Rattle.coll_tables.proofs.Calls.{Acting, Away, Waking}
-use Rattle.coll_machine.specs.Machines.{MayFinish}
 use Rattle.coll_tables.specs.Remaining.{actions_left}
 use Rattle.coll_tables.specs.Shown.{Instances, seen, listed, tables, weight, weight_by}
 use Rattle.coll_tables.specs.Cores.{IsCore}

@@ -4,25 +4,17 @@ use Rattle.std.specs.Prelude.{option_map, nat_lt}
 use Rattle.std.proofs.lemmas.Bool.{cases_eq, false≢true}
 use Rattle.coll_kinds.specs.declared.kind.Mode.TheVariants.{Once, Persistent}
 use Rattle.coll_kinds.specs.declared.ticket.Ticket.{Ticket}
-use Rattle.coll_kinds.specs.Groups.{member_of}
-use Rattle.coll_kinds.specs.Lengths.{given_len, lent}
-use Rattle.coll_kinds.specs.Puts.{put}
+use Rattle.coll_kinds.specs.Common.{member_of, given_len, lent, put}
 use Rattle.coll_kinds.proofs.Puts.{put_same, put_put}
-use Rattle.coll_sched.specs.Families.{laid_in}
-use Rattle.coll_sched.specs.Points.{Over}
-use Rattle.coll_sched.specs.Worlds.{Progress}
+use Rattle.coll_sched.specs.Common.{laid_in, Over, Progress}
 use Rattle.coll_plans.specs.Plans.{family}
 use Rattle.coll_arena.specs.Slots.{Slots, count, generation_of, home, record_in}
 use Rattle.coll_arena.specs.Sound as arena
 use Rattle.coll_arena.proofs.Sounds.{free_first}
 use Rattle.coll_queues.specs.Postings.{Postings, number_of as number_in, place_of, posts, signed}
 use Rattle.coll_machine.specs.declared.key.Key.{Key}
-use Rattle.coll_machine.specs.Changes.{put_key, put2}
+use Rattle.coll_machine.specs.Common.{put_key, put2, Setting, group, size, Planned, Post, Init, Start, Free, Ticketed, Nothing, refusal, MachineStep, StepsTo}
 use Rattle.coll_match.specs.Instances.{given, mail, seats}
-use Rattle.coll_machine.specs.Settings.{Setting, group, size}
-use Rattle.coll_machine.specs.Calls.{Planned, Post, Init, Start, Free, Ticketed, Nothing}
-use Rattle.coll_machine.specs.Refusals.{refusal}
-use Rattle.coll_machine.specs.Machines.{MachineStep, StepsTo}
 use Rattle.coll_tables.specs.Requests.{Live, at, begun}
 use Rattle.coll_tables.specs.Tables.{Tables, machine, state}
 use Rattle.coll_tables.specs.Sound.{Stands, Lies, IsSound}

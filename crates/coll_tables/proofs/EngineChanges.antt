@@ -3,15 +3,11 @@ use Rattle.std.specs.Prelude.{◌≡◌, ◌⊎◌, ◌+◌, ◌↔◌, ℕ, suc
 use Rattle.coll_kinds.specs.declared.datatype.Datatype.{Datatype}
 use Rattle.coll_kinds.specs.declared.operation.Op.{Op}
 use Rattle.coll_kinds.specs.declared.ticket.Ticket.{Ticket}
-use Rattle.coll_kinds.specs.Elements.{AreBytes}
-use Rattle.coll_kinds.specs.Lengths.{lent}
+use Rattle.coll_kinds.specs.Common.{AreBytes, lent}
 use Rattle.coll_sched.specs.declared.action.Action.{Action}
 use Rattle.coll_sched.specs.declared.action.Action.TheVariants.{Combine}
 use Rattle.coll_sched.specs.declared.region.Region.{Region}
-use Rattle.coll_sched.specs.Families.{laid_in}
-use Rattle.coll_sched.specs.Points.{Over}
-use Rattle.coll_sched.specs.Regions.{read_of}
-use Rattle.coll_sched.specs.Worlds.{Progress}
+use Rattle.coll_sched.specs.Common.{laid_in, Over, read_of, Progress}
 use Rattle.coll_plans.specs.Plans.{family}
 use Rattle.coll_lists.specs.Layouts.{sequence}
 use Rattle.coll_lists.specs.Neighbours.{first_in}
@@ -20,12 +16,8 @@ use Rattle.coll_arena.specs.ListNames.{number_of}
 use Rattle.coll_arena.specs.Slots.{Slots, generation_of, home, weight_of}
 use Rattle.coll_queues.specs.Postings.{Postings, groups_of, number_of as number_in, place_of, posts, signed}
 use Rattle.coll_machine.specs.declared.key.Key.{Key}
-use Rattle.coll_machine.specs.Changes.{put2, put_in, put_key}
+use Rattle.coll_machine.specs.Common.{put2, put_in, put_key, Setting, State, Planned, Post, Init, Start, Retire, Free, refusal}
 use Rattle.coll_match.specs.Instances.{given, mail, members, seats, IsLast}
-use Rattle.coll_machine.specs.Settings.{Setting}
-use Rattle.coll_machine.specs.States.{State}
-use Rattle.coll_machine.specs.Calls.{Planned, Post, Init, Start, Retire, Free}
-use Rattle.coll_machine.specs.Refusals.{refusal}
 use Rattle.coll_tables.specs.Requests.{Live, at, key, advanced, begun}
 use Rattle.coll_tables.specs.Sound.{next, Stands}
 use Rattle.coll_tables.specs.Shown.{Instances}

@@ -10,15 +10,11 @@ use Rattle.coll_kinds.specs.Puts.{put}
 use Rattle.coll_sched.specs.Regions.{read_of}
 use Rattle.coll_plans.specs.Plans.{family}
 use Rattle.coll_arena.specs.Slots.{Slots, generation_of, home, record_in}
-use Rattle.coll_machine.specs.Refusals.{first_there, refusal}
+use Rattle.coll_machine.specs.Common.{first_there, refusal, put_key, put_in, Setting, size, Retire, Outcome, MachineStep}
 use Rattle.coll_queues.specs.Postings.{Postings, posts, signed}
 use Rattle.coll_machine.specs.declared.key.Key.{Key}
 use Rattle.coll_match.specs.Held.{Held}
-use Rattle.coll_machine.specs.Changes.{put_key, put_in}
 use Rattle.coll_match.specs.Instances.{given, given_of, mail, members, members_of, seats, standing, IsLast as LeavesLast}
-use Rattle.coll_machine.specs.Settings.{Setting, size}
-use Rattle.coll_machine.specs.Calls.{Retire, Outcome}
-use Rattle.coll_machine.specs.Machines.{MachineStep}
 use Rattle.coll_tables.specs.Requests.{Live, before, key, rests, rests_by}
 use Rattle.coll_tables.specs.Tables.{Mail, Tables, machine, state}
 use Rattle.coll_tables.specs.Sound.{Lies, IsSound}

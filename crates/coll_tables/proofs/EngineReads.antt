@@ -8,10 +8,9 @@ use Rattle.coll_kinds.specs.declared.signature.Signature.{Signature}
 use Rattle.coll_kinds.specs.Lengths.{lent as lends}
 use Rattle.coll_sched.specs.declared.action.Action.{Action}
 use Rattle.coll_sched.specs.declared.action.Action.TheVariants.{Send, Copy, Combine, Recv}
-use Rattle.coll_sched.specs.Families.{Family}
+use Rattle.coll_sched.specs.Common.{Family, actions_of, Tracks}
 use Rattle.coll_sched.specs.Heart.{Holds}
-use Rattle.coll_sched.specs.Points.{actions_of}
-use Rattle.coll_sched.specs.Tracks.{OnTrack, Tracks}
+use Rattle.coll_sched.specs.Tracks.{OnTrack}
 use Rattle.coll_sched.proofs.Track.{holds}
 use Rattle.coll_plans.specs.Plans.{family}
 use Rattle.coll_lists.specs.Layouts.{sequence, times}
@@ -20,13 +19,9 @@ use Rattle.coll_arena.proofs.Homes.{StandsAtHome-sound}
 use Rattle.coll_arena.proofs.Lents.{lent_by-weight}
 use Rattle.coll_queues.specs.Postings.{place_of, posts}
 use Rattle.coll_match.specs.Instances.{given, mail}
-use Rattle.coll_machine.specs.Settings.{size}
+use Rattle.coll_machine.specs.Common.{size, Request, Planned, Post, refusal, over_slots}
 use Rattle.coll_machine.specs.declared.key.Key.{Key}
-use Rattle.coll_machine.specs.States.{Request}
-use Rattle.coll_machine.specs.Calls.{Planned, Post}
-use Rattle.coll_machine.specs.Refusals.{refusal}
 use Rattle.coll_machine.specs.Lents.{lent_by}
-use Rattle.coll_machine.specs.Traces.{over_slots}
 use Rattle.coll_tables.specs.Requests.{Live, as_request, at, key, progress}
 use Rattle.coll_tables.specs.Tables.{Mail, Tables, asked, state, world}
 use Rattle.coll_tables.specs.Sound.{next, Doable, Stands, ready, running, idle, queued, done}

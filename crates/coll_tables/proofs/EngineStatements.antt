@@ -6,14 +6,11 @@ use Rattle.coll_kinds.specs.declared.kind.Mode.{Mode}
 use Rattle.coll_kinds.specs.declared.kind.Mode.TheVariants.{Once, Persistent}
 use Rattle.coll_kinds.specs.declared.operation.Op.{Op}
 use Rattle.coll_kinds.specs.declared.ticket.Ticket.{Ticket}
-use Rattle.coll_kinds.specs.Lengths.{given_len}
+use Rattle.coll_kinds.specs.Common.{given_len, broken}
 use Rattle.coll_sched.specs.declared.action.Action.{Action}
 use Rattle.coll_sched.specs.declared.action.Action.TheVariants.{Combine, Send, Recv}
 use Rattle.coll_sched.specs.declared.region.Region.{Region}
-use Rattle.coll_sched.specs.Families.{Family, lock_step}
-use Rattle.coll_sched.specs.Points.{actions_of}
-use Rattle.coll_sched.specs.Regions.{read_of, written}
-use Rattle.coll_sched.specs.Worlds.{Progress, filled, put_mail}
+use Rattle.coll_sched.specs.Common.{Family, lock_step, actions_of, read_of, written, Progress, filled, put_mail, IsLocal, wrote}
 use Rattle.coll_plans.specs.Plans.{family}
 use Rattle.coll_lists.specs.Layouts.{sequence}
 use Rattle.coll_arena.specs.declared.list_name.ListName.TheVariants.{Free as FreeList, Ready, Running, Idle}
@@ -21,17 +18,12 @@ use Rattle.coll_arena.specs.ListNames.{number_of}
 use Rattle.coll_arena.specs.Slots.{Slots, home, record_in, lent}
 use Rattle.coll_queues.specs.Postings.{Postings, groups_of, number_of as number_in, place_of, posts}
 use Rattle.coll_machine.specs.declared.key.Key.{Key}
-use Rattle.coll_machine.specs.Changes.{put_key}
+use Rattle.coll_machine.specs.Common.{put_key, Setting, AreGroups, size, Planned, Post, Init, Start, Retire, Free, Ticketed, Outcome, Nothing, refusal, first_of, unless, wrong_length, lent_bytes, MachineStep, MayFinish, StepsTo}
 use Rattle.coll_match.specs.Instances.{given, mail, members, seats}
-use Rattle.coll_machine.specs.Settings.{Setting, AreGroups, size}
-use Rattle.coll_machine.specs.Calls.{Planned, Post, Init, Start, Retire, Free, Ticketed, Outcome, Nothing}
-use Rattle.coll_machine.specs.Refusals.{refusal, first_of, unless, wrong_length}
 use Rattle.coll_tables.specs.Requests.{Live, at, key, before}
 use Rattle.coll_tables.specs.Sound.{next, Doable}
 use Rattle.coll_tables.specs.Shown.{Instances, tables}
 use Rattle.coll_arena.specs.Changes.{opened as arena_opened}
-use Rattle.coll_machine.specs.Lents.{lent_bytes}
-use Rattle.coll_machine.specs.Machines.{MachineStep, MayFinish, StepsTo}
 use Rattle.coll_machine.specs.Runs.{opened as machine_opened}
 use Rattle.coll_tables.specs.Tables.{machine, state}
 use Rattle.coll_tables.specs.FreeLocks.{NothingGoes}
@@ -39,9 +31,7 @@ use Rattle.coll_tables.specs.Remaining.{actions_left}
 use Rattle.coll_tables.specs.Cores.{IsCore}
 use Rattle.coll_kinds.specs.declared.refusal.Refusal.{Refusal}
 use Rattle.coll_kinds.specs.declared.refusal.Refusal.TheVariants.{Full}
-use Rattle.coll_kinds.specs.Checks.{broken}
 use Rattle.coll_queues.specs.Refusing.{judge_refusal, member_refusal}
-use Rattle.coll_sched.specs.Actions.{IsLocal, wrote}
 use Rattle.coll_arena.specs.Sound as arena
 use Rattle.coll_tables.specs.Engines.{Delivers, entry_refusals}
 use Rattle.coll_tables.proofs.EngineChanges.{Advances, Completes, HasMade, Initialises, KeepsContributions, Moves, Posts, Releases, Restarts}

@@ -4,15 +4,12 @@ use Rattle.std.specs.Prelude.{nat_lt}
 use Rattle.coll_kinds.specs.declared.kind.Mode.{Mode}
 use Rattle.coll_kinds.specs.declared.kind.Mode.TheVariants.{Once, Persistent}
 use Rattle.coll_kinds.specs.declared.refusal.Refusal.TheVariants.{Full}
-use Rattle.coll_kinds.specs.Checks.{broken}
-use Rattle.coll_kinds.specs.Lengths.{given_len}
+use Rattle.coll_kinds.specs.Common.{broken, given_len}
 use Rattle.coll_lists.specs.Layouts.{sequence}
 use Rattle.coll_arena.specs.Slots.{Slots}
 use Rattle.coll_queues.specs.Postings.{Postings}
 use Rattle.coll_queues.specs.Refusing.{judge_refusal, member_refusal}
-use Rattle.coll_machine.specs.Settings.{Setting}
-use Rattle.coll_machine.specs.Calls.{Planned, Post, Init}
-use Rattle.coll_machine.specs.Refusals.{refusal, wrong_length}
+use Rattle.coll_machine.specs.Common.{Setting, Planned, Post, Init, refusal, wrong_length}
 use Rattle.coll_machine.proofs.Accepted.{all_none, fits}
 use Rattle.coll_tables.specs.Requests.{Live}
 use Rattle.coll_tables.specs.Tables.{Tables, state}

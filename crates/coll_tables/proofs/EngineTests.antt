@@ -9,9 +9,7 @@ use Rattle.coll_kinds.specs.declared.kind.Mode.TheVariants.{Once, Persistent}
 use Rattle.coll_kinds.specs.declared.refusal.Refusal.{Refusal}
 use Rattle.coll_kinds.specs.declared.refusal.Refusal.TheVariants.{BadComm, BadSignature, Full, NotMember, PlacesUsed}
 use Rattle.coll_kinds.specs.declared.refusal.SignatureFault.TheVariants.{Mode as WrongMode, Group as WrongGroup}
-use Rattle.coll_kinds.specs.Checks.{broken}
-use Rattle.coll_kinds.specs.Groups.{member_of}
-use Rattle.coll_kinds.specs.Sameness.{mode_number}
+use Rattle.coll_kinds.specs.Common.{broken, member_of, mode_number}
 use Rattle.coll_lists.specs.Layouts.{sequence, times}
 use Rattle.coll_lists.specs.Neighbours.{first_in}
 use Rattle.coll_arena.specs.Slots.{Slots, count, generation_of, home, record_in}
@@ -19,9 +17,8 @@ use Rattle.coll_arena.specs.Sound as arena
 use Rattle.coll_arena.proofs.Homes.{StandsAtHome-sound}
 use Rattle.coll_arena.proofs.Sounds.{free_first}
 use Rattle.coll_queues.specs.Postings.{Postings, groups_of, number_of as number_in, place_of, posts, size as size_in}
-use Rattle.coll_machine.specs.Settings.{Setting, group_in}
-use Rattle.coll_machine.specs.Calls.{Planned, Post, Init}
-use Rattle.coll_machine.specs.Refusals.{first_of, full, mismatch_in, refusal, unless, wrong_length}
+use Rattle.coll_machine.specs.Common.{Setting, group_in, Planned, Post, Init, first_of, mismatch_in, refusal, unless, wrong_length}
+use Rattle.coll_machine.specs.Refusals.{full}
 use Rattle.coll_machine.proofs.Accepted.{fits}
 use Rattle.coll_tables.specs.Requests.{Live}
 use Rattle.coll_tables.specs.Tables.{Tables, asked, state}

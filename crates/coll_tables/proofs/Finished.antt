@@ -5,8 +5,7 @@ use Rattle.std.proofs.lemmas.Bool.{false≢true}
 use Rattle.coll_sched.specs.declared.action.Action.{Action}
 use Rattle.coll_sched.specs.declared.region.Region.{Region}
 use Rattle.coll_sched.specs.declared.action.Action.TheVariants.{Recv}
-use Rattle.coll_sched.specs.Families.{Family, actions_at}
-use Rattle.coll_sched.specs.Worlds.{Progress}
+use Rattle.coll_sched.specs.Common.{Family, actions_at, Progress}
 use Rattle.coll_sched.specs.Heart.{IsQuiet}
 use Rattle.coll_sched.proofs.Tracked.{tracked_finishes}
 use Rattle.coll_sched.proofs.Track.{tracks_empty}

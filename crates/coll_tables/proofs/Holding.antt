@@ -3,19 +3,16 @@ use Rattle.std.proofs.Common.{◌≡◌, ℕ, zero, suc, ◌+◌, ◌*◌, ◌<�
 use Rattle.std.specs.List.{range_with_len}
 use Rattle.std.proofs.lemmas.Option.{none-some, same_Some}
 use Rattle.std.proofs.lemmas.Bool.{cases_eq}
-use Rattle.coll_kinds.specs.Lengths.{given_len}
+use Rattle.coll_kinds.specs.Common.{given_len, put}
 use Rattle.coll_ops.specs.Values.{value}
 use Rattle.coll_sched.specs.Families.{Family}
-use Rattle.coll_kinds.specs.Puts.{put}
 use Rattle.coll_sched.specs.Worlds.{filled as filled_by}
 use Rattle.coll_sched.specs.Served.{listing, Serves, HoldsValue}
 use Rattle.coll_kinds.proofs.Puts.{put_same, put_other}
 use Rattle.coll_sched.proofs.Track.{heard_self}
 use Rattle.coll_sched.proofs.Serving.{value_held}
-use Rattle.coll_machine.specs.Settings.{size}
+use Rattle.coll_machine.specs.Common.{size, Request, Works, IsOver}
 use Rattle.coll_machine.specs.declared.key.Key.{Key}
-use Rattle.coll_machine.specs.States.{Request}
-use Rattle.coll_machine.specs.Steps.{Works, IsOver}
 use Rattle.coll_plans.specs.Plans.{family}
 use Rattle.coll_tables.specs.Requests.{Live, before, key, progress, as_request}
 use Rattle.coll_tables.specs.Tables.{Tables, Paths, family_at, world, asked, state}

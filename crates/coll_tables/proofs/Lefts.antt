@@ -6,8 +6,7 @@ use Rattle.std.proofs.lemmas.Option.{slice_get_within}
 use Rattle.coll_kinds.proofs.Puts.{put_other}
 use Rattle.coll_sched.specs.declared.action.Action.{Action}
 use Rattle.coll_sched.specs.declared.action.Action.TheVariants.{Recv, Combine}
-use Rattle.coll_sched.specs.Points.{Over, actions_of, remaining}
-use Rattle.coll_sched.specs.Schedules.{Parts}
+use Rattle.coll_sched.specs.Common.{Over, actions_of, remaining, Parts}
 use Rattle.coll_sched.proofs.Points.{keeps_remaining, lowers_remaining, ends}
 use Rattle.coll_plans.specs.Plans.{family}
 use Rattle.coll_arena.specs.Slots.{Slots, home, record_in}

@@ -6,9 +6,8 @@ use Rattle.coll_kinds.specs.declared.signature.Signature.{Signature}
 use Rattle.coll_sched.specs.Tracks.{Tracks}
 use Rattle.coll_kinds.proofs.Puts.{put_other}
 use Rattle.coll_sched.proofs.Counts.{put_cases}
-use Rattle.coll_machine.specs.Settings.{size}
+use Rattle.coll_machine.specs.Common.{size, put2}
 use Rattle.coll_machine.specs.declared.key.Key.{Key}
-use Rattle.coll_machine.specs.Changes.{put2}
 use Rattle.coll_machine.proofs.Puts.{put2_cases}
 use Rattle.coll_plans.specs.Plans.{IsPlanned, family}
 use Rattle.coll_tables.specs.Requests.{Live, at, key, progress}

@@ -5,8 +5,7 @@ use Rattle.std.proofs.lemmas.Option.{slice_get_within}
 use Rattle.std.proofs.Math.Nat.{mul-suc}
 use Rattle.coll_kinds.specs.Puts.{put}
 use Rattle.coll_sched.specs.declared.action.Action.{Action}
-use Rattle.coll_sched.specs.Points.{actions_of, left_in, remaining}
-use Rattle.coll_sched.specs.Schedules.{Parts}
+use Rattle.coll_sched.specs.Common.{actions_of, left_in, remaining, Parts}
 use Rattle.coll_sched.proofs.Points.{keeps_remaining, lowers_remaining}
 use Rattle.coll_arena.specs.Totals.{sum_to}
 use Rattle.coll_arena.proofs.Totals.{sum_to-put}

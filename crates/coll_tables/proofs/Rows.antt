@@ -2,13 +2,10 @@
 use Rattle.std.proofs.Common.{◌≡◌, ℕ, zero, suc, inl, inr, [], ◌∷◌, length, Some, refl, sym, arith}
 use Rattle.std.proofs.lemmas.Option.{none-some}
 use Rattle.coll_kinds.specs.declared.kind.Mode.TheVariants.{Once}
-use Rattle.coll_kinds.specs.Elements.{AreBytes}
-use Rattle.coll_kinds.specs.Lengths.{given_len}
+use Rattle.coll_kinds.specs.Common.{AreBytes, given_len}
 use Rattle.coll_kinds.proofs.Puts.{put_other}
 use Rattle.coll_sched.specs.declared.action.Action.TheVariants.{Send, Copy, Recv}
-use Rattle.coll_sched.specs.Families.{laid_in}
-use Rattle.coll_sched.specs.Points.{Over}
-use Rattle.coll_sched.specs.Regions.{read_of}
+use Rattle.coll_sched.specs.Common.{laid_in, Over, read_of}
 use Rattle.coll_plans.specs.Plans.{family}
 use Rattle.coll_arena.specs.declared.list_name.ListName.{ListName}
 use Rattle.coll_arena.specs.declared.list_name.ListName.TheVariants.{Free, Worn, Ready, Done}

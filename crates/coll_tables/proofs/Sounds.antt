@@ -5,27 +5,21 @@ use Rattle.std.proofs.lemmas.Bool.{cases_eq}
 use Rattle.coll_sched.specs.declared.region.Region.{Region}
 use Rattle.coll_sched.specs.declared.action.Action.{Action}
 use Rattle.coll_sched.specs.declared.action.Action.TheVariants.{Send, Recv}
-use Rattle.coll_sched.specs.Regions.{read_of, written}
-use Rattle.coll_sched.specs.Actions.{wrote, IsLocal}
-use Rattle.coll_sched.specs.Families.{Family, IsLawful}
-use Rattle.coll_sched.specs.Worlds.{Progress, World, put_mail, IsNext, acted, compute, receive, send}
+use Rattle.coll_sched.specs.Common.{read_of, written, wrote, IsLocal, Family, IsLawful, Progress, World, put_mail, IsNext, acted, compute, receive, send, Tracks, Over}
 use Rattle.coll_kinds.specs.Puts.{put}
-use Rattle.coll_sched.specs.Tracks.{Tracks}
 use Rattle.coll_kinds.proofs.Puts.{put_same, put_other, put_at, put_put}
 use Rattle.coll_sched.proofs.Counts.{put_cases}
 use Rattle.coll_sched.proofs.Tracked.{steps_track}
 use Rattle.coll_sched.proofs.Points.{goes_over}
 use Rattle.coll_sched.proofs.Views.{tracks_agrees}
-use Rattle.coll_machine.specs.Settings.{size}
+use Rattle.coll_machine.specs.Common.{size, put_key, put_in}
 use Rattle.coll_machine.specs.declared.key.Key.{Key}
-use Rattle.coll_machine.specs.Changes.{put_key, put_in}
 use Rattle.coll_plans.specs.Plans.{family}
 use Rattle.coll_tables.specs.Requests.{Live, at, key, progress, advanced, begun, rests}
 use Rattle.coll_tables.specs.Tables.{Mail, Tables, Paths, family_at, world}
 use Rattle.coll_tables.specs.Sound.{Base, next, Stands, Called, Lies, Sound}
 use Rattle.coll_tables.specs.Changes.{mailed, posting, joining, acting, leaving, dissolving, freeing, rehoming}
 use Rattle.coll_tables.proofs.Calls.{Posting, Joining, IsLast}
-use Rattle.coll_sched.specs.Points.{Over}
 use Rattle.coll_tables.proofs.Keys.{at_key, off_key, in_at}
 use Rattle.coll_tables.proofs.Changing.{key_fields}
 use Rattle.coll_tables.proofs.Standing.{stands_mail, stands_sent, stands_took, called_stands}

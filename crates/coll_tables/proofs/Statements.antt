@@ -1,23 +1,16 @@
 -- What lemmas say of each change of the tables: each keeps the condition, and is the machine's step.
 use Rattle.std.specs.Prelude.{◌≡◌, ◌≢◌, ◌<◌, ◌≤◌, ◌*◌, ℕ, suc, true, List, [], length, Some, None}
 use Rattle.coll_kinds.specs.declared.kind.Mode.TheVariants.{Once, Persistent}
-use Rattle.coll_kinds.specs.Elements.{AreBytes}
-use Rattle.coll_kinds.specs.Lengths.{given_len}
+use Rattle.coll_kinds.specs.Common.{AreBytes, given_len}
 use Rattle.coll_sched.specs.declared.action.Action.{Action}
 use Rattle.coll_sched.specs.declared.action.Action.TheVariants.{Send, Recv}
 use Rattle.coll_sched.specs.declared.region.Region.{Region}
-use Rattle.coll_sched.specs.Actions.{IsLocal, wrote}
-use Rattle.coll_sched.specs.Families.{laid_in}
-use Rattle.coll_sched.specs.Regions.{written}
-use Rattle.coll_sched.specs.Worlds.{Progress}
+use Rattle.coll_sched.specs.Common.{IsLocal, wrote, laid_in, written, Progress}
 use Rattle.coll_plans.specs.Plans.{family, most_actions}
 use Rattle.coll_arena.specs.declared.list_name.ListName.TheVariants.{Free as FreeList, Ready, Idle, Done}
 use Rattle.coll_arena.specs.ListNames.{number_of}
-use Rattle.coll_machine.specs.Settings.{Setting, size}
+use Rattle.coll_machine.specs.Common.{Setting, size, Planned, Post, Init, Start, Retire, Free, Ticketed, Outcome, Nothing, refusal, MachineStep, MayFinish, StepsTo}
 use Rattle.coll_machine.specs.declared.key.Key.{Key}
-use Rattle.coll_machine.specs.Calls.{Planned, Post, Init, Start, Retire, Free, Ticketed, Outcome, Nothing}
-use Rattle.coll_machine.specs.Refusals.{refusal}
-use Rattle.coll_machine.specs.Machines.{MachineStep, MayFinish, StepsTo}
 use Rattle.coll_tables.specs.Requests.{Live, before, key, advanced}
 use Rattle.coll_tables.specs.Tables.{Mail, Tables, machine, opened, state}
 use Rattle.coll_tables.specs.Sound.{IsSound, Lies, Stands}

@@ -3,19 +3,12 @@ use Rattle.std.proofs.Common.{◌≡◌, ℕ, suc, ◌+◌, ◌*◌, ◌<◌, �
 use Rattle.std.proofs.lemmas.Bool.{cases_eq, cond-true, eqb-true}
 use Rattle.coll_kinds.specs.declared.kind.Mode.{Mode}
 use Rattle.coll_kinds.specs.declared.kind.Mode.TheVariants.{Once, Persistent}
-use Rattle.coll_sched.specs.Regions.{read_of}
-use Rattle.coll_sched.specs.Worlds.{Progress}
-use Rattle.coll_kinds.specs.Puts.{put}
+use Rattle.coll_sched.specs.Common.{read_of, Progress}
+use Rattle.coll_kinds.specs.Common.{put, member_of}
 use Rattle.coll_kinds.proofs.Puts.{put_same, put_other}
-use Rattle.coll_machine.specs.Settings.{group, size}
-use Rattle.coll_kinds.specs.Groups.{member_of}
+use Rattle.coll_machine.specs.Common.{group, size, State, Request, Machine, found, holding, created, new_request, started, rested, rested_by, forgotten, put_in, Planned, Post, Init, Start, Retire, Free, Finish, Nothing, refusal, IsNew, Posts, Inits, Starts, Retires, Frees, IsOver, IsReady, Clears, MachineStep, finish, MayFinish}
 use Rattle.coll_machine.specs.declared.key.Key.{Key}
-use Rattle.coll_machine.specs.States.{State, Request, Machine, found}
-use Rattle.coll_machine.specs.Changes.{holding, created, new_request, started, rested, rested_by, forgotten, put_in}
-use Rattle.coll_machine.specs.Calls.{Planned, Post, Init, Start, Retire, Free, Finish, Nothing}
-use Rattle.coll_machine.specs.Refusals.{refusal}
-use Rattle.coll_machine.specs.Steps.{IsNew, Posts, Inits, Starts, Retires, Frees, Finishes, IsOver, IsReady, Clears}
-use Rattle.coll_machine.specs.Machines.{MachineStep, finish, MayFinish}
+use Rattle.coll_machine.specs.Steps.{Finishes}
 use Rattle.coll_plans.specs.Plans.{family}
 use Rattle.coll_tables.specs.Requests.{Live, before, at, key, advanced, begun, rests, rests_by, as_request}
 use Rattle.coll_tables.specs.Tables.{Mail, Tables, Paths, asked, is_done, state, machine}

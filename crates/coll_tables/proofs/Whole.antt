@@ -6,16 +6,12 @@ use Rattle.coll_kinds.specs.declared.kind.Mode.{Mode}
 use Rattle.coll_kinds.specs.declared.kind.Mode.TheVariants.{Once, Persistent}
 use Rattle.coll_kinds.specs.Puts.{put}
 use Rattle.coll_kinds.proofs.Puts.{put_same, put_put}
-use Rattle.coll_machine.specs.Settings.{size}
+use Rattle.coll_machine.specs.Common.{size, Request, Machine, MachineStep, post, init, start, retire, free, Post, Init, Start, Retire, Free, Ticketed, Outcome, Nothing, put_in}
 use Rattle.coll_machine.specs.declared.key.Key.{Key}
-use Rattle.coll_machine.specs.States.{Request, Machine}
-use Rattle.coll_machine.specs.Machines.{MachineStep, post, init, start, retire, free}
 use Rattle.coll_plans.specs.Plans.{family}
-use Rattle.coll_machine.specs.Calls.{Post, Init, Start, Retire, Free, Ticketed, Outcome, Nothing}
 use Rattle.coll_tables.specs.Requests.{Live, before, at, key, begun, at_rest, rests, rests_by}
 use Rattle.coll_tables.specs.Tables.{Mail, Tables, Paths, is_done, state, machine}
 use Rattle.coll_tables.specs.Sound.{Stands, ready, running, idle, queued, done, Sound, IsSound}
-use Rattle.coll_machine.specs.Changes.{put_in}
 use Rattle.coll_tables.specs.Changes.{posting, joining, leaving, dissolving, freeing}
 use Rattle.coll_tables.proofs.Calls.{Away, ticket, new_ticket, LeftAt, Retiring}
 use Rattle.coll_tables.proofs.Statements.{LockIsFree, InitKeeps, PostKeeps, StartKeeps, RetireKeeps, LastRetireKeeps, FreeKeeps}

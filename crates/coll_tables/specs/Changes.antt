@@ -2,11 +2,9 @@
 use Rattle.std.specs.Prelude.{ℕ, suc, false, List, [], ◌∷◌, ◌++◌, length, Option, Some, None}
 use Rattle.coll_kinds.specs.Puts.{put}
 use Rattle.coll_sched.specs.declared.region.Region.{Region}
-use Rattle.coll_sched.specs.Regions.{read_of}
-use Rattle.coll_sched.specs.Worlds.{Progress, put_mail}
+use Rattle.coll_sched.specs.Common.{read_of, Progress, put_mail}
 use Rattle.coll_machine.specs.declared.key.Key.{Key}
-use Rattle.coll_machine.specs.Calls.{Planned}
-use Rattle.coll_machine.specs.Changes.{put2, put_in, put_key}
+use Rattle.coll_machine.specs.Common.{Planned, put2, put_in, put_key}
 use Rattle.coll_tables.specs.Requests.{Live, at, key, advanced, begun, rests}
 use Rattle.coll_tables.specs.Tables.{Mail, Tables}
 

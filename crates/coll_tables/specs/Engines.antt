@@ -9,10 +9,8 @@ use Rattle.coll_arena.specs.ListNames.{number_of}
 use Rattle.coll_arena.specs.Slots.{Slots, generation_of, home, record_in, weight_of}
 use Rattle.coll_queues.specs.Postings.{Postings, number_of as number_in, size}
 use Rattle.coll_machine.specs.declared.key.Key.{Key}
-use Rattle.coll_machine.specs.Changes.{put_in}
+use Rattle.coll_machine.specs.Common.{put_in, Planned, plan_refusals}
 use Rattle.coll_match.specs.Instances.{given, mail, members, seats}
-use Rattle.coll_machine.specs.Calls.{Planned}
-use Rattle.coll_machine.specs.Refusals.{plan_refusals}
 use Rattle.coll_tables.specs.Requests.{Live, key, advanced}
 use Rattle.coll_tables.specs.Sound.{Stands, Called}
 use Rattle.coll_tables.specs.Shown.{Instances, listed}

@@ -7,8 +7,7 @@ use Rattle.coll_sched.specs.Regions.{read_of}
 use Rattle.coll_plans.specs.Plans.{family}
 use Rattle.coll_arena.specs.declared.list_name.ListName.TheVariants.{Ready, Running, Idle, Queue, Done}
 use Rattle.coll_arena.specs.ListNames.{number_of}
-use Rattle.coll_machine.specs.Settings.{size}
-use Rattle.coll_machine.specs.Steps.{filled}
+use Rattle.coll_machine.specs.Common.{size, filled}
 use Rattle.coll_tables.specs.Requests.{Live, key}
 use Rattle.coll_tables.specs.Tables.{Tables, machine}
 use Rattle.coll_tables.specs.Sound.{Lies}

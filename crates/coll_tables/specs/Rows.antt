@@ -13,9 +13,7 @@ use Rattle.coll_plans.specs.Plans.{family}
 use Rattle.coll_arena.specs.declared.list_name.ListName.{ListName}
 use Rattle.coll_arena.specs.declared.list_name.ListName.TheVariants.{Free, Worn, Ready, Done}
 use Rattle.coll_arena.specs.ListNames.{number_of}
-use Rattle.coll_machine.specs.Calls.{Post, Retire, Ticketed, Outcome}
-use Rattle.coll_machine.specs.Machines.{MachineStep, MayFinish, StepsTo}
-use Rattle.coll_machine.specs.Rows.{two_ranks, plan, ticket, key}
+use Rattle.coll_machine.specs.Common.{Post, Retire, Ticketed, Outcome, MachineStep, MayFinish, StepsTo, two_ranks, plan, ticket, key}
 use Rattle.coll_tables.specs.Requests.{Live, begun, advanced}
 use Rattle.coll_tables.specs.Tables.{Tables, machine, opened}
 use Rattle.coll_tables.specs.Changes.{posting, joining, acting, leaving, dissolving, newcomer, delivered, received}

@@ -7,9 +7,7 @@ use Rattle.coll_kinds.specs.declared.signature.Signature.{Signature}
 use Rattle.coll_sched.specs.declared.region.Region.{Region}
 use Rattle.coll_sched.specs.declared.action.Action.{Action}
 use Rattle.coll_sched.specs.declared.action.Action.TheVariants.{Send, Copy, Combine, Recv}
-use Rattle.coll_sched.specs.Families.{actions_at}
-use Rattle.coll_sched.specs.Tracks.{Tracks}
-use Rattle.coll_sched.specs.Worlds.{Progress}
+use Rattle.coll_sched.specs.Common.{actions_at, Tracks, Progress}
 use Rattle.coll_plans.specs.Plans.{IsPlanned, family}
 use Rattle.coll_arena.specs.declared.list_name.ListName.TheVariants.{Free, Worn, Ready, Running, Idle, Queue, Done}
 use Rattle.coll_arena.specs.ListNames.{number_of}

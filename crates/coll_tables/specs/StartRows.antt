@@ -9,9 +9,7 @@ use Rattle.coll_kinds.specs.declared.signature.Signature.{Signature}
 use Rattle.coll_sched.specs.declared.action.Action.TheVariants.{Combine, Recv}
 use Rattle.coll_plans.specs.Plans.{family}
 use Rattle.coll_arena.specs.declared.list_name.ListName.TheVariants.{Free as FreeList, Ready, Running, Idle, Queue, Done}
-use Rattle.coll_machine.specs.Calls.{Init, Start, Retire, Free, Ticketed, Outcome, Nothing}
-use Rattle.coll_machine.specs.Machines.{MachineStep, MayFinish, StepsTo}
-use Rattle.coll_machine.specs.Rows.{two_ranks, plan, ticket, key}
+use Rattle.coll_machine.specs.Common.{Init, Start, Retire, Free, Ticketed, Outcome, Nothing, MachineStep, MayFinish, StepsTo, two_ranks, plan, ticket, key}
 use Rattle.coll_tables.specs.Requests.{Live, begun, advanced}
 use Rattle.coll_tables.specs.Tables.{Tables, machine}
 use Rattle.coll_tables.specs.Changes.{posting, joining, acting, leaving, freeing, rehoming, newcomer, delivered, received}

@@ -4,14 +4,12 @@ use Rattle.coll_kinds.specs.declared.datatype.Datatype.TheVariants.{Byte}
 use Rattle.coll_kinds.specs.declared.kind.Kind.TheVariants.{Barrier}
 use Rattle.coll_kinds.specs.declared.kind.Mode.TheVariants.{Once}
 use Rattle.coll_kinds.specs.declared.signature.Signature.{Signature}
-use Rattle.coll_sched.specs.Families.{Family}
-use Rattle.coll_sched.specs.Worlds.{Progress, World}
+use Rattle.coll_sched.specs.Common.{Family, Progress, World}
 use Rattle.coll_plans.specs.Plans.{family}
 use Rattle.coll_arena.specs.declared.list_name.ListName.TheVariants.{Done}
 use Rattle.coll_arena.specs.ListNames.{number_of}
-use Rattle.coll_machine.specs.Settings.{Setting, size}
+use Rattle.coll_machine.specs.Common.{Setting, size, Request, State, Machine}
 use Rattle.coll_machine.specs.declared.key.Key.{Key}
-use Rattle.coll_machine.specs.States.{Request, State, Machine}
 use Rattle.coll_tables.specs.Requests.{Live, as_request}
 
 -- the messages of one collective that weren't taken yet, by sender, receiver and round

@@ -7,12 +7,7 @@ use Rattle.coll_kinds.specs.declared.kind.Mode.{Mode}
 use Rattle.coll_kinds.specs.declared.kind.Mode.TheVariants.{Once, Persistent}
 use Rattle.coll_kinds.specs.Puts.{put}
 use Rattle.coll_kinds.proofs.Puts.{put_same}
-use Rattle.coll_machine.specs.Settings.{Setting, AreGroups}
-use Rattle.coll_machine.specs.States.{Request, State, nothing, key_of}
-use Rattle.coll_machine.specs.Changes.{new_request, once_more, rested, rested_by, holding}
-use Rattle.coll_machine.specs.Steps.{Clears}
-use Rattle.coll_machine.specs.Entries.{Entry, Posted, Inited, Started, Retired, Freed}
-use Rattle.coll_machine.specs.Traces.{Enters, Leads, over_slots}
+use Rattle.coll_machine.specs.Common.{Setting, AreGroups, Request, State, nothing, key_of, new_request, once_more, rested, rested_by, holding, Clears, Entry, Posted, Inited, Started, Retired, Freed, Enters, Leads, over_slots}
 use Rattle.coll_machine.proofs.Accepted.{found_is, started_mine, retired_mine, freed_mine}
 use Rattle.coll_machine.proofs.Held.{traces_are_posted}
 use Rattle.coll_machine.proofs.Members.{member_at}

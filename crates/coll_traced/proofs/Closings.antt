@@ -4,8 +4,7 @@ use Rattle.std.specs.Prelude.{◌↔◌, IfSome, IsNone, IsTrue}
 use Rattle.std.proofs.Math.Seq.{take-suc}
 use Rattle.std.proofs.lemmas.Bool.{cases_eq}
 use Rattle.std.proofs.lemmas.List.FromFn.{length-map-range_with_len, get_or-map-range_with_len, map-range_with_len_more}
-use Rattle.coll_machine.specs.Entries.{Entry}
-use Rattle.coll_machine.specs.Settings.{Setting, AreGroups}
+use Rattle.coll_machine.specs.Common.{Entry, Setting, AreGroups}
 use Rattle.coll_report.specs.Told.{IsIdle}
 use Rattle.coll_core.specs.declared.config.Config.{Config}
 use Rattle.coll_core.specs.Configs.{setting_by}

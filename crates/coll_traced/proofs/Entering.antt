@@ -7,13 +7,8 @@ use Rattle.coll_kinds.specs.declared.ticket.Ticket.{Ticket}
 use Rattle.coll_kinds.specs.Puts.{put}
 use Rattle.coll_kinds.specs.declared.kind.Mode.TheVariants.{Once, Persistent}
 use Rattle.coll_kinds.proofs.Puts.{put_same}
-use Rattle.coll_machine.specs.Settings.{Setting}
-use Rattle.coll_machine.specs.States.{State, Machine, Request, found}
-use Rattle.coll_machine.specs.Calls.{Planned, Call}
+use Rattle.coll_machine.specs.Common.{Setting, State, Machine, Request, found, Planned, Call, new_request, once_more, created, started, MachineStep, post, init, start, finish, retire, wait, free, refuse, short, MayFinish, StepsTo, Posts, Inits, Starts, Frees, Retires}
 use Rattle.coll_machine.specs.Calls as calls
-use Rattle.coll_machine.specs.Changes.{new_request, once_more, created, started}
-use Rattle.coll_machine.specs.Machines.{MachineStep, post, init, start, finish, retire, wait, free, refuse, short, MayFinish, StepsTo}
-use Rattle.coll_machine.specs.Steps.{Posts, Inits, Starts, Frees, Retires}
 use Rattle.coll_machine.proofs.Accepted.{found_is}
 
 pub record Completes (g : Setting) (m n : Machine) (rank : ℕ) (t : Ticket) (who comm place begin : ℕ) (bytes : List ℕ) : Type 0 where

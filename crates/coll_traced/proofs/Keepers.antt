@@ -11,17 +11,11 @@ use Rattle.coll_kinds.specs.declared.ticket.Ticket.{Ticket}
 use Rattle.coll_core.specs.declared.offer.Offer.{Offer}
 use Rattle.coll_traced.specs.declared.prepared.Prepared.{Prepared}
 use Rattle.coll_traced.specs.Prepared.{IsPreparedFor}
-use Rattle.coll_machine.specs.Settings.{Setting, AreGroups}
-use Rattle.coll_machine.specs.States.{State, Machine, Request, found, nothing}
-use Rattle.coll_machine.specs.Calls.{Planned}
+use Rattle.coll_machine.specs.Common.{Setting, AreGroups, State, Machine, Request, found, nothing, Planned, Entry, Posted, Inited, Started, Retired, Freed, MachineStep, StepsTo, Posts, Inits, Starts, Retires, Enters, Leads, LegalTrace, over_slots, reserved, new_request, once_more}
 use Rattle.coll_machine.specs.Calls as calls
-use Rattle.coll_machine.specs.Entries.{Entry, Posted, Inited, Started, Retired, Freed}
-use Rattle.coll_machine.specs.Machines.{MachineStep, StepsTo}
-use Rattle.coll_machine.specs.Steps.{Posts, Inits, Starts, Retires}
-use Rattle.coll_machine.specs.Traces.{Enters, Leads, LegalTrace, over_slots, reserved, reserved_for}
+use Rattle.coll_machine.specs.Traces.{reserved_for}
 use Rattle.coll_machine.specs.Laws.{HasRoom, Reserves}
 use Rattle.coll_machine.proofs.Rooms.{legal_goes_on, reserved_changes}
-use Rattle.coll_machine.specs.Changes.{new_request, once_more}
 use Rattle.coll_core.proofs.Groups.{are_groups}
 use Rattle.coll_core.specs.Configs.{idle, setting_by, IsConfig}
 use Rattle.coll_core.specs.declared.config.Config.{Config}

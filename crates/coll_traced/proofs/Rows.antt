@@ -4,13 +4,7 @@ use Rattle.std.specs.Prelude.{◌==◌, if◌then◌else◌}
 use Rattle.coll_kinds.specs.declared.refusal.Refusal.{Refusal}
 use Rattle.coll_kinds.specs.declared.refusal.Refusal.TheVariants.{NoMemory, Stale, TraceFull}
 use Rattle.coll_kinds.specs.declared.ticket.Ticket.{Ticket}
-use Rattle.coll_machine.specs.Calls.{Call, Free, Refused, Reply, Retire, Start}
-use Rattle.coll_machine.specs.Entries.{Entry, Posted, Inited, Started, Retired, Freed}
-use Rattle.coll_machine.specs.Machines.{MachineStep, post, init, start, finish, retire, wait, free, refuse, short}
-use Rattle.coll_machine.specs.Refusals.{first_of, idle_refusals, naming_refusals, refusal, start_refusals}
-use Rattle.coll_machine.specs.Settings.{Setting}
-use Rattle.coll_machine.specs.States.{Machine, Request, State, found, nothing}
-use Rattle.coll_machine.specs.Traces.{Enters, Leads, LegalTrace, reserved}
+use Rattle.coll_machine.specs.Common.{Call, Free, Refused, Reply, Retire, Start, Entry, Posted, Inited, Started, Retired, Freed, MachineStep, post, init, start, finish, retire, wait, free, refuse, short, first_of, idle_refusals, naming_refusals, refusal, start_refusals, Setting, Machine, Request, State, found, nothing, Enters, Leads, LegalTrace, reserved}
 use Rattle.coll_complete.specs.Requests.{free_refusal, list_refusal, refusal_at}
 use Rattle.coll_core.specs.Cores.{seen, setting}
 use Rattle.coll_traced.specs.Closings.{IsFirstBusy, IsObjected, Objects, ends_of}

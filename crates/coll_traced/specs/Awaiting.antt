@@ -4,8 +4,7 @@ use Rattle.std.specs.List.{list_any}
 use Rattle.coll_kinds.specs.declared.refusal.Refusal.{Refusal}
 use Rattle.coll_kinds.specs.declared.refusal.Refusal.TheVariants.{NoMemory, Stale, Stalled}
 use Rattle.coll_kinds.specs.declared.ticket.Ticket.{Ticket}
-use Rattle.coll_machine.specs.Settings.{Setting}
-use Rattle.coll_machine.specs.States.{Machine}
+use Rattle.coll_machine.specs.Common.{Setting, Machine}
 use Rattle.coll_core.specs.declared.phase.Phase.TheVariants.{Pending}
 use Rattle.coll_core.specs.Cores.{Parts}
 use Rattle.coll_core.specs.Phases.{phase_in}

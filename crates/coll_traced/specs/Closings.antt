@@ -4,10 +4,7 @@ use Rattle.std.specs.Prelude.{List, Option, Some, None, map, length, count_by, s
 use Rattle.std.specs.List.{range_with_len}
 use Rattle.coll_kinds.specs.declared.refusal.Refusal.{Refusal}
 use Rattle.coll_kinds.specs.declared.refusal.Refusal.TheVariants.{StillActive, Torn}
-use Rattle.coll_machine.specs.Entries.{Entry, Posted, Inited, Started, Retired, Freed}
-use Rattle.coll_machine.specs.States.{Request, State}
-use Rattle.coll_machine.specs.Settings.{Setting}
-use Rattle.coll_machine.specs.Traces.{LegalTrace}
+use Rattle.coll_machine.specs.Common.{Entry, Posted, Inited, Started, Retired, Freed, Request, State, Setting, LegalTrace}
 use Rattle.coll_report.specs.Told.{IsIdle}
 use Rattle.coll_core.specs.Cores.{seen, setting}
 use Rattle.coll_report.specs.Traces.{completes_by, entries_of}

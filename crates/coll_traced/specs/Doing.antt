@@ -3,8 +3,7 @@ use Rattle.std.specs.Prelude.{◌≡◌, ◌+◌, ℕ, List, [], ◌++◌, lengt
 use Rattle.std.proofs.Common.{ap, append_assoc, arith, length-append, sym, ◌∙◌}
 use Rattle.std.proofs.lemmas.Grind.{flat_map-append}
 use Rattle.std.proofs.lemmas.List.{append-nil}
-use Rattle.coll_machine.specs.Entries.{Entry}
-use Rattle.coll_machine.specs.Runs.{Event}
+use Rattle.coll_machine.specs.Common.{Entry, Event}
 use Rattle.coll_complete.specs.Doing.{DidOn, did_more_on, did_nothing_on}
 use Rattle.coll_traced.specs.Endings.{ending, endings}
 use Rattle.coll_traced.specs.Traced.{Traced}

@@ -1,9 +1,7 @@
 -- The entries of completions and frees.
 use Rattle.std.specs.Prelude.{List, [], ◌∷◌}
 use Rattle.std.specs.List.{flat_map}
-use Rattle.coll_machine.specs.Calls.{Call, Free, Nothing, Outcome, Reply, Retire}
-use Rattle.coll_machine.specs.Entries.{Entry, Freed, Retired}
-use Rattle.coll_machine.specs.Runs.{Event}
+use Rattle.coll_machine.specs.Common.{Call, Free, Nothing, Outcome, Reply, Retire, Entry, Freed, Retired, Event}
 
 -- the entry of a call with its answer; nothing is said here of other calls
 abbrev pub ending : Call → Reply → List Entry

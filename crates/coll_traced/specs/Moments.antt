@@ -1,9 +1,6 @@
 -- A moment of an engine: what lay under its lock while a port's call had it.
 use Rattle.std.specs.Prelude.{◌≤◌, ℕ, List, length}
-use Rattle.coll_machine.specs.Entries.{Entry}
-use Rattle.coll_machine.specs.Settings.{Setting}
-use Rattle.coll_machine.specs.States.{State}
-use Rattle.coll_machine.specs.Traces.{LegalTrace}
+use Rattle.coll_machine.specs.Common.{Entry, Setting, State, LegalTrace}
 
 -- the entries that the engine had accepted are legal and lead to the state, and the port had made no more of them than there were
 pub record IsMoment (g : Setting) (made : ℕ) (entries : List Entry) (s : State) : Type 0 where

@@ -2,9 +2,7 @@
 use Rattle.std.specs.Prelude.{◌≡◌, ℕ, Some}
 use Rattle.coll_kinds.specs.declared.refusal.Refusal.{Refusal}
 use Rattle.coll_kinds.specs.declared.ticket.Ticket.{Ticket}
-use Rattle.coll_machine.specs.Calls.{Call, Start}
-use Rattle.coll_machine.specs.Entries.{Entry}
-use Rattle.coll_machine.specs.Settings.{Setting}
+use Rattle.coll_machine.specs.Common.{Call, Start, Entry, Setting}
 use Rattle.coll_core.specs.Posts.{post_of}
 use Rattle.coll_traced.specs.Denials.{IsDenied}
 use Rattle.coll_traced.specs.Calls.{IsPosted, IsStarted}

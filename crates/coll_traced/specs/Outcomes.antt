@@ -2,8 +2,7 @@
 use Rattle.std.specs.Prelude.{Bool, ℕ, List, [], ◌∷◌, Option, Some, None, if◌then◌else◌}
 use Rattle.coll_kinds.specs.declared.ticket.Ticket.{Ticket}
 use Rattle.coll_machine.specs.Calls as calls
-use Rattle.coll_machine.specs.Calls.{Reply}
-use Rattle.coll_machine.specs.Entries.{Entry, Freed, Retired}
+use Rattle.coll_machine.specs.Common.{Reply, Entry, Freed, Retired}
 use Rattle.coll_core.specs.declared.outcome.Outcome.{Outcome}
 
 -- the machine's answer

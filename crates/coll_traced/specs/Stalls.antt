@@ -1,10 +1,7 @@
 -- When nothing can go on.
 use Rattle.std.specs.Prelude.{◌≡◌, ℕ, All, Bool, Some, None, true}
 use Rattle.coll_kinds.specs.declared.ticket.Ticket.{Ticket}
-use Rattle.coll_machine.specs.Calls.{Retire}
-use Rattle.coll_machine.specs.Refusals.{refusal}
-use Rattle.coll_machine.specs.Settings.{Setting}
-use Rattle.coll_machine.specs.Traces.{LegalTrace}
+use Rattle.coll_machine.specs.Common.{Retire, refusal, Setting, LegalTrace}
 use Rattle.coll_core.specs.declared.phase.Phase.TheVariants.{Done}
 use Rattle.coll_core.specs.Cores.{Parts, seen, setting}
 use Rattle.coll_core.specs.Phases.{IsQuiet, phase_in}

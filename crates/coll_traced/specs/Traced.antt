@@ -2,10 +2,7 @@
 use Rattle.std.specs.Prelude.{◌≡◌, ◌+◌, ◌<◌, ◌⊎◌, ℕ, Bool, List, length}
 use Rattle.coll_kinds.specs.declared.refusal.Refusal.{Refusal}
 use Rattle.coll_kinds.specs.declared.refusal.Refusal.TheVariants.{NoMemory, TraceFull}
-use Rattle.coll_machine.specs.Calls.{Call}
-use Rattle.coll_machine.specs.Entries.{Entry}
-use Rattle.coll_machine.specs.Traces.{LegalTrace, reserved}
-use Rattle.coll_machine.specs.Settings.{AreGroups, Setting}
+use Rattle.coll_machine.specs.Common.{Call, Entry, LegalTrace, reserved, AreGroups, Setting}
 use Rattle.coll_core.specs.declared.config.Config.{Config}
 use Rattle.coll_core.specs.Configs.{setting_by}
 use Rattle.coll_core.specs.Calls.{Refuses}

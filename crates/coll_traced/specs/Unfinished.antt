@@ -2,9 +2,7 @@
 use Rattle.std.specs.Prelude.{◌≡◌, ℕ, List, Option, None, true}
 use Rattle.std.specs.List.{list_any}
 use Rattle.coll_kinds.specs.declared.ticket.Ticket.{Ticket}
-use Rattle.coll_machine.specs.Entries.{Entry}
-use Rattle.coll_machine.specs.Settings.{Setting}
-use Rattle.coll_machine.specs.States.{Machine}
+use Rattle.coll_machine.specs.Common.{Entry, Setting, Machine}
 use Rattle.coll_complete.specs.Requests.{is_pending, list_refusal, refusal_at}
 use Rattle.coll_traced.specs.Awaiting.{IsUnfinished}
 use Rattle.coll_traced.specs.Moments.{IsMoment}

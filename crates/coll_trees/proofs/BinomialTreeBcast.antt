@@ -4,16 +4,12 @@ use Rattle.std.proofs.lemmas.Bool.{cond-true, cond_both, and_parts}
 use Rattle.coll_kinds.specs.declared.signature.Signature.{Signature}
 use Rattle.coll_kinds.specs.declared.kind.Kind.TheVariants.{Bcast}
 use Rattle.coll_kinds.specs.declared.operation.Op.TheVariants.{Sum}
-use Rattle.coll_kinds.specs.Lengths.{block_len, row_len, given_by, given_len, got_by}
-use Rattle.coll_kinds.specs.Needs.{needs_of, needs}
-use Rattle.coll_kinds.specs.Checks.{has_root, broken}
+use Rattle.coll_kinds.specs.Common.{block_len, row_len, given_by, given_len, got_by, needs_of, needs, has_root, broken}
 use Rattle.coll_ops.specs.Values.{row_of, value_by, value}
 use Rattle.coll_ops.specs.Contributions.{AreGiven}
 use Rattle.coll_sched.specs.declared.region.Region.{Region}
 use Rattle.coll_sched.specs.declared.action.Action.{Action}
-use Rattle.coll_sched.specs.Schedules.{Parts}
-use Rattle.coll_sched.specs.Regions.{Inside, read_of, front, nothing}
-use Rattle.coll_sched.specs.Families.{actions_at, lock_step, result_at, Heard, IsLawful}
+use Rattle.coll_sched.specs.Common.{Parts, Inside, read_of, front, nothing, actions_at, lock_step, result_at, Heard, IsLawful}
 use Rattle.coll_sched.proofs.Rounds.{GivenFits}
 use Rattle.coll_sched.proofs.Builders.{input_held}
 use Rattle.coll_trees.specs.Columns.{rounds_of}

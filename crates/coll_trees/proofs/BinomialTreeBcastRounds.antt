@@ -3,10 +3,7 @@ use Rattle.std.proofs.Common.{◌≡◌, ℕ, zero, suc, ◌+◌, ◌-◌, ◌^�
 use Rattle.std.proofs.lemmas.Bool.{cases_eq, cases_lt, cond-true, cond-false}
 use Rattle.std.specs.List.{AllByRecursion}
 use Rattle.coll_sched.specs.declared.action.Action.TheVariants.{Send, Recv}
-use Rattle.coll_sched.specs.Regions.{read_of, front}
-use Rattle.coll_sched.specs.Actions.{IsAmong, AllApart, writes}
-use Rattle.coll_sched.specs.Schedules.{IsRound}
-use Rattle.coll_sched.specs.Families.{Family, actions_at, in_link, out_link, len_of, lock_step, Receives, Heard, IsLawful, is_send, is_recv}
+use Rattle.coll_sched.specs.Common.{read_of, front, IsAmong, AllApart, writes, IsRound, Family, actions_at, in_link, out_link, len_of, lock_step, Receives, Heard, IsLawful, is_send, is_recv}
 use Rattle.coll_sched.proofs.Rounds.{GivenFits}
 use Rattle.coll_sched.proofs.Builders.{Has, round_held, round_kept, message_is}
 use Rattle.coll_trees.specs.declared.binomial_tree_bcast_step.BcastStep.{BcastStep}

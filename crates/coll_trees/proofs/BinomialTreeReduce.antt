@@ -6,9 +6,7 @@ use Rattle.coll_kinds.specs.declared.signature.Signature.{Signature}
 use Rattle.coll_kinds.specs.declared.kind.Kind.TheVariants.{Reduce}
 use Rattle.coll_kinds.specs.declared.operation.Op.{Op}
 use Rattle.coll_kinds.specs.declared.operation.Op.TheVariants.{Sum}
-use Rattle.coll_kinds.specs.Lengths.{block_len, row_len, given_by, given_len, got_by, got_len}
-use Rattle.coll_kinds.specs.Needs.{needs_of, needs}
-use Rattle.coll_kinds.specs.Checks.{allowed, has_root, has_operation, broken}
+use Rattle.coll_kinds.specs.Common.{block_len, row_len, given_by, given_len, got_by, got_len, needs_of, needs, allowed, has_root, has_operation, broken, AreBytes}
 use Rattle.coll_ops.specs.Combinations.{combination}
 use Rattle.coll_ops.specs.Values.{row_of, value_by, value}
 use Rattle.coll_ops.specs.Contributions.{AreGiven}
@@ -16,11 +14,7 @@ use Rattle.coll_ops.specs.Laws.{IsRow}
 use Rattle.coll_sched.specs.declared.region.Region.{Region}
 use Rattle.coll_sched.specs.declared.action.Action.{Action}
 use Rattle.coll_sched.specs.declared.action.Action.TheVariants.{Send, Recv}
-use Rattle.coll_sched.specs.Actions.{AllApart, writes}
-use Rattle.coll_sched.specs.Schedules.{Parts, has_peer}
-use Rattle.coll_sched.specs.Regions.{Inside, read_of, front, nothing}
-use Rattle.coll_kinds.specs.Elements.{AreBytes}
-use Rattle.coll_sched.specs.Families.{actions_at, lock_step, result_at, Receives, Heard, IsLawful, family_exchanges}
+use Rattle.coll_sched.specs.Common.{AllApart, writes, Parts, has_peer, Inside, read_of, front, nothing, actions_at, lock_step, result_at, Receives, Heard, IsLawful, family_exchanges}
 use Rattle.coll_sched.proofs.Rounds.{GivenFits}
 use Rattle.coll_sched.proofs.Track.{heard_self}
 use Rattle.coll_sched.proofs.Builders.{Has, round_held, round_kept, message_is, input_held}

@@ -7,8 +7,7 @@ use Rattle.coll_kinds.specs.Checks.{allowed}
 use Rattle.coll_ops.specs.Combinations.{combination}
 use Rattle.coll_ops.specs.Values.{row_of}
 use Rattle.coll_ops.specs.Laws.{IsRow}
-use Rattle.coll_sched.specs.Regions.{read_of, front}
-use Rattle.coll_sched.specs.Families.{Family, actions_at, lock_step, Heard, IsLawful}
+use Rattle.coll_sched.specs.Common.{read_of, front, Family, actions_at, lock_step, Heard, IsLawful}
 use Rattle.coll_sched.proofs.Rounds.{GivenFits}
 use Rattle.coll_trees.specs.Columns.{Column}
 use Rattle.coll_trees.specs.Depths.{depth}

@@ -4,10 +4,7 @@ use Rattle.std.proofs.lemmas.Bool.{cases_eq, cond-true, cond-false}
 use Rattle.std.specs.List.{AllByRecursion}
 use Rattle.coll_sched.specs.declared.action.Action.{Action}
 use Rattle.coll_sched.specs.declared.action.Action.TheVariants.{Send, Recv}
-use Rattle.coll_sched.specs.Actions.{IsAmong}
-use Rattle.coll_sched.specs.Schedules.{IsRound}
-use Rattle.coll_sched.specs.Families.{in_link, out_link, len_of, is_send, is_recv}
-use Rattle.coll_sched.specs.Regions.{front}
+use Rattle.coll_sched.specs.Common.{IsAmong, IsRound, in_link, out_link, len_of, is_send, is_recv, front}
 use Rattle.coll_trees.specs.BinomialTreeReduce.{last_hop}
 use Rattle.coll_trees.proofs.Columns.{IsColumn}
 

@@ -7,15 +7,11 @@ use Rattle.std.proofs.Math.Nat.{add-mod_right, mod-add-mod, mul-mod_left, mod-le
 use Rattle.std.specs.List.{AllByRecursion, list_any}
 use Rattle.coll_kinds.specs.declared.operation.Op.{Op}
 use Rattle.coll_kinds.specs.declared.datatype.Datatype.{Datatype}
-use Rattle.coll_kinds.specs.Elements.{width}
-use Rattle.coll_kinds.specs.Checks.{allowed}
+use Rattle.coll_kinds.specs.Common.{width, allowed}
 use Rattle.coll_ops.specs.Combinations.{combined}
 use Rattle.coll_ops.specs.Laws.{IsRow}
 use Rattle.coll_sched.specs.declared.action.Action.TheVariants.{Send, Combine, Recv}
-use Rattle.coll_sched.specs.Regions.{read_of, front, behind}
-use Rattle.coll_sched.specs.Actions.{IsAmong, AllApart, writes}
-use Rattle.coll_sched.specs.Schedules.{IsRound, has_peer}
-use Rattle.coll_sched.specs.Families.{Family, actions_at, in_link, out_link, len_of, lock_step, Receives, Heard, IsLawful, is_send, is_recv}
+use Rattle.coll_sched.specs.Common.{read_of, front, behind, IsAmong, AllApart, writes, IsRound, has_peer, Family, actions_at, in_link, out_link, len_of, lock_step, Receives, Heard, IsLawful, is_send, is_recv}
 use Rattle.coll_sched.proofs.Rounds.{GivenFits}
 use Rattle.coll_sched.proofs.Builders.{Has, round_held, round_kept, message_is}
 use Rattle.coll_trees.specs.declared.binomial_tree_reduce_step.ReduceStep.{ReduceStep}

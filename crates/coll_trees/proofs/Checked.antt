@@ -9,9 +9,8 @@ use Rattle.coll_kinds.specs.declared.operation.Op.TheVariants.{Sum}
 use Rattle.coll_kinds.specs.declared.datatype.Datatype.{Datatype}
 use Rattle.coll_kinds.specs.declared.refusal.SignatureFault.{SignatureFault}
 use Rattle.coll_kinds.specs.declared.refusal.SignatureFault.TheVariants.{Root, Operation, Count, Size}
-use Rattle.coll_kinds.specs.Elements.{width, AreBytes}
-use Rattle.coll_kinds.specs.Lengths.{block_len}
-use Rattle.coll_kinds.specs.Checks.{allowed, reduces, has_root, has_operation, root_fits, operation_fits, count_fits, sizes_fit, broken}
+use Rattle.coll_kinds.specs.Common.{width, AreBytes, block_len, allowed, has_root, has_operation, root_fits, sizes_fit, broken}
+use Rattle.coll_kinds.specs.Checks.{reduces, operation_fits, count_fits}
 use Rattle.coll_ops.specs.Laws.{IsRow}
 
 passes : (b : Bool) (x : Option SignatureFault) (y : SignatureFault) → cond b x (Some y) ≡ None → (b ≡ true) × (x ≡ None)

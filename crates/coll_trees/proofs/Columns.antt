@@ -2,10 +2,7 @@
 use Rattle.std.proofs.Common.{◌≡◌, ℕ, zero, suc, ◌+◌, ◌<◌, ◌≤◌, ◌||◌, Bool, true, false, cond, List, [], ◌∷◌, ◌++◌, length, slice_get, unwrap_or, refl, sym, ap, subst, ◌∙◌, arith, count_by}
 use Rattle.std.specs.List.{AllByRecursion, list_any}
 use Rattle.coll_sched.specs.declared.region.Region.{Region}
-use Rattle.coll_sched.specs.Regions.{Inside}
-use Rattle.coll_sched.specs.Actions.{IsAmong}
-use Rattle.coll_sched.specs.Schedules.{IsRound, has_peer}
-use Rattle.coll_sched.specs.Families.{Family, actions_at, in_link, out_link, len_of, IsLawful, members, is_exchange, family_exchanges, is_send, is_recv, IsNarrow}
+use Rattle.coll_sched.specs.Common.{Inside, IsAmong, IsRound, has_peer, Family, actions_at, in_link, out_link, len_of, IsLawful, members, is_exchange, family_exchanges, is_send, is_recv, IsNarrow}
 use Rattle.coll_sched.proofs.Each.{all_map}
 use Rattle.coll_sched.proofs.Orders.{count_cons}
 use Rattle.coll_trees.specs.Columns.{Column, rounds_of, family_of}

@@ -3,11 +3,9 @@ use Rattle.std.specs.Prelude.{ℕ, ◌+◌, ◌≤◌, ◌==◌, cond, ◌++◌,
 use Rattle.coll_kinds.specs.declared.operation.Op.TheVariants.{Sum}
 use Rattle.coll_kinds.specs.declared.signature.Signature.{Signature}
 use Rattle.coll_kinds.specs.Lengths.{block_len}
-use Rattle.coll_sched.specs.Families.{Family, IsNarrow, family_exchanges}
-use Rattle.coll_sched.specs.Served.{Serves}
+use Rattle.coll_sched.specs.Common.{Family, IsNarrow, family_exchanges, Serves, front, nothing}
 use Rattle.coll_trees.specs.Columns.{family_of}
 use Rattle.coll_trees.specs.Depths.{depth}
-use Rattle.coll_sched.specs.Regions.{front, nothing}
 use Rattle.coll_trees.specs.BinomialTreeBcast.{bcast_tree_rounds}
 use Rattle.coll_trees.specs.BinomialTreeReduce.{reduce_tree_rounds, last_hop}
 

@@ -5,11 +5,9 @@ use Rattle.std.proofs.lemmas.Option.{none-some, same_Some}
 use Rattle.std.specs.Prelude.{slice_get}
 use Rattle.coll_kinds.specs.declared.signature.Signature.{Signature}
 use Rattle.coll_kinds.specs.declared.ticket.Ticket.{Ticket}
-use Rattle.coll_kinds.specs.Groups.{member_of, is_among}
-use Rattle.coll_kinds.specs.Puts.{put}
+use Rattle.coll_kinds.specs.Common.{member_of, is_among, put}
 use Rattle.coll_kinds.proofs.Puts.{put_other, put_at, put_cases}
-use Rattle.coll_machine.specs.Settings.{Setting, group}
-use Rattle.coll_machine.specs.States.{Request, State, signature_of}
+use Rattle.coll_machine.specs.Common.{Setting, group, Request, State, signature_of}
 use Rattle.coll_verdict.specs.Standings.{Holding, one_more}
 use Rattle.coll_verdict.specs.Sketches.{Sketch, making, naming, resting}
 use Rattle.coll_verdict.proofs.Sketched.{SameAt, same_made, same_named, lt_le}

@@ -5,13 +5,9 @@ use Rattle.std.proofs.lemmas.Option.{none-some, same_Some}
 use Rattle.std.specs.Prelude.{slice_get}
 use Rattle.coll_kinds.specs.declared.signature.Signature.{Signature}
 use Rattle.coll_kinds.specs.declared.ticket.Ticket.{Ticket}
-use Rattle.coll_kinds.specs.Groups.{member_of, is_among}
-use Rattle.coll_kinds.specs.Needs.{needs}
-use Rattle.coll_kinds.specs.Puts.{put}
+use Rattle.coll_kinds.specs.Common.{member_of, is_among, needs, put}
 use Rattle.coll_kinds.proofs.Puts.{put_at, put_other, put_cases}
-use Rattle.coll_machine.specs.Settings.{Setting, group, size}
-use Rattle.coll_machine.specs.States.{Request, Machine, key_of}
-use Rattle.coll_machine.specs.Steps.{IsReady}
+use Rattle.coll_machine.specs.Common.{Setting, group, size, Request, Machine, key_of, IsReady}
 use Rattle.coll_machine.proofs.Held.{runs_are_posted, done_is_held}
 use Rattle.coll_history.specs.declared.command.Command.{Command}
 use Rattle.coll_history.specs.declared.command.Command.TheVariants.{Wait, WaitAny, WaitSome, WaitAll}

@@ -9,12 +9,8 @@ use Rattle.coll_kinds.specs.declared.signature.Signature.{Signature}
 use Rattle.coll_kinds.specs.declared.ticket.Ticket.{Ticket}
 use Rattle.coll_kinds.specs.Puts.{put}
 use Rattle.coll_kinds.proofs.Puts.{put_same, put_other, put_cases}
-use Rattle.coll_machine.specs.Settings.{Setting}
+use Rattle.coll_machine.specs.Common.{Setting, Request, State, found, key_of, put_key, put_in, new_request, created, once_more, started, rested, rested_by, holding, forgotten, Planned, Posts, Inits, Frees, Retires, Clears}
 use Rattle.coll_machine.specs.declared.key.Key.{Key}
-use Rattle.coll_machine.specs.States.{Request, State, found, key_of}
-use Rattle.coll_machine.specs.Changes.{put_key, put_in, new_request, created, once_more, started, rested, rested_by, holding, forgotten}
-use Rattle.coll_machine.specs.Calls.{Planned}
-use Rattle.coll_machine.specs.Steps.{Posts, Inits, Frees, Retires, Clears}
 use Rattle.coll_machine.proofs.Posted.{still_there}
 use Rattle.coll_machine.proofs.Pushed.{get_pushed, length_pushed}
 use Rattle.coll_machine.proofs.Puts.{put2_same, put2_cases, put_key_cases}

@@ -5,8 +5,7 @@ use Rattle.std.proofs.lemmas.Option.{none-some, slice_get_within, slice_get-map}
 use Rattle.std.specs.Prelude.{slice_get, slice_index, unwrap_or}
 use Rattle.std.specs.List.{list_any, list_all, range_with_len}
 use Rattle.coll_kinds.specs.declared.signature.Signature.{Signature}
-use Rattle.coll_kinds.specs.Groups.{member_of}
-use Rattle.coll_kinds.specs.Needs.{needs, needs_of}
+use Rattle.coll_kinds.specs.Common.{member_of, needs, needs_of}
 use Rattle.coll_machine.specs.Settings.{Setting, group, group_in}
 use Rattle.coll_machine.proofs.Members.{member_at}
 use Rattle.coll_history.specs.declared.command.Command.{Command}

@@ -6,17 +6,11 @@ use Rattle.coll_kinds.specs.declared.kind.Mode.{Mode}
 use Rattle.coll_kinds.specs.declared.kind.Mode.TheVariants.{Once, Persistent}
 use Rattle.coll_kinds.specs.declared.signature.Signature.{Signature}
 use Rattle.coll_kinds.specs.declared.ticket.Ticket.{Ticket}
-use Rattle.coll_kinds.specs.Groups.{member_of}
-use Rattle.coll_kinds.specs.Puts.{put}
+use Rattle.coll_kinds.specs.Common.{member_of, put}
 use Rattle.coll_kinds.proofs.Puts.{put_other, put_at, put_cases}
-use Rattle.coll_machine.specs.Settings.{Setting, group, size}
+use Rattle.coll_machine.specs.Common.{Setting, group, size, Request, State, Machine, key_of, put_key, put_in, new_request, once_more, started, rested, rested_by, holding, forgotten, Planned, IsOver, Clears, Retires, MachineStep}
 use Rattle.coll_machine.specs.declared.key.Key.{Key}
-use Rattle.coll_machine.specs.States.{Request, State, Machine, key_of}
-use Rattle.coll_machine.specs.Changes.{put_key, put_in, new_request, once_more, started, rested, rested_by, holding, forgotten}
 use Rattle.coll_machine.specs.Calls as calls
-use Rattle.coll_machine.specs.Calls.{Planned}
-use Rattle.coll_machine.specs.Steps.{IsOver, Clears, Retires}
-use Rattle.coll_machine.specs.Machines.{MachineStep}
 use Rattle.coll_machine.proofs.Accepted.{found_is}
 use Rattle.coll_machine.proofs.Held.{runs_are_posted}
 use Rattle.coll_machine.proofs.Members.{member_at}

@@ -4,18 +4,12 @@ use Rattle.std.proofs.lemmas.Bool.{cases_eq, false≢true}
 use Rattle.std.proofs.lemmas.Option.{none-some, same_Some}
 use Rattle.std.specs.Prelude.{slice_get}
 use Rattle.coll_kinds.specs.declared.signature.Signature.{Signature}
-use Rattle.coll_kinds.specs.Groups.{member_of}
-use Rattle.coll_kinds.specs.Needs.{needs}
-use Rattle.coll_kinds.specs.Puts.{put}
+use Rattle.coll_kinds.specs.Common.{member_of, needs, put}
 use Rattle.coll_kinds.proofs.Puts.{put_other}
-use Rattle.coll_machine.specs.Settings.{Setting, group, group_in, size}
-use Rattle.coll_machine.specs.States.{Request, Machine, nothing, key_of, signature_of}
-use Rattle.coll_machine.specs.Changes.{once_more}
+use Rattle.coll_machine.specs.Common.{Setting, group, group_in, size, Request, Machine, nothing, key_of, signature_of, once_more, IsReady, MachineStep, barrier}
 use Rattle.coll_machine.specs.Calls as calls
-use Rattle.coll_machine.specs.Steps.{IsReady, Finishes}
+use Rattle.coll_machine.specs.Steps.{Finishes}
 use Rattle.coll_machine.specs.Machines as machine
-use Rattle.coll_machine.specs.Machines.{MachineStep}
-use Rattle.coll_machine.specs.Rows.{barrier}
 use Rattle.coll_history.specs.declared.command.Command.{Command}
 use Rattle.coll_history.specs.declared.command.Command.TheVariants.{Post, Wait, WaitAll}
 use Rattle.coll_verdict.specs.Standings.{Standing, Holding, Steps, Carries, NonePending, carries, finishes, is_pending}

@@ -7,19 +7,12 @@ use Rattle.std.specs.List.{list_any, range_with_len}
 use Rattle.coll_kinds.specs.declared.signature.Signature.{Signature}
 use Rattle.coll_kinds.specs.declared.ticket.Ticket.{Ticket}
 use Rattle.coll_kinds.specs.declared.refusal.Refusal.TheVariants.{NotMember, NotYours, Full}
-use Rattle.coll_kinds.specs.Groups.{member_of, is_among}
-use Rattle.coll_kinds.specs.Needs.{needs, needs_of}
-use Rattle.coll_kinds.specs.Puts.{put}
+use Rattle.coll_kinds.specs.Common.{member_of, is_among, needs, needs_of, put}
 use Rattle.coll_kinds.proofs.Puts.{put_same}
-use Rattle.coll_machine.specs.Settings.{Setting, group, size}
-use Rattle.coll_machine.specs.States.{Request, State, Machine, found, key_of}
-use Rattle.coll_machine.specs.Changes.{rested, holding, forgotten}
+use Rattle.coll_machine.specs.Common.{Setting, group, size, Request, State, Machine, found, key_of, rested, holding, forgotten, Planned, unless, first_of, naming_refusals, refusals, refusal, IsNew, Clears, MachineStep, phased}
 use Rattle.coll_machine.specs.Calls as calls
-use Rattle.coll_machine.specs.Calls.{Planned}
-use Rattle.coll_machine.specs.Refusals.{unless, first_of, naming_refusals, full, refusals, refusal}
-use Rattle.coll_machine.specs.Steps.{IsNew, Clears}
+use Rattle.coll_machine.specs.Refusals.{full}
 use Rattle.coll_machine.specs.Machines as machine
-use Rattle.coll_machine.specs.Machines.{MachineStep, phased}
 use Rattle.coll_machine.specs.Laws.{IsHeld}
 use Rattle.coll_machine.proofs.Accepted.{all_none, fits}
 use Rattle.coll_machine.proofs.Held.{done_is_held, runs_are_posted}

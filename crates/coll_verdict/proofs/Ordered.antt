@@ -4,8 +4,7 @@ use Rattle.std.proofs.lemmas.Bool.{cases_eq, and_parts, not-true, false≢true, 
 use Rattle.std.proofs.lemmas.Option.{same_Some, slice_get_within}
 use Rattle.std.specs.Prelude.{slice_get, slice_index, IfSome, unwrap_or}
 use Rattle.std.specs.List.{list_any, list_all, range_with_len}
-use Rattle.coll_kinds.specs.Groups.{member_of, is_among}
-use Rattle.coll_kinds.specs.Puts.{put}
+use Rattle.coll_kinds.specs.Common.{member_of, is_among, put}
 use Rattle.coll_kinds.proofs.Puts.{put_cases}
 use Rattle.coll_machine.specs.Settings.{Setting, group}
 use Rattle.coll_machine.proofs.Members.{member_at}

@@ -5,11 +5,9 @@ use Rattle.std.proofs.lemmas.Option.{none-some, slice_get_within}
 use Rattle.std.specs.Prelude.{slice_get}
 use Rattle.coll_kinds.specs.declared.signature.Signature.{Signature}
 use Rattle.coll_kinds.specs.declared.ticket.Ticket.{Ticket}
-use Rattle.coll_kinds.specs.Groups.{member_of, is_among}
-use Rattle.coll_kinds.specs.Puts.{put}
+use Rattle.coll_kinds.specs.Common.{member_of, is_among, put}
 use Rattle.coll_kinds.proofs.Puts.{put_cases}
-use Rattle.coll_machine.specs.Settings.{Setting, group, size}
-use Rattle.coll_machine.specs.States.{Request, State, Machine, key_of}
+use Rattle.coll_machine.specs.Common.{Setting, group, size, Request, State, Machine, key_of}
 use Rattle.coll_history.specs.declared.command.Command.{Command}
 use Rattle.coll_history.specs.declared.command.Command.TheVariants.{Post, Init}
 use Rattle.coll_verdict.specs.Standings.{Holding, Standing, beginning, carried_out, active_in, is_active, is_done, is_pending, NoneDone, Completes, Carries, Steps, Reaches, begins, goes_on, carries, finishes, AtEnd, Each}

@@ -5,18 +5,11 @@ use Rattle.std.proofs.lemmas.Option.{none-some, same_Some}
 use Rattle.std.specs.Prelude.{slice_get}
 use Rattle.coll_kinds.specs.declared.kind.Mode.TheVariants.{Once}
 use Rattle.coll_kinds.specs.declared.ticket.Ticket.{Ticket}
-use Rattle.coll_kinds.specs.Groups.{member_of, is_among}
-use Rattle.coll_kinds.specs.Needs.{needs}
-use Rattle.coll_kinds.specs.Puts.{put}
+use Rattle.coll_kinds.specs.Common.{member_of, is_among, needs, put}
 use Rattle.coll_kinds.proofs.Puts.{put_other}
-use Rattle.coll_machine.specs.Settings.{Setting, group, group_in, size}
-use Rattle.coll_machine.specs.States.{Request, Machine, nothing, key_of}
-use Rattle.coll_machine.specs.Changes.{new_request, created, started, once_more, holding}
+use Rattle.coll_machine.specs.Common.{Setting, group, group_in, size, Request, Machine, nothing, key_of, new_request, created, started, once_more, holding, Works, MachineStep, phased, barrier}
 use Rattle.coll_machine.specs.Calls as calls
-use Rattle.coll_machine.specs.Steps.{Works}
 use Rattle.coll_machine.specs.Machines as machine
-use Rattle.coll_machine.specs.Machines.{MachineStep, phased}
-use Rattle.coll_machine.specs.Rows.{barrier}
 use Rattle.coll_machine.proofs.Members.{member_at}
 use Rattle.coll_history.specs.declared.command.Command.{Command}
 use Rattle.coll_history.specs.declared.command.Command.TheVariants.{Post, Init, Wait, WaitAll}

@@ -5,15 +5,10 @@ use Rattle.std.proofs.lemmas.Bool.{cases_eq, false≢true}
 use Rattle.std.proofs.lemmas.Option.{none-some, same_Some}
 use Rattle.coll_kinds.specs.declared.signature.Signature.{Signature}
 use Rattle.coll_kinds.specs.declared.ticket.Ticket.{Ticket}
-use Rattle.coll_kinds.specs.Groups.{is_among}
-use Rattle.coll_kinds.specs.Puts.{put}
+use Rattle.coll_kinds.specs.Common.{is_among, put}
 use Rattle.coll_kinds.proofs.Puts.{put_same, put_other, put_at}
-use Rattle.coll_machine.specs.Settings.{Setting}
-use Rattle.coll_machine.specs.States.{Request, State, Machine, found}
-use Rattle.coll_machine.specs.Changes.{once_more, started, rested}
+use Rattle.coll_machine.specs.Common.{Setting, Request, State, Machine, found, once_more, started, rested, Starts, Retires, MachineStep}
 use Rattle.coll_machine.specs.Calls as calls
-use Rattle.coll_machine.specs.Steps.{Starts, Retires}
-use Rattle.coll_machine.specs.Machines.{MachineStep}
 use Rattle.coll_machine.proofs.Accepted.{found_is, freed_mine}
 use Rattle.coll_history.specs.declared.command.Command.{Command}
 use Rattle.coll_verdict.specs.Standings.{Holding, holding_at, one_more, kept, active_in, is_active, Completes, Carries}

@@ -3,8 +3,7 @@ use Rattle.std.proofs.Common.{◌≡◌, ℕ, suc, ◌+◌, ◌<◌, ◌≤◌, 
 use Rattle.std.proofs.lemmas.Option.{slice_get_within}
 use Rattle.std.specs.Prelude.{slice_get, IfSome}
 use Rattle.coll_kinds.specs.declared.signature.Signature.{Signature}
-use Rattle.coll_kinds.specs.Groups.{is_among}
-use Rattle.coll_kinds.specs.Puts.{put}
+use Rattle.coll_kinds.specs.Common.{is_among, put}
 use Rattle.coll_kinds.proofs.Puts.{put_at, put_other, put_cases}
 use Rattle.coll_machine.proofs.Pushed.{get_either, length_pushed}
 use Rattle.coll_verdict.specs.declared.known.KnownRequest.{KnownRequest}

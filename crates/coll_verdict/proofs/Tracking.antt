@@ -8,19 +8,13 @@ use Rattle.coll_kinds.specs.declared.kind.Mode.{Mode}
 use Rattle.coll_kinds.specs.declared.kind.Mode.TheVariants.{Once, Persistent}
 use Rattle.coll_kinds.specs.declared.signature.Signature.{Signature}
 use Rattle.coll_kinds.specs.declared.ticket.Ticket.{Ticket}
-use Rattle.coll_kinds.specs.Groups.{member_of, is_among}
-use Rattle.coll_kinds.specs.Puts.{put}
+use Rattle.coll_kinds.specs.Common.{member_of, is_among, put}
 use Rattle.coll_kinds.proofs.Puts.{put_same, put_other, put_cases}
-use Rattle.coll_machine.specs.Settings.{Setting, group, rank_of}
+use Rattle.coll_machine.specs.Common.{Setting, group, rank_of, Request, State, Machine, found, key_of, new_request, once_more, started, rested, rested_by, Planned, Call, Reply, Posts, Inits, Starts, Frees, Retires, MachineStep, Event, Runs, opened}
 use Rattle.coll_machine.specs.declared.key.Key.{Key}
-use Rattle.coll_machine.specs.States.{Request, State, Machine, found, key_of}
-use Rattle.coll_machine.specs.Changes.{new_request, once_more, started, rested, rested_by}
 use Rattle.coll_machine.specs.Calls as calls
-use Rattle.coll_machine.specs.Calls.{Planned, Call, Reply}
-use Rattle.coll_machine.specs.Steps.{Posts, Inits, Starts, Frees, Retires}
-use Rattle.coll_machine.specs.Machines.{MachineStep}
 use Rattle.coll_machine.specs.Machines as steps
-use Rattle.coll_machine.specs.Runs.{Event, Runs, opened, Run}
+use Rattle.coll_machine.specs.Runs.{Run}
 use Rattle.coll_machine.proofs.Accepted.{found_is, freed_mine}
 use Rattle.coll_machine.proofs.Held.{runs_are_posted}
 use Rattle.coll_machine.proofs.Members.{member_at}

@@ -2,8 +2,7 @@
 use Rattle.std.specs.Prelude.{ℕ, ◌-◌, ◌==◌, nat_lt, nat_le, Bool, true, false, not, ◌&&◌, ◌||◌, if◌then◌else◌, List, length, count_by, Option, Some, None, Vec, slice_get}
 use Rattle.std.specs.List.{list_any, list_all, range_with_len}
 use Rattle.std.specs.Global.{Global}
-use Rattle.coll_kinds.specs.Groups.{member_of}
-use Rattle.coll_kinds.specs.Needs.{needs}
+use Rattle.coll_kinds.specs.Common.{member_of, needs}
 use Rattle.coll_history.specs.declared.command.Command.{Command}
 use Rattle.coll_history.specs.declared.issued_command.IssuedCommand.{IssuedCommand}
 use Rattle.coll_history.specs.declared.command.Command.TheVariants.{Post, Init, Start, Wait, Test, Free, WaitAny, WaitSome, WaitAll}

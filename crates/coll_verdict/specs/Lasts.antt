@@ -1,11 +1,8 @@
 -- Where a run can't go on: no rank can carry its next command out, and no request may become Done.
 use Rattle.std.specs.Prelude.{◌≡◌, ℕ, List, slice_get, Some, None}
 use Rattle.coll_kinds.specs.declared.ticket.Ticket.{Ticket}
-use Rattle.coll_machine.specs.Settings.{Setting}
-use Rattle.coll_machine.specs.States.{State}
+use Rattle.coll_machine.specs.Common.{Setting, State, Planned, refusal}
 use Rattle.coll_machine.specs.Calls as calls
-use Rattle.coll_machine.specs.Calls.{Planned}
-use Rattle.coll_machine.specs.Refusals.{refusal}
 use Rattle.coll_history.specs.declared.command.Command.{Command}
 use Rattle.coll_history.specs.declared.command.Command.TheVariants.{Post, Init, Start, Wait, Test, Free, WaitAny, WaitSome, WaitAll}
 use Rattle.coll_history.specs.Histories.{History}

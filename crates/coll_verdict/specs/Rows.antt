@@ -6,11 +6,7 @@ use Rattle.coll_kinds.specs.declared.kind.Mode.TheVariants.{Once}
 use Rattle.coll_kinds.specs.declared.operation.Op.TheVariants.{Sum}
 use Rattle.coll_kinds.specs.declared.signature.Signature.{Signature}
 use Rattle.coll_kinds.specs.Puts.{put}
-use Rattle.coll_machine.specs.Settings.{Setting}
-use Rattle.coll_machine.specs.States.{Request, Machine, nothing, key_of}
-use Rattle.coll_machine.specs.Changes.{new_request, created, started, holding, forgotten}
-use Rattle.coll_machine.specs.Machines.{phased}
-use Rattle.coll_machine.specs.Rows.{barrier}
+use Rattle.coll_machine.specs.Common.{Setting, Request, Machine, nothing, key_of, new_request, created, started, holding, forgotten, phased, barrier}
 use Rattle.coll_history.specs.declared.command.Command.TheVariants.{Post, Init, Wait, WaitAll}
 use Rattle.coll_history.specs.Histories.{History}
 use Rattle.coll_verdict.specs.Standings.{Standing, Reaches}

@@ -2,11 +2,8 @@
 use Rattle.std.specs.Prelude.{◌≡◌, ◌≢◌, ℕ, zero, suc, ◌+◌, ◌<◌, ◌==◌, nat_lt, Bool, true, false, ◌||◌, List, [], length, slice_get, Option, Some, None, unwrap_or, if◌then◌else◌}
 use Rattle.std.specs.List.{list_all, range_with_len}
 use Rattle.coll_kinds.specs.declared.signature.Signature.{Signature}
-use Rattle.coll_kinds.specs.Checks.{is_barrier, has_counts}
-use Rattle.coll_kinds.specs.Groups.{member_of, is_among}
-use Rattle.coll_kinds.specs.Lengths.{count_at}
-use Rattle.coll_machine.specs.Settings.{Setting, group, group_in, size}
-use Rattle.coll_machine.specs.States.{Request, Machine, key_of}
+use Rattle.coll_kinds.specs.Common.{is_barrier, has_counts, member_of, is_among, count_at}
+use Rattle.coll_machine.specs.Common.{Setting, group, group_in, size, Request, Machine, key_of}
 use Rattle.coll_history.specs.declared.command.Command.{Command}
 use Rattle.coll_history.specs.declared.command.Command.TheVariants.{Post, Init, Start, Wait, Test, Free, WaitAny, WaitSome, WaitAll}
 use Rattle.coll_history.specs.declared.issued_command.IssuedCommand.{IssuedCommand}

@@ -3,14 +3,9 @@
 use Rattle.std.specs.Prelude.{◌≡◌, ◌⊎◌, ℕ, suc, Bool, true, false, ◌&&◌, not, List, [], ◌∷◌, length, slice_get, Option, Some, None, option_map}
 use Rattle.coll_kinds.specs.declared.signature.Signature.{Signature}
 use Rattle.coll_kinds.specs.declared.ticket.Ticket.{Ticket}
-use Rattle.coll_kinds.specs.Groups.{is_among}
-use Rattle.coll_kinds.specs.Puts.{put}
-use Rattle.coll_machine.specs.Settings.{Setting}
-use Rattle.coll_machine.specs.States.{Machine, Request, State, found}
+use Rattle.coll_kinds.specs.Common.{is_among, put}
+use Rattle.coll_machine.specs.Common.{Setting, Machine, Request, State, found, Planned, MachineStep, opened}
 use Rattle.coll_machine.specs.Calls as calls
-use Rattle.coll_machine.specs.Calls.{Planned}
-use Rattle.coll_machine.specs.Machines.{MachineStep}
-use Rattle.coll_machine.specs.Runs.{opened}
 use Rattle.coll_history.specs.declared.command.Command.{Command}
 use Rattle.coll_history.specs.declared.command.Command.TheVariants.{Post, Init, Start, Wait, Test, Free, WaitAny, WaitSome, WaitAll}
 

@@ -2,8 +2,7 @@
 -- its next one waits for what doesn't come while no rank goes beyond its stand.
 use Rattle.std.specs.Prelude.{◌≡◌, ◌⊎◌, ℕ, ◌<◌, true, List, length, slice_get, Some}
 use Rattle.coll_kinds.specs.declared.signature.Signature.{Signature}
-use Rattle.coll_kinds.specs.Groups.{member_of, is_among}
-use Rattle.coll_kinds.specs.Needs.{needs}
+use Rattle.coll_kinds.specs.Common.{member_of, is_among, needs}
 use Rattle.coll_machine.specs.Settings.{Setting, group, size}
 use Rattle.coll_history.specs.declared.command.Command.{Command}
 use Rattle.coll_history.specs.declared.command.Command.TheVariants.{Wait, WaitAny, WaitSome, WaitAll}

@@ -7,10 +7,7 @@ use Rattle.coll_kinds.specs.declared.kind.Kind.TheVariants.{Barrier}
 use Rattle.coll_kinds.specs.declared.kind.Kind.{Kind}
 use Rattle.coll_kinds.specs.declared.operation.Op.{Op}
 use Rattle.coll_kinds.specs.declared.signature.Signature.{Signature}
-use Rattle.coll_kinds.specs.Checks.{has_root}
-use Rattle.coll_kinds.specs.Elements.{Element, is_pair}
-use Rattle.coll_kinds.specs.Texts.{text_of}
-use Rattle.coll_kinds.specs.Words.{datatype_word, kind_word, operation_word}
+use Rattle.coll_kinds.specs.Common.{has_root, Element, is_pair, text_of, datatype_word, kind_word, operation_word}
 use Rattle.coll_script.specs.Meaning.{elements_text}
 use Rattle.coll_views.specs.declared.elements.Style.{Style}
 use Rattle.coll_views.specs.declared.elements.Style.TheVariants.{Words, Json}

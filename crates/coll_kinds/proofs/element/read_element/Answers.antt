@@ -1,8 +1,7 @@
 use Rattle.std.proofs.Common.{◌≡◌, ◌++◌, ◌-◌, drop, Some, ap, ◌∙◌}
 use Rattle.std.specs.Prelude.{replicate}
 use Rattle.byteorder.specs.Endian.{little_bytes}
-use Rattle.coll_kinds.specs.Elements.{width}
-use Rattle.coll_kinds.specs.Texts.{value_of}
+use Rattle.coll_kinds.specs.Common.{width, value_of}
 use Rattle.coll_kinds.proofs.Pairs.{drop-zeros, padded-bits, padded-none}
 use Rattle.coll_kinds.proofs.element.read_element.Goals as goal
 

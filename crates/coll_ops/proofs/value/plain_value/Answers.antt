@@ -4,8 +4,7 @@ use Rattle.std.specs.List.{flat_map}
 use Rattle.std.proofs.Math.Nat.{mul-le-mul_right, mul_assoc}
 use Rattle.coll_kinds.specs.declared.operation.Op.TheVariants.{Sum}
 use Rattle.coll_kinds.specs.declared.kind.Kind.TheVariants.{Bcast, Gather, Scatter, Allgather, Allgatherv, Reduce, Allreduce, Rsblock, Scan, Exscan}
-use Rattle.coll_kinds.specs.Elements.{width}
-use Rattle.coll_kinds.specs.Lengths.{block_len}
+use Rattle.coll_kinds.specs.Common.{width, block_len}
 use Rattle.coll_ops.specs.Combinations.{combination}
 use Rattle.coll_ops.specs.Contributions.{rows_of}
 use Rattle.coll_ops.specs.Values.{part, row_of, all_rows}

@@ -1,8 +1,7 @@
 use Rattle.std.proofs.Common.{◌≡◌, ◌<◌, ◌%◌, List, ℕ, length, map, ap, sym, subst, ◌∙◌, arith, below_more, rules}
 use Rattle.std.specs.List.{range_with_len}
 use Rattle.std.proofs.Math.Nat.{mul-mod_left}
-use Rattle.coll_kinds.specs.Elements.{width, AreBytes}
-use Rattle.coll_kinds.specs.Lengths.{block_len}
+use Rattle.coll_kinds.specs.Common.{width, AreBytes, block_len}
 use Rattle.coll_ops.specs.Contributions.{rows_of}
 use Rattle.coll_ops.specs.Values.{row_of}
 use Rattle.coll_ops.proofs.RowLists.{row_of-rows_of, length-rows_of}

@@ -2,8 +2,7 @@
 use Rattle.std.proofs.Common.{◌≡◌, ◌+◌, List, [], ◌∷◌, sym, ap, subst, arith, ◌∙◌}
 use Rattle.coll_kinds.specs.Lengths.{row_len, total}
 use Rattle.coll_sched.specs.declared.action.Action.{Action}
-use Rattle.coll_sched.specs.Regions.{front}
-use Rattle.coll_sched.specs.Schedules.{Parts, IsSchedule}
+use Rattle.coll_sched.specs.Common.{front, Parts, IsSchedule}
 use Rattle.coll_plans.specs.DirectFamilies.{allgatherv_family}
 use Rattle.coll_plans.proofs.DirectAllgatherv.{allgatherv_serves, rows_small}
 use Rattle.coll_plans.proofs.DirectRowRegions.{row_within}

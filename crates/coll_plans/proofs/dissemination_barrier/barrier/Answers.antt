@@ -1,7 +1,6 @@
 -- the family serves the signature, so its schedules are accepted
 use Rattle.std.proofs.Common.{arith, sym, subst}
-use Rattle.coll_sched.specs.Schedules.{IsSchedule}
-use Rattle.coll_sched.specs.Regions.{nothing}
+use Rattle.coll_sched.specs.Common.{IsSchedule, nothing}
 use Rattle.coll_plans.proofs.DisseminationBarrier.{barrier_serves}
 use Rattle.coll_plans.proofs.dissemination_barrier.barrier.Goals as goal
 

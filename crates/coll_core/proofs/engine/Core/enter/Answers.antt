@@ -4,11 +4,10 @@ use Rattle.coll_arena.specs.ListNames.{number_of}
 use Rattle.coll_lists.specs.Layouts.{sequence}
 use Rattle.coll_kinds.specs.declared.kind.Mode.TheVariants.{Once}
 use Rattle.coll_kinds.specs.declared.signature.Signature.{Signature}
-use Rattle.coll_kinds.specs.Elements.{AreBytes}
-use Rattle.coll_machine.specs.Calls.{Post, Ticketed}
+use Rattle.coll_kinds.specs.Common.{AreBytes, given_len, max_len}
+use Rattle.coll_machine.specs.Common.{Post, Ticketed, StepsTo}
 use Rattle.coll_queues.specs.Refusing.{judge_refusal}
 use Rattle.coll_tables.proofs.EngineStatements.{MayEnter}
-use Rattle.coll_machine.specs.Machines.{StepsTo}
 use Rattle.coll_core.specs.declared.request.Request.{Request}
 use Rattle.coll_plans.specs.Plans.{family}
 use Rattle.coll_arena.specs.Slots.{Slots}
@@ -19,8 +18,6 @@ use Rattle.coll_core.specs.Cores.{Parts, seen, setting}
 use Rattle.coll_core.specs.Posts.{planned, refused_in, next_instance}
 use Rattle.coll_core.proofs.Posting.{Calls, accepted_from, emptied, given_now, lent_moved, not_given, parts_of, post_begins, post_kept, post_steps}
 use Rattle.coll_match.specs.Instances.{LookUps, joined, look_ups}
-use Rattle.coll_kinds.specs.Lengths.{given_len}
-use Rattle.coll_kinds.specs.Limits.{max_len}
 use Rattle.coll_machine.specs.declared.key.Key.{Key}
 use Rattle.coll_tables.specs.Shown.{Instances}
 use Rattle.coll_tables.proofs.EngineTested.{entry_core}

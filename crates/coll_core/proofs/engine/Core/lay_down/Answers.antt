@@ -5,8 +5,7 @@ use Rattle.coll_arena.specs.ListNames.{number_of}
 use Rattle.coll_lists.specs.Layouts.{sequence}
 use Rattle.coll_kinds.specs.declared.kind.Mode.TheVariants.{Persistent}
 use Rattle.coll_kinds.specs.declared.signature.Signature.{Signature}
-use Rattle.coll_machine.specs.Calls.{Init, Ticketed}
-use Rattle.coll_machine.specs.Machines.{MachineStep}
+use Rattle.coll_machine.specs.Common.{Init, Ticketed, MachineStep}
 use Rattle.coll_queues.specs.Refusing.{judge_refusal}
 use Rattle.coll_tables.proofs.EngineChanges.{Initialises}
 use Rattle.coll_tables.proofs.EngineStatements.{MayEnter}

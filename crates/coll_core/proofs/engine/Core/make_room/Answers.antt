@@ -1,8 +1,7 @@
 use Rattle.std.proofs.Common.{IfOk, Ok, Result, List, ◌≡◌, ◌∙◌, ◌<◌, ℕ, None, length, ap, sym, subst, arith}
 use Rattle.coll_kinds.specs.declared.kind.Mode.TheVariants.{Once}
 use Rattle.coll_kinds.specs.Lengths.{given_len}
-use Rattle.coll_machine.specs.Calls.{Post}
-use Rattle.coll_machine.specs.Settings.{Setting, size}
+use Rattle.coll_machine.specs.Common.{Post, Setting, size}
 use Rattle.coll_match.specs.Instances as instances
 use Rattle.coll_queues.specs.Postings.{Postings, HasRoom, place_of}
 use Rattle.coll_tables.proofs.EngineStatements.{MayEnter}

@@ -1,8 +1,7 @@
 -- one more member
 use Rattle.std.proofs.Common.{ℕ, Bool, ◌||◌, sym, ap, ◌∙◌}
 use Rattle.std.specs.List.{list_any}
-use Rattle.coll_sched.specs.Schedules.{has_peer}
-use Rattle.coll_sched.specs.Families.{actions_at}
+use Rattle.coll_sched.specs.Common.{has_peer, actions_at}
 use Rattle.coll_plans.specs.Plans.{family}
 use Rattle.coll_draw.proofs.Steps.{list_any_members-more}
 use Rattle.coll_draw.proofs.plans.MemberPlans.is_exchange.Goals as goal

@@ -1,7 +1,6 @@
 use Rattle.std.proofs.Common.{◌≡◌}
 use Rattle.std.specs.List.{list_any}
-use Rattle.coll_sched.specs.Families.{actions_at, members}
-use Rattle.coll_sched.specs.Schedules.{has_peer}
+use Rattle.coll_sched.specs.Common.{actions_at, members, has_peer}
 use Rattle.coll_plans.specs.Plans.{family}
 use Rattle.coll_draw.proofs.plans.MemberPlans.is_exchange.Given as goal
 

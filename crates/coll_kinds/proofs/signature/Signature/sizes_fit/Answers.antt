@@ -1,6 +1,5 @@
 use Rattle.std.proofs.Common.{◌≤◌, ◌+◌, ◌*◌, sym, rules}
-use Rattle.coll_kinds.specs.Limits.{max_len}
-use Rattle.coll_kinds.specs.Lengths.{block_len, row_len, total}
+use Rattle.coll_kinds.specs.Common.{max_len, block_len, row_len, total}
 use Rattle.coll_kinds.proofs.Sizes.{sizes_fit-small}
 use Rattle.coll_kinds.proofs.signature.Signature.sizes_fit.Goals as goal
 

@@ -1,5 +1,4 @@
-use Rattle.coll_machine.specs.Calls.{Start}
-use Rattle.coll_machine.specs.Entries.{Started}
+use Rattle.coll_machine.specs.Common.{Start, Started}
 use Rattle.std.proofs.Common.{ℕ, List, ◌-◌, ◌+◌, ◌<◌, ◌≤◌, ◌^◌, length, subst, sym, ap, ◌∙◌, arith}
 use Rattle.coll_core.specs.Cores.{seen, setting}
 use Rattle.coll_traced.specs.Traced.{Denies}
