@@ -4,6 +4,7 @@ use Rattle.std.specs.Fmt.{decimal}
 use Rattle.coll_history.specs.declared.fault.Fault.{Fault}
 use Rattle.coll_faults.specs.declared.faults.Faults.{Faults}
 use Rattle.coll_faults.specs.declared.finding.Finding.{Finding}
+use Rattle.coll_diagnosis.specs.Verdicts.{truth_word}
 use Rattle.coll_check.specs.declared.checking.CheckForm.{CheckForm}
 use Rattle.coll_check.specs.declared.checking.CheckForm.TheVariants.{Text, Json}
 use Rattle.coll_check.specs.Causes.{words_of}
@@ -59,10 +60,6 @@ unjudged false = []
 abbrev pub count_line : List ℕ → ℕ → Bool → List ℕ
 count_line name count cut =
     name ++ (codes ": " ++ (decimal count ++ (codes " " ++ (fault_noun count ++ (unjudged cut ++ codes "\n")))))
-
-abbrev pub truth_word : Bool → List ℕ
-truth_word true = codes "true"
-truth_word false = codes "false"
 
 -- the object of JSON with their number, whether lines weren't judged, and the status
 abbrev pub checked_object : ℕ → Bool → ℕ → List ℕ

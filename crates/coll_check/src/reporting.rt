@@ -2,7 +2,7 @@
 
 ghost use Rattle.std.specs.Prelude.{◌≡◌, ◌++◌, codes, IfOk};
 ghost use Rattle.std.specs.String.{string_bytes};
-ghost use Rattle.coll_check.specs.Reports.{AreReports, IsReport, ReportsAll, checked_object, count_line, end_of_paint, fault_line, fault_noun, faults_in, object_head, paint_of_fault, report_end, report_head, truth_word, unjudged};
+ghost use Rattle.coll_check.specs.Reports.{AreReports, IsReport, ReportsAll, checked_object, count_line, end_of_paint, fault_line, fault_noun, faults_in, object_head, paint_of_fault, report_end, report_head, unjudged};
 
 use crate::cause::words_of;
 use crate::checking::{CheckForm, FAULTY};
@@ -195,14 +195,7 @@ pub(crate) fn checked_object(
 ) -> Result<String, AllocError>
     ensures { IfOk result (λ line. string_bytes line ≡ checked_object count is_cut status) }
 {
-    let cut = truth_word(is_cut);
     format!(in alloc;
-        "{{\"reason\":\"checked\",\"faults\":{count},\"cut\":{cut},\"status\":{status}}}\n"
+        "{{\"reason\":\"checked\",\"faults\":{count},\"cut\":{is_cut},\"status\":{status}}}\n"
     )
-}
-
-fn truth_word(is_true: bool) -> &'static str
-    ensures { result.now ≡ truth_word is_true }
-{
-    if is_true { "true" } else { "false" }
 }

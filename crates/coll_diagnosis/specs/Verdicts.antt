@@ -1,5 +1,5 @@
 -- What a verdict means, its exit status and its words.
-use Rattle.std.specs.Prelude.{◌≡◌, ◌++◌, ℕ, ◌⊎◌, Bool, true, false, List, Ok, codes}
+use Rattle.std.specs.Prelude.{◌≡◌, ◌++◌, ℕ, ◌⊎◌, Bool, true, false, List, Ok, codes, if◌then◌else◌}
 use Rattle.std.specs.Fmt.{decimal}
 use Rattle.std.specs.List.{list_any}
 use Rattle.coll_history.specs.Cutting.{is_line_feed}
@@ -73,9 +73,9 @@ word Perhaps = codes "perhaps"
 word AlwaysHere = codes "always here"
 word Always = codes "always"
 
+-- a truth value in JSON
 abbrev pub truth_word : Bool → List ℕ
-truth_word true = codes "true"
-truth_word false = codes "false"
+truth_word is_true = if is_true then codes "true" else codes "false"
 
 -- the object of JSON with a verdict, whether it is proved, the details, and the exit status
 abbrev pub explained_object : Verdict → List ℕ → ℕ → List ℕ

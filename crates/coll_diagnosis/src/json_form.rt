@@ -4,7 +4,7 @@ ghost use Rattle.std.specs.Prelude.{◌≡◌, IfOk};
 ghost use Rattle.std.specs.List.{list_any};
 ghost use Rattle.std.specs.String.{string_bytes};
 ghost use Rattle.coll_history.specs.Cutting.{is_line_feed};
-ghost use Rattle.coll_diagnosis.specs.Verdicts.{EndsExplained, IsExplained, explained_object, truth_word, word};
+ghost use Rattle.coll_diagnosis.specs.Verdicts.{EndsExplained, IsExplained, explained_object, word};
 
 use crate::explanation::Explanation;
 use crate::pending::Pending;
@@ -75,9 +75,9 @@ fn explained_object(
     ensures { IfOk result (λ line. string_bytes line ≡ explained_object verdict details.now status) }
 {
     let word = word(verdict);
-    let proved = truth_word(verdict.is_proved());
+    let is_proved = verdict.is_proved();
     format!(in alloc;
-        "{{\"reason\":\"explained\",\"verdict\":\"{word}\",\"proved\":{proved},{details},\"status\":{status}}}\n"
+        "{{\"reason\":\"explained\",\"verdict\":\"{word}\",\"proved\":{is_proved},{details},\"status\":{status}}}\n"
     )
 }
 
@@ -125,12 +125,6 @@ fn word(verdict: Verdict) -> &'static str
         Verdict::AlwaysHere => "always here",
         Verdict::Always => "always",
     }
-}
-
-fn truth_word(is_true: bool) -> &'static str
-    ensures { result.now ≡ truth_word is_true }
-{
-    if is_true { "true" } else { "false" }
 }
 
 /// An object for each rank that waits.
