@@ -11,9 +11,9 @@ use Rattle.coll_diagnosis.specs.Verdicts.{IsStatus}
 use Rattle.coll_diagnosis.proofs.Meaning.{true-read}
 use Rattle.coll_check.specs.declared.checking.CheckForm.{CheckForm}
 use Rattle.coll_check.specs.Checked.{IsCheckStatus, IsCheckFaultOf, IsCheckFault}
-use Rattle.coll_check.specs.Says.{Says, TellsFault, TellsNone, explained_as}
+use Rattle.coll_check.specs.Says.{Says, ReportsFault, ReportsNone, explained_as}
 
--- a text with a fault is told with status 2
+-- a text with a fault is reported with status 2
 pub IsCheckStatus-fault : (text : List ℕ) (fault : Fault) (status : ℕ) → status ≡ 2 → meaning text ≡ Err fault → IsCheckStatus text status
 IsCheckStatus-fault text fault status two is =
     subst (λ (m : Result (List ℕ) Fault). MatchResult m (λ lines. IsStatus status) (λ fault. status ≡ 2)) (sym is) two
@@ -54,39 +54,39 @@ IsCheckFault-read (Refused why) start text read means = HasMeaning-read start te
 IsCheckFault-read NoThread start text read means = HasMeaning-read start text read means
 IsCheckFault-read Torn start text read means = HasMeaning-read start text read means
 
--- what is told of a fault is said of a text that has it
-pub Says-fault : (form : CheckForm) (name text : List ℕ) (status : ℕ) (fault : Fault) (lines : List ℕ) → meaning text ≡ Err fault → TellsFault form name fault lines
+-- the report of a fault is what is said of a text that has it
+pub Says-fault : (form : CheckForm) (name text : List ℕ) (status : ℕ) (fault : Fault) (lines : List ℕ) → meaning text ≡ Err fault → ReportsFault form name fault lines
     → Says form name text status lines
-Says-fault form name text status fault lines is tells =
-    subst (λ (m : Result (List ℕ) Fault). MatchResult m (λ outcomes. TellsNone form name text status lines) (λ fault. TellsFault form name fault lines)) (sym is) tells
+Says-fault form name text status fault lines is reports =
+    subst (λ (m : Result (List ℕ) Fault). MatchResult m (λ outcomes. ReportsNone form name text status lines) (λ fault. ReportsFault form name fault lines)) (sym is) reports
 
--- what is told of none, of one that has a meaning
-pub Says-none : (form : CheckForm) (name text : List ℕ) (status : ℕ) (lines : List ℕ) → HasMeaning text → TellsNone form name text status lines
+-- the report of no fault, of a text that has a meaning
+pub Says-none : (form : CheckForm) (name text : List ℕ) (status : ℕ) (lines : List ℕ) → HasMeaning text → ReportsNone form name text status lines
     → Says form name text status lines
-Says-none form name text status lines means tells = go (meaning text) means
+Says-none form name text status lines means reports = go (meaning text) means
   where
-    go : (m : Result (List ℕ) Fault) → IsOk m → MatchResult m (λ outcomes. TellsNone form name text status lines) (λ fault. TellsFault form name fault lines)
-    go (Ok outcomes) ok = tells
+    go : (m : Result (List ℕ) Fault) → IsOk m → MatchResult m (λ outcomes. ReportsNone form name text status lines) (λ fault. ReportsFault form name fault lines)
+    go (Ok outcomes) ok = reports
     go (Err fault) ok = absurd (let both : false ≡ true = ok in cc)
 
 pub Says-none-ok : {X E : Type 0} (bytes : X → List ℕ) (status : X → ℕ) (form : CheckForm) (name text : List ℕ) (r : Result X E) → HasMeaning text
-    → IfOk r (λ x. TellsNone form name text (status x) (bytes x)) → IfOk r (λ x. Says form name text (status x) (bytes x))
-Says-none-ok bytes status form name text (Ok x) means tells = Says-none form name text (status x) (bytes x) means tells
-Says-none-ok bytes status form name text (Err e) means tells = tt
+    → IfOk r (λ x. ReportsNone form name text (status x) (bytes x)) → IfOk r (λ x. Says form name text (status x) (bytes x))
+Says-none-ok bytes status form name text (Ok x) means reports = Says-none form name text (status x) (bytes x) means reports
+Says-none-ok bytes status form name text (Err e) means reports = tt
 
 -- what is said of the text that was read is said of the whole
 pub Says-read : (form : CheckForm) (name : List ℕ) (start : Option (List ℕ)) (text : List ℕ) (status : ℕ) (lines : List ℕ)
     → IfSome start (λ input. text ≡ take 1048577 input) → Says form name text status lines → IfSome start (λ input. Says form name input status lines)
 Says-read form name None text status lines read says = tt
 Says-read form name (Some input) text status lines read says =
-    subst (λ (m : Result (List ℕ) Fault). MatchResult m (λ outcomes. TellsNone form name input status lines) (λ fault. TellsFault form name fault lines))
+    subst (λ (m : Result (List ℕ) Fault). MatchResult m (λ outcomes. ReportsNone form name input status lines) (λ fault. ReportsFault form name fault lines))
     (sym (meaning-read input text read))
     (go (meaning text) says)
   where
-    none : TellsNone form name text status lines → TellsNone form name input status lines
-    none tells = (tells.0, tells.1, true-read (Some input) text (explained_as form) status tells.0 read tells.2)
+    none : ReportsNone form name text status lines → ReportsNone form name input status lines
+    none reports = (reports.0, reports.1, true-read (Some input) text (explained_as form) status reports.0 read reports.2)
 
-    go : (m : Result (List ℕ) Fault) → MatchResult m (λ outcomes. TellsNone form name text status lines) (λ fault. TellsFault form name fault lines)
-        → MatchResult m (λ outcomes. TellsNone form name input status lines) (λ fault. TellsFault form name fault lines)
-    go (Ok outcomes) tells = none tells
-    go (Err fault) tells = tells
+    go : (m : Result (List ℕ) Fault) → MatchResult m (λ outcomes. ReportsNone form name text status lines) (λ fault. ReportsFault form name fault lines)
+        → MatchResult m (λ outcomes. ReportsNone form name input status lines) (λ fault. ReportsFault form name fault lines)
+    go (Ok outcomes) reports = none reports
+    go (Err fault) reports = reports

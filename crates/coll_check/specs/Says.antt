@@ -12,8 +12,8 @@ use Rattle.coll_check.specs.Reports.{ReportsAll, checked_object}
 -- ---- of a text with a fault
 
 -- its first fault is reported first, then further ones, and at the end how many they are
-abbrev pub TellsFault : CheckForm → List ℕ → Fault → List ℕ → Type 0
-TellsFault form name fault lines = (further : List Fault) × (cut : Bool) × ReportsAll form name (fault ∷ further) cut lines
+abbrev pub ReportsFault : CheckForm → List ℕ → Fault → List ℕ → Type 0
+ReportsFault form name fault lines = (further : List Fault) × (cut : Bool) × ReportsAll form name (fault ∷ further) cut lines
 
 -- ---- of a text without one
 
@@ -28,8 +28,8 @@ faultless_head (Text colored) name status = name ++ codes ": no fault\n"
 faultless_head Json name status = checked_object 0 false status
 
 -- that it has no fault, and then its explanation, whose verdict is true of the text and whose status is that of the check
-abbrev pub TellsNone : CheckForm → List ℕ → List ℕ → ℕ → List ℕ → Type 0
-TellsNone form name text status lines =
+abbrev pub ReportsNone : CheckForm → List ℕ → List ℕ → ℕ → List ℕ → Type 0
+ReportsNone form name text status lines =
     (explanation : List ℕ)
     × (lines ≡ faultless_head form name status ++ explanation)
     × verdicts.IsTrueOf text (explained_as form) status explanation
@@ -37,4 +37,4 @@ TellsNone form name text status lines =
 -- what is said of a text of that name, with that status
 abbrev pub Says : CheckForm → List ℕ → List ℕ → ℕ → List ℕ → Type 0
 Says form name text status lines =
-    MatchResult (meaning text) (λ outcomes. TellsNone form name text status lines) (λ fault. TellsFault form name fault lines)
+    MatchResult (meaning text) (λ outcomes. ReportsNone form name text status lines) (λ fault. ReportsFault form name fault lines)

@@ -8,7 +8,7 @@ ghost use Rattle.coll_script.specs.Plain.{HasCause, IsFaultOf};
 ghost use Rattle.coll_diagnosis.specs.Unstalled.{IsNoStall};
 ghost use Rattle.coll_diagnosis.specs.Verdicts.{IsStatus};
 ghost use Rattle.coll_check.specs.Checked.{IsCheckStatus, IsCheckFaultOf, IsCheckFault, IsSomeStatus, KeepsLines, WritesLines};
-ghost use Rattle.coll_check.specs.Says.{Says, TellsFault, TellsNone, explained_as, faultless_head};
+ghost use Rattle.coll_check.specs.Says.{Says, ReportsFault, ReportsNone, explained_as, faultless_head};
 
 use crate::reporting::{checked_object, faults_report};
 use coll_diagnosis::{ExplainOptions, Form, explain_text};
@@ -62,13 +62,13 @@ pub fn check_job<R: Read, W: Write, E: Write>(
     ensures unwritten { IfErr result (λ fault. fault ≢ JobFault.Write → Keeps (W.contents output.old.stream.now) (W.contents output.new.stream.now)) }
 {
     let text = read_text(alloc, reader)?;
-    let (lines, status) = told(alloc, name, form, &text)?;
-    write_told(form, lines.as_str().as_bytes(), output, errors)?;
+    let (lines, status) = report(alloc, name, form, &text)?;
+    write_report(form, lines.as_str().as_bytes(), output, errors)?;
     Ok(status)
 }
 
 /// Writes the lines: those for a reader to `errors`, JSON to `output`.
-fn write_told<W: Write, E: Write>(
+fn write_report<W: Write, E: Write>(
     form: CheckForm,
     lines: &[u8],
     output: &mut Witnessed<'_, W>,
@@ -87,10 +87,10 @@ fn write_told<W: Write, E: Write>(
 }
 
 /// What is written of a text, and the exit status.
-fn told(alloc: Global, name: &str, form: CheckForm, text: &[u8]) -> Result<(String, u8), JobFault>
-    ensures status { IfOk result (λ told. IsCheckStatus text.now told.1) }
-    ensures statuses { IfOk result (λ told. IsSomeStatus told.1) }
-    ensures said { IfOk result (λ told. Says form name.now text.now told.1 (string_bytes told.0)) }
+fn report(alloc: Global, name: &str, form: CheckForm, text: &[u8]) -> Result<(String, u8), JobFault>
+    ensures status { IfOk result (λ report. IsCheckStatus text.now report.1) }
+    ensures statuses { IfOk result (λ report. IsSomeStatus report.1) }
+    ensures said { IfOk result (λ report. Says form name.now text.now report.1 (string_bytes report.0)) }
     ensures faults { IfErr result (IsCheckFaultOf text.now) }
     ensures unstalled { IfErr result IsNoStall }
 {
@@ -121,7 +121,7 @@ fn faulty(
     text: &[u8],
     faults: &Faults,
 ) -> Result<String, JobFault>
-    ensures said { IfOk result (λ lines. TellsFault form name.now faults.now.first.fault (string_bytes lines)) }
+    ensures said { IfOk result (λ lines. ReportsFault form name.now faults.now.first.fault (string_bytes lines)) }
     ensures refusal { IsOkUnless result JobFault.Memory }
 {
     match faults_report(alloc, name, form, text, faults) {
@@ -137,8 +137,8 @@ fn faultless(
     form: CheckForm,
     text: &[u8],
 ) -> Result<(String, u8), JobFault>
-    ensures status { IfOk result (λ told. IsStatus told.1) }
-    ensures said { IfOk result (λ told. TellsNone form name.now text.now told.1 (string_bytes told.0)) }
+    ensures status { IfOk result (λ report. IsStatus report.1) }
+    ensures said { IfOk result (λ report. ReportsNone form name.now text.now report.1 (string_bytes report.0)) }
     ensures faults { IfErr result (IsFaultOf text.now) }
     ensures unstalled { IfErr result IsNoStall }
 {

@@ -27,7 +27,7 @@ pub(crate) fn known_lines(
         source,
         page,
     };
-    form.tell(finding)?;
+    form.show(finding)?;
     Ok(form.page.out)
 }
 
@@ -40,23 +40,23 @@ struct FaultPage<'e> {
 }
 
 impl<'e> FaultPage<'e> {
-    fn tell(&mut self, finding: &Finding) -> Result<(), AllocError> {
+    fn show(&mut self, finding: &Finding) -> Result<(), AllocError> {
         let fault = finding.fault;
         match &finding.detail {
-            Detail::Words(marked) => self.tell_words(fault.line, marked),
+            Detail::Words(marked) => self.show_words(fault.line, marked),
             Detail::Place {
                 fault: place,
                 suggestion,
             } => {
-                self.tell_place(place)?;
-                self.tell_suggestion(suggestion)
+                self.show_place(place)?;
+                self.show_suggestion(suggestion)
             }
-            Detail::Bare => self.tell_bare(fault.line, fault.cause),
+            Detail::Bare => self.show_bare(fault.line, fault.cause),
         }
     }
 
     /// Shows a line, and marks its words that are meant.
-    fn tell_words(&mut self, line: u32, marked: &Marked) -> Result<(), AllocError> {
+    fn show_words(&mut self, line: u32, marked: &Marked) -> Result<(), AllocError> {
         self.page.arrow_into(line, marked.start.saturating_add(1))?;
         self.page.empty_line()?;
         let excerpt = Excerpt::of(self.alloc, self.source.line(line), marked.start, marked.len)?;
@@ -65,18 +65,18 @@ impl<'e> FaultPage<'e> {
         for note in &marked.notes {
             self.page.note("note", note.as_str())?;
         }
-        self.tell_suggestion(&marked.suggestion)
+        self.show_suggestion(&marked.suggestion)
     }
 
-    fn tell_place(&mut self, place: &PlaceFault) -> Result<(), AllocError> {
+    fn show_place(&mut self, place: &PlaceFault) -> Result<(), AllocError> {
         match place {
-            PlaceFault::Mismatch(mismatch) => self.tell_mismatch(mismatch),
-            PlaceFault::MissingPlace(missing) => self.tell_missing_place(missing),
-            PlaceFault::MissingStart(missing) => self.tell_missing_start(missing),
+            PlaceFault::Mismatch(mismatch) => self.show_mismatch(mismatch),
+            PlaceFault::MissingPlace(missing) => self.show_missing_place(missing),
+            PlaceFault::MissingStart(missing) => self.show_missing_start(missing),
         }
     }
 
-    fn tell_mismatch(&mut self, mismatch: &Mismatch) -> Result<(), AllocError> {
+    fn show_mismatch(&mut self, mismatch: &Mismatch) -> Result<(), AllocError> {
         let Mismatch {
             comm,
             place,
@@ -90,19 +90,19 @@ impl<'e> FaultPage<'e> {
             "rank {}: the earliest at communicator {comm}, place {place}",
             first.rank
         )?;
-        self.tell_standing(*first, Paint::Other, '-', label.as_str())?;
+        self.show_standing(*first, Paint::Other, '-', label.as_str())?;
         if differs.line > first.line.saturating_add(1) {
             self.page.gap()?;
         }
         let label = differences_of(self.alloc, mismatch)?;
-        self.tell_standing(*differs, Paint::Fault, '^', label.as_str())?;
-        self.tell_members("agree", &mismatch.members, true)?;
-        self.tell_members("differ", &mismatch.members, false)?;
-        self.tell_elsewhere(mismatch)
+        self.show_standing(*differs, Paint::Fault, '^', label.as_str())?;
+        self.show_members("agree", &mismatch.members, true)?;
+        self.show_members("differ", &mismatch.members, false)?;
+        self.show_elsewhere(mismatch)
     }
 
     /// Notes where the rank that differs has the signature of the earliest.
-    fn tell_elsewhere(&mut self, mismatch: &Mismatch) -> Result<(), AllocError> {
+    fn show_elsewhere(&mut self, mismatch: &Mismatch) -> Result<(), AllocError> {
         let Some((at, line)) = mismatch.elsewhere else {
             return Ok(());
         };
@@ -114,7 +114,7 @@ impl<'e> FaultPage<'e> {
     }
 
     /// Lists the members that agree with the earliest, or those that don't.
-    fn tell_members(
+    fn show_members(
         &mut self,
         word: &str,
         members: &[PlacedRequest],
@@ -142,7 +142,7 @@ impl<'e> FaultPage<'e> {
         Ok(())
     }
 
-    fn tell_missing_place(&mut self, missing: &MissingPlace) -> Result<(), AllocError> {
+    fn show_missing_place(&mut self, missing: &MissingPlace) -> Result<(), AllocError> {
         let MissingPlace {
             comm,
             place,
@@ -155,12 +155,12 @@ impl<'e> FaultPage<'e> {
             "rank {}: communicator {comm}, place {place}",
             first.rank
         )?;
-        self.tell_standing(*first, Paint::Fault, '^', label.as_str())?;
+        self.show_standing(*first, Paint::Fault, '^', label.as_str())?;
         let list = lacking_of(self.alloc, missing)?;
         self.page.note("lacking", list.as_str())
     }
 
-    fn tell_missing_start(&mut self, missing: &MissingStart) -> Result<(), AllocError> {
+    fn show_missing_start(&mut self, missing: &MissingStart) -> Result<(), AllocError> {
         let MissingStart {
             comm,
             place,
@@ -184,7 +184,7 @@ impl<'e> FaultPage<'e> {
         Ok(())
     }
 
-    fn tell_bare(&mut self, line: u32, cause: Cause) -> Result<(), AllocError> {
+    fn show_bare(&mut self, line: u32, cause: Cause) -> Result<(), AllocError> {
         self.page.arrow_to(line)?;
         if cause == Cause::TooLong {
             let note = format!(in self.alloc; "a text has at most {MAX_TEXT} bytes")?;
@@ -194,7 +194,7 @@ impl<'e> FaultPage<'e> {
     }
 
     /// Shows the line of a request, all of it marked.
-    fn tell_standing(
+    fn show_standing(
         &mut self,
         standing: PlacedRequest,
         paint: Paint,
@@ -206,7 +206,7 @@ impl<'e> FaultPage<'e> {
         self.page.label(paint, label)
     }
 
-    fn tell_suggestion(&mut self, suggestion: &Option<Suggestion>) -> Result<(), AllocError> {
+    fn show_suggestion(&mut self, suggestion: &Option<Suggestion>) -> Result<(), AllocError> {
         match suggestion {
             Some(suggestion) => self.page.help(suggestion.help()),
             None => Ok(()),

@@ -59,10 +59,10 @@ fn rest_form(
         shown,
         page: Page::new(alloc, name, options.is_colored, last),
     };
-    form.tell_ring()?;
-    form.tell_circle()?;
-    form.tell_others()?;
-    form.tell_cure(explanation)?;
+    form.show_ring()?;
+    form.show_circle()?;
+    form.show_others()?;
+    form.show_cure(explanation)?;
     Ok(form.page.out)
 }
 
@@ -110,23 +110,23 @@ struct StallPage<'e> {
 
 impl<'e> StallPage<'e> {
     /// Reports each rank of the shortest circle.
-    fn tell_ring(&mut self) -> Result<(), AllocError> {
+    fn show_ring(&mut self) -> Result<(), AllocError> {
         let shown = self.shown;
         for rank in &shown.ring {
             if let Some(stuck) = shown.standstill.stuck_rank(*rank) {
-                self.tell_rank(stuck)?;
+                self.show_rank(stuck)?;
             }
         }
         Ok(())
     }
 
     /// Reports the other ranks that wait for themselves, in one line each unless the whole is wanted.
-    fn tell_circle(&mut self) -> Result<(), AllocError> {
+    fn show_circle(&mut self) -> Result<(), AllocError> {
         let shown = self.shown;
         for rank in &shown.standstill.circle {
             if !shown.ring.contains(rank) {
                 if let Some(stuck) = shown.standstill.stuck_rank(*rank) {
-                    self.tell_other(stuck)?;
+                    self.show_other(stuck)?;
                 }
             }
         }
@@ -134,9 +134,9 @@ impl<'e> StallPage<'e> {
     }
 
     /// Reports a rank that waits for itself by way of others.
-    fn tell_other(&mut self, stuck: &Stuck) -> Result<(), AllocError> {
+    fn show_other(&mut self, stuck: &Stuck) -> Result<(), AllocError> {
         if self.is_whole {
-            return self.tell_rank(stuck);
+            return self.show_rank(stuck);
         }
         let mut note = format!(in self.alloc; "rank {} waits in line ", stuck.rank)?;
         push_line_number(&mut note, stuck.line)?;
@@ -152,33 +152,33 @@ impl<'e> StallPage<'e> {
     }
 
     /// Reports where a rank waits, and for which ranks.
-    fn tell_rank(&mut self, stuck: &Stuck) -> Result<(), AllocError> {
+    fn show_rank(&mut self, stuck: &Stuck) -> Result<(), AllocError> {
         self.page.arrow_to_rank(stuck.line, stuck.rank)?;
-        self.tell_requests(&stuck.requests)?;
+        self.show_requests(&stuck.requests)?;
         if let Some(line) = stuck.line {
             let awaited = self.awaited(&stuck.requests)?;
-            self.tell_line(line, Paint::Fault, '^', awaited.as_str())?;
+            self.show_line(line, Paint::Fault, '^', awaited.as_str())?;
         }
-        self.tell_all_lacks(&stuck.requests)
+        self.show_all_lacks(&stuck.requests)
     }
 
     /// Shows the lines in which the requests were posted or started.
-    fn tell_requests(&mut self, requests: &[Pending]) -> Result<(), AllocError> {
+    fn show_requests(&mut self, requests: &[Pending]) -> Result<(), AllocError> {
         for request in requests {
-            if self.is_told(request) {
-                self.tell_request(request)?;
+            if self.is_shown(request) {
+                self.show_request(request)?;
             }
         }
         Ok(())
     }
 
     /// Whether a request is reported: each one if the whole is wanted, else one that lacks a rank of the shortest circle.
-    fn is_told(&self, request: &Pending) -> bool {
+    fn is_shown(&self, request: &Pending) -> bool {
         let ring = &self.shown.ring;
         self.is_whole || request.lacks.iter().any(|lack| ring.contains(&lack.rank))
     }
 
-    fn tell_request(&mut self, request: &Pending) -> Result<(), AllocError> {
+    fn show_request(&mut self, request: &Pending) -> Result<(), AllocError> {
         let mut label = format!(in self.alloc; "request {}: ", request.request)?;
         if request.is_persistent {
             write!(label, "start {} of ", request.start)?;
@@ -188,7 +188,7 @@ impl<'e> StallPage<'e> {
             "communicator {}, place {}",
             request.comm, request.place
         )?;
-        self.tell_line(request.line, Paint::Other, '-', label.as_str())
+        self.show_line(request.line, Paint::Other, '-', label.as_str())
     }
 
     /// The names of the requests that a call waits for.
@@ -197,7 +197,7 @@ impl<'e> StallPage<'e> {
         let mut word = "waits for";
         let mut others: usize = 0;
         for request in requests {
-            if self.is_told(request) {
+            if self.is_shown(request) {
                 write!(label, "{word} request {}", request.request)?;
                 word = ",";
             } else {
@@ -211,10 +211,10 @@ impl<'e> StallPage<'e> {
         Ok(label)
     }
 
-    fn tell_all_lacks(&mut self, requests: &[Pending]) -> Result<(), AllocError> {
+    fn show_all_lacks(&mut self, requests: &[Pending]) -> Result<(), AllocError> {
         for request in requests {
-            if self.is_told(request) {
-                self.tell_lacks(&request.lacks)?;
+            if self.is_shown(request) {
+                self.show_lacks(&request.lacks)?;
             }
         }
         Ok(())
@@ -222,20 +222,20 @@ impl<'e> StallPage<'e> {
 
     /// Reports the members that a request lacks: first those of the shortest circle, then the others in one line, unless the
     /// whole is wanted.
-    fn tell_lacks(&mut self, lacks: &[Lack]) -> Result<(), AllocError> {
+    fn show_lacks(&mut self, lacks: &[Lack]) -> Result<(), AllocError> {
         let mut others = Members::NONE;
         for lack in lacks {
             if self.is_whole || self.shown.ring.contains(&lack.rank) {
-                self.tell_lack(lack)?;
+                self.show_lack(lack)?;
             } else {
                 others.insert(lack.rank);
                 self.is_shortened = true;
             }
         }
-        self.tell_ranks("lacks, too", &others.listed(self.alloc)?)
+        self.show_ranks("lacks, too", &others.listed(self.alloc)?)
     }
 
-    fn tell_lack(&mut self, lack: &Lack) -> Result<(), AllocError> {
+    fn show_lack(&mut self, lack: &Lack) -> Result<(), AllocError> {
         let reason = self.reason(lack);
         let note = format!(in self.alloc;
             "lacks rank {}{}: its line {} stands behind its wait in line {}",
@@ -257,17 +257,17 @@ impl<'e> StallPage<'e> {
     }
 
     /// Reports the ranks outside the circle.
-    fn tell_others(&mut self) -> Result<(), AllocError> {
+    fn show_others(&mut self) -> Result<(), AllocError> {
         let standstill = &self.shown.standstill;
-        self.tell_ranks("behind them", &standstill.behind)?;
-        self.tell_ranks("at the end", &standstill.ended)?;
+        self.show_ranks("behind them", &standstill.behind)?;
+        self.show_ranks("at the end", &standstill.ended)?;
         if self.is_shortened {
             self.page.remark("each in full: colljob explain --all")?;
         }
         Ok(())
     }
 
-    fn tell_ranks(&mut self, what: &str, ranks: &[u8]) -> Result<(), AllocError> {
+    fn show_ranks(&mut self, what: &str, ranks: &[u8]) -> Result<(), AllocError> {
         if ranks.is_empty() {
             return Ok(());
         }
@@ -277,7 +277,7 @@ impl<'e> StallPage<'e> {
     }
 
     /// Reports what cures the text.
-    fn tell_cure(&mut self, explanation: &Explanation) -> Result<(), AllocError> {
+    fn show_cure(&mut self, explanation: &Explanation) -> Result<(), AllocError> {
         match &explanation.cure {
             Some(cure) => {
                 let help = format!(in self.alloc;
@@ -291,7 +291,7 @@ impl<'e> StallPage<'e> {
     }
 
     /// Shows a line of the text, with its words marked and labelled.
-    fn tell_line(
+    fn show_line(
         &mut self,
         line: u32,
         paint: Paint,

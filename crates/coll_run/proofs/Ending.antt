@@ -1,4 +1,4 @@
--- What holds of an answer, at Ok.
+-- What holds of a result, at Ok.
 use Rattle.std.proofs.Common.{◌≡◌, ℕ, List, Vec, Ok, Err, ◌∙◌}
 use Rattle.std.specs.Prelude.{Result, IfErr, IfOk, OnOk}
 use Rattle.std.specs.Global.{Global}
@@ -7,7 +7,7 @@ pub always-ok : {T E P : Type 0} (r : Result T E) → P → OnOk r P
 always-ok (Ok x) p = p
 always-ok (Err e) p = tt
 
--- what was told is what is meant
+-- what was handed out is what is meant
 pub meant-ok : {E P : Type 0} (r : Result (Vec ℕ Global) E) (told meant : List ℕ)
     → IfOk r (λ out. out.items ≡ told) → OnOk r P → (P → told ≡ meant) → IfOk r (λ out. out.items ≡ meant)
 meant-ok (Ok out) told meant is p same = is ∙ same p

@@ -174,7 +174,7 @@ module _ (h : History) (r : Closed) (sound : IsSound h) (run : IsRun h r)
     member_is =
         ap (member_of rank) (group_is p.comm ∙ ap (λ (o : Option (List ℕ)). unwrap_or o []) is.known) ∙ is.member
 
-    -- what the trace tells of a request's start
+    -- what the trace says of a request's start
     told_is : (start : ℕ) → start < length p.starts
         → told r.entries rank p.comm (length (posted_on p.comm before)) start
         ≡ Some (value p.sig (given_at (lists_of job p.comm) (length (posted_on p.comm before)) start) p.member)

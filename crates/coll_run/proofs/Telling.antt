@@ -1,4 +1,4 @@
--- What a run of a job tells.
+-- What a run of a job reports.
 use Rattle.std.proofs.Common.{◌≤◌, ◌<◌, List, [], sym, subst}
 use Rattle.std.specs.Prelude.{unwrap_or}
 use Rattle.coll_history.specs.Histories.{History}

@@ -1,4 +1,4 @@
--- Why a run has no answer, and which fault is reported where several threads end with one.
+-- Why a run has no result, and which fault is reported where several threads end with one.
 use Rattle.std.specs.Prelude.{◌++◌, Bool, true, false, List, Option, Some, None}
 use Rattle.std.specs.List.{fold}
 use Rattle.std.specs.Option.{option_map}

@@ -5,7 +5,7 @@ pub mod Runs
 -- what its report says, and that it is the job's meaning
 pub mod Lines
 pub mod Laws
--- why a run has no answer, and which fault is reported
+-- why a run has no result, and which fault is reported
 pub mod Faults
 -- worked rows
 pub mod AttestedRows

@@ -16,19 +16,21 @@ pub(crate) fn first_fault(
     if !all_started {
         return Some(JobFault::NoThread);
     }
-    let of_ranks = ranks.iter().fold(None, |told, end| graver(told, *end));
+    let of_ranks = ranks
+        .iter()
+        .fold(None, |earlier, end| graver(earlier, *end));
     let of_all = workers
         .iter()
-        .fold(of_ranks, |told, end| graver(told, *end));
+        .fold(of_ranks, |earlier, end| graver(earlier, *end));
     of_all.map(JobFault::from)
 }
 
-/// Which of two threads' refusals is reported: `later`, if there is one and `told` is `Stalled` or None; else `told`.
-fn graver(told: Option<Refusal>, later: Option<Refusal>) -> Option<Refusal>
-    ensures { result ≡ graver told later }
+/// Which of two threads' refusals is reported: `later`, if there is one and `earlier` is `Stalled` or None; else `earlier`.
+fn graver(earlier: Option<Refusal>, later: Option<Refusal>) -> Option<Refusal>
+    ensures { result ≡ graver earlier later }
 {
-    match told {
-        None | Some(Refusal::Stalled) => later.or(told),
-        Some(_) => told,
+    match earlier {
+        None | Some(Refusal::Stalled) => later.or(earlier),
+        Some(_) => earlier,
     }
 }

@@ -52,9 +52,9 @@ abbrev pub block_text : Signature → ℕ → List ℕ
 block_text sig members = codes " " ++ (datatype_word sig.ty ++ many_text sig.each sig.count members)
 
 -- what stands after the kind; after a barrier nothing
-abbrev pub behind_kind : Kind → Signature → ℕ → List ℕ
-behind_kind Barrier sig members = []
-behind_kind kind sig members = root_text sig ++ (operation_text sig.op ++ block_text sig members)
+abbrev pub after_kind : Kind → Signature → ℕ → List ℕ
+after_kind Barrier sig members = []
+after_kind kind sig members = root_text sig ++ (operation_text sig.op ++ block_text sig members)
 
 abbrev pub signature_text : Signature → ℕ → List ℕ
-signature_text sig members = kind_word sig.kind ++ behind_kind sig.kind sig members
+signature_text sig members = kind_word sig.kind ++ after_kind sig.kind sig members

@@ -156,8 +156,8 @@ fn print_values(
 {
     let mut values = Vec::new(alloc);
     print_elements(Style::Json, ty, row, &mut values)?;
-    if let Some((_, behind)) = values.split_first() {
-        out.extend_from_slice(behind)?;
+    if let Some((_, rest)) = values.split_first() {
+        out.extend_from_slice(rest)?;
     }
     Ok(())
 }

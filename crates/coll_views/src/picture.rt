@@ -156,11 +156,11 @@ fn print_end(
     line: u32,
     out: &mut Vec<u8>,
 ) -> Result<(), ReportFault> {
-    let told = match line {
+    let number = match line {
         0 => String::from_str(alloc, "  end")?,
         _ => format!(in alloc; "{line:>5}")?,
     };
-    out.extend_from_slice(told.as_bytes())?;
+    out.extend_from_slice(number.as_bytes())?;
     let request = &found.request;
     let comm = request.comm;
     let sig = signature_text(alloc, &request.sig, request.members)?;

@@ -95,10 +95,10 @@ impl Event {
         )?;
         out.push_str(head.as_str())?;
         let (line, completed) = (self.begin.line, self.end.line);
-        let behind = format!(in alloc;
+        let tail = format!(in alloc;
             ",\"args\":{{\"req\":{number},\"start\":{start},\"comm\":{comm},\"place\":{place},\"line\":{line},\"completed_in_line\":{completed}}}}}"
         )?;
-        out.push_str(behind.as_str())
+        out.push_str(tail.as_str())
     }
 }
 
