@@ -17,7 +17,7 @@ use Rattle.coll_verdict.specs.Standings as standings
 use Rattle.coll_verdict.specs.Stalls.{lines_of}
 use Rattle.coll_verdict.specs.Sketches.{Sketch}
 use Rattle.coll_verdict.specs.Stands.{sketches}
-use Rattle.coll_verdict.specs.Passes.{IsFree, IsJoined, Passes}
+use Rattle.coll_verdict.specs.Passes.{everyone, IsFree, IsJoined, Passes}
 use Rattle.coll_verdict.specs.Passes as passes
 use Rattle.coll_verdict.specs.Lasts.{IsAccepted, IsLast, AreAccepted}
 use Rattle.coll_verdict.specs.Rows.{lone, crossed, LoneBarrierNeverStalls, CrossedRunIsLast}
@@ -45,9 +45,9 @@ only_member g e i low = below_one (λ i. IsJoined g said 0 0 i) (record {
     here : group g 0 ≡ 0 ∷ []
     here = ap (λ groups. group_in groups 0) e
 
-lone_passes : (g : Setting) → g.groups ≡ lone.groups → Passes g (lines_of lone) has_waited
+lone_passes : (g : Setting) → g.groups ≡ lone.groups → Passes everyone g (lines_of lone) has_waited
 lone_passes g e = passes.one_more {at = has_posted} 0 (WaitAll (0 ∷ [])) (passes.one_more {at = λ rank. 0} 0 (Post 0 barrier []) passes.none refl tt) refl
-    (among_zero (λ q. IsFree g said 0 q) (inr (only_member g e)))
+    (among_zero (λ q. IsFree everyone.hears g said 0 q) (inr (λ i low awaited. only_member g e i low)))
 
 lone_ends : (rank : ℕ) → has_waited rank ≡ length (lines_of lone rank)
 lone_ends rank = go (cases_eq rank 0)
@@ -63,11 +63,11 @@ lone_barrier_never_stalls g e = passes_dont_stall g (lines_of lone) has_waited (
 
 -- ---- the crossed barriers, each rank in its first wait
 
-record IsNext (rank : ℕ) (c : Command) : Type 0 where
-  wait : Wait 0 ≡ c
+pub record IsNext (rank : ℕ) (c : Command) : Type 0 where
+  pub wait : Wait 0 ≡ c
   pending : is_pending both_posted ((both_at_wait.holds rank).of 0) ≡ true
 
-next_is : (rank : ℕ) (c : Command) → slice_get (lines_of crossed rank) (both_at_wait.at rank) ≡ Some c → IsNext rank c
+pub next_is : (rank : ℕ) (c : Command) → slice_get (lines_of crossed rank) (both_at_wait.at rank) ≡ Some c → IsNext rank c
 next_is rank c get = go (cases_eq rank 0) (cases_eq rank 1)
   where
     go : (rank ≡ 0) ⊎ (rank ≡ 0 → ⊥) → (rank ≡ 1) ⊎ (rank ≡ 1 → ⊥) → IsNext rank c
@@ -100,7 +100,7 @@ not_ready request start sig r other same one ready barrier_is need none =
     first : (a b : ℕ) → suc a ≡ b → b ≡ 1 → a ≡ 0
     first a b e h = omega arith
 
-no_finish : (slot : ℕ) (done : ℕ → Bool) → Finishes two both_posted slot done → ⊥
+pub no_finish : (slot : ℕ) (done : ℕ → Bool) → Finishes two both_posted slot done → ⊥
 no_finish slot done f = go (cases_eq slot 0) (cases_eq slot 1)
   where
     go : (slot ≡ 0) ⊎ (slot ≡ 0 → ⊥) → (slot ≡ 1) ⊎ (slot ≡ 1 → ⊥) → ⊥

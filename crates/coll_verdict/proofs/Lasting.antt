@@ -182,7 +182,7 @@ module _ (g : Setting) (h : ℕ → Holding) (k : ℕ → Sketch) (rank : ℕ) w
       go (inl e) =
           let d = done_is m (x.of q) e in
           can_retire m x q d.t tr d.is d.done (λ n comm place start bytes step.
-          let after = retired_step NoUp g m n h x k rank q comm place start bytes d.t (never_up g k) tr d.is step in
+          let after = retired_step NoUp g m n h x k rank q comm place start bytes d.t (never_up g m k) tr d.is step in
           later n (holding_at x q (kept n.state d.t)) after (λ last i done still over.
           never last i (standings.another q comm place start bytes d.t among d.is step done)
           (λ p f. still p (is_false (is_done n ((holding_at x q (kept n.state d.t)).of p)) (λ t. false≢true (sym f ∙ (done_before m n x p q comm place start bytes d.t d.is step t).0))))

@@ -3,6 +3,7 @@ mod Sketched
 mod Agreeing
 mod Changing
 mod Tracking
+mod Heeding
 mod Blocking
 mod Telling
 mod Checked
@@ -14,3 +15,4 @@ mod Passing
 mod Ordered
 mod Lasting
 mod LastRows
+mod WaitingRows

@@ -41,7 +41,7 @@ differ a e h = absurd (omega arith)
 
 -- ---- one rank
 
-posts : MachineStep one_rank beginning.machine (calls.Post 0 0 (record { sig = barrier; n = 1; member = 0 }) []) (calls.Ticketed only_ticket) posted
+pub posts : MachineStep one_rank beginning.machine (calls.Post 0 0 (record { sig = barrier; n = 1; member = 0 }) []) (calls.Ticketed only_ticket) posted
 posts = machine.post 0 0 0 (record { sig = barrier; n = 1; member = 0 }) [] only_ticket (record {
   member = 0;
   accepted = refl;
@@ -51,7 +51,10 @@ posts = machine.post 0 0 0 (record { sig = barrier; n = 1; member = 0 }) [] only
   leaves = refl;
 })
 
-needed_all : (m : ℕ) → needs barrier 1 0 m ≡ true → posted.state.given (key_of only_request 0) m ≡ None → ⊥
+pub given_all : (m : ℕ) → m < 1 → posted.state.given (key_of only_request 0) m ≡ None → ⊥
+given_all m low = below_one (λ m. posted.state.given (key_of only_request 0) m ≡ None → ⊥) (given_some (posted.state.given (key_of only_request 0) 0) [] refl) m low
+
+pub needed_all : (m : ℕ) → needs barrier 1 0 m ≡ true → posted.state.given (key_of only_request 0) m ≡ None → ⊥
 needed_all m need = below_one (λ m. posted.state.given (key_of only_request 0) m ≡ None → ⊥) (given_some (posted.state.given (key_of only_request 0) 0) [] refl) m (ltb-true m 1 (and_parts (ltb m 1) true need).0)
 
 finishes : MachineStep one_rank posted calls.Finish calls.Nothing done
@@ -72,7 +75,7 @@ gone m w = go (cases_eq w.slot 0)
     go (inl e) = none-some w.request (ap (holding posted.state 0 None).request (sym e) ∙ w.is)
     go (inr d) = none-some w.request (sym (put_other posted.state.request 0 None w.slot d ∙ (put_other (put nothing.request 0 (Some only_request)) 0 (Some (once_more only_request)) w.slot d ∙ put_other nothing.request 0 (Some only_request) w.slot d)) ∙ w.is)
 
-leaves : MachineStep one_rank done (calls.Retire 0 only_ticket) (calls.Outcome 0 0 0 0 []) left
+pub leaves : MachineStep one_rank done (calls.Retire 0 only_ticket) (calls.Outcome 0 0 0 0 []) left
 leaves = machine.retire 0 only_ticket 0 0 0 [] (record {
   request = once_more only_request;
   sig = barrier;
@@ -85,16 +88,16 @@ leaves = machine.retire 0 only_ticket 0 0 0 [] (record {
   leaves = inl (λ m low. (below_one (λ m. posted.state.given (key_of only_request 0) m ≡ None → ⊥) (given_some (posted.state.given (key_of only_request 0) 0) [] refl) m low, gone m), refl);
 }) refl
 
-abbrev has_posted : Standing
+abbrev pub has_posted : Standing
 has_posted = carried_out beginning 0 posted (one_more nothing_made only_ticket)
 
-abbrev is_finished : Standing
+abbrev pub is_finished : Standing
 is_finished = record has_posted { machine = done }
 
-abbrev held_last : Holding
+abbrev pub held_last : Holding
 held_last = holding_at (one_more nothing_made only_ticket) 0 (kept left.state only_ticket)
 
-abbrev has_left : Standing
+abbrev pub has_left : Standing
 has_left = carried_out is_finished 0 left held_last
 
 lone_run : Reaches one_rank (lines_of lone) has_left
@@ -110,7 +113,7 @@ lone_run =
     (standings.another 0 0 0 0 [] only_ticket refl refl leaves standings.none)
     (among_zero (λ q. is_done left (held_last.of q) ≡ false) refl)))
 
-lone_end : AtEnd (lines_of lone) has_left
+pub lone_end : AtEnd (lines_of lone) has_left
 lone_end rank = go (cases_eq rank 0)
   where
     go : (rank ≡ 0) ⊎ (rank ≡ 0 → ⊥) → has_left.at rank ≡ length (lines_of lone rank)
@@ -133,14 +136,15 @@ said = sketches (lines_of crossed) at_wait
 other_is : (g : Setting) (comm peer other rank : ℕ) → group g comm ≡ 0 ∷ 1 ∷ [] → member_of peer (group g comm) ≡ Some other → member_of rank (0 ∷ 1 ∷ []) ≡ Some other → peer ≡ rank
 other_is g comm peer other rank groups is own = sym (member_at g comm peer other is).1 ∙ (member_at g comm rank other (ap (member_of rank) groups ∙ own)).1
 
-first_lacks : (g : Setting) → g.groups ≡ crossed.groups → Lacks g said 0 0
+first_lacks : (g : Setting) → g.groups ≡ crossed.groups → Lacks needs g said 0 0
 first_lacks g e = record {
   sig = barrier;
   sig_is = refl;
   member = 0;
   member_is = ap (member_of 0) here;
   other = 1;
-  needed = ap (λ (group : List ℕ). needs barrier (length group) 0 1) here;
+  low = subst (λ (group : List ℕ). 1 < length group) (sym here) (omega arith);
+  awaited = ap (λ (group : List ℕ). needs barrier (length group) 0 1) here;
   late = λ peer is. subst (λ r. stands.IsLate (said r) 0 0 1) (sym (other_is g 0 peer 1 1 here is refl)) (λ p low comm place. absurd (other_comm p low comm));
 }
   where
@@ -150,14 +154,15 @@ first_lacks g e = record {
     other_comm : (p : ℕ) → p < 1 → (said 1).comm p ≡ 0 → ⊥
     other_comm p low comm = let first : p ≡ 0 = omega arith in differ ((said 1).comm 0) refl (ap (said 1).comm (sym first) ∙ comm)
 
-second_lacks : (g : Setting) → g.groups ≡ crossed.groups → Lacks g said 1 0
+second_lacks : (g : Setting) → g.groups ≡ crossed.groups → Lacks needs g said 1 0
 second_lacks g e = record {
   sig = barrier;
   sig_is = refl;
   member = 1;
   member_is = ap (member_of 1) here;
   other = 0;
-  needed = ap (λ (group : List ℕ). needs barrier (length group) 1 0) here;
+  low = subst (λ (group : List ℕ). 0 < length group) (sym here) (omega arith);
+  awaited = ap (λ (group : List ℕ). needs barrier (length group) 1 0) here;
   late = λ peer is. subst (λ r. stands.IsLate (said r) 1 0 1) (sym (other_is g 1 peer 0 0 here is refl)) (λ p low comm place. absurd (other_comm p low comm));
 }
   where
@@ -167,16 +172,16 @@ second_lacks g e = record {
     other_comm : (p : ℕ) → p < 1 → (said 0).comm p ≡ 1 → ⊥
     other_comm p low comm = let first : p ≡ 0 = omega arith in differ ((said 0).comm 0) (ap (said 0).comm (sym first) ∙ comm) refl
 
-crossed_closed : (g : Setting) → g.groups ≡ crossed.groups → AreClosed g (lines_of crossed) at_wait
+crossed_closed : (g : Setting) → g.groups ≡ crossed.groups → AreClosed needs g (lines_of crossed) at_wait
 crossed_closed g e rank c get = go (cases_eq rank 0) (cases_eq rank 1)
   where
-    go : (rank ≡ 0) ⊎ (rank ≡ 0 → ⊥) → (rank ≡ 1) ⊎ (rank ≡ 1 → ⊥) → IsBlocked g said rank c
+    go : (rank ≡ 0) ⊎ (rank ≡ 0 → ⊥) → (rank ≡ 1) ⊎ (rank ≡ 1 → ⊥) → IsBlocked needs g said rank c
     go (inl x) y =
         let is : Wait 0 ≡ c = same_Some (Wait 0) c (ap (λ r. slice_get (lines_of crossed r) 1) (sym x) ∙ get) in
-        subst (λ r. IsBlocked g said r c) (sym x) (subst (IsBlocked g said 0) is (stands.wait 0 (omega arith) (first_lacks g e)))
+        subst (λ r. IsBlocked needs g said r c) (sym x) (subst (IsBlocked needs g said 0) is (stands.wait 0 (omega arith) (first_lacks g e)))
     go (inr d) (inl x) =
         let is : Wait 0 ≡ c = same_Some (Wait 0) c (ap (λ r. slice_get (lines_of crossed r) 1) (sym x) ∙ get) in
-        subst (λ r. IsBlocked g said r c) (sym x) (subst (IsBlocked g said 1) is (stands.wait 0 (omega arith) (second_lacks g e)))
+        subst (λ r. IsBlocked needs g said r c) (sym x) (subst (IsBlocked needs g said 1) is (stands.wait 0 (omega arith) (second_lacks g e)))
     go (inr d) (inr b) =
         let none : ltb rank 2 ≡ false = le-ltb rank 2 (omega arith) in
         absurd (none-some c (rw none at get))
@@ -189,10 +194,10 @@ crossed_barriers_stall = record { nonempty = refl; stalls = λ g e. closed_stand
 abbrev pub two : Setting
 two = record { ranks = 2; groups = (0 ∷ 1 ∷ []) ∷ (0 ∷ 1 ∷ []) ∷ []; slots = 2; places = 1; wear = 1; starts = 1; trace = 4 }
 
-abbrev first_ticket : Ticket
+abbrev pub first_ticket : Ticket
 first_ticket = record { slot = 0; generation = 1 }
 
-abbrev second_ticket : Ticket
+abbrev pub second_ticket : Ticket
 second_ticket = record { slot = 1; generation = 1 }
 
 abbrev pub first_request : Request
@@ -207,7 +212,7 @@ one_posted = phased (started (created nothing first_ticket first_request barrier
 abbrev pub both_posted : Machine
 both_posted = phased (started (created one_posted.state second_ticket second_request barrier) 1 second_request []) (λ slot. false)
 
-first_posts : MachineStep two beginning.machine (calls.Post 0 0 (record { sig = barrier; n = 2; member = 0 }) []) (calls.Ticketed first_ticket) one_posted
+pub first_posts : MachineStep two beginning.machine (calls.Post 0 0 (record { sig = barrier; n = 2; member = 0 }) []) (calls.Ticketed first_ticket) one_posted
 first_posts = machine.post 0 0 0 (record { sig = barrier; n = 2; member = 0 }) [] first_ticket (record {
   member = 0;
   accepted = refl;
@@ -217,7 +222,7 @@ first_posts = machine.post 0 0 0 (record { sig = barrier; n = 2; member = 0 }) [
   leaves = refl;
 })
 
-second_posts : MachineStep two one_posted (calls.Post 1 1 (record { sig = barrier; n = 2; member = 1 }) []) (calls.Ticketed second_ticket) both_posted
+pub second_posts : MachineStep two one_posted (calls.Post 1 1 (record { sig = barrier; n = 2; member = 1 }) []) (calls.Ticketed second_ticket) both_posted
 second_posts = machine.post 1 1 0 (record { sig = barrier; n = 2; member = 1 }) [] second_ticket (record {
   member = 1;
   accepted = refl;
@@ -227,7 +232,7 @@ second_posts = machine.post 1 1 0 (record { sig = barrier; n = 2; member = 1 }) 
   leaves = refl;
 })
 
-abbrev one_at_wait : Standing
+abbrev pub one_at_wait : Standing
 one_at_wait = carried_out beginning 0 one_posted (one_more nothing_made first_ticket)
 
 abbrev pub both_at_wait : Standing
@@ -240,7 +245,7 @@ crossed_run =
     (standings.carries 0 (Post 0 barrier []) refl (standings.post 0 barrier [] (record { sig = barrier; n = 2; member = 0 }) first_ticket refl first_posts)))
     (standings.carries 1 (Post 1 barrier []) refl (standings.post 1 barrier [] (record { sig = barrier; n = 2; member = 1 }) second_ticket refl second_posts))
 
-both_wait : (rank : ℕ) (c : Command) → slice_get (lines_of crossed rank) (both_at_wait.at rank) ≡ Some c → Waits two (lines_of crossed) both_at_wait rank c
+pub both_wait : (rank : ℕ) (c : Command) → slice_get (lines_of crossed rank) (both_at_wait.at rank) ≡ Some c → Waits two (lines_of crossed) both_at_wait rank c
 both_wait rank c get = go (cases_eq rank 0) (cases_eq rank 1)
   where
     go : (rank ≡ 0) ⊎ (rank ≡ 0 → ⊥) → (rank ≡ 1) ⊎ (rank ≡ 1 → ⊥) → Waits two (lines_of crossed) both_at_wait rank c

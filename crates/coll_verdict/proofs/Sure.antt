@@ -17,7 +17,7 @@ use Rattle.coll_verdict.specs.Sketches.{Sketch, making, starting, naming, restin
 use Rattle.coll_verdict.specs.Passes.{IsSure}
 use Rattle.coll_verdict.proofs.Agreeing.{Moves, Makes}
 use Rattle.coll_verdict.proofs.Changing.{makes_init, makes_post, leaves_retired, leaves_freed, leaves_moves}
-use Rattle.coll_verdict.proofs.Tracking.{found_at, Tracks, NeverDone, put_own, own_put, post_is, init_is, start_is, free_is, retire_is, finish_is, started_moves, retired_step}
+use Rattle.coll_verdict.proofs.Tracking.{found_at, Tracks, Follows, further, NeverDone, put_own, own_put, post_is, init_is, start_is, free_is, retire_is, finish_is, started_moves, retired_step}
 
 -- ---- one slot changes
 
@@ -190,11 +190,11 @@ retires_sure up g m n h x k j rank q comm place begin bytes t none tr sure held 
         (λ p d s. s)
         (λ s. absurd (none s))
 
-completes_sure : (up : ℕ → ℕ → ℕ → Type 0) (g : Setting) (rank : ℕ) (qs : List ℕ) (h : ℕ → Holding) (k j : ℕ → Sketch) → NeverDone up g k → ((q : ℕ) → is_among q qs ≡ true → IsSure (j rank) q → ⊥)
-    → (m n : Machine) (x y : Holding) → Tracks up g m (put h rank x) k → AreSure m (put h rank x) j → Completes g rank qs m x n y → AreSure n (put h rank y) j
-completes_sure up g rank qs h k j never none _ _ _ _ tr sure standings.none = sure
-completes_sure up g rank qs h k j never none _ _ _ _ tr sure (standings.another {m = m} {n = mid} {last = n} {h = x} {i = y} q comm place begin bytes t among held step more) =
-    completes_sure up g rank qs h k j never none mid n (holding_at x q (kept mid.state t)) y
+completes_sure : (up : ℕ → ℕ → ℕ → Type 0) (g : Setting) (rank : ℕ) (qs : List ℕ) (h : ℕ → Holding) (k j : ℕ → Sketch) → ((q : ℕ) → is_among q qs ≡ true → IsSure (j rank) q → ⊥)
+    → (m n : Machine) (x y : Holding) → NeverDone up g m k → Tracks up g m (put h rank x) k → AreSure m (put h rank x) j → Completes g rank qs m x n y → AreSure n (put h rank y) j
+completes_sure up g rank qs h k j none _ _ _ _ never tr sure standings.none = sure
+completes_sure up g rank qs h k j none _ _ _ _ never tr sure (standings.another {m = m} {n = mid} {last = n} {h = x} {i = y} q comm place begin bytes t among held step more) =
+    completes_sure up g rank qs h k j none mid n (holding_at x q (kept mid.state t)) y (λ m f. never m (further rank comm place begin bytes t step f))
     (retired_step up g m mid h x k rank q comm place begin bytes t never tr held step)
     (retires_sure up g m mid h x k j rank q comm place begin bytes t (none q among) tr sure held step) more
 
@@ -203,10 +203,10 @@ both_false true b e = absurd (false≢true (sym e))
 both_false false b e = (refl, e)
 
 -- a call that names these requests completes some of them
-waits_sure : (up : ℕ → ℕ → ℕ → Type 0) (g : Setting) (m n : Machine) (h : ℕ → Holding) (i : Holding) (k : ℕ → Sketch) (rank : ℕ) (qs : List ℕ) → NeverDone up g k → Tracks up g m h k → AreSure m h k → Completes g rank qs m (h rank) n i
+waits_sure : (up : ℕ → ℕ → ℕ → Type 0) (g : Setting) (m n : Machine) (h : ℕ → Holding) (i : Holding) (k : ℕ → Sketch) (rank : ℕ) (qs : List ℕ) → NeverDone up g m k → Tracks up g m h k → AreSure m h k → Completes g rank qs m (h rank) n i
     → (j : Sketch) → ((q : ℕ) → j.starts q ≡ (k rank).starts q) → ((q : ℕ) → j.named q ≡ ((k rank).named q || is_among q qs)) → AreSure n (put h rank i) (put k rank j)
 waits_sure up g m n h i k rank qs never tr sure done j starts named =
-    completes_sure up g rank qs h k (put k rank j) never none m n (h rank) i (own_put up g m h k rank tr) (written m h (put k rank j) rank fewer) done
+    completes_sure up g rank qs h k (put k rank j) none m n (h rank) i never (own_put up g m h k rank tr) (written m h (put k rank j) rank fewer) done
   where
     none : (q : ℕ) → is_among q qs ≡ true → IsSure (put k rank j rank) q → ⊥
     none q among s =
@@ -228,7 +228,7 @@ waits_sure up g m n h i k rank qs never tr sure done j starts named =
 
 -- ---- a rank carries a command out
 
-pub carried_sure : (up : ℕ → ℕ → ℕ → Type 0) (g : Setting) (m : Machine) (h : ℕ → Holding) (k : ℕ → Sketch) (rank : ℕ) → NeverDone up g k → Tracks up g m h k → AreSure m h k
+pub carried_sure : (up : ℕ → ℕ → ℕ → Type 0) (g : Setting) (m : Machine) (h : ℕ → Holding) (k : ℕ → Sketch) (rank : ℕ) → NeverDone up g m k → Tracks up g m h k → AreSure m h k
     → (c : Command) (n : Machine) (i : Holding) → Carries g rank m (h rank) c n i → AreSure n (put h rank i) (put k rank (sketched c (k rank)))
 carried_sure up g m h k rank never tr sure _ _ _ (standings.post {n} comm sig given plan t e step) =
     let p = post_is g rank comm plan given t m n step in

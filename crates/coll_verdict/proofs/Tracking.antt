@@ -383,18 +383,26 @@ put_own {X} f k = λ z i. at i (put_cases f k (f k) i) z
 pub own_put : (up : ℕ → ℕ → ℕ → Type 0) (g : Setting) (m : Machine) (h : ℕ → Holding) (k : ℕ → Sketch) (rank : ℕ) → Tracks up g m h k → Tracks up g m (put h rank (h rank)) k
 own_put up g m h k rank tr = subst (λ (h : ℕ → Holding). Tracks up g m h k) (sym (put_own h rank)) tr
 
--- a request of which it is known that it is active isn't Done
-abbrev pub NeverDone : (ℕ → ℕ → ℕ → Type 0) → Setting → (ℕ → Sketch) → Type 0
-NeverDone up g k = (m : Machine) (h : ℕ → Holding) → Tracks up g m h k → (rank q : ℕ) (t : Ticket) → (h rank).of q ≡ Some t → m.done t.slot ≡ true → up rank q ((k rank).starts q) → ⊥
+-- requests are completed, one after the other
+pub data Follows (g : Setting) : Machine → Machine → Type 0 where
+  here : {m : Machine} → Follows g m m
+  further : {m n last : Machine} (rank comm place begin : ℕ) (bytes : List ℕ) (t : Ticket)
+      → MachineStep g m (calls.Retire rank t) (calls.Outcome rank comm place begin bytes) n
+      → Follows g n last
+      → Follows g m last
+
+-- from there on a request of which it is known that it is active isn't Done
+abbrev pub NeverDone : (ℕ → ℕ → ℕ → Type 0) → Setting → Machine → (ℕ → Sketch) → Type 0
+NeverDone up g from k = (m : Machine) → Follows g from m → (h : ℕ → Holding) → Tracks up g m h k → (rank q : ℕ) (t : Ticket) → (h rank).of q ≡ Some t → m.done t.slot ≡ true → up rank q ((k rank).starts q) → ⊥
 
 pub retired_step : (up : ℕ → ℕ → ℕ → Type 0) (g : Setting) (m n : Machine) (h : ℕ → Holding) (x : Holding) (k : ℕ → Sketch) (rank q comm place begin : ℕ) (bytes : List ℕ) (t : Ticket)
-    → NeverDone up g k → Tracks up g m (put h rank x) k → x.of q ≡ Some t
+    → NeverDone up g m k → Tracks up g m (put h rank x) k → x.of q ≡ Some t
     → MachineStep g m (calls.Retire rank t) (calls.Outcome rank comm place begin bytes) n
     → Tracks up g n (put h rank (holding_at x q (kept n.state t))) k
 retired_step up g m n h x k rank q comm place begin bytes t never tr held step =
     let r = retire_is g rank rank comm place begin bytes t m n step in
     let mine : (put h rank x rank).of q ≡ Some t = ap (λ (i : Holding). i.of q) (put_same h rank x) ∙ held in
-    loses up g m n (calls.Retire rank t) (calls.Outcome rank comm place begin bytes) h x k rank q t r.0.request (rested r.0.request) tr step (never m (put h rank x) tr rank q t mine r.1) held
+    loses up g m n (calls.Retire rank t) (calls.Outcome rank comm place begin bytes) h x k rank q t r.0.request (rested r.0.request) tr step (never m here (put h rank x) tr rank q t mine r.1) held
     (found_is m.state t r.0.request r.0.is).1 (leaves_retired g m.state n.state rank comm place begin bytes t r.0) (λ other e. rests_inactive r.0.request other e)
 
 freed_step : (up : ℕ → ℕ → ℕ → Type 0) (g : Setting) (m n : Machine) (h : ℕ → Holding) (k : ℕ → Sketch) (rank q : ℕ) (t : Ticket)
@@ -410,11 +418,11 @@ freed_step up g m n h k rank q t tr held step =
     loses up g m n (calls.Free rank t) calls.Nothing h (h rank) k rank q t l.0 None (own_put up g m h k rank tr) step (λ x. false≢true (sym idle ∙ l.1.active x)) held
     l.1.is (leaves_freed g m.state n.state rank t p) (λ other e. absurd (none-some other e))
 
-pub completed : (up : ℕ → ℕ → ℕ → Type 0) (g : Setting) (rank : ℕ) (qs : List ℕ) (h : ℕ → Holding) (k : ℕ → Sketch) → NeverDone up g k
-    → (m n : Machine) (x y : Holding) → Tracks up g m (put h rank x) k → Completes g rank qs m x n y → Tracks up g n (put h rank y) k
-completed up g rank qs h k never _ _ _ _ tr standings.none = tr
-completed up g rank qs h k never _ _ _ _ tr (standings.another {n = mid} {last = n} {h = x} {i = y} q comm place begin bytes t among held step more) =
-    completed up g rank qs h k never mid n (holding_at x q (kept mid.state t)) y (retired_step up g _ mid h x k rank q comm place begin bytes t never tr held step) more
+pub completed : (up : ℕ → ℕ → ℕ → Type 0) (g : Setting) (rank : ℕ) (qs : List ℕ) (h : ℕ → Holding) (k : ℕ → Sketch)
+    → (m n : Machine) (x y : Holding) → NeverDone up g m k → Tracks up g m (put h rank x) k → Completes g rank qs m x n y → Tracks up g n (put h rank y) k
+completed up g rank qs h k _ _ _ _ never tr standings.none = tr
+completed up g rank qs h k _ _ _ _ never tr (standings.another {n = mid} {last = n} {h = x} {i = y} q comm place begin bytes t among held step more) =
+    completed up g rank qs h k mid n (holding_at x q (kept mid.state t)) y (λ m f. never m (further rank comm place begin bytes t step f)) (retired_step up g _ mid h x k rank q comm place begin bytes t never tr held step) more
 
 -- ---- a rank carries a command out
 
@@ -432,9 +440,9 @@ tracks_named up g n h k rank qs tr = record {
         (own_sketched (up rank) g n.state rank k (h rank) (naming (k rank) qs) (agrees_named (up rank) g n.state rank (h rank) (k rank) qs (tr.agrees rank)))
     go r (inr d) = other_sketched (up r) g n.state r rank k (h r) (naming (k rank) qs) d (tr.agrees r)
 
-waited : (up : ℕ → ℕ → ℕ → Type 0) (g : Setting) (m n : Machine) (h : ℕ → Holding) (i : Holding) (k : ℕ → Sketch) (rank : ℕ) (qs : List ℕ) → NeverDone up g k → Tracks up g m h k → Completes g rank qs m (h rank) n i
+waited : (up : ℕ → ℕ → ℕ → Type 0) (g : Setting) (m n : Machine) (h : ℕ → Holding) (i : Holding) (k : ℕ → Sketch) (rank : ℕ) (qs : List ℕ) → NeverDone up g m k → Tracks up g m h k → Completes g rank qs m (h rank) n i
     → Tracks up g n (put h rank i) (put k rank (naming (k rank) qs))
-waited up g m n h i k rank qs never tr done = tracks_named up g n (put h rank i) k rank qs (completed up g rank qs h k never m n (h rank) i (own_put up g m h k rank tr) done)
+waited up g m n h i k rank qs never tr done = tracks_named up g n (put h rank i) k rank qs (completed up g rank qs h k m n (h rank) i never (own_put up g m h k rank tr) done)
 
 -- what is held and active after completions was so before, and is as Done as it was
 pub record WasActive (m n : Machine) (x : Holding) (q : ℕ) (t : Ticket) : Type 0 where
@@ -507,7 +515,7 @@ waited_inactive g rank qs m n x y ready done over q t request among held current
         let after : n.done t.slot ≡ false = undone (is_active n (Some t)) (n.done t.slot) active (ap (is_done n) (sym held) ∙ over q among) in
         absurd (false≢true (sym after ∙ (w.done ∙ before)))
 
-waited_all : (up : ℕ → ℕ → ℕ → Type 0) (g : Setting) (m n : Machine) (h : ℕ → Holding) (i : Holding) (k : ℕ → Sketch) (rank : ℕ) (qs : List ℕ) → NeverDone up g k → Tracks up g m h k
+waited_all : (up : ℕ → ℕ → ℕ → Type 0) (g : Setting) (m n : Machine) (h : ℕ → Holding) (i : Holding) (k : ℕ → Sketch) (rank : ℕ) (qs : List ℕ) → NeverDone up g m k → Tracks up g m h k
     → NonePending m (h rank) qs → Completes g rank qs m (h rank) n i → NoneDone n i qs
     → Tracks up g n (put h rank i) (put k rank (resting (k rank) qs))
 waited_all up g m n h i k rank qs never tr ready done over = record {
@@ -518,7 +526,7 @@ waited_all up g m n h i k rank qs never tr ready done over = record {
 }
   where
     after : Tracks up g n (put h rank i) k
-    after = completed up g rank qs h k never m n (h rank) i (own_put up g m h k rank tr) done
+    after = completed up g rank qs h k m n (h rank) i never (own_put up g m h k rank tr) done
 
     own : Agrees (up rank) g n.state rank i (k rank)
     own = subst (λ (i : Holding). Agrees (up rank) g n.state rank i (k rank)) (put_same h rank i) (after.agrees rank)
@@ -529,7 +537,7 @@ waited_all up g m n h i k rank qs never tr ready done over = record {
         (agrees_rests (up rank) g n.state rank i (k rank) qs (waited_inactive g rank qs m n (h rank) i ready done over) own)))
     go r (inr d) = other_sketched (up r) g n.state r rank k (put h rank i r) (resting (k rank) qs) d (after.agrees r)
 
-pub carried : (up : ℕ → ℕ → ℕ → Type 0) (g : Setting) (m : Machine) (h : ℕ → Holding) (k : ℕ → Sketch) (rank : ℕ) → ((q : ℕ) → up rank q 0 → ⊥) → NeverDone up g k → Tracks up g m h k
+pub carried : (up : ℕ → ℕ → ℕ → Type 0) (g : Setting) (m : Machine) (h : ℕ → Holding) (k : ℕ → Sketch) (rank : ℕ) → ((q : ℕ) → up rank q 0 → ⊥) → NeverDone up g m k → Tracks up g m h k
     → (c : Command) (n : Machine) (i : Holding) → Carries g rank m (h rank) c n i → Tracks up g n (put h rank i) (put k rank (sketched c (k rank)))
 carried up g m h k rank none never tr _ _ _ (standings.post {n} comm sig given plan t e step) =
     subst (λ (sig : Signature). Tracks up g n (put h rank (one_more (h rank) t)) (put k rank (making (k rank) comm sig 1))) e (posted_step up g m n h k rank comm plan given t tr step)

@@ -1,6 +1,8 @@
 -- how a job goes on, and what holds where none of its runs comes to the end
 pub mod Standings
 pub mod Stalls
+-- with a library of which it is known for whom its requests wait
+pub mod Waiting
 -- what a rank's commands say of its requests, and stands that no run goes beyond
 pub mod Sketches
 pub mod Stands

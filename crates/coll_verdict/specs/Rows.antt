@@ -12,6 +12,7 @@ use Rattle.coll_history.specs.Histories.{History}
 use Rattle.coll_verdict.specs.Standings.{Standing, Reaches}
 use Rattle.coll_verdict.specs.Stalls.{lines_of, StallsAlways, StallsNever}
 use Rattle.coll_verdict.specs.Lasts.{IsLast, AreAccepted}
+use Rattle.coll_verdict.specs.Waiting.{Hearing, StallsAlwaysBy, StallsNeverBy}
 use Rattle.coll_verdict.specs.Sketches.{sketch_at}
 
 -- ---- one rank posts a barrier
@@ -56,6 +57,14 @@ LoneBarrierEnds = StallsAlways lone → ⊥
 abbrev pub LoneBarrierNeverStalls : Type 0
 LoneBarrierNeverStalls = StallsNever lone
 
+-- whomever a library's requests wait for, it comes to its end,
+abbrev pub LoneBarrierEndsBy : Type 0
+LoneBarrierEndsBy = (hears : Hearing) → StallsAlwaysBy hears lone → ⊥
+
+-- and doesn't stall
+abbrev pub LoneBarrierNeverStallsBy : Type 0
+LoneBarrierNeverStallsBy = (hears : Hearing) → StallsNeverBy hears lone
+
 -- ---- two ranks post the barriers of two communicators, each waits for its first, and they don't begin with the same
 
 abbrev pub crossed : History
@@ -94,6 +103,14 @@ CrossedBarriersStall = StallsAlways crossed
 abbrev pub CrossedBarriersMayStall : Type 0
 CrossedBarriersMayStall = StallsNever crossed → ⊥
 
+-- whomever a library's requests wait for, no run comes to its end,
+abbrev pub CrossedBarriersStallBy : Type 0
+CrossedBarriersStallBy = (hears : Hearing) → StallsAlwaysBy hears crossed
+
+-- and it isn't true that none stalls
+abbrev pub CrossedBarriersMayStallBy : Type 0
+CrossedBarriersMayStallBy = (hears : Hearing) → StallsNeverBy hears crossed → ⊥
+
 -- a run comes to where it can't go on, though no call is refused
 abbrev pub CrossedRunIsLast : Type 0
 CrossedRunIsLast = (g : Setting) × (g.groups ≡ crossed.groups) × (s : Standing)
@@ -114,6 +131,10 @@ inits = record crossed {
 -- a library may let both wait in their first calls
 abbrev pub CrossedInitsMayStall : Type 0
 CrossedInitsMayStall = StallsNever inits → ⊥
+
+-- one whose initialisations don't wait never stalls so
+abbrev pub CrossedInitsNeverStallBy : Type 0
+CrossedInitsNeverStallBy = (hears : Hearing) → StallsNeverBy hears inits
 
 -- ---- two ranks cross collectives of no elements
 

@@ -4,14 +4,25 @@ ghost use Rattle.std.specs.Prelude.{◌≡◌, nat_lt, slice_get};
 ghost use Rattle.std.specs.List.{list_all, range_with_len};
 ghost use Rattle.coll_kinds.specs.Checks.{is_barrier};
 ghost use Rattle.coll_kinds.specs.Lengths.{count_at};
-ghost use Rattle.coll_verdict.specs.Checking.{gives_at, issues_at, size_at};
+ghost use Rattle.coll_verdict.specs.Checking.{all_issue, gives_at, issues_at, size_at};
 ghost use Rattle.coll_verdict.specs.Stalls.{has_elements};
 
+use crate::library::Library;
 use coll_history::{Command, IssuedCommand};
 use coll_kinds::{Kind, Signature};
 
+/// Whether an empty contribution is waited for, or there is none.
+pub(crate) fn all_issue(library: &Library, groups: &[Vec<u8>], commands: &[IssuedCommand]) -> bool
+    ensures { result ≡ all_issue library.now groups.now commands.now }
+{
+    match library {
+        Library::Any => all_give(groups, commands),
+        Library::Hears(_) => true,
+    }
+}
+
 /// Whether no contribution is empty, but to a barrier. Linear in the commands, and in the members of each allgatherv.
-pub(crate) fn all_give(groups: &[Vec<u8>], commands: &[IssuedCommand]) -> bool
+fn all_give(groups: &[Vec<u8>], commands: &[IssuedCommand]) -> bool
     ensures { result ≡ list_all (issues_at groups.now) commands.now }
 {
     commands.iter().all(|issued| gives(groups, &issued.command))

@@ -1,8 +1,8 @@
 //! What holds of all jobs. A call does nothing; its contract is the law.
 
 ghost use Rattle.coll_verdict.specs.Lasts.{EndsAtLast, LastIsStalled, StallsAtLast};
-ghost use Rattle.coll_verdict.specs.Laws.{ClosedStandsStall, EmptyJobEnds, PassesDontStall};
-ghost use Rattle.coll_verdict.specs.Rows.{CrossedBarriersMayStall, CrossedBarriersStall, CrossedEmptiesMayEnd, CrossedInitsMayStall, CrossedRunIsLast, LoneBarrierEnds, LoneBarrierNeverStalls};
+ghost use Rattle.coll_verdict.specs.Laws.{AlwaysIsAlwaysBy, ClosedStandsStall, ClosedStandsStallBy, EmptyJobEnds, NeverIsNeverBy, PassesDontStall, PassesDontStallBy};
+ghost use Rattle.coll_verdict.specs.Rows.{CrossedBarriersMayStall, CrossedBarriersMayStallBy, CrossedBarriersStall, CrossedBarriersStallBy, CrossedEmptiesMayEnd, CrossedInitsMayStall, CrossedInitsNeverStallBy, CrossedRunIsLast, LoneBarrierEnds, LoneBarrierEndsBy, LoneBarrierNeverStalls, LoneBarrierNeverStallsBy};
 
 /// No run goes beyond stands that are closed: so none comes to its end where one of them is short of it.
 pub fn closed_stands_stall()
@@ -12,6 +12,26 @@ pub fn closed_stands_stall()
 /// Where ranks can carry all their commands out in some order, and none waits in it, no run stalls.
 pub fn passes_dont_stall()
     ensures { PassesDontStall }
+{}
+
+/// No run goes beyond closed stands with a library of which it is known for whom its requests wait.
+pub fn closed_stands_stall_by()
+    ensures { ClosedStandsStallBy }
+{}
+
+/// With such a library no run stalls where ranks can carry all their commands out in some order, and none waits in it.
+pub fn passes_dont_stall_by()
+    ensures { PassesDontStallBy }
+{}
+
+/// A job that stalls in every run with every library does so with such a library,
+pub fn always_is_always_by()
+    ensures { AlwaysIsAlwaysBy }
+{}
+
+/// and one that stalls in none with any library stalls in none with such a library.
+pub fn never_is_never_by()
+    ensures { NeverIsNeverBy }
 {}
 
 /// A run that can't go on, though no call is refused, has stalled, unless each rank is at its end.
@@ -68,4 +88,29 @@ pub fn crossed_inits_may_stall()
 /// That no run ends isn't said of crossed collectives of no elements, for which a library needn't wait.
 pub fn crossed_empties_may_end()
     ensures { CrossedEmptiesMayEnd }
+{}
+
+/// With a library of which it is known for whom its requests wait, whoever that is, that no run ends is true of the crossed barriers,
+pub fn crossed_barriers_stall_by()
+    ensures { CrossedBarriersStallBy }
+{}
+
+/// and not of one rank's barrier;
+pub fn lone_barrier_ends_by()
+    ensures { LoneBarrierEndsBy }
+{}
+
+/// that none stalls is true of one rank's barrier,
+pub fn lone_barrier_never_stalls_by()
+    ensures { LoneBarrierNeverStallsBy }
+{}
+
+/// and not of the crossed barriers.
+pub fn crossed_barriers_may_stall_by()
+    ensures { CrossedBarriersMayStallBy }
+{}
+
+/// Nor does any run of the crossed initialisations stall, in which such a library doesn't wait.
+pub fn crossed_inits_never_stall_by()
+    ensures { CrossedInitsNeverStallBy }
 {}

@@ -11,17 +11,19 @@
 //! | Module | Has |
 //! |---|---|
 //! | `known` | `KnownRequest`, what the commands of a rank say of a request |
+//! | `library` | [`Library`], of what is known of a library's calls |
 //! | `stood` | `Stood`, a rank at its stand |
 //! | `checking` | whether ranks at their stands can go on |
 //! | `order` | ranks that carry their commands out, each when it can |
 //! | `giving` | whether all members have something to give |
-//! | `verdict` | [`always_stalls`], [`never_stalls`] |
+//! | `verdict` | [`always_stalls`], [`never_stalls`]; of one library [`always_stalls_by`], [`never_stalls_by`] |
 //! | `laws` | what holds of all jobs |
 //!
 //! | In `specs/` | Has |
 //! |---|---|
 //! | `Standings` | what a job has come to, its steps, and what runs reach |
 //! | `Stalls` | that no run of a job comes to its end, and that none stalls |
+//! | `Waiting` | the same with one library |
 //! | `Sketches`, `Stands` | what commands say of requests; stands that no run goes beyond |
 //! | `Passes` | an order in which no rank waits |
 //! | `Lasts` | runs that can't go on |
@@ -33,8 +35,10 @@ mod checking;
 mod giving;
 mod known;
 pub mod laws;
+mod library;
 mod order;
 mod stood;
 mod verdict;
 
-pub use verdict::{always_stalls, never_stalls};
+pub use library::{HeardRows, Library};
+pub use verdict::{always_stalls, always_stalls_by, never_stalls, never_stalls_by};

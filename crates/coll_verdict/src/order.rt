@@ -4,24 +4,30 @@ ghost use Rattle.std.specs.Prelude.{◌≡◌, true, IsTrue, IfOk, Some, count_b
 ghost use Rattle.std.specs.List.{list_any, list_all, range_with_len};
 ghost use Rattle.coll_history.specs.Code.{rows_view};
 ghost use Rattle.coll_history.specs.Histories.{History};
-ghost use Rattle.coll_verdict.specs.Checking.{all_come, apart_at, are_apart, begun_as, can_pass, free_at, has_come, has_made, has_made_before, has_seat, is_at_beginning, is_at_end, is_come, is_joined, is_seat, made_as, next_can_pass, peer_has_begun, peer_is_come, sure_at};
+ghost use Rattle.coll_verdict.specs.Checking.{all_come, apart_at, are_apart, begun_as, can_pass, free_at, has_come, has_made, has_made_before, has_seat, init_returns, is_at_beginning, is_at_end, is_come, is_joined, is_seat, joined_by, joined_heard, joined_member, joined_told, made_as, member_has_begun, next_can_pass, peer_has_begun, peer_is_come, sure_at};
 ghost use Rattle.coll_verdict.specs.Stalls.{makes_in, makes_on};
 ghost use Rattle.coll_verdict.specs.Code.{Advances, AreStood, IsAhead};
 
 use crate::known::{KnownRequest, note, place_on};
+use crate::library::{HeardRows, Library};
 use crate::stood::Stood;
 use coll_history::{Command, Named};
 use coll_kinds::member_of;
 use std::alloc::AllocError;
 
 /// Lets a rank carry its next command out. Returns whether it could.
-pub(crate) fn pass(ranks: &mut Vec<Stood>, groups: &[Vec<u8>], rank: u8) -> Result<bool, AllocError>
-    ensures { IfOk result (λ has_passed. IsTrue has_passed → (h : History) → AreStood h ranks.old.items → rows_view groups.now ≡ h.groups → are_apart groups.now ≡ true → Advances h ranks.old.items ranks.new.items) }
+pub(crate) fn pass(
+    library: &Library,
+    ranks: &mut Vec<Stood>,
+    groups: &[Vec<u8>],
+    rank: u8,
+) -> Result<bool, AllocError>
+    ensures { IfOk result (λ has_passed. IsTrue has_passed → (h : History) → AreStood h ranks.old.items → rows_view groups.now ≡ h.groups → are_apart groups.now ≡ true → Advances library.now h ranks.old.items ranks.new.items) }
 {
     if rank as usize >= ranks.len() {
         return Ok(false);
     }
-    if !can_go_on(ranks, groups, &ranks[rank as usize]) {
+    if !can_go_on(library, ranks, groups, &ranks[rank as usize]) {
         return Ok(false);
     }
     let own = &mut ranks[rank as usize];
@@ -60,30 +66,54 @@ fn go_on(own: &mut Stood) -> Result<bool, AllocError>
     Ok(true)
 }
 
-fn can_go_on(ranks: &[Stood], groups: &[Vec<u8>], own: &Stood) -> bool
-    ensures { result ≡ next_can_pass ranks.now groups.now own.now (slice_get own.now.commands.items own.now.stand) }
+fn can_go_on(library: &Library, ranks: &[Stood], groups: &[Vec<u8>], own: &Stood) -> bool
+    ensures { result ≡ next_can_pass library.now ranks.now groups.now own.now (slice_get own.now.commands.items own.now.stand) }
 {
     match own.commands.get(own.stand) {
-        Some(command) => can_pass(ranks, groups, own, command),
+        Some(command) => can_pass(library, ranks, groups, own, command),
         None => false,
     }
 }
 
-fn can_pass(ranks: &[Stood], groups: &[Vec<u8>], own: &Stood, command: &Command) -> bool
-    ensures { result ≡ can_pass ranks.now groups.now own.now command.now }
+fn can_pass(
+    library: &Library,
+    ranks: &[Stood],
+    groups: &[Vec<u8>],
+    own: &Stood,
+    command: &Command,
+) -> bool
+    ensures { result ≡ can_pass library.now ranks.now groups.now own.now command.now }
 {
     match command {
         Command::Post { .. } | Command::Start { .. } => true,
         Command::Test(_) | Command::Free(_) => true,
-        Command::Init { comm, .. } => all_come(ranks, groups, own, *comm),
-        Command::Wait(q) => is_free(ranks, groups, own, *q as usize),
+        Command::Init { comm, .. } => init_returns(library, ranks, groups, own, *comm),
+        Command::Wait(q) => is_free(library, ranks, groups, own, *q as usize),
         Command::WaitAny(named) => {
-            all_are_free(ranks, groups, own, named) || one_is_sure(ranks, groups, own, named)
+            all_are_free(library, ranks, groups, own, named)
+                || one_is_sure(library, ranks, groups, own, named)
         }
         Command::WaitSome(named) => {
-            all_are_free(ranks, groups, own, named) || one_is_sure(ranks, groups, own, named)
+            all_are_free(library, ranks, groups, own, named)
+                || one_is_sure(library, ranks, groups, own, named)
         }
-        Command::WaitAll(named) => all_are_free(ranks, groups, own, named),
+        Command::WaitAll(named) => all_are_free(library, ranks, groups, own, named),
+    }
+}
+
+/// Whether an initialisation returns: with any library once all members have come to it.
+fn init_returns(
+    library: &Library,
+    ranks: &[Stood],
+    groups: &[Vec<u8>],
+    own: &Stood,
+    comm: u8,
+) -> bool
+    ensures { result ≡ init_returns library.now ranks.now groups.now own.now comm }
+{
+    match library {
+        Library::Any => all_come(ranks, groups, own, comm),
+        Library::Hears(_) => true,
     }
 }
 
@@ -177,56 +207,83 @@ fn makes_on(command: &Command, on: u8) -> bool
     }
 }
 
-fn all_are_free(ranks: &[Stood], groups: &[Vec<u8>], own: &Stood, named: &Named) -> bool
-    ensures { result ≡ list_all (free_at ranks.now groups.now own.now) named.now }
+fn all_are_free(
+    library: &Library,
+    ranks: &[Stood],
+    groups: &[Vec<u8>],
+    own: &Stood,
+    named: &Named,
+) -> bool
+    ensures { result ≡ list_all (free_at library.now ranks.now groups.now own.now) named.now }
 {
     let mut holds = true;
     for index in 0..named.len() {
-        holds = holds && is_free(ranks, groups, own, named.get(index));
+        holds = holds && is_free(library, ranks, groups, own, named.get(index));
     }
     holds
 }
 
-fn one_is_sure(ranks: &[Stood], groups: &[Vec<u8>], own: &Stood, named: &Named) -> bool
-    ensures { result ≡ list_any (sure_at ranks.now groups.now own.now) named.now }
+fn one_is_sure(
+    library: &Library,
+    ranks: &[Stood],
+    groups: &[Vec<u8>],
+    own: &Stood,
+    named: &Named,
+) -> bool
+    ensures { result ≡ list_any (sure_at library.now ranks.now groups.now own.now) named.now }
 {
     let mut is_found = false;
     for index in 0..named.len() {
-        is_found = is_found || is_sure(ranks, groups, own, named.get(index));
+        is_found = is_found || is_sure(library, ranks, groups, own, named.get(index));
     }
     is_found
 }
 
-/// Whether a request is inactive, or all members have come to its start.
-fn is_free(ranks: &[Stood], groups: &[Vec<u8>], own: &Stood, q: usize) -> bool
-    ensures { result ≡ free_at ranks.now groups.now own.now q }
+/// Whether a request is inactive, or whom it awaits has come to its start.
+fn is_free(library: &Library, ranks: &[Stood], groups: &[Vec<u8>], own: &Stood, q: usize) -> bool
+    ensures { result ≡ free_at library.now ranks.now groups.now own.now q }
 {
     match own.requests.get(q) {
         Some(request) => request.starts == 0
             || request.is_rested
-            || is_joined(ranks, groups, request),
+            || is_joined(library, ranks, groups, own.rank, request),
         None => false,
     }
 }
 
-/// Whether a request is active in every run, and all members have come to its start.
-fn is_sure(ranks: &[Stood], groups: &[Vec<u8>], own: &Stood, q: usize) -> bool
-    ensures { result ≡ sure_at ranks.now groups.now own.now q }
+/// Whether a request is active in every run, and whom it awaits has come to its start.
+fn is_sure(library: &Library, ranks: &[Stood], groups: &[Vec<u8>], own: &Stood, q: usize) -> bool
+    ensures { result ≡ sure_at library.now ranks.now groups.now own.now q }
 {
     match own.requests.get(q) {
         Some(request) => request.starts > 0
             && !request.is_named
-            && is_joined(ranks, groups, request),
+            && is_joined(library, ranks, groups, own.rank, request),
         None => false,
     }
 }
 
-fn is_joined(ranks: &[Stood], groups: &[Vec<u8>], own: &KnownRequest) -> bool
-    ensures { result ≡ is_joined ranks.now groups.now own.now }
+fn is_joined(
+    library: &Library,
+    ranks: &[Stood],
+    groups: &[Vec<u8>],
+    rank: u8,
+    own: &KnownRequest,
+) -> bool
+    ensures { result ≡ is_joined library.now ranks.now groups.now rank own.now }
 {
     match groups.get(own.comm as usize) {
-        Some(group) => all_have_begun(ranks, group, own),
+        Some(group) => joined_by(library, ranks, group, rank, own),
         None => false,
+    }
+}
+
+fn joined_by(library: &Library, ranks: &[Stood], group: &[u8], rank: u8, own: &KnownRequest) -> bool
+    ensures { result ≡ joined_by library.now ranks.now group.now rank own.now }
+{
+    match library {
+        Library::Any => all_have_begun(ranks, group, own),
+        Library::Hears(tables) => joined_member(tables, ranks, group, own, member_of(rank, group)),
     }
 }
 
@@ -234,6 +291,82 @@ fn all_have_begun(ranks: &[Stood], group: &[u8], own: &KnownRequest) -> bool
     ensures { result ≡ list_all (peer_has_begun ranks.now own.now) group.now }
 {
     group.iter().all(|peer| peer_has_begun(ranks, own, *peer))
+}
+
+fn joined_member(
+    tables: &[HeardRows],
+    ranks: &[Stood],
+    group: &[u8],
+    own: &KnownRequest,
+    member: Option<usize>,
+) -> bool
+    ensures { result ≡ joined_member tables.now ranks.now group.now own.now member }
+{
+    match member {
+        Some(member) => joined_by_some(tables, ranks, group, own, member),
+        None => false,
+    }
+}
+
+fn joined_by_some(
+    tables: &[HeardRows],
+    ranks: &[Stood],
+    group: &[u8],
+    own: &KnownRequest,
+    member: usize,
+) -> bool
+    ensures { result ≡ list_any (joined_heard ranks.now group.now own.now member) tables.now }
+{
+    tables
+        .iter()
+        .any(|table| joined_heard(table, ranks, group, own, member))
+}
+
+/// Whether this is the collective's table, and whom the request of a member waits for by it has come to its start.
+fn joined_heard(
+    table: &HeardRows,
+    ranks: &[Stood],
+    group: &[u8],
+    own: &KnownRequest,
+    member: usize,
+) -> bool
+    ensures { result ≡ joined_heard ranks.now group.now own.now member table.now }
+{
+    table.is_of(&own.sig, group.len()) && all_joined_told(table, ranks, group, own, member)
+}
+
+fn all_joined_told(
+    table: &HeardRows,
+    ranks: &[Stood],
+    group: &[u8],
+    own: &KnownRequest,
+    member: usize,
+) -> bool
+    ensures { result ≡ list_all (joined_told ranks.now group.now own.now member table.now) (range_with_len 0 (length group.now)) }
+{
+    (0..group.len()).all(|other| joined_told(table, ranks, group, own, member, other))
+}
+
+fn joined_told(
+    table: &HeardRows,
+    ranks: &[Stood],
+    group: &[u8],
+    own: &KnownRequest,
+    member: usize,
+    other: usize,
+) -> bool
+    ensures { result ≡ joined_told ranks.now group.now own.now member table.now other }
+{
+    table.says_no(member, other) || member_has_begun(ranks, group, own, other)
+}
+
+fn member_has_begun(ranks: &[Stood], group: &[u8], own: &KnownRequest, member: usize) -> bool
+    ensures { result ≡ member_has_begun ranks.now own.now (slice_get group.now member) }
+{
+    match group.get(member) {
+        Some(peer) => peer_has_begun(ranks, own, *peer),
+        None => false,
+    }
 }
 
 fn peer_has_begun(ranks: &[Stood], own: &KnownRequest, peer: u8) -> bool

@@ -1,10 +1,11 @@
 ghost use Rattle.std.specs.Prelude.{◌≡◌, IsTrue, IfOk};
 ghost use Rattle.coll_history.specs.Code.{rows_view};
-ghost use Rattle.coll_verdict.specs.Code.{AreStood};
+ghost use Rattle.coll_verdict.specs.Code.{AlwaysFor, AreStood, NeverFor};
 ghost use Rattle.coll_verdict.specs.Stalls.{StallsAlways, StallsNever};
 
 use crate::checking::{all_stay, one_is_short};
-use crate::giving::all_give;
+use crate::giving::all_issue;
+use crate::library::Library;
 use crate::order::{are_apart, are_at_beginnings, are_at_ends, pass};
 use crate::stood::{Stood, stand_all};
 use coll_history::History;
@@ -17,22 +18,35 @@ use std::alloc::{AllocError, Global};
 pub fn always_stalls(alloc: Global, history: &History, stands: &[usize]) -> Result<bool, AllocError>
     ensures { IfOk result (λ is_shown. IsTrue is_shown → StallsAlways history.now) }
 {
+    always_stalls_by(alloc, history, stands, &Library::Any)
+}
+
+/// The same of the runs with such a library, which waits for empty contributions too. The cost is linear in its tables too.
+pub fn always_stalls_by(
+    alloc: Global,
+    history: &History,
+    stands: &[usize],
+    library: &Library,
+) -> Result<bool, AllocError>
+    ensures { IfOk result (λ is_shown. IsTrue is_shown → AlwaysFor library.now history.now) }
+{
     match stand_all(alloc, history, stands)? {
-        Some(ranks) => Ok(are_final(history, history.groups(), &ranks)),
+        Some(ranks) => Ok(are_final(library, history, history.groups(), &ranks)),
         None => Ok(false),
     }
 }
 
-/// Whether no rank can go on from its stand, one isn't at its end, and no contribution is empty.
-fn are_final(history: &History, groups: &[Vec<u8>], ranks: &[Stood]) -> bool
+/// Whether no rank can go on from its stand, one isn't at its end, and no empty contribution is one for which a library needn't
+/// wait.
+fn are_final(library: &Library, history: &History, groups: &[Vec<u8>], ranks: &[Stood]) -> bool
     requires stood { AreStood history.now ranks.now }
     requires same { rows_view groups.now ≡ history.now.groups }
-    ensures { IsTrue result → StallsAlways history.now }
+    ensures { IsTrue result → AlwaysFor library.now history.now }
 {
-    if !all_give(groups, history.commands()) {
+    if !all_issue(library, groups, history.commands()) {
         return false;
     }
-    one_is_short(ranks) && all_stay(ranks, groups)
+    one_is_short(ranks) && all_stay(library, ranks, groups)
 }
 
 /// Whether this order of ranks shows that no run of the job stalls, with whatever library: each time that a rank is named it
@@ -41,15 +55,28 @@ fn are_final(history: &History, groups: &[Vec<u8>], ranks: &[Stood]) -> bool
 pub fn never_stalls(alloc: Global, history: &History, order: &[u8]) -> Result<bool, AllocError>
     ensures { IfOk result (λ is_shown. IsTrue is_shown → StallsNever history.now) }
 {
+    never_stalls_by(alloc, history, order, &Library::Any)
+}
+
+/// The same of the runs with such a library. The cost is linear in its tables too.
+pub fn never_stalls_by(
+    alloc: Global,
+    history: &History,
+    order: &[u8],
+    library: &Library,
+) -> Result<bool, AllocError>
+    ensures { IfOk result (λ is_shown. IsTrue is_shown → NeverFor library.now history.now) }
+{
     let stands = vec![in alloc; 0usize; history.ranks() as usize]?;
     match stand_all(alloc, history, &stands)? {
-        Some(ranks) => all_pass(history, history.groups(), ranks, order),
+        Some(ranks) => all_pass(library, history, history.groups(), ranks, order),
         None => Ok(false),
     }
 }
 
 /// Whether these ranks, each at its beginning, come to their ends in that order.
 fn all_pass(
+    library: &Library,
     history: &History,
     groups: &[Vec<u8>],
     mut ranks: Vec<Stood>,
@@ -57,7 +84,7 @@ fn all_pass(
 ) -> Result<bool, AllocError>
     requires stood { AreStood history.now ranks.items }
     requires same { rows_view groups.now ≡ history.now.groups }
-    ensures { IfOk result (λ is_shown. IsTrue is_shown → StallsNever history.now) }
+    ensures { IfOk result (λ is_shown. IsTrue is_shown → NeverFor library.now history.now) }
 {
     if !are_apart(groups) {
         return Ok(false);
@@ -66,7 +93,7 @@ fn all_pass(
         return Ok(false);
     }
     for rank in order {
-        if !pass(&mut ranks, groups, *rank)? {
+        if !pass(library, &mut ranks, groups, *rank)? {
             return Ok(false);
         }
     }

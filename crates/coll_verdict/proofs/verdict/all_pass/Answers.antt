@@ -9,9 +9,9 @@ loop-rank-init c =
     let yes : c.are_at_beginnings.result ≡ true = grind arith in
     let all : list_all is_at_beginning c.args.ranks.items ≡ true = ap (list_all is_at_beginning) (sym c.deref.ensures.value) ∙ (sym c.are_at_beginnings.ensures ∙ yes) in
     let apart : c.are_apart.result ≡ true = grind arith in
-    record { apart = sym c.are_apart.ensures ∙ apart; stood = c.requires.stood; passes = λ g e. has_begun_so c.args.history.now c.args.ranks.items all g }
+    record { apart = sym c.are_apart.ensures ∙ apart; stood = c.requires.stood; passes = λ rule follows g e. has_begun_so rule c.args.history.now c.args.ranks.items all g }
 
 pub returns : goal.returns
 returns c = λ yes.
     let all : list_all is_at_end c.loop-rank.ranks.items ≡ true = ap (list_all is_at_end) (sym c.deref-2.ensures.value) ∙ (sym c.are_at_ends.ensures ∙ yes) in
-    has_ended_so c.args.history.now c.loop-rank.ranks.items [] c.loop-rank.invariant.stood c.loop-rank.invariant.passes all
+    has_ended_so c.args.library.now c.args.history.now c.loop-rank.ranks.items [] c.loop-rank.invariant.stood c.loop-rank.invariant.passes all

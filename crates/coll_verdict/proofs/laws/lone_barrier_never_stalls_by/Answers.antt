@@ -1,0 +1,5 @@
+use Rattle.coll_verdict.proofs.WaitingRows.{lone_barrier_never_stalls_by}
+use Rattle.coll_verdict.proofs.laws.lone_barrier_never_stalls_by.Goals as goal
+
+pub returns : goal.returns
+returns c = lone_barrier_never_stalls_by
