@@ -2,8 +2,9 @@
 
 use crate::difference::{Difference, differences};
 use crate::draft::Written;
-use crate::postings::{PostingList, all_postings};
-use coll_history::{History, Request};
+use crate::postings::{ComparedRequest, PostingList, all_postings};
+use coll_history::History;
+use coll_kinds::Signature;
 use coll_script::Cause;
 use std::alloc::{AllocError, Global};
 
@@ -121,25 +122,29 @@ fn push_by_line(mismatches: &mut Vec<Mismatch>, mismatch: Mismatch) -> Result<()
     Ok(())
 }
 
-/// A request at a place, with its rank.
+/// A request at a place, as far as it is compared with the others there.
 #[derive(Clone, Copy)]
-struct Seat<'p> {
+struct PlaceRequest {
     rank: u8,
-    request: &'p Request<'p>,
+    line: u32,
+    sig: Signature,
+    starts: usize,
 }
 
 /// The requests at a place, of the members that have one.
-fn at_place<'p>(
+fn at_place(
     alloc: Global,
-    lists: &'p [PostingList<'p>],
+    lists: &[PostingList],
     place: usize,
-) -> Result<Vec<Seat<'p>>, AllocError> {
+) -> Result<Vec<PlaceRequest>, AllocError> {
     let mut seats = Vec::new(alloc);
     for list in lists {
-        if let Some(request) = list.requests.get(place) {
-            seats.push(Seat {
-                rank: list.rank,
-                request,
+        if let Some(posted) = list.posted.get(place) {
+            seats.push(PlaceRequest {
+                rank: posted.rank,
+                line: posted.line,
+                sig: posted.sig,
+                starts: posted.starts.len(),
             })?;
         }
     }
@@ -147,11 +152,11 @@ fn at_place<'p>(
 }
 
 /// The request in the earliest line.
-fn earliest<'p>(seats: &[Seat<'p>]) -> Option<Seat<'p>> {
-    let mut earliest: Option<Seat<'p>> = None;
+fn earliest(seats: &[PlaceRequest]) -> Option<PlaceRequest> {
+    let mut earliest: Option<PlaceRequest> = None;
     for seat in seats {
         let is_earlier = match earliest {
-            Some(first) => seat.request.line < first.request.line,
+            Some(first) => seat.line < first.line,
             None => true,
         };
         if is_earlier {
@@ -165,25 +170,25 @@ fn earliest<'p>(seats: &[Seat<'p>]) -> Option<Seat<'p>> {
 fn places(lists: &[PostingList]) -> usize {
     let mut places: usize = 0;
     for list in lists {
-        places = places.max(list.requests.len());
+        places = places.max(list.posted.len());
     }
     places
 }
 
-fn standing_of(written: &Written, seat: Seat<'_>, first: Seat<'_>) -> PlacedRequest {
+fn standing_of(written: &Written, seat: PlaceRequest, first: PlaceRequest) -> PlacedRequest {
     PlacedRequest {
         rank: seat.rank,
-        line: written.of(seat.request.line),
-        agrees: seat.request.sig == first.request.sig,
+        line: written.of(seat.line),
+        agrees: seat.sig == first.sig,
     }
 }
 
 /// The request in the earliest line, of those that differ from the earliest request at their place, with that place.
-fn first_to_differ<'p>(
+fn first_to_differ(
     alloc: Global,
-    lists: &'p [PostingList<'p>],
-) -> Result<Option<(usize, Seat<'p>)>, AllocError> {
-    let mut least: Option<(usize, Seat<'p>)> = None;
+    lists: &[PostingList],
+) -> Result<Option<(usize, PlaceRequest)>, AllocError> {
+    let mut least: Option<(usize, PlaceRequest)> = None;
     for place in 0..places(lists) {
         let seats = at_place(alloc, lists, place)?;
         if let Some(first) = earliest(&seats) {
@@ -194,19 +199,19 @@ fn first_to_differ<'p>(
 }
 
 /// The request in the earliest line: `least`, or one of this place that differs from the earliest request there.
-fn lesser<'p>(
-    least: Option<(usize, Seat<'p>)>,
+fn lesser(
+    least: Option<(usize, PlaceRequest)>,
     place: usize,
-    first: Seat<'p>,
-    seats: &[Seat<'p>],
-) -> Option<(usize, Seat<'p>)> {
+    first: PlaceRequest,
+    seats: &[PlaceRequest],
+) -> Option<(usize, PlaceRequest)> {
     let mut least = least;
     for seat in seats {
         let is_lesser = match least {
-            Some((_, other)) => seat.request.line < other.request.line,
+            Some((_, other)) => seat.line < other.line,
             None => true,
         };
-        if is_lesser && seat.request.sig != first.request.sig {
+        if is_lesser && seat.sig != first.sig {
             least = Some((place, *seat));
         }
     }
@@ -236,7 +241,7 @@ fn mismatch_on(
         place,
         first: standing_of(written, first, first),
         differs: standing_of(written, differs, first),
-        fields: differences(alloc, &differs.request.sig, &first.request.sig)?,
+        fields: differences(alloc, &differs.sig, &first.sig)?,
         members,
         elsewhere: elsewhere(written, lists, differs, first),
     }))
@@ -246,13 +251,13 @@ fn mismatch_on(
 fn elsewhere(
     written: &Written,
     lists: &[PostingList],
-    differs: Seat<'_>,
-    first: Seat<'_>,
+    differs: PlaceRequest,
+    first: PlaceRequest,
 ) -> Option<(usize, u32)> {
     let list = lists.iter().find(|list| list.rank == differs.rank)?;
-    for request in &list.requests {
-        if request.sig == first.request.sig {
-            return Some((request.place, written.of(request.line)));
+    for (place, posted) in list.posted.iter().enumerate() {
+        if posted.sig == first.sig {
+            return Some((place, written.of(posted.line)));
         }
     }
     None
@@ -267,7 +272,7 @@ fn missing_place(
 ) -> Result<Option<MissingPlace>, AllocError> {
     let mut least = places(lists);
     for list in lists {
-        least = least.min(list.requests.len());
+        least = least.min(list.posted.len());
     }
     let seats = at_place(alloc, lists, least)?;
     let Some(first) = earliest(&seats) else {
@@ -275,8 +280,8 @@ fn missing_place(
     };
     let mut lacking = Vec::new(alloc);
     for list in lists {
-        if list.requests.len() <= least {
-            lacking.push((list.rank, list.requests.len()))?;
+        if list.posted.len() <= least {
+            lacking.push((list.rank, list.posted.len()))?;
         }
     }
     Ok(Some(MissingPlace {
@@ -316,33 +321,29 @@ fn all_started(
 ) -> Result<Vec<(u8, u32, Vec<u32>)>, AllocError> {
     let mut members = Vec::new(alloc);
     for list in lists {
-        if let Some(request) = list.requests.get(place) {
-            members.push(started(alloc, written, list.rank, request)?)?;
+        if let Some(posted) = list.posted.get(place) {
+            members.push(started(alloc, written, posted)?)?;
         }
     }
     Ok(members)
 }
 
-/// A rank, the line of its request, and the lines of the request's starts.
+/// The rank of a request, its line, and the lines of its starts.
 fn started(
     alloc: Global,
     written: &Written,
-    rank: u8,
-    request: &Request<'_>,
+    posted: &ComparedRequest,
 ) -> Result<(u8, u32, Vec<u32>), AllocError> {
     let mut starts = Vec::new(alloc);
-    for start in &request.starts {
-        starts.push(written.of(start.line))?;
+    for line in &posted.starts {
+        starts.push(written.of(*line))?;
     }
-    Ok((rank, written.of(request.line), starts))
+    Ok((posted.rank, written.of(posted.line), starts))
 }
 
-fn are_started_alike(seats: &[Seat<'_>]) -> bool {
+fn are_started_alike(seats: &[PlaceRequest]) -> bool {
     match seats.first() {
-        Some(first) => {
-            let starts = first.request.starts.len();
-            seats.iter().all(|seat| seat.request.starts.len() == starts)
-        }
+        Some(first) => seats.iter().all(|seat| seat.starts == first.starts),
         None => true,
     }
 }

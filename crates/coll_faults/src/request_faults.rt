@@ -2,7 +2,7 @@
 
 use crate::remark::Remark;
 use crate::site::Site;
-use coll_kinds::{MAX_REQUESTS, Mode, read_number};
+use coll_kinds::{MAX_REQUESTS, read_number};
 use std::alloc::AllocError;
 
 /// The remark on the first request that the section hasn't made.
@@ -57,13 +57,12 @@ pub(crate) fn not_startable(site: &Site<'_>) -> Result<Remark, AllocError> {
     let alloc = site.alloc;
     let made = site.made()?;
     let number = site.number(1).unwrap_or(0);
-    let at = usize::try_from(number).unwrap_or(usize::MAX);
-    let Some(request) = made.get(at) else {
+    let Some(request) = usize::try_from(number).ok().and_then(|at| made.get(at)) else {
         return Ok(Remark::of(alloc, 1, "it can't be started or freed here")?);
     };
     let written = site.draft.written(alloc)?;
     let made_in = written.of(request.line);
-    if request.sig.mode != Mode::Persistent {
+    if !request.is_persistent() {
         let label = format!(in alloc;
             "request {number} was posted in line {made_in}, so it starts and ends by itself"
         )?;
@@ -71,12 +70,12 @@ pub(crate) fn not_startable(site: &Site<'_>) -> Result<Remark, AllocError> {
         remark.note(String::from_str(alloc, "only requests of `init` are started and freed")?)?;
         return Ok(remark);
     }
-    if let Some(freed) = site.scene.freed_in(at) {
+    if let Some(freed) = request.freed {
         let freed = written.of(freed);
         let label = format!(in alloc; "request {number} was freed in line {freed}")?;
         return Ok(Remark::new(alloc, 1, label));
     }
-    let started = written.of(request.starts.last().map_or(0, |start| start.line));
+    let started = written.of(request.active.unwrap_or(0));
     let label = format!(in alloc;
         "request {number} was started in line {started} and may be active still"
     )?;
