@@ -7,8 +7,8 @@ set -u
 command -v timeout > /dev/null || { echo "check.sh: there is no timeout, by which a check that hangs ends" >&2; exit 2; }
 work=$(mktemp -d)
 trap 'rm -rf -- "$work"' EXIT
-trap 'exit 130' INT
-trap 'exit 143' TERM HUP
+trap 'leave 130' INT
+trap 'leave 143' TERM HUP
 # Words that hold several options are split at spaces, which the repository's path and the library's may have: they have other names here.
 ln -s "$(dirname -- "$(dirname -- "$(readlink -f -- "$0")")")" "$work/top"
 ln -s "$(readlink -f -- "$1")" "$work/lib"
@@ -29,6 +29,13 @@ limit="timeout 900"
 export TSAN_OPTIONS="suppressions=$here/c/tsan.suppressions"
 passed=0
 failed=0
+under_way=
+
+# Ends with a status, and the check that is under way too: `timeout` has a process group of its own.
+leave() {
+    [ -z "$under_way" ] || kill -s TERM -- "-$under_way" 2> /dev/null
+    exit "$1"
+}
 
 has() {
     command -v "$1" > /dev/null
@@ -38,15 +45,19 @@ skip() {
     echo "skipped: $1: $2"
 }
 
-# Runs a check, and shows what it said where it failed.
+# Runs a check, and shows what it said where it failed. (A signal ends the shell's wait for a command beside it, and no other one.)
 check() {
     name=$1
     shift
-    if $limit "$@" > "$work/said" 2>&1 < /dev/null; then
+    $limit "$@" > "$work/said" 2>&1 < /dev/null &
+    under_way=$!
+    wait "$under_way"
+    status=$?
+    under_way=
+    if [ "$status" -eq 0 ]; then
         passed=$((passed + 1))
         echo "passed: $name"
     else
-        status=$?
         failed=$((failed + 1))
         cat "$work/said"
         echo "FAILED: $name (status $status)"
@@ -156,7 +167,7 @@ check_one_refusal() {
     check "build sum with one refusal" $c "$here/c/sum.c" "$here/c/one_refusal.c" -Wl,--wrap=wz_post $static -o "$work/one_refusal"
     [ -x "$work/one_refusal" ] || return
     check "sum with one refusal ends, and all are told" sh -c \
-        "timeout 600 $work/one_refusal 2>&1 | sort | cut -c1-40 > $work/told; grep -c 'no wait can end' $work/told | grep -qx 3 && grep -q 'rank 2: there is no communicator 9' $work/told"
+        "timeout --foreground 600 $work/one_refusal 2>&1 | sort | cut -c1-40 > $work/told; grep -c 'no wait can end' $work/told | grep -qx 3 && grep -q 'rank 2: there is no communicator 9' $work/told"
     # shellcheck disable=SC2086
     [ ! "$checks_threads" ] || try_client one_refusal tsan $c -fsanitize=thread "$here/c/sum.c" "$here/c/one_refusal.c" -Wl,--wrap=wz_post $static
 }
