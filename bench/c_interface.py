@@ -9,8 +9,12 @@ With `samples` after RUNS each thread of the shim has a processor of its own, fo
 lowest tenth counts: that can be compared on a machine that does other work too. WZ_HEADERS names a folder with other headers.
 
 With `waits` after RUNS it compares how ranks wait, on the machine as it is and beside as many busy processes as it has processors: medians of small
-operations by 2, 4 and 8 ranks, with the time that nine of ten stay below in brackets, ours and each MPI library's by turns. WZ_BEFORE=HEADERS:LIBRARY adds
-another state of ours, WZ_TRIED="50 200" the shim with other numbers of looks before a thread sleeps.
+operations by 2, 4 and 8 ranks, with the time that nine of ten stay below in brackets, ours and each MPI library's by turns. `idle`, `busy` and numbers of
+ranks after `waits` choose some of these. WZ_BEFORE="HEADERS:LIBRARY .." adds other states of ours, each named by its folder of headers,
+WZ_TRIED="0 200 WZ_FEW_LOOKS=20,WZ_LOOKS=2000" the shim with other numbers of looks before a thread sleeps, or with other macros, and WZ_WITHOUT="mpich"
+leaves programs out. WZ_SECONDS is how long each measure is repeated (0.7).
+
+A run that isn't through in WZ_LIMIT seconds (15) is ended, and left out.
 
 With `rows` after RUNS it compares sums of rows of 1 to 256 KiB under the shim instead, where combinations are computed with the lock
 free and where they aren't, by 2 and 4 ranks. With `instructions` it counts those of one thread that plays all ranks, by valgrind.
@@ -32,7 +36,10 @@ import mpi
 LIBRARY = os.path.join(mpi.HERE, "..", "out", "lib", "libworzsunab.a")
 RANKS = [1, 2, 4, 8]
 # A library that isn't through by then is left out.
-SECONDS = 15
+SECONDS = float(os.environ.get("WZ_LIMIT", "15"))
+# How long a measure of `waits` is repeated.
+REPEATED = os.environ.get("WZ_SECONDS", "0.7")
+STATES = {"idle": "as it is", "busy": "beside busy processes"}
 # What a row is called in mpi.c.
 NAMES = ["barrier", "allreduce of one i32", "persistent allreduce of one i32"]
 
@@ -62,11 +69,10 @@ def samples(library, runs):
                 print(f"{ranks} ranks, {measure}: {statistics.median(column) / 1000:.1f}", flush=True)
 
 
-def compiled(folder, library, name, *defines):
-    """The program, with these definitions."""
+def compiled(folder, library, name, *defines, headers=os.environ.get("WZ_HEADERS", os.path.join(mpi.HERE, "..", "include"))):
+    """The program, with these definitions and headers."""
     program = os.path.join(folder, name)
     source = os.path.join(mpi.HERE, "c_interface.c")
-    headers = os.environ.get("WZ_HEADERS", os.path.join(mpi.HERE, "..", "include"))
     subprocess.run(["cc", "-O2", "-D_GNU_SOURCE", f"-I{headers}", *defines, source, library, "-pthread", "-o", program], check=True)
     return program
 
@@ -108,32 +114,33 @@ def busy():
 def waiters(folder, library):
     """name -> the command of one run for a number of ranks, each a list of words."""
     made = {"ours": compiled(folder, library, "ours")}
-    for looks in os.environ.get("WZ_TRIED", "").split():
-        made[f"ours, {looks} looks"] = compiled(folder, library, f"looks{looks}", f"-DWZ_LOOKS={looks}")
-    if "WZ_BEFORE" in os.environ:
-        headers, before = os.environ["WZ_BEFORE"].split(":")
-        os.environ["WZ_HEADERS"] = headers
-        made["before"] = compiled(folder, before, "before")
-        del os.environ["WZ_HEADERS"]
-    commands = {name: lambda ranks, program=program: [program, str(ranks), "0", "waits"] for name, program in made.items()}
+    for tried in os.environ.get("WZ_TRIED", "").split():
+        defines = [f"-D{word}" for word in tried.split(",")] if "=" in tried else [f"-DWZ_LOOKS={tried}", f"-DWZ_FEW_LOOKS={tried}"]
+        made[f"ours, {tried}"] = compiled(folder, library, f"tried{len(made)}", *defines)
+    for other in os.environ.get("WZ_BEFORE", "").split():
+        headers, before = other.split(":")
+        made[os.path.basename(headers)] = compiled(folder, before, f"before{len(made)}", headers=headers)
+    commands = {name: lambda ranks, program=program: [program, str(ranks), "0", "waits", REPEATED] for name, program in made.items()}
     for name, options in mpi.LIBRARIES.items():
         if shutil.which(f"mpicc.{name}"):
             program = os.path.join(folder, name)
             source = os.path.join(mpi.HERE, "c_interface_mpi.c")
             subprocess.run([f"mpicc.{name}", "-O2", source, "-o", program], check=True)
             commands[name] = lambda ranks, name=name, options=options, program=program: [
-                f"mpirun.{name}", *options, "-n", str(ranks), program]
-    return commands
+                f"mpirun.{name}", *options, "-n", str(ranks), program, REPEATED]
+    return {name: command for name, command in commands.items() if name not in os.environ.get("WZ_WITHOUT", "").split()}
 
 
-def waits(library, runs):
-    """Medians of both, by turns."""
+def waits(library, runs, asked):
+    """Medians of both, by turns, in the states and for the numbers of ranks that are asked for, or all."""
+    states = [word for word in STATES if word in asked] or list(STATES)
+    numbers = [int(word) for word in asked if word not in STATES] or [2, 4, 8]
     environment = dict(os.environ, OMPI_ALLOW_RUN_AS_ROOT="1", OMPI_ALLOW_RUN_AS_ROOT_CONFIRM="1")
     with tempfile.TemporaryDirectory() as folder:
         commands = waiters(folder, library)
-        for state in ("as it is", "beside busy processes"):
-            for ranks in (2, 4, 8):
-                processes = busy() if state != "as it is" else []
+        for state in states:
+            for ranks in numbers:
+                processes = busy() if state == "busy" else []
                 times = {}
                 try:
                     for _ in range(runs):
@@ -146,7 +153,7 @@ def waits(library, runs):
                         process.wait()
                 for measure in dict.fromkeys(key[0] for key in times):
                     row = (f"{name} {told(column)}" for (other, name), column in times.items() if other == measure)
-                    print(f"{state}, {ranks} ranks, {measure}:", *row, sep="  ", flush=True)
+                    print(f"{STATES[state]}, {ranks} ranks, {measure}:", *row, sep="  ", flush=True)
 
 
 def waited(command, environment):
@@ -176,8 +183,8 @@ def main():
         return samples(library, runs)
     if sys.argv[2:] == ["rows"]:
         return rows(library, runs)
-    if sys.argv[2:] == ["waits"]:
-        return waits(library, runs)
+    if sys.argv[2:3] == ["waits"]:
+        return waits(library, runs, sys.argv[3:])
     if sys.argv[2:] == ["instructions"]:
         return instructions(library)
     mpi.RANKS = RANKS

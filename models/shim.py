@@ -3,7 +3,8 @@
 
     models/shim.py [WORD ..]    (only configurations whose names have one of the words)
 
-It needs `spin` 6.5 and `gcc` (Debian: apt-get install spin gcc). --quick leaves out those of three ranks that must hold, --jobs N searches N at a time.
+It needs `spin` 6.5 and `gcc` (Debian: apt-get install spin gcc). --quick leaves out those of three ranks that must hold, --jobs N searches N at a time,
+each for --seconds N at most (600) and in 3 GB.
 """
 
 import argparse
@@ -18,7 +19,6 @@ import time
 
 HERE = os.path.dirname(os.path.abspath(__file__))
 MEBIBYTES = 3000
-SECONDS = 600
 THREE, TWO = "RANKS=3", "COLLECTIVES=2"
 # whether it must hold, whether every run must end (else: no run ends but as it must), the name, the program and its flags
 CONFIGURATIONS = [
@@ -70,18 +70,19 @@ def run(words, log):
         return subprocess.run(words, stdout=out, stderr=subprocess.STDOUT, cwd=os.path.dirname(log)).returncode
 
 
-def searched(ends, flags, folder):
-    """Searches one configuration in that folder: what Spin found, how many states it saw, and in how many seconds."""
+def searched(ends, flags, folder, limit):
+    """Searches one configuration in that folder, for that many seconds at most: what Spin found, how many states it saw, and in how many seconds."""
     shutil.copy(os.path.join(HERE, "shim.pml"), folder)
     log = os.path.join(folder, "log")
     defines = [f"-D{flag}" for flag in flags.split()] + (["-DFAIR"] if ends else [])
     if run(["spin", *defines, "-a", "shim.pml"], log) != 0:
         return open(log).read(), "", 0.0
     made = ["-DNFAIR=3"] if ends else ["-DSAFETY"]
-    if run(["gcc", "-O0", "-w", *made, "-DCOLLAPSE", f"-DMEMLIM={MEBIBYTES}", "-o", "pan", "pan.c"], log) != 0:
+    level = "-O2" if THREE in flags else "-O0"  # to compile takes longer than a short search
+    if run(["gcc", level, "-w", *made, "-DCOLLAPSE", f"-DMEMLIM={MEBIBYTES}", "-o", "pan", "pan.c"], log) != 0:
         return open(log).read(), "", 0.0
     began = time.monotonic()
-    ended = run(["timeout", str(SECONDS), "./pan", *(["-a", "-f"] if ends else []), "-m1000000", "-w22"], log)
+    ended = run(["timeout", str(limit), "./pan", *(["-a", "-f"] if ends else []), "-m1000000", "-w22"], log)
     seconds = time.monotonic() - began
     text = open(log).read()
     states = re.search(r"(\d\S*) states, stored", text)
@@ -95,12 +96,12 @@ def searched(ends, flags, folder):
     return what, states.group(1) if states else "", seconds
 
 
-def judged(configuration):
+def judged(configuration, limit):
     """One line on a configuration, and whether it came out as it must."""
     must_hold, ends, name, flags = configuration
     folder = tempfile.mkdtemp(prefix="shim")
     try:
-        what, states, seconds = searched(ends, flags, folder)
+        what, states, seconds = searched(ends, flags, folder, limit)
     finally:
         shutil.rmtree(folder)
     is_fault = re.search("invalid end state|assertion violated|acceptance cycle", what) is not None
@@ -113,13 +114,14 @@ def main():
     words.add_argument("names", nargs="*")
     words.add_argument("--quick", action="store_true")
     words.add_argument("--jobs", type=int, default=1)
+    words.add_argument("--seconds", type=int, default=600)
     asked = words.parse_args()
     wanted = [c for c in CONFIGURATIONS if not asked.names or any(word in c[2] for word in asked.names)]
     if asked.quick:
         wanted = [c for c in wanted if not (c[0] and THREE in c[3])]
     right = True
     with concurrent.futures.ThreadPoolExecutor(asked.jobs) as pool:
-        for line, is_right in pool.map(judged, wanted):
+        for line, is_right in pool.map(lambda it: judged(it, asked.seconds), wanted):
             print(line, flush=True)
             right = right and is_right
     print("all as it must be" if right else "some came out otherwise")

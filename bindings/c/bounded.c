@@ -25,6 +25,9 @@ static __thread uint8_t own_rank;
 /* Whether a thread of another rank than 0 that wakes in a call sleeps on. */
 static bool holds_up;
 
+/* By the rank, whether its thread waits for its condition: noted while it has the guard, which it gives up by waiting. */
+static bool in_wait[MOST];
+
 int32_t __real_wz_run_work(wz_work *work);
 int32_t __wrap_wz_run_work(wz_work *work);
 int32_t __real_wz_return_work(wz_engine *engine, wz_work *work);
@@ -78,7 +81,9 @@ static void sleep_for(long milliseconds) {
 }
 
 int __wrap_pthread_cond_wait(pthread_cond_t *woken, pthread_mutex_t *guard) {
+    __atomic_store_n(&in_wait[own_rank], true, __ATOMIC_SEQ_CST);
     int code = __real_pthread_cond_wait(woken, guard);
+    __atomic_store_n(&in_wait[own_rank], false, __ATOMIC_SEQ_CST);
     if (own_rank == 0 || !__atomic_load_n(&holds_up, __ATOMIC_SEQ_CST)) return code;
     pthread_mutex_unlock(guard);
     while (__atomic_load_n(&holds_up, __ATOMIC_SEQ_CST)) sleep_for(1);
@@ -182,12 +187,13 @@ static void tests_alone(wz_request *request) {
     }
 }
 
-/* Under the lock: whether the others sleep in their waits, and nothing is left for which one would be called. */
+/* Under the lock: whether the others sleep in their waits, where they are held up once they are woken, and nothing is left for which one would be
+   called. A record's `sleeps` alone is set before its thread waits. */
 static int32_t others_sleep(wz_shared *its, wz_ask *ask) {
     bool sleep = !its->unsettled && its->outside == 0;
     for (int r = 1; r < ranks; r++) {
         const wz_record *record = &its->records[r];
-        sleep = sleep && wz_read_(&record->stage) == WZ_WAITING && wz_read_(&record->sleeps);
+        sleep = sleep && wz_read_(&record->stage) == WZ_WAITING && wz_read_(&record->sleeps) && __atomic_load_n(&in_wait[r], __ATOMIC_SEQ_CST);
     }
     *(bool *)ask->out = sleep;
     return WZ_DONE;
