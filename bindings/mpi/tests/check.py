@@ -245,6 +245,17 @@ def check_alone(binaries, out):
     return 1
 
 
+def check_help(binaries):
+    """Each tool explains itself: the compilers, which hand all other words down, too."""
+    failed = 0
+    for tool in ("wzcc", "wzc++", "wzrun"):
+        status, said = run([str(binaries / tool), "--help"])
+        if status != 0 or not said.startswith(f"{tool} [") or "./program" not in said and "PROGRAM" not in said:
+            failed += 1
+            print(f"check.py: {tool} --help: status {status}: {said}")
+    return failed
+
+
 def main():
     words = sys.argv[1:]
     write = "--write" in words
@@ -259,6 +270,7 @@ def main():
             failed += check_notes(binaries, out)
             failed += check_examples(binaries, out)
             failed += check_alone(binaries, out)
+            failed += check_help(binaries)
     print("check.py: all as it should be" if failed == 0 else f"check.py: {failed} failed")
     return min(failed, 1)
 

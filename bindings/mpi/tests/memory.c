@@ -36,17 +36,30 @@ static void make_and_free(void) {
     MPI_Comm_free(&copy);
 }
 
+/* Allreduces, and what is resident whenever an engine has as many places taken as the last one has at the end: from the third engine on, since the first two
+   are there together for a while. */
+static void allreduces(int rank, int times) {
+    int sum, samples = 0;
+    long first = 0, most = 0, last = 0;
+    for (int i = 0; i < times; i++) {
+        MPI_Allreduce(&i, &sum, 1, MPI_INT, MPI_SUM, MPI_COMM_WORLD);
+        if (rank != 0 || i < 2 * PLACES || (times - 1 - i) % PLACES != 0) continue;
+        last = resident_kib();
+        if (samples++ == 0) first = last;
+        if (last > most) most = last;
+    }
+    if (rank != 0) return;
+    if (samples == 0) printf("%d allreduces: %ld KiB\n", times, resident_kib());
+    else printf("%d allreduces, %d engines from the third on: %ld KiB in the first of them, %ld at most, %ld in the last\n", times, samples, first, most, last);
+    fflush(stdout);
+}
+
 int main(int argc, char **argv) {
-    int rank, sum, times = argc > 1 ? atoi(argv[1]) : 1000000;
-    int first = times < 3 * PLACES ? times : 2 * PLACES + times % PLACES; /* the third engine has as many places taken then as the last one at the end */
-    long begun, after;
+    int rank;
+    long begun;
     MPI_Init(&argc, &argv);
     MPI_Comm_rank(MPI_COMM_WORLD, &rank);
-    for (int i = 0; i < first; i++) MPI_Allreduce(&i, &sum, 1, MPI_INT, MPI_SUM, MPI_COMM_WORLD);
-    begun = resident_kib();
-    for (int i = first; i < times; i++) MPI_Allreduce(&i, &sum, 1, MPI_INT, MPI_SUM, MPI_COMM_WORLD);
-    after = resident_kib();
-    if (rank == 0) printf("%d allreduces: %ld KiB after the first %d, %ld KiB at the end\n", times, begun, first, after);
+    allreduces(rank, argc > 1 ? atoi(argv[1]) : 1000000);
     for (int i = 0; i < 20; i++) make_and_free();
     begun = resident_kib();
     for (int i = 0; i < 100; i++) make_and_free();
