@@ -3,11 +3,12 @@
 ROUNDS rounds by turns, in microseconds an operation, for 2, 4 and 8 ranks, on the machine as it is and beside as many busy processes as
 it has processors. Prints the rows of two tables for bench/RESULTS.md.
 
-    bench/mpi_programs.py [ROUNDS] [--bin BIN] [--seconds S] [--ranks N ..] [--only idle|busy]
+    bench/mpi_programs.py [ROUNDS] [--bin BIN] [--seconds S] [--longest S] [--ranks N ..] [--only idle|busy]
 
 3 rounds where no number is said. BIN has wzcc and wzrun, bindings/mpi/out/bin where it isn't named. A measure takes S seconds in each
 run, 0.3 where it isn't said. Each library is measured whose compiler is found, mpicc.openmpi or mpicc.mpich (Debian's libopenmpi-dev and
-libmpich-dev). `-` stands where a run was ended, after 40 seconds, before it came to the measure; (n) where n of the rounds came to it.
+libmpich-dev). `-` stands where a run was ended, after 40 seconds or those of --longest, before it came to the measure; (n) where n of the
+rounds came to it.
 Run it with nothing beside it.
 """
 
@@ -25,7 +26,6 @@ HERE = pathlib.Path(__file__).resolve().parent
 SOURCE = HERE / "mpi_programs.c"
 LIBRARIES = {"Open MPI": ("openmpi", ["--oversubscribe"]), "MPICH": ("mpich", [])}
 STATES = {"idle": "The machine as it is", "busy": "Beside as many busy processes as processors"}
-LONGEST = 40
 ROOT = {"OMPI_ALLOW_RUN_AS_ROOT": "1", "OMPI_ALLOW_RUN_AS_ROOT_CONFIRM": "1"}
 
 
@@ -55,11 +55,11 @@ def ended(process):
     return ""
 
 
-def run(words):
+def run(words, longest):
     """Measure -> nanoseconds; of a run that isn't through in time those that it came to."""
     process = subprocess.Popen(words, stdout=subprocess.PIPE, stdin=subprocess.DEVNULL, text=True, env={**os.environ, **ROOT}, start_new_session=True)
     try:
-        told, _ = process.communicate(timeout=LONGEST)
+        told, _ = process.communicate(timeout=longest)
     except subprocess.TimeoutExpired:
         told = ended(process)
     else:
@@ -81,7 +81,7 @@ def measured(made, state, options):
         for _ in range(options.rounds):
             for ranks in options.ranks:
                 for name, words in made.items():
-                    for measure, time in run([*words(ranks), str(options.seconds)]).items():
+                    for measure, time in run([*words(ranks), str(options.seconds)], options.longest).items():
                         times.setdefault((measure, name, ranks), []).append(time)
     finally:
         for process in processes:
@@ -113,6 +113,7 @@ def main():
     parser.add_argument("rounds", type=int, nargs="?", default=3)
     parser.add_argument("--bin", type=pathlib.Path, default=HERE.parent / "bindings/mpi/out/bin")
     parser.add_argument("--seconds", type=float, default=0.3)
+    parser.add_argument("--longest", type=float, default=40)
     parser.add_argument("--ranks", type=int, nargs="+", default=[2, 4, 8])
     parser.add_argument("--only", choices=STATES)
     options = parser.parse_args()

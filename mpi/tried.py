@@ -6,6 +6,7 @@
     mpi/tried.py NAME ..       those of these names
     mpi/tried.py --table       also a table of what is reported first
     mpi/tried.py --library L   with this library alone, openmpi or mpich
+    mpi/tried.py --jobs N      N programs at a time
     mpi/tried.py --records F   the records stay in the folder F
     mpi/tried.py --again F     the records in the folder F are judged again, and nothing runs
 
@@ -18,7 +19,9 @@ skipped. The status is 1 where one failed. The oracle is the program that the va
 
 import argparse
 import collections
+import concurrent.futures
 import contextlib
+import functools
 import io
 import os
 import re
@@ -353,18 +356,33 @@ def table_lines(table, libraries):
         yield f"| {reported} | " + ". ".join(f"{', '.join(names)} ({ends})" for ends, names in programs.items()) + " |"
 
 
-def main():
+def outcomes(library, names, folder, words):
+    """The programs' names and outcomes. Several are tried at a time by processes of their own."""
+    if words.jobs == 1:
+        yield from ((name, try_twice(library, name, folder, words.again)) for name in names)
+        return
+    with concurrent.futures.ProcessPoolExecutor(words.jobs) as pool:
+        yield from zip(names, pool.map(functools.partial(try_twice, library, folder=folder, again=words.again), names))
+
+
+def parsed_words():
     parser = argparse.ArgumentParser(description="Records small programs, and compares what is reported of them with what is true.")
     parser.add_argument("names", nargs="*", metavar="NAME")
     parser.add_argument("--short", action="store_true", help="a part of them, with one library")
     parser.add_argument("--table", action="store_true", help="also a table of what is reported first")
     parser.add_argument("--library", choices=LIBRARIES)
+    parser.add_argument("--jobs", type=int, default=1, help="how many programs are tried at a time")
     parser.add_argument("--records", metavar="FOLDER", help="where the records stay")
     parser.add_argument("--again", metavar="FOLDER", help="judges the records there again, and runs nothing")
     words = parser.parse_args()
     unknown = set(words.names) - set(PROGRAMS)
     if unknown:
         sys.exit(f"no program has the name {', '.join(sorted(unknown))}: they are {', '.join(PROGRAMS)}")
+    return words
+
+
+def main():
+    words = parsed_words()
     # Whoever ends this ends the run that is under way too.
     signal.signal(signal.SIGTERM, lambda *_: sys.exit(1))
     names = [name for name, program in PROGRAMS.items() if (name in words.names if words.names else program.short or not words.short)]
@@ -385,8 +403,7 @@ def main():
             if not words.again and not library.starts():
                 print(f"skipped: recorded programs, {library.name}: {starter(library.name)} starts no program here")
                 continue
-            for program in names:
-                outcome = try_twice(library, program, folder, words.again)
+            for program, outcome in outcomes(library, names, folder, words):
                 if outcome:
                     table[program, library.name] = short(outcome.ended), first_words(outcome.report)
                     count(library, program, outcome, counts)

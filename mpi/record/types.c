@@ -115,10 +115,15 @@ static bool ask_contents(MPI_Datatype type, struct contents *contents) {
                                   contents->inner) == MPI_SUCCESS;
 }
 
+/* Whether a type is MPI's own, by its name or by a precision and range: nobody may free such a one (MPI 4.1, 5.1.13, 19.1.5). */
+static bool is_predefined(int combiner) {
+    return combiner == MPI_COMBINER_NAMED || combiner == MPI_COMBINER_F90_REAL || combiner == MPI_COMBINER_F90_COMPLEX || combiner == MPI_COMBINER_F90_INTEGER;
+}
+
 static void drop_contents(struct contents *contents, bool asked) {
     for (int part = 0; asked && part < contents->parts; part++) {
         struct contents inner;
-        if (!ask_envelope(contents->inner[part], &inner) || inner.combiner != MPI_COMBINER_NAMED)
+        if (!ask_envelope(contents->inner[part], &inner) || !is_predefined(inner.combiner))
             PMPI_Type_free(&contents->inner[part]);
     }
     free(contents->numbers);

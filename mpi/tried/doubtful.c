@@ -256,9 +256,68 @@ static void skipped_info(void) {
     MPI_Barrier(world);                         /* B */
 }
 
+static void skipped_window_hints(void) {
+    MPI_Win window;
+    MPI_Win_create(row, sizeof row, 1, MPI_INFO_NULL, world, &window);
+    if (rank)
+        MPI_Win_set_info(window, MPI_INFO_ENV); /* A */
+    MPI_Win_free(&window);                      /* B */
+}
+
+/* Calls in which a rank that waits stands now and then, or for long */
+
+static void ended_in_status_tests(void) {
+    int done = 0;
+    if (rank == 0)
+        MPI_Recv(&sum, 1, MPI_INT, 1, 3, world, MPI_STATUS_IGNORE); /* A */
+    MPI_Ibarrier(world, &request);
+    while (!done)
+        MPI_Request_get_status(request, &done, MPI_STATUS_IGNORE);
+}
+
+/* A message takes seconds. */
+static void ended_in_a_matched_message(void) {
+    const size_t bytes = (size_t)8 << 30;
+    char *much = many_bytes(bytes);
+    MPI_Message taken;
+    for (;;) {
+        if (rank == 0) {
+            MPI_Mprobe(1, 1, world, &taken, MPI_STATUS_IGNORE);
+            MPI_Mrecv(much, (int)(bytes / 8), MPI_DOUBLE, &taken, MPI_STATUS_IGNORE); /* A */
+        } else
+            MPI_Send(much, (int)(bytes / 8), MPI_DOUBLE, 0, 1, world);
+    }
+}
+
+static void ended_in_accept(void) {
+    char port[MPI_MAX_PORT_NAME] = "";
+    MPI_Comm bridge;
+    if (rank == 0)
+        MPI_Open_port(MPI_INFO_NULL, port);
+    MPI_Comm_accept(port, MPI_INFO_NULL, 0, world, &bridge); /* A */
+}
+
+static void right_connected(void) {
+    char port[MPI_MAX_PORT_NAME] = "";
+    MPI_Comm bridge;
+    if (rank == 0) {
+        MPI_Open_port(MPI_INFO_NULL, port);
+        MPI_Send(port, sizeof port, MPI_CHAR, 1, 1, world);
+        MPI_Comm_accept(port, MPI_INFO_NULL, 0, MPI_COMM_SELF, &bridge);
+    } else {
+        MPI_Recv(port, sizeof port, MPI_CHAR, 0, 1, world, MPI_STATUS_IGNORE);
+        MPI_Comm_connect(port, MPI_INFO_NULL, 0, MPI_COMM_SELF, &bridge);
+    }
+    MPI_Barrier(bridge);
+    MPI_Comm_disconnect(&bridge);
+    if (rank == 0)
+        MPI_Close_port(port);
+}
+
 const struct program programs[] = {
     PROGRAM(ended_after_cancel), PROGRAM(ended_after_refused), PROGRAM(ended_in_a_gatherv), PROGRAM(ended_in_an_alltoallv),
     PROGRAM(ended_before_threads), PROGRAM(right_waiting_threads), PROGRAM(right_jump_below), PROGRAM(right_copied_requests),
     PROGRAM(right_huge_type), PROGRAM(right_barrier_in_finalize), PROGRAM(right_other_names), PROGRAM(unsafe_free), PROGRAM(unsafe_tests), PROGRAM(unsafe_empty_waits), PROGRAM(unsafe_inits),
-    PROGRAM(never_completed_start), PROGRAM(refused_root), PROGRAM(skipped_info), {0},
+    PROGRAM(never_completed_start), PROGRAM(refused_root), PROGRAM(skipped_info), PROGRAM(skipped_window_hints),
+    PROGRAM(ended_in_status_tests), PROGRAM(ended_in_a_matched_message), PROGRAM(ended_in_accept), PROGRAM(right_connected), {0},
 };

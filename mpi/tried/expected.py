@@ -150,6 +150,11 @@ PROGRAMS.update({
     "never_completed_start": Program(2, ("warning: rank 0 called MPI_Finalize, and no call was seen to complete a start of MPI_Bcast_init, {A}", "warning: rank 1"), 3, False),
     "refused_root": wrong(2, "warning: the library refused a call of ranks 0, 1: MPI_Bcast(1 MPI_INT, root 99), {A}", "line 6: bad signature"),
     "skipped_info": wrong(2, "the calls differ", "rank 0: MPI_Barrier, {B}", "rank 1: MPI_Comm_set_info, {A}"),
+    "skipped_window_hints": wrong(2, "the calls differ", "rank 0: MPI_Win_free, {B}", "rank 1: MPI_Win_set_info, {A}"),
+    "ended_in_status_tests": right(2, "rank 0: in MPI_Recv, {A}", "no fault found in what is there", status=3),
+    "ended_in_a_matched_message": right(2, "no fault found in what is there", status=3),
+    "ended_in_accept": right(2, "ranks 0, 1: in MPI_Comm_accept, {A}", "no fault found in what is there", status=3),
+    "right_connected": right(2, "not judged: ", "no fault found in what is there", status=3),
 })
 
 MESSAGES = "no fault: the collective calls agree, and by themselves let no run stall; what else the ranks wait for isn't judged for that"
@@ -181,8 +186,8 @@ PROGRAMS.update({
 # The files of the programs, each with the first of its own.
 SOURCES = {"programs.c": "other_root", "unusual.c": "hangs_in_finalize", "doubtful.c": "ended_after_cancel", "lawful.c": "right_freed_before_wait"}
 
-# MPICH waits in these.
-OPEN_MPI_ONLY = {"unsafe_empty_waits"}
+# MPICH waits in the first, and opens no port here.
+OPEN_MPI_ONLY = {"unsafe_empty_waits", "ended_in_accept", "right_connected"}
 
 # Programs in other languages: the file, and with which libraries it is tried. mpi4py is Debian's, which has Open MPI below it.
 OTHERS = {

@@ -46,6 +46,7 @@ struct rank {
     bool begun;
     atomic_bool finalized;
     atomic_bool ended;
+    atomic_int thread; /* the system's number of its main thread; 0 before that begins */
     const char *_Atomic site; /* of its last call */
     struct table tables[KINDS];
     struct request *free_requests;

@@ -185,6 +185,7 @@ int mpi_finish_message(struct request *request, MPI_Status *status, const char *
 int mpi_let_go(struct request *request, const char *call); /* an active message's request that is freed */
 void mpi_finish_let_go(void);                              /* those of this rank that are done by now */
 void mpi_open_mailboxes(int many);
+void mpi_warn_of_mail(void); /* once all ranks have ended: which messages nobody received */
 bool mpi_message_waits(const struct request *probe);
 int mpi_start_message(struct request *request);
 int mpi_post_and_wait(struct comm *comm, const struct arguments *arguments, struct request **kept);

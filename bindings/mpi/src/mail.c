@@ -2,6 +2,8 @@
    MPI_Bsend, only when it is received, so that a program which leans on a library's buffers is reported. */
 #include "mail.h"
 
+#include "tell.h"
+
 /* A rank's mail: what has come and nobody has asked for, and the receives that nothing has come for, each in its order. */
 struct mailbox {
     pthread_mutex_t lock;
@@ -15,6 +17,18 @@ void mpi_open_mailboxes(int many) {
         pthread_mutex_init(&it->lock, NULL);
         it->end = &it->oldest;
         it->last = &it->first;
+    }
+}
+
+/* Each message has to be received before MPI_Finalize (MPI 4.1, 11.2.2). */
+void mpi_warn_of_mail(void) {
+    for (int i = 0; i < mpi_run.size; i++) {
+        const struct message *first = NULL;
+        int many = 0;
+        for (const struct message *it = mailboxes[i].oldest; it != NULL; it = it->later)
+            if (it->tag >= 0 && many++ == 0) first = it;
+        if (first == NULL) continue;
+        mpi_warn("rank %d never received %d of the messages that were sent to it: the first is of rank %d, tag %d, sent at %s", i, many, first->author->number, first->tag, first->site);
     }
 }
 

@@ -1,10 +1,14 @@
 /* Calls that don't agree: who has which, and who is the odd one. */
 #include "collectives.h"
 #include "tell.h"
+#include "watch.h"
 
 #include <time.h>
 
-enum { LONGEST_TURNS = 3000 }; /* of a millisecond: so long the others are given to come to the place */
+enum {
+    LONGEST_TURNS = 3000, /* of a millisecond: so long the others are given to come to the place */
+    STUCK_TURNS = 300     /* and so long one that only another's call lets go on: on a busy machine that other may have no turn for 50 */
+};
 
 /* Whether a rank won't come to the place any more, as far as can be seen. */
 static bool stays_away(const struct rank *rank) { return atomic_load(&rank->ended) || rank == mpi_me; }
@@ -17,22 +21,33 @@ static uint64_t members_at(struct comm *comm, uint64_t place) {
     return members;
 }
 
-/* Gives the others time to come, so that it is seen which of the calls is the odd one. A rank that has waited in one call for a while is given up. */
+/* How often in a row each member was seen stuck in one wait. */
+struct stuck {
+    unsigned waits[MOST_RANKS], turns[MOST_RANKS];
+};
+
+/* One turn. Whether each member is there, stays away, or has been stuck for a while. */
+static bool nobody_comes(struct comm *comm, uint64_t there, struct stuck *stuck) {
+    bool nobody = true;
+    for (int i = 0; i < comm->size; i++) {
+        struct rank *rank = &mpi_run.ranks[comm->members[i].rank];
+        unsigned waits = atomic_load(&rank->waits_begun);
+        bool same = waits == stuck->waits[i] && atomic_load(&rank->waits) && mpi_is_stuck(rank);
+        stuck->turns[i] = same ? stuck->turns[i] + 1 : 0;
+        stuck->waits[i] = waits;
+        nobody = nobody && ((there >> i & 1) || stays_away(rank) || stuck->turns[i] > STUCK_TURNS);
+    }
+    return nobody;
+}
+
+/* Gives the others time to come, so that it is seen which of the calls is the odd one. */
 static void wait_for_others(struct comm *comm, uint64_t place) {
-    const char *sites[MOST_RANKS] = { NULL };
-    int still[MOST_RANKS] = { 0 };
+    struct stuck stuck = { { 0 }, { 0 } };
     for (int turn = 0; turn < LONGEST_TURNS; turn++) {
-        uint64_t there = members_at(comm, place);
-        bool all = true;
-        for (int i = 0; i < comm->size; i++) {
-            struct rank *rank = &mpi_run.ranks[comm->members[i].rank];
-            const char *site = atomic_load(&rank->site);
-            bool same = atomic_load(&rank->waits) && sites[i] == site;
-            still[i] = same ? still[i] + 1 : 0;
-            sites[i] = site;
-            all = all && ((there >> i & 1) || stays_away(rank) || still[i] > 50);
-        }
-        if (all) return;
+        mpi_look(true);
+        bool nobody = nobody_comes(comm, members_at(comm, place), &stuck);
+        mpi_look(false);
+        if (nobody) return;
         nanosleep(&(struct timespec){ 0, 1000000 }, NULL);
     }
 }

@@ -15,6 +15,7 @@
 #include <sys/resource.h>
 #include <sys/sendfile.h>
 #include <sys/stat.h>
+#include <sys/syscall.h>
 #include <time.h>
 #include <unistd.h>
 
@@ -110,6 +111,7 @@ static void tell_crashes(void) {
 static void *play(void *given) {
     struct start *start = given;
     struct rank *me = mpi_me = start->rank;
+    atomic_store(&me->thread, (int)syscall(SYS_gettid));
     stack_t stack = { .ss_sp = mpi_must(malloc(SIGNAL_STACK)), .ss_size = SIGNAL_STACK }, none = { .ss_flags = SS_DISABLE };
     sigaltstack(&stack, NULL); /* for the crash that runs out of stack */
     mpi_be_main();
@@ -168,6 +170,7 @@ static int run_ranks(int argc, char **argv, const struct options *options) {
         if (pthread_create(&thread, &attributes, play, &starts[i]) != 0) give_up("a thread for each rank", strerror(errno));
     watch_ranks(size);
     for (int i = 0; i < size && status == 0; i++) status = mpi_run.ranks[i].status;
+    if (status == 0) mpi_warn_of_mail();
     return status;
 }
 

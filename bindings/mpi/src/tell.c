@@ -64,6 +64,8 @@ static pthread_mutex_t telling = PTHREAD_MUTEX_INITIALIZER;
 
 void mpi_tell_alone(void) { pthread_mutex_lock(&telling); }
 
+bool mpi_tells_first(void) { return pthread_mutex_trylock(&telling) == 0; }
+
 void mpi_end_run(int status, struct question question) {
     fflush(stdout);
     if (!mpi_record_write()) fprintf(stderr, "wzrun: %s can't be written\n", mpi_run.text != NULL ? mpi_run.text : mpi_run.values);

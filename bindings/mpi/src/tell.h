@@ -15,6 +15,7 @@ const char *mpi_class_name(int class);
 
 /* Ends the run; with --explain colljob is asked why. Whoever reports something has taken the right to it first, so that one thing is reported. */
 void mpi_tell_alone(void);
+bool mpi_tells_first(void); /* false, and at once, where another has taken it */
 void mpi_end_run(int status, struct question question) __attribute__((noreturn));
 
 /* Lists of ranks: "rank 2", "ranks 0, 1 and 3". */

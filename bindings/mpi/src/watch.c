@@ -20,8 +20,7 @@ struct sight {
 
 static bool is_open(struct request *it) { return it != NULL && it->active; }
 
-/* Whether nothing of what a rank waits for is done or computed just now. */
-static bool is_stuck(const struct rank *rank) {
+bool mpi_is_stuck(const struct rank *rank) {
     const struct wait *wait = &rank->wait;
     bool open = false;
     if (wait->room != NULL) return mpi_is_at_rest(wait->room->engine);
@@ -38,7 +37,7 @@ static struct sight look(void) {
     for (int i = 0; i < mpi_run.size; i++) {
         struct rank *rank = &mpi_run.ranks[i];
         if (atomic_load(&rank->ended) || atomic_load(&rank->finalized)) sight.gone |= 1ull << i;
-        else if (atomic_load(&rank->waits) && is_stuck(rank)) sight.waiting |= 1ull << i;
+        else if (atomic_load(&rank->waits) && mpi_is_stuck(rank)) sight.waiting |= 1ull << i;
     }
     return sight;
 }
@@ -180,7 +179,7 @@ static void wait_for_ends(void) {
 static void tell_stall(const struct sight *sight, uint64_t lost) {
     char ranks[RANKS_TEXT];
     bool all = (lost | sight->gone) == (mpi_run.size == 64 ? UINT64_MAX : (1ull << mpi_run.size) - 1);
-    mpi_tell_alone();
+    if (!mpi_tells_first()) return; /* whoever tells already ends the run, and may want to look at the ranks before */
     wait_for_ends();
     fflush(stdout);
     if (all) fprintf(stderr, "wzrun: stalled: no rank can go on\n");
@@ -222,19 +221,49 @@ static bool all_tried_again(uint64_t lost, unsigned before[MOST_RANKS]) {
     return all;
 }
 
+/* The nanoseconds for which a thread has run; UINT64_MAX where it sleeps, or where the system doesn't say so. */
+static uint64_t time_run(int thread) {
+    char path[64], state = 'S';
+    unsigned long long time = UINT64_MAX;
+    snprintf(path, sizeof path, "/proc/self/task/%d/stat", thread);
+    FILE *from = fopen(path, "r");
+    if (from == NULL || fscanf(from, "%*d (%*[^)]) %c", &state) != 1) state = 'S';
+    if (from != NULL) fclose(from);
+    if (state != 'R') return UINT64_MAX;
+    snprintf(path, sizeof path, "/proc/self/task/%d/schedstat", thread);
+    from = fopen(path, "r");
+    if (from == NULL || fscanf(from, "%llu", &time) != 1) time = UINT64_MAX;
+    if (from != NULL) fclose(from);
+    return time;
+}
+
+/* Whether each rank that goes on ran since BEFORE, which becomes now, or sleeps: one to which a busy machine gave no turn may be on its way to a wait. */
+static bool all_had_turns(uint64_t others, uint64_t before[MOST_RANKS]) {
+    bool all = true;
+    for (int i = 0; i < mpi_run.size; i++) {
+        if (!(others >> i & 1)) continue;
+        uint64_t time = time_run(atomic_load(&mpi_run.ranks[i].thread));
+        if (time != UINT64_MAX && time == before[i]) all = false;
+        before[i] = time;
+    }
+    return all;
+}
+
 /* One look sees the ranks one after the other, so one that it sees last may just have let go on one that it saw first. Where a second look sees the same ranks
    lost in the same waits, nothing that any of them did before the first look's end has let another go on. At that second look an engine at rest stays so; if a rank
    that waits for room then makes a turn in vain, and a third look sees the same, none of its requests gives a slot up. */
 void mpi_watch(void) {
     static uint64_t lost_before, waits_before;
     static unsigned turns_before[MOST_RANKS];
+    static uint64_t run_before[MOST_RANKS];
     static int looks;
     mpi_look(true);
     struct sight sight = look();
     uint64_t lost = sight.waiting != 0 ? find_lost(&sight) : 0, waits = waits_of(lost);
     uint64_t all = mpi_run.size == 64 ? UINT64_MAX : (1ull << mpi_run.size) - 1;
     bool same = lost != 0 && lost == lost_before && waits == waits_before, again = all_tried_again(same ? lost : 0, turns_before);
-    looks = !same ? 0 : again ? looks + 1 : looks;
+    bool had_turns = all_had_turns(same ? all & ~lost & ~sight.gone : 0, run_before);
+    looks = !same ? 0 : again && had_turns ? looks + 1 : looks;
     lost_before = lost;
     waits_before = waits;
     struct rank *without_room = first_without_room(lost);

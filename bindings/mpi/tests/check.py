@@ -28,7 +28,7 @@ OPTIONS = {
     "freed_type": "-n 1", "freed_operation": "-n 1", "null_communicator": "-n 1", "freed_communicator": "-n 1", "unequal": "-n 1", "no_topology": "-n 1",
     "same_buffer": "-n 1", "overlap": "-n 2", "not_for_type": "-n 1", "no_root": "-n 1", "negative": "-n 1", "never_completed": "-n 1",
     "null_counts": "-n 1", "null_places": "-n 1", "null_types": "-n 1", "null_among_counts": "-n 1", "changed_send": "-n 2 --check", "changed_outcome": "-n 2 --check",
-    "changed_carried": "-n 2 --check", "changed_receive": "-n 2 --check", "too_many": "-n 2", "neighbors": "-n 2", "null_buffer": "-n 2", "told_by_code": "-n 2", "gatherv": "-n 3", "inits": "-n 1", "late_room": "-n 2",
+    "changed_carried": "-n 2 --check", "changed_receive": "-n 2 --check", "too_many": "-n 2", "neighbors": "-n 2", "null_buffer": "-n 2", "told_by_code": "-n 2", "never_received": "-n 2", "gatherv": "-n 3", "inits": "-n 1", "late_room": "-n 2",
 }
 # Those that --explain is tried with.
 EXPLAINED = ["root", "lacking", "crossed", "missing_start", "missing_split", "any_of_two", "receives_first", "lucky_bcasts", "lucky_sends"]

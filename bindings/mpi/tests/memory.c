@@ -1,4 +1,5 @@
-/* Whether memory stays as it is: over many allreduces on one communicator, and over 100 turns of MPI_Comm_dup and MPI_Comm_free, of types and of operations.
+/* Whether memory stays as it is: over many allreduces on one communicator, and over 100, 1,000 and 10,000 turns of MPI_Comm_dup and
+   MPI_Comm_free, of types and of operations.
    wzrun -n 2 ./memory [ALLREDUCES] */
 #include <mpi.h>
 #include <stdio.h>
@@ -62,9 +63,12 @@ int main(int argc, char **argv) {
     allreduces(rank, argc > 1 ? atoi(argv[1]) : 1000000);
     for (int i = 0; i < 20; i++) make_and_free();
     begun = resident_kib();
-    for (int i = 0; i < 100; i++) make_and_free();
-    MPI_Barrier(MPI_COMM_WORLD);
-    if (rank == 0) printf("100 communicators, types and operations: %ld KiB before, %ld KiB after\n", begun, resident_kib());
+    for (int many = 100, i = 0; many <= 10000; many *= 10) {
+        for (; i < many; i++) make_and_free();
+        MPI_Barrier(MPI_COMM_WORLD);
+        if (rank == 0) printf("%d communicators, types and operations: %ld KiB before, %ld KiB after\n", many, begun, resident_kib());
+        fflush(stdout);
+    }
     MPI_Finalize();
     return 0;
 }

@@ -21,6 +21,7 @@ import shutil
 import subprocess
 import sys
 import tempfile
+import threading
 import time
 
 HERE = pathlib.Path(__file__).resolve().parent
@@ -105,7 +106,7 @@ def same_values(text, values):
 def run(program, ranks, arguments, seconds, options, folder):
     """What came of a test: a word, and the last line that it said where it didn't pass."""
     words = [*shlex.split(options.under), str(options.bin / "wzrun"), "-n", str(ranks), *(["--strict"] if options.strict else [])]
-    text, values = folder / f"{program.name}.{ranks}.job", folder / f"{program.name}.{ranks}.values"
+    text, values = (folder / f"{program.name}.{threading.get_ident()}.{it}" for it in ("job", "values"))  # one program may run twice at a time
     if options.text:
         words += ["--text", str(text), "--values", str(values)]
     try:

@@ -262,6 +262,9 @@ static void never_completed(void) {
     MPI_Request request;
     if (rank == 0) MPI_Irecv(others, 1, MPI_INT, MPI_ANY_SOURCE, 0, MPI_COMM_WORLD, &request);
 }
+static void never_received(void) {
+    for (int tag = 4; rank == 0 && tag < 6; tag++) MPI_Send(numbers, 2, MPI_INT, 1, tag, MPI_COMM_WORLD);
+}
 static void told_by_code(void) {
     char text[MPI_MAX_ERROR_STRING];
     int length, code;
@@ -367,7 +370,7 @@ static const struct {
     CASE(overlap), CASE(null_buffer), CASE(negative), CASE(no_root), CASE(not_for_type), CASE(uncommitted), CASE(freed_type), CASE(freed_operation),
     CASE(null_communicator), CASE(freed_communicator), CASE(unequal), CASE(start_twice), CASE(stale), CASE(free_nonblocking), CASE(twice_in_list),
     CASE(no_topology), CASE(changed), CASE(finalized), CASE(too_many), CASE(lacking), CASE(crossed), CASE(missing_start), CASE(missing_split), CASE(any_of_two),
-    CASE(receives_first), CASE(lucky_bcasts), CASE(lucky_sends), CASE(crash), CASE(never_completed), CASE(told_by_code), CASE(aborts), CASE(inits), CASE(late_room),
+    CASE(receives_first), CASE(lucky_bcasts), CASE(lucky_sends), CASE(crash), CASE(never_completed), CASE(never_received), CASE(told_by_code), CASE(aborts), CASE(inits), CASE(late_room),
     CASE(null_counts), CASE(null_places), CASE(null_types), CASE(null_among_counts), CASE(changed_send), CASE(changed_outcome), CASE(changed_carried), CASE(changed_receive),
 };
 
