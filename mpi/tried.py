@@ -44,8 +44,9 @@ from standing import ASLEEP, SECOND, Now  # noqa: E402
 LIBRARIES = {"mpich": [], "openmpi": ["--oversubscribe"], "default": []}
 SETTINGS = {"OMPI_ALLOW_RUN_AS_ROOT": "1", "OMPI_ALLOW_RUN_AS_ROOT_CONFIRM": "1", "OMPI_MCA_mpi_yield_when_idle": "1", "OMPI_MCA_rmaps_base_oversubscribe": "1"}
 # Where a rank has used RAN nanoseconds of a processor in its call without leaving it, or slept there, and its file has it in that call for a
-# second, it hangs: making a window takes two milliseconds. Where no rank's time goes on, GONE seconds long, its processes have died.
-SECONDS, STILL, WORKS, RAN, GONE = 240, 1.2, 2.0, 5e6, 20
+# second, it hangs: on a machine with ten times as much to do as it has processors, 5 milliseconds were too few for making a window with MPICH,
+# whose ranks give no turns away. Where no rank's time goes on, GONE seconds long, its processes have died.
+SECONDS, STILL, WORKS, RAN, GONE = 240, 1.2, 2.0, 1e8, 20
 
 # To judge a record takes a second.
 JUDGED = 600
