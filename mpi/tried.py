@@ -23,6 +23,7 @@ import concurrent.futures
 import contextlib
 import functools
 import io
+import multiprocessing
 import os
 import re
 import shutil
@@ -363,7 +364,13 @@ def outcomes(library, names, folder, words):
         yield from ((name, try_twice(library, name, folder, words.again)) for name in names)
         return
     with concurrent.futures.ProcessPoolExecutor(words.jobs) as pool:
-        yield from zip(names, pool.map(functools.partial(try_twice, library, folder=folder, again=words.again), names))
+        try:
+            yield from zip(names, pool.map(functools.partial(try_twice, library, folder=folder, again=words.again), names))
+        except BaseException:
+            pool.shutdown(wait=False, cancel_futures=True)
+            for process in multiprocessing.active_children():  # each ends its run
+                process.terminate()
+            raise
 
 
 def parsed_words():
