@@ -367,7 +367,7 @@ def outcomes(library, names, folder, words):
         try:
             yield from zip(names, pool.map(functools.partial(try_twice, library, folder=folder, again=words.again), names))
         except BaseException:
-            pool.shutdown(wait=False, cancel_futures=True)
+            pool.shutdown(wait=False)
             for process in multiprocessing.active_children():  # each ends its run
                 process.terminate()
             raise
