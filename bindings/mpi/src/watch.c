@@ -221,7 +221,7 @@ static bool all_tried_again(uint64_t lost, unsigned before[MOST_RANKS]) {
     return all;
 }
 
-/* The nanoseconds for which a thread has run; UINT64_MAX where it sleeps, or where the system doesn't say so. */
+/* The nanoseconds for which a thread has run; UINT64_MAX where it sleeps, or where the system doesn't say so: one that keeps no such account has 0. */
 static uint64_t time_run(int thread) {
     char path[64], state = 'S';
     unsigned long long time = UINT64_MAX;
@@ -232,7 +232,7 @@ static uint64_t time_run(int thread) {
     if (state != 'R') return UINT64_MAX;
     snprintf(path, sizeof path, "/proc/self/task/%d/schedstat", thread);
     from = fopen(path, "r");
-    if (from == NULL || fscanf(from, "%llu", &time) != 1) time = UINT64_MAX;
+    if (from == NULL || fscanf(from, "%llu", &time) != 1 || time == 0) time = UINT64_MAX;
     if (from != NULL) fclose(from);
     return time;
 }
