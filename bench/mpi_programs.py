@@ -59,13 +59,13 @@ def run(words, longest):
     """Measure -> nanoseconds; of a run that isn't through in time those that it came to."""
     process = subprocess.Popen(words, stdout=subprocess.PIPE, stdin=subprocess.DEVNULL, text=True, env={**os.environ, **ROOT}, start_new_session=True)
     try:
-        told, _ = process.communicate(timeout=longest)
+        output, _ = process.communicate(timeout=longest)
     except subprocess.TimeoutExpired:
-        told = ended(process)
+        output = ended(process)
     else:
         if process.returncode != 0:
             sys.exit(f"mpi_programs.py: {' '.join(map(str, words))}: status {process.returncode}")
-    return {name: int(time) for name, time in (line.rsplit(": ", 1) for line in told.splitlines() if ": " in line)}
+    return {name: int(time) for name, time in (line.rsplit(": ", 1) for line in output.splitlines() if ": " in line)}
 
 
 def busy():

@@ -161,13 +161,13 @@ check_c() {
     check_leaks refusals cases memory sum explained left "waits 3 5" "calls 3 2" "threads 4 20 quiet"
 }
 
-# Where one rank's post is refused, the program ends, and the three others are told.
+# Where one rank's post is refused, the program ends, and the three others learn of it.
 check_one_refusal() {
     # shellcheck disable=SC2086
     check "build sum with one refusal" $c "$here/c/sum.c" "$here/c/one_refusal.c" -Wl,--wrap=wz_post $static -o "$work/one_refusal"
     [ -x "$work/one_refusal" ] || return
-    check "sum with one refusal ends, and all are told" sh -c \
-        "timeout --foreground 600 $work/one_refusal 2>&1 | sort | cut -c1-40 > $work/told; grep -c 'no wait can end' $work/told | grep -qx 3 && grep -q 'rank 2: there is no communicator 9' $work/told"
+    check "sum with one refusal ends, and all learn of it" sh -c \
+        "timeout --foreground 600 $work/one_refusal 2>&1 | sort | cut -c1-40 > $work/sentences; grep -c 'no wait can end' $work/sentences | grep -qx 3 && grep -q 'rank 2: there is no communicator 9' $work/sentences"
     # shellcheck disable=SC2086
     [ ! "$checks_threads" ] || try_client one_refusal tsan $c -fsanitize=thread "$here/c/sum.c" "$here/c/one_refusal.c" -Wl,--wrap=wz_post $static
 }

@@ -33,7 +33,7 @@ static int complain(const struct scan *it, const char *what, const char *dashes,
 
 static bool is_option(const char *word) { return word[0] == '-' && word[1] != '\0'; }
 
-/* Moves the word behind those that were skipped in front of them. */
+/* Moves the word that follows the skipped ones to the place before them. */
 static void bring_forward(char **argv) {
     char *word = argv[optind + place.skipped];
     memmove(&argv[optind + 1], &argv[optind], sizeof *argv * (size_t)place.skipped);

@@ -10,7 +10,7 @@ static const char help[] =
     "wzrun [-n N] [OPTION ..] PROGRAM [ARGUMENT ..]: runs N ranks of a program that wzcc linked, as threads of one process\n"
     "  -n N, -np N      1 to 64 ranks; else WZ_RANKS says how many, or there is one\n"
     "  --strict         a collective is complete only once all its members have called it, and a send once it is received\n"
-    "  --check          tells where a program changes what a nonblocking or persistent call sends, or writes to where it receives, before it is completed\n"
+    "  --check          reports where a program changes what a nonblocking or persistent call sends, or writes to where it receives, before it is completed\n"
     "  --seed S         draws by the number S how the ranks interleave and which of several finished requests MPI_Waitany and its like take\n"
     "  --seeds A..B     runs it with each of these seeds until a run ends badly\n"
     "  --explain        at a bad end has colljob, which PATH has or COLLJOB names, tell why\n"

@@ -120,7 +120,7 @@ def compare(got, want_path, write, what):
 
 def check_wrong(binaries, out, only, write):
     program = compiled(binaries, HERE / "wrong.c", out)
-    failed = compare(dict(wrong_blocks(binaries, program, only)), HERE / "wrong.want", write, "told")
+    failed = compare(dict(wrong_blocks(binaries, program, only)), HERE / "wrong.want", write, "reported")
     if shutil.which(os.environ.get("COLLJOB", "colljob")) is None:
         print("check.py: there is no colljob in PATH or COLLJOB, so --explain isn't checked")
         return failed

@@ -5,7 +5,7 @@
 
 FOLDER has the generators of its programs, as teshsuite/smpi/MBI of SimGrid's sources (Debian has them: apt-get source simgrid), or programs that they
 have made. Those of one-sided calls are left out. Each program says in its head with how many ranks it runs, whether it has a mistake, of which kind, and
-in which lines. It runs under WORDS, "--strict --check" where none are given. A right program is accused where wzrun says anything; a wrong one is told
+in which lines. It runs under WORDS, "--strict --check" where none are given. A right program is accused where wzrun says anything; a wrong one is reported
 where wzrun ends the run, warned of where it says something else, and missed where it says nothing. --only takes programs whose name has one of the words,
 --every each N-th. --list also has a line for each program that is accused, missed or not built. Ends with 1 where a right program is accused.
 """
@@ -23,7 +23,7 @@ import tempfile
 HERE = pathlib.Path(__file__).resolve().parent
 LONGEST = 120  # seconds
 STOPPED = (2, 3)  # statuses with which wzrun ends a run
-WORDS = ("as it should be", "accused", "told", "warned of", "missed", "isn't built", "hangs")
+WORDS = ("as it should be", "accused", "reported", "warned of", "missed", "isn't built", "hangs")
 # A run that a head asks for: its number of ranks, what is wrong with it (OK: nothing), and the lines of the source that are.
 Run = collections.namedtuple("Run", "ranks label lines")
 
@@ -57,7 +57,7 @@ def outcome(program, run, options):
         return "accused" if says or done.returncode != 0 else "as it should be", done.stderr
     if not says:
         return "missed", f"status {done.returncode}"
-    return "told" if done.returncode in STOPPED else "warned of", done.stderr
+    return "reported" if done.returncode in STOPPED else "warned of", done.stderr
 
 
 def names_a_line(source, run, said):
@@ -95,7 +95,7 @@ def main():
                 for run, word, said in found:
                     counts[run.label, word] += 1
                     named[run.label] += names_a_line(source, run, said)
-                    if options.list and word not in ("as it should be", "told", "warned of"):
+                    if options.list and word not in ("as it should be", "reported", "warned of"):
                         print(f"{source.name} ({run.label}): {word}: {' | '.join(said.strip().splitlines()[:3])}", flush=True)
     print(f"| What is wrong | runs | {' | '.join(WORDS)} | names a line that is wrong |")
     for label in sorted({it[0] for it in counts}, key=lambda it: (it == "OK", it)):

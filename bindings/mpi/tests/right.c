@@ -549,7 +549,7 @@ static void options(void) {
     }
 }
 
-/* Messages go on when their requests are freed, and a receive buffer holds what it held behind a shorter message. */
+/* Messages go on when their requests are freed, and a receive buffer holds what it held after the end of a shorter message. */
 static void let_go(void) {
     int next = (rank + 1) % size, before = (rank + size - 1) % size, mine = rank, got = -1, word, row[3] = { -1, -2, -3 };
     MPI_Request request;
