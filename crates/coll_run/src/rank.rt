@@ -1,6 +1,6 @@
 //! The threads of the ranks.
 
-ghost use Rattle.std.specs.Prelude.{◌≡◌, All, IfOk, IfSome, map, vec_len};
+ghost use Rattle.std.specs.Prelude.{◌≡◌, All, IfOk, IfSome, length, map};
 ghost use Rattle.std.specs.Bool.{OnTrue};
 ghost use Rattle.coll_traced.specs.Awaiting.{IsSetback};
 
@@ -168,11 +168,11 @@ pub(crate) fn run_ranks<
     workers: u8,
 ) -> Result<Ends<ThreadEnd<L>>, AllocError>
     // If all threads were started, there is an end for each port's rank, in the order of the ports,
-    ensures ranks { IfOk result (λ ends. OnTrue ends.all_started (map (λ end. end.got.rank) ends.ranks.items ≡ map (λ port. port.rank) ports.items)) }
+    ensures ranks { IfOk result (λ ends. OnTrue ends.all_started (map (λ end. end.got.rank) ends.ranks ≡ map (λ port. port.rank) ports.items)) }
     // and one for each progress thread;
-    ensures workers { IfOk result (λ ends. OnTrue ends.all_started (vec_len ends.workers ≡ workers)) }
+    ensures workers { IfOk result (λ ends. OnTrue ends.all_started (length ends.workers ≡ workers)) }
     // such a thread ended early only for a reason that a progress thread has.
-    ensures setbacks { IfOk result (λ ends. All (λ end. IfSome end IsSetback) ends.workers.items) }
+    ensures setbacks { IfOk result (λ ends. All (λ end. IfSome end IsSetback) ends.workers) }
 {
     let tasks = tasks_of(rt, alloc, gate, observer, script, ports)?;
     run_rank_threads(rt, alloc, gate, engine, tasks, workers)

@@ -207,14 +207,14 @@ fn concluded<L: Entries, R: Wait>(
 ) -> Result<(Vec<u8>, Report, Vec<RankSpans>), JobFault>
     requires parts { L.parts ≡ L.setting.ranks }
     // If all threads were started, these are the ends of all ranks and of all progress threads.
-    requires ranks { OnTrue ends.all_started (map (λ end. end.got.rank) ends.ranks.items ≡ range_with_len 0 L.setting.ranks) }
-    requires workers { OnTrue ends.all_started (vec_len ends.workers ≡ count) }
+    requires ranks { OnTrue ends.all_started (map (λ end. end.got.rank) ends.ranks ≡ range_with_len 0 L.setting.ranks) }
+    requires workers { OnTrue ends.all_started (length ends.workers ≡ count) }
     // If the threads report a fault, the result is that fault, or `Memory` if memory is refused before it is found;
-    ensures ends { IfSome (fault_of ends.all_started (map (λ end. end.refusal) ends.ranks.items) ends.workers.items)
+    ensures ends { IfSome (fault_of ends.all_started (map (λ end. end.refusal) ends.ranks) ends.workers)
         (λ fault. IsErrOf result fault ⊎ IsErrOf result JobFault.Memory) }
     // if they report none, each rank got exactly what its completions handed out.
     ensures got { IfOk result (λ done.
-        All (λ got. HandedOut done.1.entries got.rank got.outcomes.items) (map (λ end. end.got) ends.ranks.items)) }
+        All (λ got. HandedOut done.1.entries got.rank got.outcomes.items) (map (λ end. end.got) ends.ranks)) }
     ensures opened { IfOk result (λ done. done.1.setting ≡ L.setting) }
     ensures run { IfOk result (λ done. IsRun script.now done.1) }
     ensures tells { IfOk result (λ done. Tells done.1 (λ rank. asked (commands_by script.now rank))) }
@@ -222,11 +222,7 @@ fn concluded<L: Entries, R: Wait>(
     ensures meaning { IfOk result (λ done. done.0.items ≡ job_lines (job_of script.now)) }
     ensures faults { IfErr result IsEnd }
 {
-    let Ends {
-        all_started,
-        ranks,
-        workers,
-    } = ends;
+    let (all_started, ranks, workers) = ends.into_parts();
     let Ok((refusals, spents, got, spans)) = apart(alloc, ranks) else {
         return Err(JobFault::Memory);
     };

@@ -76,3 +76,9 @@ ends_of_tasks f P hs ks ts b true is e h =
 
 pub none_of_tasks : (P : Type 0) (all : Bool) → all ≡ false → OnTrue all P
 none_of_tasks P all is = subst (λ b. OnTrue b P) (sym is) tt
+
+-- what is kept of the ends is what was joined
+pub ends_of_parts : {K T : Type 0} (P : K → T → Type 0) (ks : List K) (kept joined : List T) (all started : Bool) → all ≡ started → kept ≡ joined
+    → OnTrue started (AreEnds P ks joined) → OnTrue all (AreEnds P ks kept)
+ends_of_parts {K} {T} P ks kept joined all started same are h =
+    subst (λ (b : Bool). OnTrue b (AreEnds P ks kept)) (sym same) (subst (λ (ts : List T). OnTrue started (AreEnds P ks ts)) (sym are) h)

@@ -5,5 +5,6 @@ pub mod Starts
 -- what a port publishes, and what the combiner makes of it
 pub mod Publications
 -- how the threads of an engine's ranks end, and what their programs give
+pub mod HowEnded
 pub mod RankThreads
 pub mod RankPrograms

@@ -1,6 +1,6 @@
 //! Threads that begin together: one for each rank of an engine, and progress threads for all. They are started and joined here.
 
-ghost use Rattle.std.specs.Prelude.{◌≡◌, ◌≤◌, [], All, IfOk, IfSome, map, vec_capacity, vec_len};
+ghost use Rattle.std.specs.Prelude.{◌≡◌, ◌≤◌, [], All, IfOk, IfSome, length, map, vec_capacity, vec_len};
 ghost use Rattle.std.specs.Bool.{OnTrue};
 ghost use Rattle.coll_traced.specs.Awaiting.{IsSetback};
 ghost use Rattle.coll_shared.specs.RankThreads.{AreEnds};
@@ -63,9 +63,9 @@ pub fn run_rank_threads<
     tasks: Vec<K>,
     workers: u8,
 ) -> Result<Ends<T>, AllocError>
-    ensures ranks { IfOk result (λ ends. OnTrue ends.all_started (AreEnds K.IsEnd tasks.items ends.ranks.items)) }
-    ensures workers { IfOk result (λ ends. OnTrue ends.all_started (vec_len ends.workers ≡ workers)) }
-    ensures setbacks { IfOk result (λ ends. All (λ end. IfSome end IsSetback) ends.workers.items) }
+    ensures ranks { IfOk result (λ ends. OnTrue ends.all_started (AreEnds K.IsEnd tasks.items ends.ranks)) }
+    ensures workers { IfOk result (λ ends. OnTrue ends.all_started (length ends.workers ≡ workers)) }
+    ensures setbacks { IfOk result (λ ends. All (λ end. IfSome end IsSetback) ends.workers) }
 {
     let start = Start::new();
     let held = &start;
@@ -92,9 +92,9 @@ fn run_in_scope<
     tasks: Vec<K>,
     workers: u8,
 ) -> Result<Ends<T>, AllocError>
-    ensures ranks { IfOk result (λ ends. OnTrue ends.all_started (AreEnds K.IsEnd tasks.items ends.ranks.items)) }
-    ensures workers { IfOk result (λ ends. OnTrue ends.all_started (vec_len ends.workers ≡ workers)) }
-    ensures setbacks { IfOk result (λ ends. All (λ end. IfSome end IsSetback) ends.workers.items) }
+    ensures ranks { IfOk result (λ ends. OnTrue ends.all_started (AreEnds K.IsEnd tasks.items ends.ranks)) }
+    ensures workers { IfOk result (λ ends. OnTrue ends.all_started (length ends.workers ≡ workers)) }
+    ensures setbacks { IfOk result (λ ends. All (λ end. IfSome end IsSetback) ends.workers) }
 {
     let mut ranks = Vec::with_capacity(alloc, tasks.len())?;
     let mut rank_threads = Vec::with_capacity(alloc, tasks.len())?;
@@ -107,11 +107,7 @@ fn run_in_scope<
     join_ranks(rt, rank_threads, &mut ranks);
     engine.stop(rt);
     join_workers(rt, worker_threads, &mut worker_ends);
-    Ok(Ends {
-        all_started,
-        ranks,
-        workers: worker_ends,
-    })
+    Ok(Ends::of(all_started, ranks, worker_ends))
 }
 
 /// Tells the engine how many threads use it, on how many processors. Where the system doesn't say, they share one.

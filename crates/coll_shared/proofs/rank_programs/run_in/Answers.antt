@@ -1,4 +1,4 @@
-use Rattle.std.proofs.Common.{◌≡◌, ap, inl, inr, subst, sym, ◌∙◌}
+use Rattle.std.proofs.Common.{◌≡◌, inl, inr, subst, sym, ◌∙◌}
 use Rattle.std.specs.Prelude.{IfOk}
 use Rattle.std.proofs.lemmas.Result.{err_from_is_err_and}
 use Rattle.coll_traced.specs.Awaiting.{IsSetback}
@@ -23,6 +23,6 @@ pub returns-clause-values : goal.returns-clause-values
 returns-clause-values g c =
     given_ok g.P.RankProgram.Gives (λ task. task.program) (λ task. task.port.rank) (λ end. end.value) (λ r. r.0.items)
     c.in_ok-tasks.tasks.items c.in_ok-ends.ends.items c.args.programs.items c.concluded.result
-    (ended _ _ _ _ _ c.in_ok-run_rank_threads.ensures.ranks c.in_ok-ends.ensures.started (ap (λ v. v.items) c.in_ok-ends.ensures.ranks))
+    (ended _ _ _ _ _ c.in_ok-run_rank_threads.ensures.ranks c.in_ok-ends.ensures.started c.in_ok-ends.ensures.ranks)
     (ranks_of (λ task. task.port) _ _ c.in_ok-tasks.tasks.items _ c.in_ok-tasks.ensures.ports c.in_ok-engine.ensures.ports)
     c.in_ok-tasks.ensures.programs c.concluded.ensures.values
