@@ -44,6 +44,10 @@ PROTOCOL = [
     (HOLDS, SAFE, True, "absentee, 2 ranks, 1 worker", f"ABSENTEE WATCHED {TWO} {WORKER}"),
     (HOLDS, SAFE, True, "resumed, 2 ranks", f"RESUMED WATCHED {TWO}"),
     (HOLDS, SAFE, True, "resumed, 2 ranks, 1 worker", f"RESUMED WATCHED {TWO} {WORKER} STEPS=8"),
+    (HOLDS, SAFE, True, "later, 2 ranks", f"LATER WATCHED {TWO}"),
+    (HOLDS, SAFE, True, "later, 2 ranks, 1 worker", f"LATER WATCHED {TWO} {WORKER} STEPS=8"),
+    (HOLDS, SAFE, True, "in vain, 2 ranks", f"IN_VAIN WATCHED {TWO}"),
+    (HOLDS, SAFE, True, "in vain, 2 ranks, 1 worker", f"IN_VAIN WATCHED {TWO} {WORKER} STEPS=8"),
     (HOLDS, SAFE, True, "dropped, 2 ranks", "DROPPED WATCHED"),
     (HOLDS, SAFE, True, "dropped, 2 ranks, 1 worker", f"DROPPED WATCHED {WORKER}"),
     (HOLDS, SAFE, True, "lists, 2 ranks", f"LISTS WATCHED {TWO}"),
@@ -60,6 +64,7 @@ PROTOCOL = [
     (HOLDS, SAFE, False, "gate, 2 ranks, 1 worker", f"THREE WATCHED COLLECTIVES=3 {WORKER} GATED STEPS=8 UNCHAINED"),
     (HOLDS, SAFE, True, "no second look, 2 ranks, 1 worker", f"ONE {WORKER} NO_SECOND_LOOK"),
     (HOLDS, LIVE, True, "one ends, 2 ranks", "ONE"),
+    (HOLDS, LIVE, True, "in vain ends, 2 ranks", f"IN_VAIN {TWO}"),
     (HOLDS, LIVE, True, "polls end, 2 ranks", "POLLS"),
     (HOLDS, LIVE, False, "polls end, 2 ranks, 1 worker", f"POLLS {WORKER}"),
     (HOLDS, LIVE, False, "polls end, 3 ranks", f"POLLS {THREE} STEPS=8"),
@@ -81,6 +86,9 @@ FAULTS = [
     (FAILS, SAFE, True, "stall while a combination is out", "ONE STALL_WHILE_OUT"),
     (FAILS, SAFE, True, "stall before serving", "ONE STALL_BEFORE_SERVE"),
     (FAILS, SAFE, True, "lasting stall", f"RESUMED {TWO} LASTING_STALL"),
+    (FAILS, SAFE, True, "stall for all", f"LATER {TWO} STALL_FOR_ALL"),
+    (FAILS, SAFE, True, "marked rests", f"LATER {TWO} MARKED_RESTS"),
+    (FAILS, SAFE, True, "one stall", f"IN_VAIN {TWO} ONE_STALL"),
     (FAILS, SAFE, True, "unseen drop", "DROPPED UNSEEN_DROP"),
 ]
 

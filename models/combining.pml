@@ -22,6 +22,9 @@
  *          STALL_WHILE_OUT    a stall is reported though a combination is out
  *          STALL_BEFORE_SERVE a stall is looked for before the records are served, and what is published counts as a rest
  *          LASTING_STALL      a stall that was reported stays, though a request is ready again
+ *          STALL_FOR_ALL      who begins to wait after a stall was reported is refused as if it had waited then
+ *          MARKED_RESTS       a port that a stall was reported to counts as blocked until it has gone on
+ *          ONE_STALL          a stall is reported only once until a request is ready again
  *          UNSEEN_DROP        who gives the lock up doesn't look for ports that were dropped meanwhile
  */
 #ifndef RANKS
@@ -46,7 +49,7 @@
 #define EVERYONE ((1 << RANKS) - 1)
 
 /* scratch of one deterministic step, set before it is read */
-hidden byte i, j, count, found;
+hidden byte i, j, count, found, waiting;
 
 /* ---------------------------------------------------------------- the engine: a request of each rank for each collective */
 #define ABSENT 0
@@ -70,6 +73,7 @@ byte written;               /* pieces whose results were written */
 byte waits_for[RANKS];      /* the collectives of a registered wait */
 byte any;                   /* ranks that wait for any of several */
 byte parked, away, ended;   /* ranks */
+byte marked;                /* ranks that have waited since a stall was reported */
 byte dropped;               /* ranks whose ports were let go, until a combiner notes that they have ended */
 byte idle;                  /* progress threads that sleep, or are about to */
 bit stalled, stopped;
@@ -139,8 +143,11 @@ byte operation[RANKS], operand[RANKS];
 byte reply[RANKS];
 
 inline answer(rank, what) {
-    reply[rank] = what; waits_for[rank] = 0; any = any & ~BIT(rank); word[rank] = ANSWERED; wakes(rank)
+    reply[rank] = what; goes_on(rank); word[rank] = ANSWERED; wakes(rank)
 }
+
+/* the rank's port waits no longer */
+inline goes_on(rank) { waits_for[rank] = 0; any = any & ~BIT(rank); marked = marked & ~BIT(rank) }
 
 inline wakes(rank) {
     if
@@ -226,19 +233,38 @@ inline settle() {
     od
 }
 
-/* nothing is ready or out, and each port is blocked in a wait or has ended: nobody can go on */
+/* whether a stall was reported while the rank's port waited for what it waits for now */
+#ifdef STALL_FOR_ALL
+#define IS_STALLED(rank) stalled
+#else
+#define IS_STALLED(rank) (stalled && (marked & BIT(rank)))
+#endif
+
+/* whether a stall was reported that some port hasn't gone on from */
+#ifdef MARKED_RESTS
+#define IS_TOLD (stalled && (waiting & ~marked) == 0)
+#else
+#ifdef ONE_STALL
+#define IS_TOLD stalled
+#else
+#define IS_TOLD (stalled && marked != 0)
+#endif
+#endif
+
+/* nothing is ready or out, and each port is blocked in a wait or has ended: nobody can go on. Who waits takes the lock, and is refused */
 inline tell_stall() {
     look(count, found);
 #ifdef STALL_WHILE_OUT
     found = 0;
 #endif
     if
-    :: count == 0 && !found && !stalled && ended != EVERYONE ->
-        i = 0;
+    :: count == 0 && !found && ended != EVERYONE ->
+        i = 0; waiting = 0;
         do
         :: i < RANKS ->
             if
-            :: (ended & BIT(i)) || waits_for[i] != 0
+            :: ended & BIT(i)
+            :: !(ended & BIT(i)) && waits_for[i] != 0 -> waiting = waiting | BIT(i)
 #ifdef STALL_BEFORE_SERVE
             :: !(ended & BIT(i)) && waits_for[i] == 0 && word[i] == PUBLISHED
             :: !(ended & BIT(i)) && waits_for[i] == 0 && word[i] != PUBLISHED -> found = 1
@@ -250,7 +276,7 @@ inline tell_stall() {
         :: else -> break
         od;
         if
-        :: !found ->
+        :: !found && !IS_TOLD ->
             stalled = 1; i = 0;
             do
             :: i < RANKS && !(ended & BIT(i)) ->
@@ -262,8 +288,9 @@ inline tell_stall() {
                     j++
                 :: else -> break
                 od;
+                marked = marked | BIT(i);
                 if
-                :: waits_for[i] != 0 -> answer(i, LOOK)
+                :: parked & BIT(i) -> word[i] = CALLED; wakes(i)
                 :: else
                 fi;
                 i++
@@ -271,7 +298,8 @@ inline tell_stall() {
             :: else -> break
             od
         :: else
-        fi
+        fi;
+        waiting = 0
     :: else
     fi
 }
@@ -574,10 +602,10 @@ Turn: true;
     :: first == 2 -> d_step { first = 0; hand_out(piece) }; UNLOCK; WAKE; goto ComputesBetween      /* it is of a few bytes */
 #endif
     :: word[me] != ANSWERED && first == 1 -> d_step { first = 0; next = TO_SPIN }; goto Release
-    :: word[me] != ANSWERED && first == 0 && stalled ->
-        d_step { waits_for[me] = 0; any = any & ~BIT(me); ending[me] = (what == TRY -> WELL : STALLED); inside = inside & ~BIT(me); next = TO_GIVE_UP };
+    :: word[me] != ANSWERED && first == 0 && IS_STALLED(me) ->
+        d_step { goes_on(me); ending[me] = (what == TRY -> WELL : STALLED); inside = inside & ~BIT(me); next = TO_GIVE_UP };
         goto Release
-    :: word[me] != ANSWERED && first == 0 && !stalled ->
+    :: word[me] != ANSWERED && first == 0 && !IS_STALLED(me) ->
         d_step { is_published(more) };
         if
         :: more -> more = 0; goto Turn      /* it keeps the lock, and serves */
@@ -595,7 +623,7 @@ Computes:       /* the lock is free */
     ENTER;
     if
     :: refusals > 0 ->
-        d_step { abandon(); piece = 0; away = away & ~BIT(me); waits_for[me] = 0; any = any & ~BIT(me); ending[me] = REFUSED; inside = inside & ~BIT(me); next = TO_GIVE_UP };
+        d_step { abandon(); piece = 0; away = away & ~BIT(me); goes_on(me); ending[me] = REFUSED; inside = inside & ~BIT(me); next = TO_GIVE_UP };
         goto Release
     :: true -> d_step { commit(); away = away & ~BIT(me); NOTE_DUE };
         if
@@ -808,7 +836,8 @@ proctype Watcher() {
 end:
     if
     :: lock != HELD && SOME_REQUEST(IS_MET) -> assert(false)    /* who waits is answered under the hold that finishes the request */
-    :: lock != HELD && !stalled && ended != EVERYONE && ALL_REST && !SOME_REQUEST(IS_BUSY) -> assert(false)     /* a stall is reported at once */
+    :: lock != HELD && !(stalled && marked != 0) && ended != EVERYONE && ALL_REST && !SOME_REQUEST(IS_BUSY) -> assert(false)     /* a stall is reported at once */
+    :: lock != HELD && stalled && (marked & parked) != 0 -> assert(false)       /* to who sleeps too */
     :: lock != HELD && ONE_IS_LOST -> assert(false)             /* who is marked as parked is registered */
     fi
 }

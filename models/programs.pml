@@ -97,6 +97,24 @@ inline program() {
 inline verdict() { all_end_well }
 #endif
 
+#ifdef LATER            /* a stall is reported, and rank 1 waits again; rank 0 goes on and posts what rank 1 waits for */
+inline program() {
+    members[0] = 3; members[1] = 3; combines[1] = 1;
+    line(0, POST, 0); line(0, TRY, 0); line(0, POST, 1); line(0, WAIT, 1);
+    line(1, POST, 1); line(1, TRY, 1); line(1, WAIT, 1)
+}
+inline verdict() { all_end_well }
+#endif
+
+#ifdef IN_VAIN          /* a stall is reported, and reported again each time nobody can go on: once rank 0 waits again, and once it has ended */
+inline program() {
+    members[0] = 3; members[1] = 3;
+    line(0, POST, 0); line(0, TRY, 0); line(0, WAIT, 0);
+    line(1, POST, 1); line(1, TRY, 1); line(1, TRY, 1); line(1, WAIT, 1)
+}
+inline verdict() { assert(stalled); ends(0, STALLED); ends(1, STALLED) }
+#endif
+
 #ifdef DROPPED          /* rank 1 lets its port go without its post */
 inline program() {
     members[0] = 3; combines[0] = 1;

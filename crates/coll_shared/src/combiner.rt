@@ -198,15 +198,20 @@ impl<L: Entries> Combiner<L> {
         }
     }
 
-    /// Tells all that wait, where nothing can go on.
+    /// Calls the ports that are parked, where nothing can go on: each port that waits takes the lock then, and finds that it is stalled.
     fn tell_stall(&self, held: &mut Held<'_, L>) {
-        if held.locked.tell_stall() {
-            let waiting = held.locked.traced.waiting();
-            self.answer(held, waiting);
+        if !held.locked.tell_stall() {
+            return;
+        }
+        let parked = held.locked.parked;
+        for rank in 0..64u8 {
+            if parked.has(rank) {
+                self.call(held, rank);
+            }
         }
     }
 
-    /// Calls a parked port to go on with what is ready. It waits as before.
+    /// Calls a parked port to take the lock. It waits as before.
     fn call(&self, held: &mut Held<'_, L>, rank: u8) {
         if let Some(record) = self.record(rank) {
             record.call();

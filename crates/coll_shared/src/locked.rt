@@ -25,7 +25,7 @@ pub(crate) struct Locked<L: Entries> {
     pub(crate) finished: bool,
     /// Progress threads are to end.
     pub(crate) stopped: bool,
-    /// A stall was reported, and nothing was ready since.
+    /// A stall was reported, and nothing was ready since: the ports that are marked as stalled can't go on but by giving their waits up.
     stalled: bool,
     pieces: u64,
 }
@@ -127,21 +127,22 @@ impl<L: Entries> Locked<L> {
         }
     }
 
-    /// Whether a stall was reported, and nothing has been ready since.
-    pub(crate) fn is_stalled(&self) -> bool
-        ensures { IsTrue result → WasStalled L.setting }
+    /// Whether a stall was reported while the rank's port waited for what it waits for now, and nothing has been ready since.
+    pub(crate) fn is_stalled(&self, rank: u8) -> bool
+        ensures { IsTrue result → WasStalled L.setting rank }
     {
-        self.stalled && self.traced.is_stalled()
+        self.stalled && self.traced.is_stalled(rank)
     }
 
-    /// Notes that nothing can go on, where that is so and isn't noted. Returns whether it did that.
+    /// Marks the ports that wait as stalled, where nothing can go on. Returns whether it did that. A port that is marked goes on once it has
+    /// the lock, so while there is one it isn't so that nothing can.
     pub(crate) fn tell_stall(&mut self) -> bool {
-        if self.stalled || !self.traced.stall_now() {
+        if self.stalled && self.traced.some_is_marked() {
             return false;
         }
-        self.traced.tell_stall();
-        self.stalled = true;
-        true
+        let is_stalled = self.traced.tell_stall();
+        self.stalled = self.stalled || is_stalled;
+        is_stalled
     }
 
     /// A waiting port gives its wait up.

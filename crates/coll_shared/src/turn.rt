@@ -71,7 +71,7 @@ impl<L: Entries> Combiner<L> {
         patience: Patience,
         may_park: bool,
     ) -> Result<Turn, Refusal>
-        ensures { IfErr result (IsHindrance L.setting) }
+        ensures { IfErr result (IsHindrance L.setting rank) }
     {
         let mut written = None;
         let mut effort = Effort::default();
@@ -144,7 +144,7 @@ impl<L: Entries> Combiner<L> {
         may_park: bool,
         effort: &mut Effort,
     ) -> Result<Next, Refusal>
-        ensures { IfErr result (IsHindrance L.setting) }
+        ensures { IfErr result (IsHindrance L.setting rank) }
     {
         if record.is_answered() {
             record.set_leads(true);
@@ -159,7 +159,7 @@ impl<L: Entries> Combiner<L> {
                 _ => effort.step(),
             });
         }
-        if held.locked.is_stalled() {
+        if held.locked.is_stalled(rank) {
             return Err(Refusal::Stalled);
         }
         if effort.looks < patience.holds() && !self.is_wanted() {

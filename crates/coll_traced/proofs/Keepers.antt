@@ -274,28 +274,28 @@ handed_out {g} config p r es n None k out none = subst (λ q. IsKept g config q 
 
 -- ---- refusals
 
-full_at : {g : Setting} {config : Config} {p : Parts} {es : List Entry} {n : ℕ} (ns : List WaitFor) (st : Bool) → IsKept g config p es n → config.trace < length es + n + 2 → IsFull (record { core = p; entries = es; waits = ns; stalled = st })
+full_at : {g : Setting} {config : Config} {p : Parts} {es : List Entry} {n : ℕ} (ns : List WaitFor) (st : List Bool) → IsKept g config p es n → config.trace < length es + n + 2 → IsFull (record { core = p; entries = es; waits = ns; stalled = st })
 full_at {g} {config} {p} {es} {n} ns st k lt =
     let limit : config.trace ≡ (setting p).trace = k.limit_is in
     let count : n ≡ reserved (setting p) (seen p).state = k.reserves in
     omega arith
 
-fits_at : {g : Setting} {config : Config} {p : Parts} {es : List Entry} {n : ℕ} (ns : List WaitFor) (st : Bool) → IsKept g config p es n → IsFull (record { core = p; entries = es; waits = ns; stalled = st }) → config.trace < length es + n + 2
+fits_at : {g : Setting} {config : Config} {p : Parts} {es : List Entry} {n : ℕ} (ns : List WaitFor) (st : List Bool) → IsKept g config p es n → IsFull (record { core = p; entries = es; waits = ns; stalled = st }) → config.trace < length es + n + 2
 fits_at {g} {config} {p} {es} {n} ns st k lt =
     let limit : config.trace ≡ (setting p).trace = k.limit_is in
     let count : n ≡ reserved (setting p) (seen p).state = k.reserves in
     let less : (setting p).trace < length es + reserved (setting p) (seen p).state + 2 = lt in
     omega arith
 
-pub denies_room : {g : Setting} {config : Config} {p : Parts} {es : List Entry} {n : ℕ} {ns : List WaitFor} {st : Bool} {h : Traced} {call : calls.Call} {why : Refusal} → IsKept g config p es n → record { core = p; entries = es; waits = ns; stalled = st } ≡ h
+pub denies_room : {g : Setting} {config : Config} {p : Parts} {es : List Entry} {n : ℕ} {ns : List WaitFor} {st : List Bool} {h : Traced} {call : calls.Call} {why : Refusal} → IsKept g config p es n → record { core = p; entries = es; waits = ns; stalled = st } ≡ h
     → ((why ≡ TraceFull) × (config.trace < length es + n + 2)) ⊎ ((config.trace < length es + n + 2 → ⊥) × (why ≡ NoMemory)) → Denies h call why
 denies_room {g} {config} {p} {es} {n} {ns} {st} {h} {call} {why} k view (inl full) = subst (λ (h : Traced). Denies h call why) view (inl (full.0, full_at ns st k full.1))
 denies_room {g} {config} {p} {es} {n} {ns} {st} {h} {call} {why} k view (inr none) = subst (λ (h : Traced). Denies h call why) view (inr (λ full. none.0 (fits_at ns st k full), inl none.1))
 
-pub denies_memory : {g : Setting} {config : Config} {p : Parts} {es : List Entry} {n : ℕ} {ns : List WaitFor} {st : Bool} {h : Traced} {call : calls.Call} {why : Refusal} → IsKept g config p es n → record { core = p; entries = es; waits = ns; stalled = st } ≡ h → (config.trace < length es + n + 2 → ⊥)
+pub denies_memory : {g : Setting} {config : Config} {p : Parts} {es : List Entry} {n : ℕ} {ns : List WaitFor} {st : List Bool} {h : Traced} {call : calls.Call} {why : Refusal} → IsKept g config p es n → record { core = p; entries = es; waits = ns; stalled = st } ≡ h → (config.trace < length es + n + 2 → ⊥)
     → why ≡ NoMemory → Denies h call why
 denies_memory {g} {config} {p} {es} {n} {ns} {st} {h} {call} {why} k view fits none = subst (λ (h : Traced). Denies h call why) view (inr (λ full. fits (fits_at ns st k full), inl none))
 
-pub denies_core : {g : Setting} {config : Config} {p : Parts} {es : List Entry} {n : ℕ} {ns : List WaitFor} {st : Bool} {h : Traced} {call : calls.Call} {why : Refusal} → IsKept g config p es n → record { core = p; entries = es; waits = ns; stalled = st } ≡ h → (config.trace < length es + n + 2 → ⊥)
+pub denies_core : {g : Setting} {config : Config} {p : Parts} {es : List Entry} {n : ℕ} {ns : List WaitFor} {st : List Bool} {h : Traced} {call : calls.Call} {why : Refusal} → IsKept g config p es n → record { core = p; entries = es; waits = ns; stalled = st } ≡ h → (config.trace < length es + n + 2 → ⊥)
     → Refuses (setting p) (seen p) call why → Denies h call why
 denies_core {g} {config} {p} {es} {n} {ns} {st} {h} {call} {why} k view fits refuses = subst (λ (h : Traced). Denies h call why) view (inr (λ full. fits (fits_at ns st k full), inr refuses))

@@ -9,3 +9,4 @@ pub mod Awaiting
 pub mod PortWaits
 pub mod Places
 pub mod Rows
+pub mod Stalling

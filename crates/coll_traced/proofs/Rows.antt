@@ -6,12 +6,16 @@ use Rattle.coll_kinds.specs.declared.refusal.Refusal.TheVariants.{NoMemory, Stal
 use Rattle.coll_kinds.specs.declared.ticket.Ticket.{Ticket}
 use Rattle.coll_machine.specs.Common.{Call, Free, Refused, Reply, Retire, Start, Entry, Posted, Inited, Started, Retired, Freed, MachineStep, post, init, start, finish, retire, wait, free, refuse, short, first_of, idle_refusals, naming_refusals, refusal, start_refusals, Setting, Machine, Request, State, found, nothing, Enters, Leads, LegalTrace, reserved}
 use Rattle.coll_complete.specs.Requests.{free_refusal, list_refusal, refusal_at}
-use Rattle.coll_core.specs.Cores.{seen, setting}
+use Rattle.coll_core.specs.Cores.{Parts, seen, setting}
+use Rattle.coll_core.specs.Phases.{phase_in, phase_of}
+use Rattle.coll_core.specs.declared.phase.Phase.TheVariants.{Pending}
 use Rattle.coll_traced.specs.Closings.{IsFirstBusy, IsObjected, Objects, ends_of}
 use Rattle.coll_traced.specs.Denials.{IsDenied}
 use Rattle.coll_traced.specs.Moments.{IsMoment}
 use Rattle.coll_traced.specs.Rows.{AnswersCanBeWrong, silent}
+use Rattle.coll_traced.specs.Stalls.{IsHeldUp, WasStalledFor}
 use Rattle.coll_traced.specs.Traced.{Denies, IsFull, Traced}
+use Rattle.coll_traced.specs.Waits.{WaitFor, Awake, ForOne, ForAny, Ended}
 
 either_same : {X : Type 0} (b : Bool) (x : X) → (if b then x else x) ≡ x
 either_same true x = refl
@@ -135,6 +139,22 @@ objected why o = go o.objects
     go (inl busy) = not_busy (seen o.at.core).state busy.0 is.1 busy.2
     go (inr torn) = torn.1 (sym ends)
 
+-- a ticket names nothing there
+not_pending : (p : Parts) (t : Ticket) → (seen p).state ≡ nothing → phase_in (seen p) t ≡ Some Pending → ⊥
+not_pending p t is pending =
+    let none : phase_in (seen p) t ≡ None = ap (phase_of (seen p) t) (ap (λ (s : State). found s t) is ∙ found_nothing t) in
+    let e : None ≡ Some Pending = sym none ∙ pending in
+    absurd cc
+
+not_held_up : (p : Parts) (w : WaitFor) → (seen p).state ≡ nothing → IsHeldUp p w → ⊥
+not_held_up p Awake is held = held
+not_held_up p (ForOne rank t) is held = not_pending p t is held
+not_held_up p (ForAny rank ts) is held = not_pending p held.1 is held.4
+not_held_up p Ended is held = held
+
+stalls_none : (rank : ℕ) (w : WaitFor) → WasStalledFor silent rank w → ⊥
+stalls_none rank w was = not_held_up was.at.core w (only was.at.entries (seen was.at.core).state was.legal).1 was.held_up
+
 pub answers_can_be_wrong : AnswersCanBeWrong
 answers_can_be_wrong = record {
   has_no_entry = has_no_entry;
@@ -152,4 +172,5 @@ answers_can_be_wrong = record {
     (λ rank t k. freed rank t k.before k.engine.state k.moment (sym k.why_is)),
   );
   free_and_idle = (denied, objected);
+  stalls_none = stalls_none;
 }

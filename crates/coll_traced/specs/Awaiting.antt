@@ -19,10 +19,10 @@ use Rattle.coll_traced.specs.declared.awaited.Awaited.TheVariants as awaited
 abbrev pub IsSetback : Refusal → Type 0
 IsSetback why = (why ≡ NoMemory) ⊎ (why ≡ Stale)
 
--- why a wait is given up whose requests aren't refused: the engine was stalled; its list names a request twice, and memory to note
--- that was refused; or as a progress thread
-abbrev pub IsHindrance : Setting → Refusal → Type 0
-IsHindrance g why = ((why ≡ Stalled) × WasStalled g) ⊎ IsSetback why
+-- why a wait of the rank's port is given up whose requests aren't refused: the engine was stalled while that port waited; its list names a
+-- request twice, and memory to note that was refused; or as a progress thread
+abbrev pub IsHindrance : Setting → ℕ → Refusal → Type 0
+IsHindrance g rank why = ((why ≡ Stalled) × WasStalled g rank) ⊎ IsSetback why
 
 -- the tickets of a list's requests that aren't null, in their order
 abbrev pub tickets_in : List (Option Ticket) → List Ticket

@@ -9,7 +9,9 @@ use Rattle.coll_complete.specs.declared.any.Any.{Any}
 use Rattle.coll_traced.specs.Closings.{IsObjected}
 use Rattle.coll_traced.specs.Denials.{IsDenied}
 use Rattle.coll_traced.specs.Moments.{IsMoment}
+use Rattle.coll_traced.specs.Stalls.{WasStalledFor}
 use Rattle.coll_traced.specs.Tests.{RefusesFree, RefusesList, RefusesOne, TestsAll, TestsAny, TestsOne, TestsSome}
+use Rattle.coll_traced.specs.Waits.{WaitFor}
 
 -- an engine of one rank without a communicator accepts no call
 abbrev pub silent : Setting
@@ -46,8 +48,13 @@ IsFreeAndIdle =
     ((rank : ℕ) (t : Ticket) (bytes : List ℕ) → IsDenied silent 0 (Start rank t bytes) TraceFull → ⊥)
     × ((why : Refusal) → IsObjected silent ((0, 0) ∷ []) why → ⊥)
 
+-- no port of it was stalled, since it has no request that one could wait for
+abbrev pub StallsNone : Type 0
+StallsNone = (rank : ℕ) (wait : WaitFor) → WasStalledFor silent rank wait → ⊥
+
 pub record AnswersCanBeWrong : Type 0 where
   pub has_no_entry : HasNoEntry
   pub tests_none : TestsNone
   pub refuses_stale : RefusesStale
   pub free_and_idle : IsFreeAndIdle
+  pub stalls_none : StallsNone

@@ -1,11 +1,12 @@
 -- When nothing can go on.
-use Rattle.std.specs.Prelude.{◌≡◌, ℕ, All, Bool, Some, None, true}
+use Rattle.std.specs.Prelude.{◌≡◌, ℕ, All, Any, Bool, List, Some, None, true, length, slice_get}
 use Rattle.coll_kinds.specs.declared.ticket.Ticket.{Ticket}
 use Rattle.coll_machine.specs.Common.{Retire, refusal, Setting, LegalTrace}
-use Rattle.coll_core.specs.declared.phase.Phase.TheVariants.{Done}
+use Rattle.coll_core.specs.declared.phase.Phase.TheVariants.{Done, Pending}
 use Rattle.coll_core.specs.Cores.{Parts, seen, setting}
 use Rattle.coll_core.specs.Phases.{IsQuiet, phase_in}
-use Rattle.coll_traced.specs.Waits.{WaitFor, Awake, ForOne, ForAny, Ended}
+use Rattle.coll_traced.specs.declared.port_wait.PortWait.{PortWait}
+use Rattle.coll_traced.specs.Waits.{WaitFor, Awake, ForOne, ForAny, Ended, mark_in, wait_in}
 use Rattle.coll_traced.specs.Traced.{Traced}
 
 -- the ticket names a request of the rank that can be completed
@@ -24,13 +25,47 @@ pub record IsStalled (t : Traced) : Type 0 where
   pub quiet : IsQuiet t.core
   pub blocked : All (IsBlocked t.core) t.waits
 
--- an engine with that setting, whose trace was legal, was stalled at some time
-pub record WasStalled (g : Setting) : Type 0 where
+-- the ticket names a request that is Pending
+abbrev pub IsPending : Parts → Ticket → Type 0
+IsPending p t = phase_in (seen p) t ≡ Some Pending
+
+-- the port waits for a request that is Pending
+abbrev pub IsHeldUp : Parts → WaitFor → Type 0
+IsHeldUp p Awake = ⊥
+IsHeldUp p (ForOne rank t) = IsPending p t
+IsHeldUp p (ForAny rank ts) = Any (IsPending p) ts
+IsHeldUp p Ended = ⊥
+
+-- a port that is marked waits so
+abbrev pub IsRightlyMarked : Parts → PortWait → Type 0
+IsRightlyMarked p port = mark_in port ≡ true → IsHeldUp p (wait_in port)
+
+-- the ports that are marked wait so
+abbrev pub AreHeldUp : Parts → List WaitFor → List Bool → Type 0
+AreHeldUp p waits marks =
+    (rank : ℕ) (wait : WaitFor) → slice_get waits rank ≡ Some wait → slice_get marks rank ≡ Some true → IsHeldUp p wait
+
+-- an engine with that setting and a port for each rank, whose trace was legal, was stalled at some time, and there the rank's port waited so,
+-- for a request that was Pending
+pub record WasStalledFor (g : Setting) (rank : ℕ) (wait : WaitFor) : Type 0 where
   pub at : Traced
   pub setting_is : setting at.core ≡ g
   pub legal : LegalTrace g at.entries (seen at.core).state
+  pub ports : length at.waits ≡ g.ranks
+  pub waited_so : slice_get at.waits rank ≡ Some wait
+  pub held_up : IsHeldUp at.core wait
   pub stalled : IsStalled at
 
--- a mark of a stall is right
-abbrev pub IsTold : Setting → Bool → Type 0
-IsTold g stalled = stalled ≡ true → WasStalled g
+-- the rank's port waited in it
+abbrev pub WasStalled : Setting → ℕ → Type 0
+WasStalled g rank = (wait : WaitFor) × WasStalledFor g rank wait
+
+-- a port that is marked waits for what it waited for when nothing could go on
+abbrev pub IsTold : Setting → List WaitFor → List Bool → ℕ → Type 0
+IsTold g waits marks rank =
+    (wait : WaitFor) → slice_get waits rank ≡ Some wait → slice_get marks rank ≡ Some true → WasStalledFor g rank wait
+
+-- there is a port for each rank, and each mark is right
+pub record AreTold (g : Setting) (waits : List WaitFor) (marks : List Bool) : Type 0 where
+  pub ports : length waits ≡ g.ranks
+  pub told : (rank : ℕ) → IsTold g waits marks rank

@@ -14,7 +14,7 @@ pub record Traced : Type 0 where
   pub core : Parts
   pub entries : List Entry
   pub waits : List WaitFor  -- what each port waits for, by rank
-  pub stalled : Bool  -- it was found that nothing can go on
+  pub stalled : List Bool  -- which ports have waited since it was found that nothing can go on, by rank
 
 -- what is kept of an engine with that setting, which was opened with that configuration, where that many entries are spoken for
 pub record IsKept (g : Setting) (config : Config) (core : Parts) (entries : List Entry) (spoken_for : ℕ) : Type 0 where

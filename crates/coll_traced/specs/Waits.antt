@@ -1,5 +1,5 @@
 -- What ports wait for.
-use Rattle.std.specs.Prelude.{◌≤◌, ℕ, List, vec_capacity}
+use Rattle.std.specs.Prelude.{◌≡◌, ◌≤◌, ℕ, Bool, true, List, Some, slice_get, vec_capacity}
 use Rattle.coll_kinds.specs.declared.ticket.Ticket.{Ticket}
 use Rattle.coll_traced.specs.declared.port_wait.PortWait.{PortWait}
 use Rattle.coll_traced.specs.declared.waiting.Waiting.{Waiting}
@@ -22,6 +22,14 @@ wait_of waiting.Ended tickets = Ended
 abbrev pub wait_in : PortWait → WaitFor
 wait_in port = wait_of port.how port.tickets.items
 
+-- whether the port is marked as stalled
+abbrev pub mark_in : PortWait → Bool
+mark_in port = port.is_stalled
+
+-- the rank has a port, and that is marked
+abbrev pub IsMarked : List WaitFor → List Bool → ℕ → Type 0
+IsMarked waits marks rank = (wait : WaitFor) × (slice_get waits rank ≡ Some wait) × (slice_get marks rank ≡ Some true)
+
 -- there is memory for the tickets of that many requests
 abbrev pub IsRoomy : ℕ → PortWait → Type 0
 IsRoomy slots port = slots ≤ vec_capacity port.tickets
@@ -29,4 +37,5 @@ IsRoomy slots port = slots ≤ vec_capacity port.tickets
 -- what the ports of an engine wait for
 pub record Waiters : Type 0 where
   pub waits : List WaitFor  -- by rank
+  pub marks : List Bool  -- which of them are marked as stalled
   pub slots : ℕ  -- for the tickets of so many requests there is memory at each

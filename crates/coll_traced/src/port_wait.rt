@@ -1,6 +1,6 @@
-ghost use Rattle.std.specs.Prelude.{◌≡◌, [], ◌↔◌, ◌<◌, ◌≤◌, All, IfErr, IfOk, IsTrue, OnErr, OnOk, Some, length, vec_capacity};
-ghost use Rattle.coll_traced.specs.Waits.{Awake, wait_in};
-ghost use Rattle.coll_traced.specs.Stalls.{IsDone, IsBlocked};
+ghost use Rattle.std.specs.Prelude.{◌≡◌, [], ◌↔◌, ◌<◌, ◌≤◌, All, Any, IfErr, IfOk, IsTrue, OnErr, OnOk, Some, false, length, vec_capacity};
+ghost use Rattle.coll_traced.specs.Waits.{Awake, mark_in, wait_in};
+ghost use Rattle.coll_traced.specs.Stalls.{IsBlocked, IsDone, IsHeldUp, IsPending, IsRightlyMarked};
 ghost use Rattle.coll_traced.specs.Awaiting.{one_by, tickets_in};
 
 use crate::waiting::Waiting;
@@ -14,6 +14,8 @@ use std::alloc::Global;
 pub(crate) struct PortWait {
     how: Waiting,
     tickets: Vec<Ticket>,
+    /// Whether the port has waited so since it was found that nothing can go on.
+    is_stalled: bool,
 }
 
 /// Whether the ticket names a request of the rank that can be completed.
@@ -26,6 +28,20 @@ pub(crate) fn is_done(core: &Core, rank: u8, ticket: Ticket) -> bool
         Ok(Phase::Done) => true,
         Err(_) => false,
     }
+}
+
+/// Whether the ticket names a request of the rank that is Pending.
+fn is_pending(core: &Core, rank: u8, ticket: Ticket) -> bool
+    ensures { IsTrue result → IsPending core.now ticket }
+{
+    matches!(core.phase(rank, ticket), Ok(Phase::Pending))
+}
+
+/// Whether one of the tickets names a request of the rank that is Pending.
+fn some_is_pending(core: &Core, rank: u8, tickets: &[Ticket]) -> bool
+    ensures { IsTrue result → Any (IsPending core.now) tickets.now }
+{
+    tickets.iter().any(|ticket| is_pending(core, rank, *ticket))
 }
 
 /// Whether none of the tickets names a request of the rank that can be completed.
@@ -56,12 +72,14 @@ impl PortWait {
     /// For a port that is awake, with memory for this many tickets.
     pub(crate) fn new(alloc: Global, slots: u32) -> Result<Self, Refusal>
         ensures waits { IfOk result (λ port. wait_in port ≡ Awake) }
+        ensures unmarked { IfOk result (λ port. port.is_stalled ≡ false) }
         ensures capacity { IfOk result (λ port. slots ≤ vec_capacity port.tickets) }
         ensures refused { IfErr result (λ why. why ≡ Refusal.NoMemory) }
     {
         Ok(PortWait {
             how: Waiting::Awake,
             tickets: Vec::with_capacity(alloc, slots as usize)?,
+            is_stalled: false,
         })
     }
 
@@ -69,8 +87,10 @@ impl PortWait {
     pub(crate) fn put(&mut self, how: Waiting)
         ensures how { self.new.how ≡ how }
         ensures tickets { self.new.tickets.items ≡ [] }
+        ensures unmarked { self.new.is_stalled ≡ false }
         ensures capacity { vec_capacity self.new.tickets ≡ vec_capacity self.old.tickets }
     {
+        self.is_stalled = false;
         self.how = how;
         self.tickets.clear();
     }
@@ -79,11 +99,13 @@ impl PortWait {
     pub(crate) fn put_list(&mut self, rank: u8, requests: &[Request]) -> Result<(), Refusal>
         ensures how { OnOk result (self.new.how ≡ Waiting.ForAny rank) }
         ensures tickets { OnOk result (self.new.tickets.items ≡ tickets_in requests.now) }
+        ensures unmarked { self.new.is_stalled ≡ false }
         ensures capacity { vec_capacity self.old.tickets ≤ vec_capacity self.new.tickets }
         ensures refused { IfErr result (λ why. why ≡ Refusal.NoMemory) }
         ensures full { OnErr result (vec_capacity self.old.tickets < length (tickets_in requests.now)) }
         ensures err { OnErr result (self.new.how ≡ Waiting.Awake) }
     {
+        self.is_stalled = false;
         self.how = Waiting::Awake;
         list(&mut self.tickets, requests)?;
         self.how = Waiting::ForAny { rank };
@@ -100,6 +122,34 @@ impl PortWait {
             Waiting::ForAny { rank } => none_is_done(core, rank, &self.tickets),
             Waiting::Ended => true,
         }
+    }
+
+    /// Whether the port waits for a request that is Pending.
+    fn is_held_up(&self, core: &Core) -> bool
+        ensures { IsTrue result → IsHeldUp core.now (wait_in self.now) }
+    {
+        match self.how {
+            Waiting::Awake => false,
+            Waiting::ForOne { rank, ticket } => is_pending(core, rank, ticket),
+            Waiting::ForAny { rank } => some_is_pending(core, rank, &self.tickets),
+            Waiting::Ended => false,
+        }
+    }
+
+    /// Marks the port as stalled, if it waits for a request that is Pending.
+    pub(crate) fn mark(&mut self, core: &Core)
+        ensures wait { wait_in self.new ≡ wait_in self.old }
+        ensures mark { IsRightlyMarked core.now self.new }
+        ensures capacity { vec_capacity self.new.tickets ≡ vec_capacity self.old.tickets }
+    {
+        self.is_stalled = self.is_held_up(core);
+    }
+
+    /// Whether it is marked as stalled, and hasn't changed since.
+    pub(crate) fn is_marked(&self) -> bool
+        ensures { result ≡ mark_in self.now }
+    {
+        self.is_stalled
     }
 
     /// The request that the port waits for, if it waits for just one.

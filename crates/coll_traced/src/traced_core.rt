@@ -42,18 +42,17 @@ pub struct TracedCore<L: Entries> {
     trace: Trace<L>,
     recent: Recent,
     waits: Waits,
-    stalled: bool,
 }
 
 impl<L: Entries> Model for TracedCore<L> {
-    ghost use Rattle.coll_traced.specs.Stalls.{IsTold};
+    ghost use Rattle.coll_traced.specs.Stalls.{AreTold};
     ghost use Rattle.coll_traced.specs.Traced.{IsKept, Traced};
 
     ghost Value = { Traced };
 
-    ghost view = { λ s. record { core = s.core; entries = s.trace.entries; waits = s.waits.waits; stalled = s.stalled } };
+    ghost view = { λ s. record { core = s.core; entries = s.trace.entries; waits = s.waits.waits; stalled = s.waits.marks } };
 
-    ghost invariant = { λ s. IsKept L.setting s.config s.core s.trace.entries s.trace.reserved × IsTold L.setting s.stalled };
+    ghost invariant = { λ s. IsKept L.setting s.config s.core s.trace.entries s.trace.reserved × AreTold L.setting s.waits.waits s.waits.marks };
 }
 
 /// What a ticket names that the core just accepted.
@@ -81,7 +80,7 @@ impl<L: Entries> TracedCore<L> {
         ensures idle { IfOk result (λ opened. seen opened.core ≡ idle) }
         ensures entries { IfOk result (λ opened. opened.entries ≡ []) }
         ensures waits { IfOk result (λ opened. opened.waits ≡ replicate config.ranks Awake) }
-        ensures stalled { IfOk result (λ opened. opened.stalled ≡ false) }
+        ensures stalled { IfOk result (λ opened. opened.stalled ≡ replicate config.ranks false) }
         ensures refused { IfErr result (IsUnopened config) }
     {
         config.check()?;
@@ -95,7 +94,6 @@ impl<L: Entries> TracedCore<L> {
             trace: Trace::new(alloc, book),
             recent: Recent::new(),
             waits,
-            stalled: false,
         })
     }
 

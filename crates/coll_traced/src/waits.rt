@@ -1,8 +1,8 @@
 //! What the ports wait for.
 
-ghost use Rattle.std.specs.Prelude.{◌≡◌, [], ◌↔◌, ◌<◌, All, IfErr, IfOk, IsTrue, OnErr, OnOk, length, replicate, slice_set};
-ghost use Rattle.coll_traced.specs.Waits.{Awake, ForAny, wait_in, wait_of};
-ghost use Rattle.coll_traced.specs.Stalls.{IsBlocked};
+ghost use Rattle.std.specs.Prelude.{◌≡◌, [], ◌↔◌, ◌<◌, ℕ, All, IfErr, IfOk, IsTrue, OnErr, OnOk, false, length, map, replicate, slice_set};
+ghost use Rattle.coll_traced.specs.Waits.{Awake, ForAny, IsMarked, IsRoomy, wait_in, wait_of};
+ghost use Rattle.coll_traced.specs.Stalls.{AreHeldUp, IsBlocked, IsRightlyMarked};
 ghost use Rattle.coll_traced.specs.Awaiting.{one_in, tickets_in};
 
 use crate::port_wait::PortWait;
@@ -25,12 +25,12 @@ pub(crate) struct Waits {
 }
 
 impl Model for Waits {
-    ghost use Rattle.coll_traced.specs.Waits.{IsRoomy, Waiters, wait_in};
+    ghost use Rattle.coll_traced.specs.Waits.{IsRoomy, Waiters, mark_in, wait_in};
     ghost use Rattle.std.specs.Prelude.{All, map};
 
     ghost Value = { Waiters };
 
-    ghost view = { λ n. record { waits = map wait_in n.ports.items; slots = n.slots } };
+    ghost view = { λ n. record { waits = map wait_in n.ports.items; marks = map mark_in n.ports.items; slots = n.slots } };
 
     ghost invariant = { λ n. All (IsRoomy n.slots) n.ports.items };
 }
@@ -42,10 +42,22 @@ fn all_are_blocked(ports: &[PortWait], core: &Core) -> bool
     ports.iter().all(|port| port.is_blocked(core))
 }
 
+/// Marks each of these ports as stalled that waits for a request that is Pending, and none of the others.
+fn mark_each(ports: &mut [PortWait], core: &Core)
+    ensures waits { map wait_in ports.new ≡ map wait_in ports.old }
+    ensures marks { All (IsRightlyMarked core.now) ports.new }
+    ensures room { (slots : ℕ) → All (IsRoomy slots) ports.old → All (IsRoomy slots) ports.new }
+{
+    for port in ports.iter_mut() {
+        port.mark(core);
+    }
+}
+
 impl Waits {
     /// For this many ports, all awake, on an engine with this many slots.
     pub(crate) fn open(alloc: Global, ranks: u8, slots: u32) -> Result<Self, Refusal>
         ensures waits { IfOk result (λ new. new.waits ≡ replicate ranks Awake) }
+        ensures marks { IfOk result (λ new. new.marks ≡ replicate ranks false) }
         ensures slots { IfOk result (λ new. new.slots ≡ slots) }
         ensures refused { IfErr result (λ why. why ≡ Refusal.NoMemory) }
     {
@@ -63,6 +75,7 @@ impl Waits {
     /// Notes how a port waits that doesn't wait for a list. A number that is no rank is left out.
     pub(crate) fn put(&mut self, rank: u8, how: Waiting)
         ensures waits { self.new.waits ≡ slice_set self.old.waits rank (wait_of how []) }
+        ensures marks { self.new.marks ≡ slice_set self.old.marks rank false }
         ensures slots { self.new.slots ≡ self.old.slots }
     {
         self.waiting = self.waiting.set(rank, how.is_for_some());
@@ -78,6 +91,7 @@ impl Waits {
     /// NoMemory, for a list of more tickets than the engine has slots.
     pub(crate) fn put_list(&mut self, rank: u8, requests: &[Request]) -> Result<(), Refusal>
         ensures waits { OnOk result (self.new.waits ≡ slice_set self.old.waits rank (ForAny rank (tickets_in requests.now))) }
+        ensures marks { self.new.marks ≡ slice_set self.old.marks rank false }
         ensures slots { self.new.slots ≡ self.old.slots }
         ensures refused { IfErr result (λ why. why ≡ Refusal.NoMemory) }
         ensures longer { OnErr result (self.old.slots < length (tickets_in requests.now)) }
@@ -97,6 +111,31 @@ impl Waits {
         ensures { IsTrue result ↔ All (IsBlocked core.now) self.now.waits }
     {
         all_are_blocked(&self.ports, core)
+    }
+
+    /// Marks the ports that wait for a request that is Pending as stalled, for as long as they wait so. Linear in the ports, and in what they
+    /// wait for.
+    pub(crate) fn mark_waiting(&mut self, core: &Core)
+        ensures waits { self.new.waits ≡ self.old.waits }
+        ensures marks { AreHeldUp core.now self.new.waits self.new.marks }
+        ensures slots { self.new.slots ≡ self.old.slots }
+    {
+        mark_each(&mut self.ports, core);
+    }
+
+    /// Whether a port is marked as stalled, and has waited since. Linear in the ports.
+    pub(crate) fn some_is_marked(&self) -> bool {
+        self.ports.iter().any(|port| port.is_marked())
+    }
+
+    /// Whether the port is marked as stalled, and has waited since.
+    pub(crate) fn is_marked(&self, rank: u8) -> bool
+        ensures { IsTrue result → IsMarked self.now.waits self.now.marks rank }
+    {
+        match self.ports.get(usize::from(rank)) {
+            Some(port) => port.is_marked(),
+            None => false,
+        }
     }
 
     /// The ranks whose wait is over. Linear in the ports, and in what the waiting ones wait for.

@@ -1,9 +1,9 @@
 //! Who waits, and whether nothing can go on.
 
-ghost use Rattle.std.specs.Prelude.{◌≡◌, [], ◌↔◌, IsTrue, false, slice_set, true};
+ghost use Rattle.std.specs.Prelude.{◌≡◌, [], ◌↔◌, IsTrue, false, slice_set};
 ghost use Rattle.std.specs.Bool.{OnFalse, OnTrue};
 ghost use Rattle.coll_traced.specs.Waits.{Awake, Ended};
-ghost use Rattle.coll_traced.specs.Stalls.{IsStalled, WasStalled};
+ghost use Rattle.coll_traced.specs.Stalls.{AreHeldUp, IsStalled, WasStalled};
 
 use crate::ranks::Ranks;
 use crate::tally::Entries;
@@ -19,29 +19,35 @@ impl<L: Entries> TracedCore<L> {
         self.core.quiet() && self.waits.all_are_blocked(&self.core)
     }
 
-    /// Whether it was found that nothing can go on.
-    pub fn is_stalled(&self) -> bool
-        ensures mark { result ≡ self.now.stalled }
-        ensures told { IsTrue result → WasStalled L.setting }
+    /// Whether it was found that nothing can go on while the rank's port waited for what it waits for now.
+    pub fn is_stalled(&self, rank: u8) -> bool
+        ensures told { IsTrue result → WasStalled L.setting rank }
     {
-        self.stalled
+        self.waits.is_marked(rank)
     }
 
-    /// Marks the engine as stalled for good where nothing can go on, unless it is marked already. Returns whether it did that. It is
-    /// a few instructions where a request is ready or a combination is out, else linear in the ports.
+    /// Where nothing can go on, marks the ports that wait, for as long as they wait for the same. Returns whether nothing can go on. It is
+    /// a few instructions where a request is ready or a combination is out, else linear in the ports, and where nothing can go on in what
+    /// they wait for.
     pub fn tell_stall(&mut self) -> bool
         ensures core { self.new.core ≡ self.old.core }
         ensures entries { self.new.entries ≡ self.old.entries }
         ensures waits { self.new.waits ≡ self.old.waits }
-        ensures told { IsTrue result ↔ (IsStalled self.old × (self.old.stalled ≡ false)) }
-        ensures marked { OnTrue result (self.new.stalled ≡ true) }
+        ensures told { IsTrue result ↔ IsStalled self.old }
+        ensures marked { OnTrue result (AreHeldUp self.new.core self.new.waits self.new.stalled) }
         ensures none { OnFalse result (self.new.stalled ≡ self.old.stalled) }
     {
-        if self.stalled || !self.stall_now() {
+        if !self.stall_now() {
             return false;
         }
-        self.stalled = true;
+        self.keeps_legal();
+        self.waits.mark_waiting(&self.core);
         true
+    }
+
+    /// Whether a port waits that was marked when nothing could go on. Linear in the ports.
+    pub fn some_is_marked(&self) -> bool {
+        self.waits.some_is_marked()
     }
 
     /// Notes that a port can make calls again.
@@ -49,7 +55,7 @@ impl<L: Entries> TracedCore<L> {
         ensures core { self.new.core ≡ self.old.core }
         ensures entries { self.new.entries ≡ self.old.entries }
         ensures waits { self.new.waits ≡ slice_set self.old.waits rank Awake }
-        ensures stalled { self.new.stalled ≡ self.old.stalled }
+        ensures stalled { self.new.stalled ≡ slice_set self.old.stalled rank false }
     {
         self.waits.put(rank, Waiting::Awake);
     }
@@ -59,7 +65,7 @@ impl<L: Entries> TracedCore<L> {
         ensures core { self.new.core ≡ self.old.core }
         ensures entries { self.new.entries ≡ self.old.entries }
         ensures waits { self.new.waits ≡ slice_set self.old.waits rank Ended }
-        ensures stalled { self.new.stalled ≡ self.old.stalled }
+        ensures stalled { self.new.stalled ≡ slice_set self.old.stalled rank false }
     {
         self.waits.put(rank, Waiting::Ended);
     }

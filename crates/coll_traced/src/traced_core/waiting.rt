@@ -1,6 +1,7 @@
 //! What a waiting port asks: whether what it awaits is the case, and else for what it is to wait.
 
 ghost use Rattle.std.specs.Prelude.{◌≡◌, ◌+◌, ◌<◌, ◌≤◌, ◌∷◌, ◌++◌, [], IfErr, IfOk, IfSome, IsNone, None, OnErr, Some, false, length, slice_set, true, vec_capacity, vec_len};
+ghost use Rattle.std.specs.Bool.{OnTrue};
 ghost use Rattle.std.specs.Result.{result_err};
 ghost use Rattle.coll_core.specs.Cores.{seen, setting};
 ghost use Rattle.coll_core.specs.Phases.{phase_in};
@@ -80,7 +81,7 @@ impl<L: Entries> TracedCore<L> {
         ensures entries { self.new.entries ≡ self.old.entries }
         ensures some { IfSome ticket (λ t. (result ≡ true) × (self.new.waits ≡ slice_set self.old.waits rank (ForOne rank t))) }
         ensures none { IsNone ticket → (result ≡ false) × (self.new.waits ≡ self.old.waits) }
-        ensures stalled { self.new.stalled ≡ self.old.stalled }
+        ensures unmarked { OnTrue result (self.new.stalled ≡ slice_set self.old.stalled rank false) }
     {
         match ticket {
             Some(ticket) => {
@@ -102,7 +103,7 @@ impl<L: Entries> TracedCore<L> {
         ensures entries { self.new.entries ≡ self.old.entries }
         ensures waits { IfOk result (λ waits. waits ≡ true → WaitsFor (seen self.old.core) rank awaited.entry self.old.waits self.new.waits) }
         ensures needless { IfOk result (λ waits. waits ≡ false → NeedsNoWait awaited.entry) }
-        ensures stalled { self.new.stalled ≡ self.old.stalled }
+        ensures unmarked { IfOk result (λ waits. waits ≡ true → self.new.stalled ≡ slice_set self.old.stalled rank false) }
         ensures refused { IfErr result (λ why. why ≡ Refusal.NoMemory) }
         ensures err { OnErr result (self.new.waits ≡ slice_set self.old.waits rank Awake) }
     {

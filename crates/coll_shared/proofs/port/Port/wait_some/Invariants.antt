@@ -5,4 +5,4 @@ use Rattle.coll_shared.proofs.port.Port.wait_some.Given as goal
 abbrev pub invariant-loop : goal.invariant-loop
 invariant-loop g l =
     (goal.iterator-loop g).can_next l.iterator' × (goal.iterator-loop g).is_finite l.iterator'
-    × (l.requests ≡ l.initial.requests) × (l.out ≡ l.initial.out) × (l.tally ≡ l.initial.tally) × IfSome l.hindrance (IsHindrance g.L.Entries.setting)
+    × (l.requests ≡ l.initial.requests) × (l.out ≡ l.initial.out) × (l.tally ≡ l.initial.tally) × IfSome l.hindrance (IsHindrance g.L.Entries.setting l.rank)
