@@ -1,13 +1,11 @@
 -- Which marks of a stall are right.
-use Rattle.std.proofs.Common.{◌≡◌, ℕ, zero, suc, Bool, true, false, List, [], ◌∷◌, length, Option, Some, None, inl, inr, refl, sym, ap, subst, ◌∙◌}
+use Rattle.std.proofs.Common.{◌≡◌, ℕ, zero, suc, Bool, true, false, List, [], ◌∷◌, length, Some, inl, inr, refl, sym, ap, subst, ◌∙◌}
 use Rattle.std.specs.Prelude.{replicate, slice_get, slice_set}
 use Rattle.std.proofs.lemmas.Bool.{cases_eq}
 use Rattle.std.proofs.lemmas.List.{length-replicate, length-set}
-use Rattle.coll_machine.specs.Common.{Entry, LegalTrace, Setting}
-use Rattle.coll_core.specs.Cores.{Parts, seen, setting}
-use Rattle.coll_traced.specs.Stalls.{AreHeldUp, AreTold, IsStalled, WasStalled, WasStalledFor}
-use Rattle.coll_traced.specs.Traced.{Traced}
-use Rattle.coll_traced.specs.Waits.{WaitFor, Awake, Ended, IsMarked}
+use Rattle.coll_machine.specs.Common.{Setting}
+use Rattle.coll_traced.specs.Stalls.{AreTold}
+use Rattle.coll_traced.specs.Waits.{WaitFor, Awake}
 
 -- what is written at one place leaves the others
 slice_get-set_other : {X : Type 0} (xs : List X) (i j : ℕ) (x : X) → (j ≡ i → ⊥) → slice_get (slice_set xs i x) j ≡ slice_get xs j
@@ -42,11 +40,6 @@ told-by g waits new_waits marks new_marks rank wait are is none =
     subst (λ (ms : List Bool). AreTold g new_waits ms) (sym none)
     (subst (λ (ws : List WaitFor). AreTold g ws (slice_set marks rank false)) (sym is) (told-put g waits marks rank wait are))
 
--- a port that is marked was stalled
-pub told-marked : (g : Setting) (waits : List WaitFor) (marks : List Bool) (rank : ℕ) → AreTold g waits marks → IsMarked waits marks rank
-    → WasStalled g rank
-told-marked g waits marks rank are marked = (marked.0, are.told rank marked.0 marked.1 marked.2)
-
 -- nobody was told anything of an engine that was just opened
 none_marked : (n i : ℕ) → slice_get (replicate n false) i ≡ Some true → ⊥
 none_marked zero i is = absurd cc
@@ -59,38 +52,3 @@ told-none g n waits marks awake none is = record {
   ports = ap (λ (ws : List WaitFor). length ws) awake ∙ (length-replicate n Awake ∙ is);
   told = λ rank wait there marked. absurd (none_marked n rank (subst (λ (ms : List Bool). slice_get ms rank ≡ Some true) none marked));
 }
-
--- where nothing can go on, each port that waits for a request that is Pending may be marked
-pub told-stall : (g : Setting) (t : Traced) (marks old : List Bool) → setting t.core ≡ g → LegalTrace g t.entries (seen t.core).state
-    → AreTold g t.waits old → IsStalled t → AreHeldUp t.core t.waits marks → AreTold g t.waits marks
-told-stall g t marks old set legal are stalled held = record {
-  ports = are.ports;
-  told = λ rank wait there marked. record {
-    at = t;
-    setting_is = set;
-    legal = legal;
-    ports = are.ports;
-    waited_so = there;
-    held_up = held rank wait there marked;
-    stalled = stalled;
-  };
-}
-
--- as they are where that is noted
-pub told-marks : (g : Setting) (t : Traced) (core : Parts) (entries : List Entry) (waits new_waits : List WaitFor) (marks new_marks : List Bool)
-    → record { core = core; entries = entries; waits = waits; stalled = marks } ≡ t → setting t.core ≡ g → LegalTrace g t.entries (seen t.core).state
-    → AreTold g waits marks → IsStalled t → new_waits ≡ waits → AreHeldUp core new_waits new_marks → AreTold g new_waits new_marks
-told-marks g t core entries waits new_waits marks new_marks view set legal are stalled same held =
-    let was : Traced = record { core = core; entries = entries; waits = waits; stalled = marks } in
-    subst (λ (ws : List WaitFor). AreTold g ws new_marks) (sym same)
-    (told-stall g was new_marks marks
-    (subst (λ (h : Traced). setting h.core ≡ g) (sym view) set)
-    (subst (λ (h : Traced). LegalTrace g h.entries (seen h.core).state) (sym view) legal)
-    are (subst IsStalled (sym view) stalled) (subst (λ (ws : List WaitFor). AreHeldUp core ws new_marks) same held))
-
--- a port that is awake wasn't waiting
-pub none-awake : (g : Setting) (rank : ℕ) → WasStalledFor g rank Awake → ⊥
-none-awake g rank was = was.held_up
-
-pub none-ended : (g : Setting) (rank : ℕ) → WasStalledFor g rank Ended → ⊥
-none-ended g rank was = was.held_up
