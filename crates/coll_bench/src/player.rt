@@ -19,7 +19,7 @@ fn given(alloc: Global, rank: u8, turn: u32, len: usize) -> Result<Contribution,
 }
 
 /// Plans a measure's collective and posts it on communicator 0.
-fn post<L: Entries, R: Wait>(
+fn post<L: Entries, R: Wait + Clock>(
     rt: &R,
     alloc: Global,
     port: &mut Port<L>,
@@ -36,7 +36,7 @@ fn post<L: Entries, R: Wait>(
 }
 
 /// Plans a measure's persistent collective and initialises it on communicator 0.
-fn init<L: Entries, R: Wait>(
+fn init<L: Entries, R: Wait + Clock>(
     rt: &R,
     port: &mut Port<L>,
     measure: Measure,
@@ -49,7 +49,7 @@ fn init<L: Entries, R: Wait>(
 }
 
 /// Starts a persistent collective with what the rank gives in a turn.
-fn start<L: Entries, R: Wait>(
+fn start<L: Entries, R: Wait + Clock>(
     rt: &R,
     port: &mut Port<L>,
     request: &Request,
@@ -62,7 +62,7 @@ fn start<L: Entries, R: Wait>(
 }
 
 /// Waits for an active request.
-fn wait<L: Entries, R: Wait>(
+fn wait<L: Entries, R: Wait + Clock>(
     rt: &R,
     port: &mut Port<L>,
     request: &mut Request,
@@ -75,7 +75,7 @@ fn wait<L: Entries, R: Wait>(
 }
 
 /// Posts and waits for one collective after the other.
-fn one_by_one<L: Entries, R: Wait>(
+fn one_by_one<L: Entries, R: Wait + Clock>(
     rt: &R,
     alloc: Global,
     port: &mut Port<L>,
@@ -90,7 +90,7 @@ fn one_by_one<L: Entries, R: Wait>(
 }
 
 /// Posts all collectives, and then waits for all.
-fn all_at_once<L: Entries, R: Wait>(
+fn all_at_once<L: Entries, R: Wait + Clock>(
     rt: &R,
     alloc: Global,
     port: &mut Port<L>,
@@ -108,7 +108,7 @@ fn all_at_once<L: Entries, R: Wait>(
 }
 
 /// Starts and waits for the persistent collective, again and again.
-fn again_and_again<L: Entries, R: Wait>(
+fn again_and_again<L: Entries, R: Wait + Clock>(
     rt: &R,
     alloc: Global,
     port: &mut Port<L>,
@@ -125,7 +125,7 @@ fn again_and_again<L: Entries, R: Wait>(
 }
 
 /// Runs the collectives of one sample. `request` is the persistent one.
-fn sample<L: Entries, R: Wait>(
+fn sample<L: Entries, R: Wait + Clock>(
     rt: &R,
     alloc: Global,
     port: &mut Port<L>,
@@ -145,7 +145,7 @@ fn sample<L: Entries, R: Wait>(
 /// # Errors
 ///
 /// The engine's first refusal; `Torn` if the clock can't be read.
-pub fn play<L: Entries, R: Wait, C: Clock>(
+pub fn play<L: Entries, R: Wait + Clock, C: Clock>(
     rt: &R,
     clock: &C,
     alloc: Global,

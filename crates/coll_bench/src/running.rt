@@ -40,7 +40,7 @@ struct Sampling<'x, C> {
 }
 
 impl<C: Clock> RankProgram<Times> for Sampling<'_, C> {
-    fn run<L: Entries, R: Wait>(self, rt: &R, port: &mut Port<L>) -> Times {
+    fn run<L: Entries, R: Wait + Clock>(self, rt: &R, port: &mut Port<L>) -> Times {
         let Sampling { clock, alloc, task } = self;
         play(rt, clock, alloc, port, task)
     }

@@ -10,6 +10,7 @@ use coll_shared::{Gate, Port};
 use coll_traced::{Entries, Spent};
 use std::alloc::Global;
 use std::mem;
+use std::rt::Clock;
 use std::sync::Wait;
 
 /// A rank's port, with the rank's requests by their numbers, the outcomes that it got, and the spans of the calls that made its entries.
@@ -60,7 +61,7 @@ impl<L: Entries> Caller<L> {
     /// # Errors
     ///
     /// The refusal of the call, and `NoMemory`. What was done before the refusal stays.
-    pub(crate) fn carry_out<R: Wait, G: Gate>(
+    pub(crate) fn carry_out<R: Wait + Clock, G: Gate>(
         &mut self,
         rt: &R,
         gate: &G,
@@ -106,7 +107,7 @@ impl<L: Entries> Caller<L> {
         }
     }
 
-    fn post<R: Wait>(
+    fn post<R: Wait + Clock>(
         &mut self,
         rt: &R,
         comm: u32,
@@ -134,7 +135,7 @@ impl<L: Entries> Caller<L> {
         Ok(())
     }
 
-    fn start<R: Wait>(
+    fn start<R: Wait + Clock>(
         &mut self,
         rt: &R,
         number: usize,
@@ -168,7 +169,7 @@ impl<L: Entries> Caller<L> {
         Ok(())
     }
 
-    fn wait<R: Wait, G: Gate>(&mut self, rt: &R, gate: &G, number: usize) -> Result<(), Refusal> {
+    fn wait<R: Wait + Clock, G: Gate>(&mut self, rt: &R, gate: &G, number: usize) -> Result<(), Refusal> {
         let Some(request) = self.requests.get_mut(number) else {
             return Err(Refusal::Stale);
         };
@@ -180,7 +181,7 @@ impl<L: Entries> Caller<L> {
     }
 
     /// Waits for one of the named requests. If none of them is active, it doesn't wait.
-    fn wait_any<R: Wait, G: Gate>(
+    fn wait_any<R: Wait + Clock, G: Gate>(
         &mut self,
         rt: &R,
         gate: &G,
@@ -198,7 +199,7 @@ impl<L: Entries> Caller<L> {
 
     /// Waits for one or more of the named requests. If none of them is active, it doesn't wait. A list with a request twice is
     /// refused as a null request is.
-    fn wait_some<R: Wait, G: Gate>(
+    fn wait_some<R: Wait + Clock, G: Gate>(
         &mut self,
         rt: &R,
         gate: &G,
@@ -219,7 +220,7 @@ impl<L: Entries> Caller<L> {
     }
 
     /// Waits for all named requests, one after the other (MPI 4.1, 3.7.5).
-    fn wait_all<R: Wait, G: Gate>(
+    fn wait_all<R: Wait + Clock, G: Gate>(
         &mut self,
         rt: &R,
         gate: &G,

@@ -14,6 +14,7 @@ use coll_script::{Command, Script};
 use coll_shared::{Ends, Engine, Gate, Port, RankTask, run_rank_threads};
 use coll_traced::{Entries, Spent};
 use std::alloc::{AllocError, Global};
+use std::rt::Clock;
 use std::sync::Wait;
 use std::thread::Threads;
 
@@ -47,7 +48,7 @@ struct Commands<'x, L: Entries, R, G, O> {
     port: Port<L>,
 }
 
-impl<L: Entries, R: Wait, G: Gate, O: Observer> RankTask<ThreadEnd<L>>
+impl<L: Entries, R: Wait + Clock, G: Gate, O: Observer> RankTask<ThreadEnd<L>>
     for Commands<'_, L, R, G, O> {
     ghost use Rattle.std.specs.Prelude.{◌≡◌};
 
@@ -85,7 +86,7 @@ impl<L: Entries, R: Wait, G: Gate, O: Observer> RankTask<ThreadEnd<L>>
 }
 
 /// Carries out the commands of a rank, up to the first one that is refused.
-fn carry_out_all<L: Entries, R: Wait, G: Gate, O: Observer>(
+fn carry_out_all<L: Entries, R: Wait + Clock, G: Gate, O: Observer>(
     rt: &R,
     alloc: Global,
     gate: &G,
@@ -103,7 +104,7 @@ fn carry_out_all<L: Entries, R: Wait, G: Gate, O: Observer>(
 }
 
 /// Carries out a command, notes its span for each entry that it made, and reports how many outcomes it got.
-fn carry_out<L: Entries, R: Wait, G: Gate, O: Observer>(
+fn carry_out<L: Entries, R: Wait + Clock, G: Gate, O: Observer>(
     rt: &R,
     gate: &G,
     observer: &O,
@@ -154,7 +155,7 @@ fn lines_of(alloc: Global, script: &Script, rank: u8) -> Result<Vec<u32>, AllocE
 /// Memory was refused before the first thread was started.
 pub(crate) fn run_ranks<
     L: Entries + Send + Sync,
-    R: Threads + Wait + Sync,
+    R: Threads + Wait + Clock + Sync,
     G: Gate + Sync,
     O: Observer + Sync,
 >(

@@ -101,7 +101,7 @@ fn starts_in(script: &Script) -> usize {
 /// The first of these that applies: the text's fault; `NoThread` if a thread couldn't be started, and then no rank has carried
 /// out a command; the fault of the lowest rank whose fault isn't `Stalled`; that of a progress thread; `Stalled`; `Torn` if the
 /// report doesn't agree with the text or with what the ranks got. `Memory` if memory was refused, at any of these points.
-pub fn run_job<R: Threads + Wait + Sync, G: Gate + Sync>(
+pub fn run_job<R: Threads + Wait + Clock + Sync, G: Gate + Sync>(
     rt: &R,
     alloc: Global,
     text: &[u8],
@@ -129,7 +129,7 @@ pub fn run_job<R: Threads + Wait + Sync, G: Gate + Sync>(
 }
 
 /// Opens an engine as large as the script needs, and runs the script on it.
-fn run_script<R: Threads + Wait + Sync, G: Gate + Sync, O: Observer + Sync>(
+fn run_script<R: Threads + Wait + Clock + Sync, G: Gate + Sync, O: Observer + Sync>(
     rt: &R,
     alloc: Global,
     script: &Script,
@@ -168,7 +168,7 @@ fn config_of(alloc: Global, script: &Script) -> Result<Config, Refusal>
 }
 
 /// Runs a script on an engine of its own. `entries` names the ledger of the engine's entries.
-fn run_in<L: Entries + Send + Sync, R: Threads + Wait + Sync, G: Gate + Sync, O: Observer + Sync>(
+fn run_in<L: Entries + Send + Sync, R: Threads + Wait + Clock + Sync, G: Gate + Sync, O: Observer + Sync>(
     rt: &R,
     alloc: Global,
     script: &Script,

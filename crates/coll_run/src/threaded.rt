@@ -10,6 +10,7 @@ use coll_script::{CountedReader, JobFault, Witnessed, read_text, write_lines};
 use coll_shared::NoGate;
 use std::alloc::Global;
 use std::io::{Read, Write};
+use std::rt::Clock;
 use std::sync::Wait;
 use std::thread::Threads;
 
@@ -19,7 +20,7 @@ use std::thread::Threads;
 /// # Errors
 ///
 /// `Read` if the reader failed; then those of [`run_job`]; then `Write` if the writer failed.
-pub fn threaded_job<T: Threads + Wait + Sync, R: Read, W: Write>(
+pub fn threaded_job<T: Threads + Wait + Clock + Sync, R: Read, W: Write>(
     rt: &T,
     alloc: Global,
     workers: u8,

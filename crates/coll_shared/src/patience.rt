@@ -2,8 +2,10 @@
 //! "Waiting", has the measurements.
 
 use std::hint::spin_loop;
+use std::rt::Clock;
 use std::sync::atomic::{AtomicU64, Ordering};
 use std::thread::yield_now;
+use std::time::{Duration, Instant};
 
 /// How a thread waits, before it sleeps.
 #[derive(Clone, Copy, Debug)]
@@ -20,10 +22,18 @@ pub(crate) struct Patience {
     asks: u32,
 }
 
-/// Where each thread has a processor of its own. It gives no turns: no other thread needs its processor, and where another program does, a
-/// turn may take a time slice. It seldom tries for the lock, since each try takes the lock's word out of the cache of the thread that has
-/// the lock; a port that nobody serves waits for the first try.
-const ALONE: Patience = Patience {
+/// Where each thread has a processor of its own, and turns are short. It seldom tries for the lock, since each try takes the lock's word out of
+/// the cache of the thread that has the lock; a port that nobody serves waits for the first try.
+const OWN_PROCESSOR: Patience = Patience {
+    spins: 20,
+    snoozes: 1_980,
+    tries: 1_023,
+    holds: 1_250,
+    asks: 160,
+};
+
+/// Where each thread has a processor of its own, and turns are long: it gives none.
+const OWN_PROCESSOR_CROWDED: Patience = Patience {
     spins: 10_000,
     snoozes: 0,
     tries: 1_023,
@@ -32,7 +42,7 @@ const ALONE: Patience = Patience {
 };
 
 /// Where threads share processors, and turns are short.
-const AMONG_THREADS: Patience = Patience {
+const SHARED_PROCESSOR: Patience = Patience {
     spins: 20,
     snoozes: 1_980,
     tries: 63,
@@ -41,7 +51,7 @@ const AMONG_THREADS: Patience = Patience {
 };
 
 /// Where threads share processors, and turns are long: it looks about as long as it takes to sleep and be woken.
-const CROWDED: Patience = Patience {
+const SHARED_PROCESSOR_CROWDED: Patience = Patience {
     spins: 200,
     snoozes: 0,
     tries: 63,
@@ -50,7 +60,7 @@ const CROWDED: Patience = Patience {
 };
 
 /// Where threads share one processor, and turns are long: nothing changes while it looks.
-const ON_ONE_PROCESSOR: Patience = Patience {
+const ONE_PROCESSOR_CROWDED: Patience = Patience {
     spins: 0,
     snoozes: 0,
     tries: 0,
@@ -64,13 +74,13 @@ const CLOSE: u32 = 20;
 /// Pauses between the later ones, which take about as long as a short turn.
 const PAUSES: u32 = 8;
 
-/// A wait that ends within this many turns is short.
-const FEW: u32 = 3;
+/// The turns of a wait whose number has none of these bits are timed, the first one among them.
+const UNTIMED: u32 = 3;
 
-/// After this many short waits in a row turns count as long.
-const MANY: u64 = 16;
+/// A turn of this many milliseconds went to another program. One that goes to a thread of the engine, or to nobody, takes some microseconds.
+const LONG: u64 = 1;
 
-/// This many waits then give no turns.
+/// The number of waits that give no turns after a long one.
 const PERIOD: u64 = 10_000;
 
 impl Patience {
@@ -93,20 +103,6 @@ impl Patience {
     pub(crate) fn tries(self, look: u32) -> bool {
         look & self.tries == self.tries
     }
-
-    /// A pause after a look.
-    pub(crate) fn pause(self, look: u32) {
-        if look < self.spins {
-            spin_loop();
-        } else {
-            yield_now();
-        }
-    }
-
-    /// The turns that were given before a look.
-    fn turns(self, look: u32) -> u32 {
-        look.saturating_sub(self.spins)
-    }
 }
 
 /// A pause after a look with the lock. Nobody gets a turn, since all others may wait for the lock.
@@ -117,14 +113,24 @@ pub(crate) fn pause_with_the_lock(look: u32) {
     }
 }
 
-/// What waits have shown of the turns that threads give to others, where they share processors. Where other programs want the processors, a
-/// turn takes a time slice, and most waits end within their first turns. Else a turn is short, and a wait takes many.
+/// Gives a turn to others. Returns whether it was a long one.
+fn is_long_turn<C: Clock>(clock: &C) -> bool {
+    let Ok(before) = Instant::now(clock) else {
+        yield_now();
+        return false;
+    };
+    yield_now();
+    match before.elapsed(clock) {
+        Ok(took) => took >= Duration::from_millis(LONG),
+        Err(_) => false,
+    }
+}
+
+/// What is known of the turns that threads give to others. Where other programs want the processors, a turn takes a time slice.
 #[derive(Drop)]
 pub(crate) struct Turns {
     threads: AtomicU64,
     processors: AtomicU64,
-    /// The short waits that came in a row.
-    short: AtomicU64,
     /// The number of further waits that give no turns.
     left: AtomicU64,
 }
@@ -135,7 +141,6 @@ impl Turns {
         Turns {
             threads: AtomicU64::new(3),
             processors: AtomicU64::new(2),
-            short: AtomicU64::new(0),
             left: AtomicU64::new(0),
         }
     }
@@ -147,43 +152,49 @@ impl Turns {
     }
 
     /// Whether each thread has a processor of its own.
-    fn are_needless(&self) -> bool {
+    fn has_each_a_processor(&self) -> bool {
         self.threads.load(Ordering::SeqCst) <= self.processors.load(Ordering::SeqCst)
     }
 
     /// The patience of a thread that gives no turns.
     pub(crate) fn without_turns(&self) -> Patience {
-        if self.are_needless() {
-            ALONE
+        if self.has_each_a_processor() {
+            OWN_PROCESSOR_CROWDED
         } else if self.processors.load(Ordering::SeqCst) > 1 {
-            CROWDED
+            SHARED_PROCESSOR_CROWDED
         } else {
-            ON_ONE_PROCESSOR
+            ONE_PROCESSOR_CROWDED
         }
     }
 
-    /// How the wait that begins now is made.
+    /// How the wait that begins now is made. Of the words that all threads which wait have in their caches none is written while turns are short.
     pub(crate) fn patience(&self) -> Patience {
-        if self.are_needless() {
-            return ALONE;
-        }
         let left = self.left.load(Ordering::SeqCst);
-        if left == 0 {
-            return AMONG_THREADS;
+        if left > 0 {
+            self.left.store(left - 1, Ordering::SeqCst);
+            return self.without_turns();
         }
-        self.left.store(left - 1, Ordering::SeqCst);
-        self.without_turns()
+        if self.has_each_a_processor() {
+            OWN_PROCESSOR
+        } else {
+            SHARED_PROCESSOR
+        }
     }
 
-    /// Notes that a wait ended at this look. The words lie in the caches of all threads that wait, so they are written only where they change.
-    pub(crate) fn ended(&self, patience: Patience, look: u32) {
-        let turns = patience.turns(look);
-        if turns > FEW {
-            if self.short.load(Ordering::SeqCst) != 0 {
-                self.short.store(0, Ordering::SeqCst);
-            }
-        } else if turns > 0 && self.short.fetch_add(1, Ordering::SeqCst) >= MANY {
-            self.left.store(PERIOD, Ordering::SeqCst);
+    /// A pause after a look. Returns how the wait goes on: after a long turn, without further ones.
+    pub(crate) fn pause<C: Clock>(&self, clock: &C, patience: Patience, look: u32) -> Patience {
+        let Some(turn) = look.checked_sub(patience.spins) else {
+            spin_loop();
+            return patience;
+        };
+        if turn & UNTIMED != 0 {
+            yield_now();
+            return patience;
         }
+        if !is_long_turn(clock) {
+            return patience;
+        }
+        self.left.store(PERIOD, Ordering::SeqCst);
+        self.without_turns()
     }
 }

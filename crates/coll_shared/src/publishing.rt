@@ -15,11 +15,12 @@ use coll_core::{Contribution, Offer};
 use coll_kinds::{Refusal, Refused, Ticket};
 use coll_traced::{Entries, Operation, Prepared, Receipt, Tally};
 use std::alloc::Global;
+use std::rt::Clock;
 use std::sync::Wait;
 
 impl<L: Entries> Combiner<L> {
     /// Waits until there is an answer in the record, or serves it as the combiner.
-    fn await_made<R: Wait>(&self, rt: &R, record: &PublicationRecord<L>) {
+    fn await_made<R: Wait + Clock>(&self, rt: &R, record: &PublicationRecord<L>) {
         if let Some(held) = self.spin(rt, record, self.turns.patience()) {
             self.release(held);
             record.set_leads(true);
@@ -27,7 +28,7 @@ impl<L: Entries> Combiner<L> {
     }
 
     /// Has an operation made by the combiner. None where it wasn't made: the port is to see itself why.
-    fn have_made<R: Wait>(
+    fn have_made<R: Wait + Clock>(
         &self,
         rt: &R,
         alloc: Global,
@@ -77,7 +78,7 @@ impl<L: Entries> Combiner<L> {
     }
 
     /// Starts a collective for a port, whose tally it returns.
-    pub(crate) fn post<R: Wait>(
+    pub(crate) fn post<R: Wait + Clock>(
         &self,
         rt: &R,
         alloc: Global,
@@ -117,7 +118,7 @@ impl<L: Entries> Combiner<L> {
     }
 
     /// Starts a persistent request for a port, whose tally it returns.
-    pub(crate) fn start<R: Wait>(
+    pub(crate) fn start<R: Wait + Clock>(
         &self,
         rt: &R,
         alloc: Global,

@@ -15,6 +15,7 @@ use coll_report::Report;
 use coll_traced::{Entries, Spent, ledger_for};
 use std::alloc::{AllocError, Global};
 use std::marker::Brand;
+use std::rt::Clock;
 use std::sync::Wait;
 use std::sync::ledger::Blank;
 use std::thread::Threads;
@@ -25,7 +26,7 @@ pub trait RankProgram<T> {
     ghost Gives: { Self → ℕ → T → Type 0 } = { λ _ _ _. Unit {0} };
 
     /// Uses the port of its rank. It ends with no active request, or the engine isn't closed.
-    fn run<L: Entries, R: Wait>(self, rt: &R, port: &mut Port<L>) -> T
+    fn run<L: Entries, R: Wait + Clock>(self, rt: &R, port: &mut Port<L>) -> T
         ensures { Gives self port.old.rank result };
 }
 
@@ -45,7 +46,7 @@ struct Running<'x, L: Entries, R, P> {
     program: P,
 }
 
-impl<L: Entries, R: Wait, T: Drop, P: RankProgram<T> + Drop> RankTask<RankEnd<L, T>>
+impl<L: Entries, R: Wait + Clock, T: Drop, P: RankProgram<T> + Drop> RankTask<RankEnd<L, T>>
     for Running<'_, L, R, P> {
     ghost use Rattle.std.specs.Prelude.{IfSome};
 
@@ -79,7 +80,7 @@ impl<L: Entries, R: Wait, T: Drop, P: RankProgram<T> + Drop> RankTask<RankEnd<L,
 /// BadConfig with the first field that is out of its range; NoMemory, also where a thread couldn't be started, and then no program was
 /// run; why a progress thread ended before it was to; StillActive with the lowest rank that left a request active.
 pub fn run_ranks<
-    R: Threads + Wait + Sync,
+    R: Threads + Wait + Clock + Sync,
     G: Gate + Sync,
     T: Send + Drop,
     P: RankProgram<T> + Send + Drop,
@@ -103,7 +104,7 @@ pub fn run_ranks<
 /// The same. `entries` names the ledger of the engine's entries.
 fn run_in<
     L: Entries + Send + Sync,
-    R: Threads + Wait + Sync,
+    R: Threads + Wait + Clock + Sync,
     G: Gate + Sync,
     T: Send + Drop,
     P: RankProgram<T> + Send + Drop,

@@ -15,20 +15,20 @@ use coll_complete::Request;
 use coll_core::Outcome;
 use coll_kinds::{Refusal, Ticket};
 use coll_traced::{Awaited, Completed, Entries, Receipts, Tally};
+use std::rt::Clock;
 use std::sync::Wait;
 
 impl<L: Entries> Combiner<L> {
     /// Looks for an answer in the record, and now and then whether the lock is free. None where there is an answer.
-    pub(crate) fn spin<R: Wait>(
+    pub(crate) fn spin<R: Wait + Clock>(
         &self,
         rt: &R,
         record: &PublicationRecord<L>,
-        patience: Patience,
+        mut patience: Patience,
     ) -> Option<Held<'_, L>> {
         for look in 0..patience.looks() {
             if record.is_answered() {
                 record.set_leads(false);
-                self.turns.ended(patience, look);
                 return None;
             }
             if patience.tries(look) {
@@ -36,7 +36,7 @@ impl<L: Entries> Combiner<L> {
                     return Some(held);
                 }
             }
-            patience.pause(look);
+            patience = self.turns.pause(rt, patience, look);
         }
         Some(self.enter(rt))
     }
@@ -53,7 +53,7 @@ impl<L: Entries> Combiner<L> {
     }
 
     /// A port whose wait is published or registered waits for the answer. It may have the lock.
-    fn await_answer<'a, R: Wait, G: Gate>(
+    fn await_answer<'a, R: Wait + Clock, G: Gate>(
         &'a self,
         rt: &R,
         gate: &G,
@@ -85,7 +85,7 @@ impl<L: Entries> Combiner<L> {
     }
 
     /// Waits for one request by the port's record, with its tally in it. The completion, or none where the port has to look itself.
-    fn wait_published<R: Wait, G: Gate>(
+    fn wait_published<R: Wait + Clock, G: Gate>(
         &self,
         rt: &R,
         gate: &G,
@@ -120,7 +120,7 @@ impl<L: Entries> Combiner<L> {
     }
 
     /// Waits until the request isn't Pending, and completes it if it is Done. It is given up only where a last look finds it Pending.
-    pub(crate) fn wait<R: Wait, G: Gate>(
+    pub(crate) fn wait<R: Wait + Clock, G: Gate>(
         &self,
         rt: &R,
         gate: &G,
@@ -169,7 +169,7 @@ impl<L: Entries> Combiner<L> {
     }
 
     /// A port that has the lock waits for what it awaits of a list, until it is to look.
-    pub(crate) fn wait_listed<'a, R: Wait, G: Gate>(
+    pub(crate) fn wait_listed<'a, R: Wait + Clock, G: Gate>(
         &'a self,
         rt: &R,
         gate: &G,

@@ -15,6 +15,7 @@ use coll_complete::{Any, Request, Tested};
 use coll_core::Outcome;
 use coll_kinds::Refusal;
 use coll_traced::{Awaited, Entries, Receipts};
+use std::rt::Clock;
 use std::sync::Wait;
 
 impl<L: Entries> Port<L> {
@@ -144,7 +145,7 @@ impl<L: Entries> Port<L> {
     /// Stale where the ticket names no live request, and NotYours where it is another rank's; Stalled where it would
     /// sleep and nothing can go on any more; NoMemory of a step or of a combination; Stale where the result of a
     /// combination that it made isn't wanted any longer. The request is as it was, and the steps that were made stay.
-    pub fn wait<R: Wait, G: Gate>(
+    pub fn wait<R: Wait + Clock, G: Gate>(
         &mut self,
         rt: &R,
         gate: &G,
@@ -173,7 +174,7 @@ impl<L: Entries> Port<L> {
     ///
     /// Stale where a ticket names no live request, NotYours where it names another rank's: that of the first such request;
     /// then as `wait`; and where the list names a request more than once, NoMemory also of what it notes before it sleeps.
-    pub fn wait_any<R: Wait, G: Gate>(
+    pub fn wait_any<R: Wait + Clock, G: Gate>(
         &mut self,
         rt: &R,
         gate: &G,
@@ -228,7 +229,7 @@ impl<L: Entries> Port<L> {
     /// # Errors
     ///
     /// Of the list as `wait_any`, and then as `wait`.
-    pub fn wait_all<R: Wait, G: Gate>(
+    pub fn wait_all<R: Wait + Clock, G: Gate>(
         &mut self,
         rt: &R,
         gate: &G,
@@ -279,7 +280,7 @@ impl<L: Entries> Port<L> {
     /// # Errors
     ///
     /// Of the list as `wait_any`, and then as `wait`.
-    pub fn wait_some<R: Wait, G: Gate>(
+    pub fn wait_some<R: Wait + Clock, G: Gate>(
         &mut self,
         rt: &R,
         gate: &G,

@@ -15,6 +15,7 @@ use coll_core::{Contribution, Offer};
 use coll_kinds::{Refusal, Refused, Signature};
 use coll_plans::Plan;
 use coll_traced::{Entries, Receipt};
+use std::rt::Clock;
 use std::sync::Wait;
 
 impl<L: Entries> Port<L> {
@@ -24,7 +25,7 @@ impl<L: Entries> Port<L> {
     /// # Errors
     ///
     /// Those of `TracedCore::post`, in its order, with the offer handed back.
-    pub fn post<R: Wait>(
+    pub fn post<R: Wait + Clock>(
         &mut self,
         rt: &R,
         comm: u32,
@@ -56,7 +57,7 @@ impl<L: Entries> Port<L> {
     /// # Errors
     ///
     /// Those of `ready_plan`, in its order; then those of `post`. The contribution is handed back.
-    pub fn post_bytes<R: Wait>(
+    pub fn post_bytes<R: Wait + Clock>(
         &mut self,
         rt: &R,
         comm: u32,

@@ -13,6 +13,7 @@ use coll_core::Contribution;
 use coll_kinds::{Refusal, Refused};
 use coll_traced::{Entries, Receipt};
 use std::mem;
+use std::rt::Clock;
 use std::sync::Wait;
 
 impl<L: Entries> Port<L> {
@@ -21,7 +22,7 @@ impl<L: Entries> Port<L> {
     /// # Errors
     ///
     /// Stale where the request is null; then those of `TracedCore::start`, in its order. The contribution is handed back.
-    pub fn start<R: Wait>(
+    pub fn start<R: Wait + Clock>(
         &mut self,
         rt: &R,
         request: &Request,
@@ -52,7 +53,7 @@ impl<L: Entries> Port<L> {
     }
 
     /// Starts a persistent request with bytes that are taken; where it is refused, they stay.
-    fn start_taking<R: Wait>(
+    fn start_taking<R: Wait + Clock>(
         &mut self,
         rt: &R,
         request: &Request,
@@ -83,7 +84,7 @@ impl<L: Entries> Port<L> {
     ///
     /// At the first position whose start is refused, with that refusal as `start` returns it. The requests before it stay started, with
     /// their receipts in `receipts`, and what wasn't used comes back.
-    pub fn start_all<R: Wait>(
+    pub fn start_all<R: Wait + Clock>(
         &mut self,
         rt: &R,
         requests: &[Request],
