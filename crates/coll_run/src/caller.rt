@@ -169,7 +169,12 @@ impl<L: Entries> Caller<L> {
         Ok(())
     }
 
-    fn wait<R: Wait + Clock, G: Gate>(&mut self, rt: &R, gate: &G, number: usize) -> Result<(), Refusal> {
+    fn wait<R: Wait + Clock, G: Gate>(
+        &mut self,
+        rt: &R,
+        gate: &G,
+        number: usize,
+    ) -> Result<(), Refusal> {
         let Some(request) = self.requests.get_mut(number) else {
             return Err(Refusal::Stale);
         };

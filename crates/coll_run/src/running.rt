@@ -168,7 +168,12 @@ fn config_of(alloc: Global, script: &Script) -> Result<Config, Refusal>
 }
 
 /// Runs a script on an engine of its own. `entries` names the ledger of the engine's entries.
-fn run_in<L: Entries + Send + Sync, R: Threads + Wait + Clock + Sync, G: Gate + Sync, O: Observer + Sync>(
+fn run_in<
+    L: Entries + Send + Sync,
+    R: Threads + Wait + Clock + Sync,
+    G: Gate + Sync,
+    O: Observer + Sync,
+>(
     rt: &R,
     alloc: Global,
     script: &Script,

@@ -6,11 +6,12 @@ use coll_run::run_job;
 use coll_script::JobFault;
 use coll_shared::NoGate;
 use std::alloc::Global;
+use std::rt::Clock;
 use std::sync::Wait;
 use std::thread::Threads;
 
 /// Whether a run of the text has these lines, or this fault.
-fn ends_so<R: Threads + Wait + Sync>(
+fn ends_so<R: Threads + Wait + Clock + Sync>(
     rt: &R,
     alloc: Global,
     text: &str,
@@ -28,7 +29,7 @@ fn ends_so<R: Threads + Wait + Sync>(
 }
 
 /// The first number of progress threads with which a run of the text ends otherwise. None if there is none.
-fn misfit_of<R: Threads + Wait + Sync>(
+fn misfit_of<R: Threads + Wait + Clock + Sync>(
     rt: &R,
     alloc: Global,
     text: &str,
@@ -44,7 +45,7 @@ fn misfit_of<R: Threads + Wait + Sync>(
 }
 
 /// The first text with other lines, by its index, and the number of progress threads. None if there is none.
-pub fn first_misfit<R: Threads + Wait + Sync>(
+pub fn first_misfit<R: Threads + Wait + Clock + Sync>(
     rt: &R,
     alloc: Global,
     rows: &[(&str, &str)],
@@ -59,7 +60,7 @@ pub fn first_misfit<R: Threads + Wait + Sync>(
 }
 
 /// The first text with another fault, by its index, and the number of progress threads. None if there is none.
-pub fn first_other_end<R: Threads + Wait + Sync>(
+pub fn first_other_end<R: Threads + Wait + Clock + Sync>(
     rt: &R,
     alloc: Global,
     rows: &[(&str, JobFault)],

@@ -10,9 +10,10 @@ use coll_plans::Plan;
 use coll_shared::{Gate, Port};
 use coll_traced::Entries;
 use std::alloc::Global;
+use std::rt::Clock;
 use std::sync::Wait;
 
-pub fn post<L: Entries, R: Wait>(
+pub fn post<L: Entries, R: Wait + Clock>(
     rt: &R,
     port: &mut Port<L>,
     comm: u32,
@@ -36,7 +37,7 @@ pub fn init<L: Entries, R: Wait>(
     }
 }
 
-pub fn start<L: Entries, R: Wait>(
+pub fn start<L: Entries, R: Wait + Clock>(
     rt: &R,
     port: &mut Port<L>,
     request: &Request,
@@ -66,7 +67,7 @@ pub fn test<L: Entries, R: Wait>(
     Ok(tested.outcome)
 }
 
-pub fn wait<L: Entries, R: Wait, G: Gate>(
+pub fn wait<L: Entries, R: Wait + Clock, G: Gate>(
     rt: &R,
     gate: &G,
     port: &mut Port<L>,

@@ -40,6 +40,7 @@ use setup::PortSetup;
 use std::alloc::Global;
 use std::marker::Brand;
 use std::process::Abort;
+use std::rt::Clock;
 use std::sync::Wait;
 use std::sync::ledger::Blank;
 
@@ -53,7 +54,7 @@ pub struct Misfit {
     pub got: PortAnswer,
 }
 
-fn first_misfit_in<L: Entries, R: Wait>(
+fn first_misfit_in<L: Entries, R: Wait + Clock>(
     rt: &R,
     alloc: Global,
     config: Config,
@@ -74,7 +75,7 @@ fn first_misfit_in<L: Entries, R: Wait>(
 /// # Errors
 ///
 /// The engine's refusal to open.
-pub fn first_misfit<R: Wait>(
+pub fn first_misfit<R: Wait + Clock>(
     rt: &R,
     alloc: Global,
     setup: &PortSetup,
@@ -86,7 +87,7 @@ pub fn first_misfit<R: Wait>(
 }
 
 /// Makes the calls of some lists on a new engine, and ends the test if one is answered otherwise.
-pub fn assert_answers<R: Abort + Wait>(
+pub fn assert_answers<R: Abort + Wait + Clock>(
     rt: &R,
     alloc: Global,
     setup: &PortSetup,
@@ -96,7 +97,7 @@ pub fn assert_answers<R: Abort + Wait>(
     assert!(rt; matches!(misfit, Ok(None)), "{misfit:?}");
 }
 
-fn closed_after_in<L: Entries, R: Wait>(
+fn closed_after_in<L: Entries, R: Wait + Clock>(
     rt: &R,
     alloc: Global,
     config: Config,
@@ -119,7 +120,7 @@ fn closed_after_in<L: Entries, R: Wait>(
 /// # Errors
 ///
 /// `Torn` if a call was answered otherwise; the engine's refusal to open; `NoMemory`.
-pub fn closed_after<R: Wait>(
+pub fn closed_after<R: Wait + Clock>(
     rt: &R,
     alloc: Global,
     setup: &PortSetup,

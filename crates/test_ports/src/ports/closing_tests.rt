@@ -11,6 +11,7 @@ use coll_core::Outcome;
 use coll_kinds::Refusal;
 use coll_report::Report;
 use std::alloc::Global;
+use std::rt::Clock;
 use std::sync::Wait;
 use std::test::Fail;
 
@@ -67,7 +68,7 @@ fn made_and_attested(rt: HostRuntime) -> Result<(), Fail> {
 }
 
 /// The refusal to close an engine after these calls, and the number of ends that are handed back.
-fn refusal_after<R: Wait>(
+fn refusal_after<R: Wait + Clock>(
     rt: &R,
     alloc: Global,
     rows: &[PortRow],

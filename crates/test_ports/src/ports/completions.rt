@@ -8,6 +8,7 @@ use coll_kinds::Refusal;
 use coll_shared::{NoGate, Port};
 use coll_traced::Entries;
 use std::alloc::Global;
+use std::rt::Clock;
 use std::sync::Wait;
 
 /// Tests a request, which stands at that position of its list.
@@ -35,7 +36,7 @@ pub fn test_any<L: Entries, R: Wait>(
     })
 }
 
-pub fn wait_any<L: Entries, R: Wait>(
+pub fn wait_any<L: Entries, R: Wait + Clock>(
     rt: &R,
     port: &mut Port<L>,
     list: &mut [Request],
@@ -58,7 +59,7 @@ pub fn test_all<L: Entries, R: Wait>(
     Ok(PortAnswer::Flag(flag, Outcomes::of(&out)))
 }
 
-pub fn wait_all<L: Entries, R: Wait>(
+pub fn wait_all<L: Entries, R: Wait + Clock>(
     rt: &R,
     alloc: Global,
     port: &mut Port<L>,
@@ -80,7 +81,7 @@ pub fn test_some<L: Entries, R: Wait>(
     Ok(PortAnswer::Count(count, Outcomes::of(&out)))
 }
 
-pub fn wait_some<L: Entries, R: Wait>(
+pub fn wait_some<L: Entries, R: Wait + Clock>(
     rt: &R,
     alloc: Global,
     port: &mut Port<L>,

@@ -16,6 +16,7 @@ use coll_report::Report;
 use coll_shared::{Engine, NoGate, Port, close, open};
 use coll_traced::{Entries, Spent};
 use std::alloc::Global;
+use std::rt::Clock;
 use std::sync::Wait;
 use std::sync::ledger::Blank;
 
@@ -68,7 +69,11 @@ impl<L: Entries> PortDriver<L> {
     }
 
     /// Makes the calls of some lists. Returns the first call that was answered otherwise.
-    pub fn first_misfit<R: Wait>(&mut self, rt: &R, parts: &[&[PortRow]]) -> Option<Misfit> {
+    pub fn first_misfit<R: Wait + Clock>(
+        &mut self,
+        rt: &R,
+        parts: &[&[PortRow]],
+    ) -> Option<Misfit> {
         for rows in parts {
             let misfit = self.misfit_among(rt, rows);
             if misfit.is_some() {
@@ -80,7 +85,11 @@ impl<L: Entries> PortDriver<L> {
 
     /// Makes the calls of a list. A call that is refused memory and may take some is made a second time. Returns the number of
     /// these refusals, or the first call that was answered otherwise.
-    pub fn refusals_among<R: Wait>(&mut self, rt: &R, rows: &[PortRow]) -> Result<u32, Misfit> {
+    pub fn refusals_among<R: Wait + Clock>(
+        &mut self,
+        rt: &R,
+        rows: &[PortRow],
+    ) -> Result<u32, Misfit> {
         let mut refusals = 0u32;
         for (index, (call, want)) in rows.iter().enumerate() {
             let mut got = self.answer(rt, *call);
@@ -95,7 +104,7 @@ impl<L: Entries> PortDriver<L> {
         Ok(refusals)
     }
 
-    fn misfit_among<R: Wait>(&mut self, rt: &R, rows: &[PortRow]) -> Option<Misfit> {
+    fn misfit_among<R: Wait + Clock>(&mut self, rt: &R, rows: &[PortRow]) -> Option<Misfit> {
         for (index, (call, want)) in rows.iter().enumerate() {
             let got = self.answer(rt, *call);
             if got != *want {
@@ -106,7 +115,7 @@ impl<L: Entries> PortDriver<L> {
     }
 
     /// Makes a call, and returns its answer.
-    pub fn answer<R: Wait>(&mut self, rt: &R, call: PortCall) -> PortAnswer {
+    pub fn answer<R: Wait + Clock>(&mut self, rt: &R, call: PortCall) -> PortAnswer {
         match self.carry_out(rt, call) {
             Ok(answer) => answer,
             Err(why) => PortAnswer::Refused(why),
@@ -114,7 +123,11 @@ impl<L: Entries> PortDriver<L> {
     }
 
     /// Makes a call. An error is its refusal; `Torn` if there is no such port or request.
-    fn carry_out<R: Wait>(&mut self, rt: &R, call: PortCall) -> Result<PortAnswer, Refusal> {
+    fn carry_out<R: Wait + Clock>(
+        &mut self,
+        rt: &R,
+        call: PortCall,
+    ) -> Result<PortAnswer, Refusal> {
         match call {
             PortCall::Null => self.number(Request::null()),
             PortCall::Post(rank, comm, sig, bytes) => {
@@ -174,7 +187,7 @@ impl<L: Entries> PortDriver<L> {
         Ok((port, request))
     }
 
-    fn post<R: Wait>(
+    fn post<R: Wait + Clock>(
         &mut self,
         rt: &R,
         rank: u8,
@@ -210,7 +223,7 @@ impl<L: Entries> PortDriver<L> {
         self.number(request)
     }
 
-    fn start<R: Wait>(
+    fn start<R: Wait + Clock>(
         &mut self,
         rt: &R,
         rank: u8,
@@ -253,7 +266,12 @@ impl<L: Entries> PortDriver<L> {
         completions::test(rt, port, number, &mut Request::of(*ticket))
     }
 
-    fn wait<R: Wait>(&mut self, rt: &R, rank: u8, number: usize) -> Result<PortAnswer, Refusal> {
+    fn wait<R: Wait + Clock>(
+        &mut self,
+        rt: &R,
+        rank: u8,
+        number: usize,
+    ) -> Result<PortAnswer, Refusal> {
         let port = self.ports.get_mut(usize::from(rank)).ok_or(Refusal::Torn)?;
         let request = self.requests.get_mut(number).ok_or(Refusal::Torn)?;
         self.outcomes.reserve(1)?;
@@ -261,7 +279,7 @@ impl<L: Entries> PortDriver<L> {
         self.keep(outcome)
     }
 
-    fn post_and_wait<R: Wait>(
+    fn post_and_wait<R: Wait + Clock>(
         &mut self,
         rt: &R,
         comm: u32,
@@ -290,7 +308,7 @@ impl<L: Entries> PortDriver<L> {
     }
 
     /// Makes a call of rank 0 over `count` requests, from the number `from` on.
-    fn complete<R: Wait>(
+    fn complete<R: Wait + Clock>(
         &mut self,
         rt: &R,
         call: ListCall,
