@@ -1,15 +1,13 @@
 -- What is read of a text decides which verdict is true of it.
-use Rattle.std.proofs.Common.{◌≡◌, ◌<◌, ◌≤◌, ℕ, List, length, take, Option, Some, None, Result, Ok, sym, ap, subst, ◌∙◌, arith, inl, inr}
+use Rattle.std.proofs.Common.{◌≡◌, ℕ, List, length, take, Option, Some, None, Ok, sym, ap, subst, ◌∙◌, arith, inl, inr}
 use Rattle.std.specs.Prelude.{IfSome}
 use Rattle.std.proofs.lemmas.Bool.{cases_lt}
 use Rattle.std.proofs.lemmas.List.{take_all, length-take}
-use Rattle.coll_history.specs.declared.fault.Fault.{Fault}
 use Rattle.coll_history.specs.Histories.{History}
 use Rattle.coll_script.specs.Jobs.{script_of}
 use Rattle.coll_script.proofs.Reading.{script_of-long}
 use Rattle.coll_diagnosis.specs.declared.explaining.ExplainOptions.{ExplainOptions}
 use Rattle.coll_diagnosis.specs.declared.verdict.Verdict.{Verdict}
-use Rattle.coll_diagnosis.specs.declared.verdict.Verdict.TheVariants.{Never}
 use Rattle.coll_diagnosis.specs.Verdicts.{Means, MeansOf, IsTrueOf}
 
 -- a text has one script at most
@@ -18,9 +16,6 @@ means-script text script verdict read means h is = subst (Means verdict) same me
   where
     same : script ≡ h
     same = let both : script_of text ≡ Ok script = read in let other : script_of text ≡ Ok h = is in cc
-
-pub never-script : (text : List ℕ) (script : History) (verdict : Verdict) → script_of text ≡ Ok script → verdict ≡ Never → Means verdict script → MeansOf text Never
-never-script text script verdict read never means = means-script text script Never read (subst (λ (v : Verdict). Means v script) never means)
 
 -- the first byte too many says as much as all of them
 script-take : (input : List ℕ) → script_of (take 1048577 input) ≡ script_of input

@@ -1,5 +1,5 @@
 -- Worked rows, computed: a text with one line moved.
-use Rattle.std.specs.Prelude.{◌≡◌, ℕ, [], codes, refl}
+use Rattle.std.specs.Prelude.{◌≡◌, codes, refl}
 use Rattle.coll_diagnosis.specs.Cures.{lines_len, moved_text}
 
 -- of three lines the first is moved to the place after the second, and after the third

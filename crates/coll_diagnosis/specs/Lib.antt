@@ -1,3 +1,5 @@
+-- from whom the members of a collective hear
+pub mod Hearings
 -- the exit status of a verdict, and what is reported of ranks that wait
 pub mod Verdicts
 -- which fault an explanation never ends in

@@ -6,12 +6,14 @@ use Rattle.coll_history.specs.Cutting.{is_line_feed}
 use Rattle.coll_history.specs.Histories.{History}
 use Rattle.coll_script.specs.Jobs.{script_of}
 use Rattle.coll_verdict.specs.Stalls.{StallsAlways, StallsNever}
+use Rattle.coll_verdict.specs.Waiting.{StallsAlwaysBy, StallsNeverBy}
+use Rattle.coll_diagnosis.specs.Hearings.{hears_here}
 use Rattle.coll_diagnosis.specs.declared.explaining.ExplainOptions.{ExplainOptions}
 use Rattle.coll_diagnosis.specs.declared.explaining.Form.TheVariants.{Text, Json}
 use Rattle.coll_diagnosis.specs.declared.verdict.Verdict.{Verdict}
 use Rattle.coll_diagnosis.specs.declared.verdict.Verdict.TheVariants.{Never, NeverHere, Perhaps, AlwaysHere, Always}
 
--- 0 where no run of this engine stalls, 3 where every one does, and 6 where neither was shown; to be strict is to ask for
+-- 0 where no run by this engine's schedules stalls, 3 where every one does, and 6 where neither was shown; to be strict is to ask for
 -- every library
 abbrev pub status_of : Bool → Verdict → ℕ
 status_of strict Never = 0
@@ -21,7 +23,7 @@ status_of strict Perhaps = 6
 status_of strict AlwaysHere = 3
 status_of strict Always = 3
 
--- every run of this engine stalls
+-- every run by this engine's schedules stalls
 abbrev pub is_always_here : Verdict → Bool
 is_always_here Never = false
 is_always_here NeverHere = false
@@ -29,20 +31,29 @@ is_always_here Perhaps = false
 is_always_here AlwaysHere = true
 is_always_here Always = true
 
--- what a verdict means of all runs of a job, with every library and whatever its limits; of the others nothing is proved
+-- no run stalls, with any library
+abbrev pub is_never : Verdict → Bool
+is_never Never = true
+is_never NeverHere = false
+is_never Perhaps = false
+is_never AlwaysHere = false
+is_never Always = false
+
+-- what a verdict means of all runs of a job, whatever the limits are: with every library, or where each request waits for those
+-- from whom it hears by this engine's schedules
 abbrev pub Means : Verdict → History → Type 0
 Means Never h = StallsNever h
-Means NeverHere h = Unit {0}
+Means NeverHere h = StallsNeverBy hears_here h
 Means Perhaps h = Unit {0}
-Means AlwaysHere h = Unit {0}
+Means AlwaysHere h = StallsAlwaysBy hears_here h
 Means Always h = StallsAlways h
 
 -- it means something, so it is proved
 abbrev pub is_proved : Verdict → Bool
 is_proved Never = true
-is_proved NeverHere = false
+is_proved NeverHere = true
 is_proved Perhaps = false
-is_proved AlwaysHere = false
+is_proved AlwaysHere = true
 is_proved Always = true
 
 -- the same of the job of a text
@@ -56,9 +67,9 @@ IsStatus status = (status ≡ 0) ⊎ ((status ≡ 3) ⊎ (status ≡ 6))
 -- the words of a verdict, with which lines for a reader begin: those of no other begin with them
 abbrev pub heading : Verdict → List ℕ
 heading Never = codes "never stalls"
-heading NeverHere = codes "warning: no run of this engine stalls"
+heading NeverHere = codes "warning: by this engine's schedules no run stalls"
 heading Perhaps = codes "warning: may stall"
-heading AlwaysHere = codes "stalled in every run of this engine"
+heading AlwaysHere = codes "by this engine's schedules every run stalls"
 heading Always = codes "stalled in every run, with every MPI library"
 
 -- the bytes begin with these

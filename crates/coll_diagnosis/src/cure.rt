@@ -7,7 +7,7 @@ use crate::cured_text::moved;
 use crate::job::Job;
 use crate::standstill::Standstill;
 use crate::stuck::Stuck;
-use crate::verdict::Verdict;
+use crate::verdict::is_never_shown;
 use coll_kinds::Refusal;
 use coll_script::{Script, ScriptFault};
 use serde::Serialize;
@@ -95,7 +95,8 @@ fn never_stalls(alloc: Global, text: &[u8]) -> Result<bool, Refusal>
     match Script::read(alloc, text) {
         Ok(script) => {
             let job = Job::of(alloc, &script)?;
-            Ok(Verdict::of(alloc, &script, &job)?.is_never())
+            let is_shown = is_never_shown(alloc, &script, &job)?;
+            Ok(is_shown)
         }
         Err(ScriptFault::Text(_)) => Ok(false),
         Err(ScriptFault::NoMemory) => Err(Refusal::NoMemory),

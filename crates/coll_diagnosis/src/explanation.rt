@@ -50,7 +50,7 @@ impl Explanation {
     pub fn of(alloc: Global, text: &[u8], script: &Script) -> Result<Explanation, Refusal>
         // What is shown is true of the commands of the text.
         ensures shown { IfOk result (λ e. IfSome e.shown (IsShown script.now)) }
-        // No run stalls, or every run does, with every library, where the verdict says so.
+        // What the verdict says of all runs is true.
         ensures means { IfOk result (λ e. Means e.verdict script.now) }
         ensures never { IfOk result (λ e. e.verdict ≡ Never → e.shown ≡ None) }
         ensures standing { IfOk result (λ e. is_always_here e.verdict ≡ true → IsSome e.shown) }

@@ -8,7 +8,7 @@
 //! |---|---|
 //! | `members` | `Members`, a set of members or ranks |
 //! | `waiting` | `WaitsFor`, the members for which the completion of a collective waits |
-//! | `hearing` | from which members the schedule of each member hears |
+//! | `hearing`, `engine_tables` | from which members the schedule of each member hears; the same of all collectives of a job |
 //! | `step`, `section`, `place`, `job` | `Job`, the commands and requests of the ranks of a script |
 //! | `course` | `Course`, how far the ranks come |
 //! | `verdict` | `Verdict`, whether runs stall, and its exit status |
@@ -22,6 +22,7 @@
 //! | `text_form` | an explanation as lines for a reader |
 //! | `json_form`, `dot_form` | an explanation as JSON, and as a graph |
 //! | `explaining` | `explain_job`, from a reader to a writer |
+//! | `laws` | what holds of all schedules |
 #![tactic(auto)]
 
 mod circle;
@@ -29,6 +30,7 @@ mod course;
 mod cure;
 mod cured_text;
 mod dot_form;
+mod engine_tables;
 mod explaining;
 mod explanation;
 mod facts;
@@ -36,6 +38,7 @@ mod hearing;
 mod job;
 mod json_form;
 mod lack;
+pub mod laws;
 mod members;
 mod pending;
 mod place;

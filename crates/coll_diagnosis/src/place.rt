@@ -1,5 +1,4 @@
 use crate::hearing::heard;
-use crate::members::Members;
 use crate::waiting::WaitsFor;
 use coll_history::Request;
 use coll_kinds::{MAX_RANKS, Refusal, Signature};
@@ -21,8 +20,8 @@ pub struct Place {
     pub sig: Signature,
     /// The members' requests, in the order of the members.
     pub peers: Vec<Peer>,
-    /// For each member, the members from which it hears before it is done.
-    heard: Vec<Members>,
+    /// For each member, of each whether it hears from that one before it is done.
+    heard: Vec<Vec<bool>>,
 }
 
 impl Place {
@@ -43,6 +42,11 @@ impl Place {
         })
     }
 
+    /// How many members the communicator has.
+    pub(crate) fn size(&self) -> usize {
+        self.heard.len()
+    }
+
     /// Whether the outcome of `member` needs what `other` gives.
     pub fn needs(&self, member: u8, other: u8) -> bool {
         let n = self.peers.len().min(MAX_RANKS) as u8;
@@ -54,7 +58,7 @@ impl Place {
         match waiting {
             WaitsFor::Needed => self.needs(member, other),
             WaitsFor::Heard => match self.heard.get(usize::from(member)) {
-                Some(heard) => heard.contains(other),
+                Some(heard) => heard.get(usize::from(other)).copied() == Some(true),
                 None => false,
             },
             WaitsFor::All => true,

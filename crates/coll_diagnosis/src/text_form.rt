@@ -74,10 +74,10 @@ pub(crate) fn headline(explanation: &Explanation) -> &'static str
     match (explanation.verdict, choice) {
         (Verdict::Never, _) => "never stalls, in any run, with any MPI library (proved)",
         (Verdict::NeverHere, Some(Choice::Best)) => {
-            "warning: no run of this engine stalls, but a library whose collectives wait for all their members does"
+            "warning: by this engine's schedules no run stalls (proved), but with a library whose collectives wait for all their members the job stalls"
         }
         (Verdict::NeverHere, _) => {
-            "warning: no run of this engine stalls, but one of a library whose collectives wait for all their members may"
+            "warning: by this engine's schedules no run stalls (proved), but with a library whose collectives wait for all their members the job may stall"
         }
         (Verdict::Perhaps, Some(Choice::Last)) => {
             "warning: may stall, neither proved to end nor proved to stall: it does where a waitany takes a later one of several that are done"
@@ -85,7 +85,7 @@ pub(crate) fn headline(explanation: &Explanation) -> &'static str
         (Verdict::Perhaps, _) => {
             "warning: may stall, neither proved to end nor proved to stall: which request a waitany, waitsome or test takes depends on time"
         }
-        (Verdict::AlwaysHere, _) => "stalled in every run of this engine",
+        (Verdict::AlwaysHere, _) => "by this engine's schedules every run stalls (proved)",
         (Verdict::Always, _) => "stalled in every run, with every MPI library (proved)",
     }
 }

@@ -1,55 +1,61 @@
 ghost use Rattle.std.specs.Prelude.{IfOk, IsTrue};
 ghost use Rattle.coll_verdict.specs.Stalls.{StallsAlways, StallsNever};
+ghost use Rattle.coll_verdict.specs.Waiting.{StallsAlwaysBy, StallsNeverBy};
+ghost use Rattle.coll_diagnosis.specs.Hearings.{hears_here};
 
 use crate::course::{Choice, Course};
+use crate::engine_tables::tables_of;
 use crate::job::Job;
 use crate::waiting::WaitsFor;
+use coll_kinds::Refusal;
 use coll_script::Script;
-use coll_verdict::{always_stalls, never_stalls};
-use std::alloc::{AllocError, Global};
+use coll_verdict::{Library, always_stalls, always_stalls_by, never_stalls, never_stalls_by};
+use std::alloc::Global;
 
 /// Whether the runs of a job stall: in a run that stalls, a rank's thread waits for what never comes.
 #[derive(Clone, Copy, Debug, PartialEq, Eq)]
 pub enum Verdict {
     /// No run stalls, with any library. This is proved.
     Never,
-    /// No run of this engine stalls; a library whose collectives wait for all their members may.
+    /// No run stalls in which each request waits for those from whom it hears by this engine's schedules; a library whose collectives
+    /// wait for all their members may stall. This is proved; that this engine waits just so isn't.
     NeverHere,
-    /// Neither was shown: that no run of this engine stalls, or that every one does.
+    /// Neither was shown: that by this engine's schedules no run stalls, or that every one does.
     Perhaps,
-    /// Every run of this engine stalls; it wasn't shown of other libraries.
+    /// No run comes to its end in which each request waits for those from whom it hears by this engine's schedules; it wasn't shown
+    /// of other libraries. This is proved; that this engine waits just so isn't.
     AlwaysHere,
     /// No run comes to its end, with any library. This is proved.
     Always,
 }
 
 impl Verdict {
-    ghost use Rattle.std.specs.Prelude.{◌≡◌, IfOk, IsTrue};
-    ghost use Rattle.coll_diagnosis.specs.Verdicts.{status_of, is_always_here, is_proved, IsStatus, Means};
+    ghost use Rattle.std.specs.Prelude.{◌≡◌, IfOk};
+    ghost use Rattle.coll_diagnosis.specs.Verdicts.{status_of, is_always_here, is_never, is_proved, IsStatus, Means};
 
-    /// Judges the job of a script, by at most four courses. That no run stalls, with any library, is said only where the order of
-    /// the first course shows it to the checker of `coll_verdict`; that every run does, only where the stands of the last one
-    /// do. Else the verdict is of this engine alone. The only error is refused memory.
-    pub fn of(alloc: Global, script: &Script, job: &Job) -> Result<Verdict, AllocError>
+    /// Judges the job of a script, by at most four courses. What it says but `Perhaps` was shown to the checkers of `coll_verdict`:
+    /// that no run stalls, by the order in which ranks pass in the course that hinders them most; that every run does, by the stands
+    /// of the course that helps them most. The only refusal is [`Refusal::NoMemory`].
+    pub fn of(alloc: Global, script: &Script, job: &Job) -> Result<Verdict, Refusal>
         ensures { IfOk result (λ verdict. Means verdict script.now) }
     {
         if is_never_shown(alloc, script, job)? {
             return Ok(Verdict::Never);
         }
-        if !is_stuck(alloc, job, WaitsFor::Heard, Choice::Worst)? {
+        if is_always_shown(alloc, script, job)? {
+            return Ok(Verdict::Always);
+        }
+        if is_never_here_shown(alloc, script, job)? {
             return Ok(Verdict::NeverHere);
         }
-        if !is_stuck(alloc, job, WaitsFor::Heard, Choice::Best)? {
-            return Ok(Verdict::Perhaps);
-        }
-        if is_always_shown(alloc, script, job)? {
-            Ok(Verdict::Always)
-        } else {
+        if is_always_here_shown(alloc, script, job)? {
             Ok(Verdict::AlwaysHere)
+        } else {
+            Ok(Verdict::Perhaps)
         }
     }
 
-    /// Whether every run of this engine stalls.
+    /// Whether every run by this engine's schedules stalls.
     pub fn is_always_here(self) -> bool
         ensures { result ≡ is_always_here self }
     {
@@ -58,20 +64,21 @@ impl Verdict {
 
     /// Whether no run stalls, with any library.
     pub fn is_never(self) -> bool
-        ensures { IsTrue result → self ≡ Verdict.Never }
+        ensures { result ≡ is_never self }
     {
         matches!(self, Verdict::Never)
     }
 
-    /// Whether it is proved of all runs of the job, with every library.
+    /// Whether it is proved of all runs of the job: with every library, or of those in which each request waits for those from whom it
+    /// hears by this engine's schedules.
     pub fn is_proved(self) -> bool
         ensures { result ≡ is_proved self }
     {
-        matches!(self, Verdict::Never | Verdict::Always)
+        !matches!(self, Verdict::Perhaps)
     }
 
-    /// The exit status: 0 if no run of this engine stalls, 3 if every one does, and 6 if neither was shown; if `is_strict`,
-    /// also 6 if a run with another library may stall.
+    /// The exit status: 0 if by this engine's schedules no run stalls, 3 if every one does, and 6 if neither was shown; if
+    /// `is_strict`, also 6 if a run with another library may stall.
     pub fn status(self, is_strict: bool) -> u8
         ensures status { result ≡ status_of is_strict self }
         ensures few { IsStatus result }
@@ -85,32 +92,50 @@ impl Verdict {
     }
 }
 
-/// Whether some rank doesn't come to its end in that course.
-fn is_stuck(
-    alloc: Global,
-    job: &Job,
-    waiting: WaitsFor,
-    choice: Choice,
-) -> Result<bool, AllocError> {
-    Ok(Course::of(alloc, job, waiting, choice)?.is_stuck())
-}
-
 /// Whether the course that hinders the ranks most shows that no run stalls, with any library.
-fn is_never_shown(alloc: Global, script: &Script, job: &Job) -> Result<bool, AllocError>
+pub(crate) fn is_never_shown(alloc: Global, script: &Script, job: &Job) -> Result<bool, Refusal>
     ensures { IfOk result (λ is_shown. IsTrue is_shown → StallsNever script.now) }
 {
     let course = Course::of(alloc, job, WaitsFor::All, Choice::Worst)?;
     if course.is_stuck() {
         return Ok(false);
     }
-    never_stalls(alloc, script.history(), course.order())
+    Ok(never_stalls(alloc, script.history(), course.order())?)
 }
 
 /// Whether the course that helps the ranks most shows that every run stalls, with every library.
-fn is_always_shown(alloc: Global, script: &Script, job: &Job) -> Result<bool, AllocError>
+fn is_always_shown(alloc: Global, script: &Script, job: &Job) -> Result<bool, Refusal>
     ensures { IfOk result (λ is_shown. IsTrue is_shown → StallsAlways script.now) }
 {
     let course = Course::of(alloc, job, WaitsFor::Needed, Choice::Best)?;
+    if !course.is_stuck() {
+        return Ok(false);
+    }
     let stands = course.stands(alloc)?;
-    always_stalls(alloc, script.history(), &stands)
+    Ok(always_stalls(alloc, script.history(), &stands)?)
+}
+
+/// Whether the course that hinders the ranks most shows that no run by this engine's schedules stalls.
+fn is_never_here_shown(alloc: Global, script: &Script, job: &Job) -> Result<bool, Refusal>
+    ensures { IfOk result (λ is_shown. IsTrue is_shown → StallsNeverBy hears_here script.now) }
+{
+    let course = Course::of(alloc, job, WaitsFor::Heard, Choice::Worst)?;
+    if course.is_stuck() {
+        return Ok(false);
+    }
+    let library = Library::Hears(tables_of(alloc, job)?);
+    Ok(never_stalls_by(alloc, script.history(), course.order(), &library)?)
+}
+
+/// Whether the course that helps the ranks most shows that every run by this engine's schedules stalls.
+fn is_always_here_shown(alloc: Global, script: &Script, job: &Job) -> Result<bool, Refusal>
+    ensures { IfOk result (λ is_shown. IsTrue is_shown → StallsAlwaysBy hears_here script.now) }
+{
+    let course = Course::of(alloc, job, WaitsFor::Heard, Choice::Best)?;
+    if !course.is_stuck() {
+        return Ok(false);
+    }
+    let library = Library::Hears(tables_of(alloc, job)?);
+    let stands = course.stands(alloc)?;
+    Ok(always_stalls_by(alloc, script.history(), &stands, &library)?)
 }
