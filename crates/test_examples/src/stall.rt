@@ -57,7 +57,9 @@ fn answer(alloc: Global, status: u8, lines: Vec<u8>) -> Answer {
 
 /// The exit status of an explanation, by its beginning.
 fn status_of(lines: &[u8]) -> u8 {
-    if lines.starts_with(b"stalled") {
+    if lines.starts_with(b"stalled")
+        || lines.starts_with(b"by this engine's schedules every run stalls")
+    {
         3
     } else if lines.starts_with(b"warning: may stall") {
         6
