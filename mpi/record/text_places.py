@@ -21,7 +21,7 @@ NOT_JUDGED = "incomplete: stalls aren't judged: "
 NOTE = re.compile(r"# (incomplete: .*|left out: .*|fault: .*|warning: .*|by themselves: .*|rank \d+ has no record)")
 
 # How `colljob explain` begins where it doesn't know.
-UNKNOWN = re.compile(r"(warning: )?(may stall|.* may$)", re.M)
+UNKNOWN = re.compile(r"(warning: )?(may stall|.* may stall$)", re.M)
 
 # A line of `colljob explain` that shows a line of the text.
 SHOWN = re.compile(r" *(\d+) \| \S.*")
