@@ -181,6 +181,8 @@ void mpi_wait_for(const char *call, struct request **list, int many, bool any); 
 void mpi_wake(struct comm *comm, int but);
 void mpi_wake_rank(struct rank *rank);
 void mpi_empty_status(MPI_Status *status);
+void mpi_clear_status(MPI_Status *status); /* all of it but the error */
+void mpi_show_status(const struct request *request, MPI_Status *status); /* of one that is done */
 int mpi_finish_message(struct request *request, MPI_Status *status, const char *call);
 int mpi_let_go(struct request *request, const char *call); /* an active message's request that is freed */
 void mpi_finish_let_go(void);                              /* those of this rank that are done by now */

@@ -11,6 +11,11 @@ void mpi_empty_status(MPI_Status *status) {
     if (status != MPI_STATUS_IGNORE) *status = (MPI_Status){ MPI_ANY_SOURCE, MPI_ANY_TAG, MPI_SUCCESS, 0, 0 };
 }
 
+/* The same but for the error, which only calls with several statuses write (MPI 4.1, 3.2.5). */
+void mpi_clear_status(MPI_Status *status) {
+    if (status != MPI_STATUS_IGNORE) *status = (MPI_Status){ MPI_ANY_SOURCE, MPI_ANY_TAG, status->MPI_ERROR, 0, 0 };
+}
+
 /* ---- one request */
 
 int mpi_tell_changed(const struct request *it, const char *what, const char *call) {
@@ -47,8 +52,11 @@ static int32_t wait_in_engine(struct request *it, const char *call) {
 
 int mpi_complete(struct request *it, MPI_Status *status, const char *call) {
     struct request *only[1] = { it };
-    mpi_empty_status(status);
-    if (!it->active) return MPI_SUCCESS;
+    if (!it->active) {
+        mpi_empty_status(status);
+        return MPI_SUCCESS;
+    }
+    mpi_clear_status(status);
     if (it->sort != COLLECTIVE) {
         if (!mpi_is_done(it)) mpi_wait_for(call, only, 1, false);
         mpi_finish_let_go();
@@ -73,8 +81,10 @@ int MPI_Wait(MPI_Request *handle, MPI_Status *status) {
     mpi_self("MPI_Wait");
     struct request *it;
     int code = mpi_request(*handle, "MPI_Wait", &it);
-    mpi_empty_status(status);
-    if (code != MPI_SUCCESS || it == NULL) return code;
+    if (code != MPI_SUCCESS || it == NULL) {
+        mpi_empty_status(status);
+        return code;
+    }
     mpi_pause();
     bool stays = it->persistent;
     mpi_record_wait("wait", &it, 1, "MPI_Wait");
@@ -87,9 +97,11 @@ int MPI_Test(MPI_Request *handle, int *flag, MPI_Status *status) {
     mpi_self("MPI_Test");
     struct request *it;
     int code = mpi_request(*handle, "MPI_Test", &it);
-    mpi_empty_status(status);
     *flag = code == MPI_SUCCESS && (it == NULL || !it->active);
-    if (code != MPI_SUCCESS || *flag) return code;
+    if (code != MPI_SUCCESS || *flag) {
+        mpi_empty_status(status);
+        return code;
+    }
     *flag = mpi_is_done(it) && !holds_back();
     if (!*flag) {
         sched_yield();
@@ -105,8 +117,9 @@ int MPI_Request_get_status(MPI_Request handle, int *flag, MPI_Status *status) {
     mpi_self("MPI_Request_get_status");
     struct request *it;
     int code = mpi_request(handle, "MPI_Request_get_status", &it);
-    mpi_empty_status(status);
     *flag = code == MPI_SUCCESS && (it == NULL || mpi_is_done(it));
+    if (!*flag || it == NULL || !it->active) mpi_empty_status(status);
+    else mpi_show_status(it, status);
     return code;
 }
 
@@ -147,10 +160,15 @@ static MPI_Status *status_at(MPI_Status *statuses, int i) { return statuses == M
 static int complete_one(struct list *list, int i, MPI_Request handles[], MPI_Status *status, const char *call) {
     bool stays = list->at[i]->persistent;
     int code = mpi_complete(list->at[i], status, call);
-    if (status != MPI_STATUS_IGNORE) status->MPI_ERROR = code;
     if (!stays) handles[i] = MPI_REQUEST_NULL;
     list->at[i] = NULL;
     return code;
+}
+
+/* What came of one of several requests. */
+static void note_error(int *code, int one, MPI_Status *status) {
+    if (status != MPI_STATUS_IGNORE) status->MPI_ERROR = one;
+    if (one != MPI_SUCCESS) *code = status == MPI_STATUS_IGNORE ? one : MPI_ERR_IN_STATUS;
 }
 
 static int complete_all(struct list *list, MPI_Request handles[], MPI_Status statuses[], const char *call) {
@@ -158,8 +176,7 @@ static int complete_all(struct list *list, MPI_Request handles[], MPI_Status sta
     for (int i = 0; i < list->many; i++) {
         mpi_empty_status(status_at(statuses, i));
         if (list->at[i] == NULL) continue;
-        int one = complete_one(list, i, handles, status_at(statuses, i), call);
-        if (one != MPI_SUCCESS) code = statuses == MPI_STATUSES_IGNORE ? one : MPI_ERR_IN_STATUS;
+        note_error(&code, complete_one(list, i, handles, status_at(statuses, i), call), status_at(statuses, i));
     }
     return code;
 }
@@ -219,8 +236,8 @@ static int take_some(struct list *list, struct found *found, MPI_Request handles
         if (i != surely && mpi_draw(2) == 1) continue;
         indices[*taken] = found->done[i];
         mpi_record_completed(list->at[found->done[i]]);
-        int one = complete_one(list, found->done[i], handles, status_at(statuses, (*taken)++), call);
-        if (one != MPI_SUCCESS) code = statuses == MPI_STATUSES_IGNORE ? one : MPI_ERR_IN_STATUS;
+        MPI_Status *status = status_at(statuses, (*taken)++);
+        note_error(&code, complete_one(list, found->done[i], handles, status, call), status);
     }
     return code;
 }
@@ -242,10 +259,10 @@ int MPI_Waitany(int many, MPI_Request handles[], int *index, MPI_Status *status)
     struct list list;
     int code = read_list(&list, many, handles, "MPI_Waitany");
     if (code != MPI_SUCCESS) return code;
-    mpi_empty_status(status);
     struct found found = wait_for_some(&list, "waitany", "MPI_Waitany");
     *index = MPI_UNDEFINED;
-    if (found.active > 0) code = take_one(&list, &found, handles, index, status, "MPI_Waitany");
+    if (found.active == 0) mpi_empty_status(status);
+    else code = take_one(&list, &found, handles, index, status, "MPI_Waitany");
     free(found.done);
     give_up(&list);
     return code;
@@ -267,12 +284,12 @@ int MPI_Testany(int many, MPI_Request handles[], int *index, int *flag, MPI_Stat
     struct list list;
     int code = read_list(&list, many, handles, "MPI_Testany");
     if (code != MPI_SUCCESS) return code;
-    mpi_empty_status(status);
     struct found found = find_done(&list);
     *index = MPI_UNDEFINED;
     *flag = found.active == 0 || (found.many > 0 && !holds_back());
     if (!*flag) sched_yield();
-    else if (found.active > 0) code = take_one(&list, &found, handles, index, status, "MPI_Testany");
+    else if (found.active == 0) mpi_empty_status(status);
+    else code = take_one(&list, &found, handles, index, status, "MPI_Testany");
     free(found.done);
     give_up(&list);
     return code;

@@ -238,7 +238,7 @@ static int judge_reduction(struct judging *it) {
     if (op->number == 0) op->uses++;
     request->op = op;
     long long many = mpi_total_count(request);
-    bool result = it->function != REDUCE || it->root, here = in_place(call->give);
+    bool result = it->function == EXSCAN ? request->member > 0 : it->function != REDUCE || it->root, here = in_place(call->give);
     int code = MPI_SUCCESS;
     if (call->give_count < 0) REFUSE(MPI_ERR_COUNT, "the count %lld is negative", call->give_count);
     if (!here && !(it->inter && it->root)) code = judge_buffer(it, call->give, many, request->give_type, "send");
@@ -310,6 +310,7 @@ static void gather_counts_directly(struct judging *it) {
         carry(it);
         return;
     }
+    if (all == 0) engine = -1; /* no elements have no type that could differ */
     request->counts = mpi_must(malloc(sizeof *request->counts * (size_t)size));
     for (int i = 0; i < size; i++) request->counts[i] = (uint32_t)(mpi_number(it->call->get_counts, i) * width);
     request->text_type = engine >= 0 ? (uint8_t)engine : WZ_BYTE;

@@ -135,7 +135,6 @@ void mpi_write_status(MPI_Status *status, const struct message *message) {
     if (status == MPI_STATUS_IGNORE) return;
     status->MPI_SOURCE = message != NULL ? message->group_rank : MPI_PROC_NULL;
     status->MPI_TAG = message != NULL ? message->tag : MPI_ANY_TAG;
-    status->MPI_ERROR = MPI_SUCCESS;
     status->cancelled_ = 0;
     status->bytes_ = message != NULL ? (MPI_Count)message->length : 0;
 }
@@ -165,6 +164,25 @@ void mpi_receive_taken(struct message *message, struct request *receive) {
     pthread_mutex_lock(&box->lock);
     hand_over(message, receive);
     pthread_mutex_unlock(&box->lock);
+}
+
+/* Takes a synchronous send's message back. */
+bool mpi_cancel_send(struct request *send) {
+    int other;
+    mpi_far(send->comm, &other);
+    struct mailbox *box = mailbox_of(send->comm, other + send->other);
+    pthread_mutex_lock(&box->lock);
+    struct message **link = &box->oldest;
+    while (*link != NULL && (*link)->awaited_by != send) link = &(*link)->later;
+    struct message *found = *link;
+    if (found != NULL) {
+        *link = found->later;
+        if (box->end == &found->later) box->end = link;
+        atomic_store(&send->arrived, true);
+    }
+    pthread_mutex_unlock(&box->lock);
+    free(found);
+    return found != NULL;
 }
 
 bool mpi_cancel_receive(struct request *receive) {

@@ -29,6 +29,8 @@ struct message *mpi_take_message(const struct request *probe);
 void mpi_receive_taken(struct message *message, struct request *receive);
 /* Gives up a receive that nothing has come for. Whether it could. */
 bool mpi_cancel_receive(struct request *receive);
+/* Gives up a synchronous send that nobody has received. Whether it could. */
+bool mpi_cancel_send(struct request *send);
 void mpi_write_status(MPI_Status *status, const struct message *message); /* NULL: of MPI_PROC_NULL */
 
 /* ---- messages.c: the arguments of a message's call */

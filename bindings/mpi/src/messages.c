@@ -49,15 +49,15 @@ static int judge_message(const struct request *it, const struct message *message
                       types_text(it->type->basic));
 }
 
-static int receive_message(struct request *it, MPI_Status *status, const char *call) {
+void mpi_show_status(const struct request *it, MPI_Status *status) {
+    mpi_clear_status(status);
+    if (it->sort == RECEIVING && !it->cancelled) mpi_write_status(status, it->message);
+    if (status != MPI_STATUS_IGNORE) status->cancelled_ = it->sort != COLLECTIVE && it->cancelled;
+}
+
+static int receive_message(struct request *it, const char *call) {
     struct message *message = it->message;
-    if (it->cancelled) {
-        mpi_empty_status(status);
-        if (status != MPI_STATUS_IGNORE) status->cancelled_ = 1;
-        return MPI_SUCCESS;
-    }
-    mpi_write_status(status, message);
-    if (message == NULL) return MPI_SUCCESS;
+    if (it->cancelled || message == NULL) return MPI_SUCCESS;
     int code = judge_message(it, message, call);
     if (code == MPI_SUCCESS) unpack_message(message, it);
     free(message);
@@ -66,7 +66,8 @@ static int receive_message(struct request *it, MPI_Status *status, const char *c
 
 int mpi_finish_message(struct request *it, MPI_Status *status, const char *call) {
     const char *changed = mpi_end_loan(it);
-    int code = it->sort == RECEIVING ? receive_message(it, status, call) : MPI_SUCCESS;
+    mpi_show_status(it, status);
+    int code = it->sort == RECEIVING ? receive_message(it, call) : MPI_SUCCESS;
     if (changed != NULL) code = mpi_tell_changed(it, changed, call);
     mpi_note_message(it, call);
     it->active = false;

@@ -18,7 +18,6 @@ static int make_probe(int source, int tag, MPI_Comm comm, struct request **made,
 /* Whether a message is there; where it is waited for, it is in the end. */
 static bool look(struct request *it, bool waits, MPI_Status *status) {
     struct request *only[1] = { it };
-    mpi_empty_status(status);
     if (it->other == MPI_PROC_NULL) {
         mpi_write_status(status, NULL);
         return true;
@@ -112,7 +111,8 @@ int mpi_Imrecv(void *into, MPI_Count many, MPI_Datatype type, MPI_Message *messa
     return code;
 }
 
-/* ---- giving up (MPI 4.1, 3.8.4): a receive that nothing has come for. A send has copied what it sends, so it isn't cancelled. */
+/* ---- giving up (MPI 4.1, 3.8.4): a receive that nothing has come for, and a synchronous send that nobody has received. Other sends have copied what they send
+   and are complete, so they aren't cancelled. */
 
 int MPI_Cancel(MPI_Request *handle) {
     const char *call = "MPI_Cancel";
@@ -123,7 +123,9 @@ int MPI_Cancel(MPI_Request *handle) {
     if (it == NULL) return mpi_refuse(NULL, MPI_ERR_REQUEST, call, "the request is MPI_REQUEST_NULL");
     if (it->sort == COLLECTIVE) return mpi_refuse(it->comm, MPI_ERR_REQUEST, call, "the request of %s is a collective's, which can't be cancelled (MPI 4.1, 6.12)", it->site);
     if (!it->active) return mpi_refuse(it->comm, MPI_ERR_REQUEST, call, "the request of %s isn't active", it->site);
-    if (it->sort == RECEIVING && it->other != MPI_PROC_NULL) it->cancelled = mpi_cancel_receive(it);
+    if (it->other == MPI_PROC_NULL) return MPI_SUCCESS;
+    if (it->sort == RECEIVING) it->cancelled = mpi_cancel_receive(it);
+    else if (it->synchronous) it->cancelled = mpi_cancel_send(it);
     return MPI_SUCCESS;
 }
 

@@ -85,12 +85,14 @@ int MPI_Is_thread_main(int *flag) {
 }
 
 int MPI_Initialized(int *flag) {
-    *flag = mpi_me != NULL && mpi_me->begun;
+    const struct rank *me = mpi_me != NULL ? mpi_me : rank_of_address(__builtin_return_address(0)); /* any thread may ask */
+    *flag = me != NULL && me->begun;
     return MPI_SUCCESS;
 }
 
 int MPI_Finalized(int *flag) {
-    *flag = mpi_me != NULL && mpi_me->finalized;
+    const struct rank *me = mpi_me != NULL ? mpi_me : rank_of_address(__builtin_return_address(0));
+    *flag = me != NULL && me->finalized;
     return MPI_SUCCESS;
 }
 

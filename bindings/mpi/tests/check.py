@@ -3,9 +3,10 @@
 
     tests/check.py BIN [--write] [--only WORD ..]
 
-tests/wrong.c has programs with one planted mistake each, and tests/wrong.want what is said of them; tests/right.c has programs without, of which
-nothing is said; examples/*.c are those of docs/MPI_PROGRAMS.md. tests/explained.want has what wzrun adds to colljob's words under --explain, where
-COLLJOB or PATH names colljob; else that isn't checked. --write writes both files anew: read what changed. Ends with 0 where all is as it should be.
+tests/wrong.c has programs with one planted mistake each, and tests/wrong.want what is said of them; tests/right.c and tests/right_edges.c
+have programs without, of which nothing is said; examples/*.c are those of docs/MPI_PROGRAMS.md. tests/explained.want has what wzrun adds to
+colljob's words under --explain, where COLLJOB or PATH names colljob; else that isn't checked. --write writes both files anew: read what
+changed. Ends with 0 where all is as it should be.
 """
 
 import json
@@ -32,6 +33,8 @@ OPTIONS = {
 }
 # Those that --explain is tried with.
 EXPLAINED = ["root", "lacking", "crossed", "missing_start", "missing_split", "any_of_two", "receives_first", "lucky_bcasts", "lucky_sends"]
+# The programs without a mistake.
+RIGHT = [HERE / "right.c", HERE / "right_edges.c"]
 # How many ranks each right program is run with, where these aren't 1, 2 and 5.
 RIGHT_RANKS = {"many_places": [2], "threads": [2], "grid": [4, 6], "intercommunicators": [2, 3, 5], "neighbors": [1, 2, 4]}
 
@@ -196,12 +199,17 @@ def check_notes(binaries, out):
     return failed
 
 
+def right_programs(binaries, out, only):
+    for source in RIGHT:
+        program = compiled(binaries, source, out)
+        for name in names_of(source)[1:]:
+            if not only or name in only:
+                yield name, program
+
+
 def check_right(binaries, out, only):
-    program = compiled(binaries, HERE / "right.c", out)
     failed, all_runs = 0, 0
-    for name in names_of(HERE / "right.c")[1:]:
-        if only and name not in only:
-            continue
+    for name, program in right_programs(binaries, out, only):
         for ranks in RIGHT_RANKS.get(name, [1, 2, 5]):
             for more in ([], ["--strict", "--check"], ["--seed", "7"]):
                 if name == "many_places" and more:
