@@ -108,7 +108,8 @@ def blocks_given(signature, member, size):
 
 
 class Job:
-    """The text of all records, or of one context alone. What a rank without an end never reached is added, as it must be if the ranks agree."""
+    """The text of all records, or of one context alone. What a rank without an end never reached, and what isn't recorded of
+    a rank, is added, as it must be if the ranks agree."""
 
     def __init__(self, records, contexts, places, judge, only=None, notes=()):
         self.records, self.contexts, self.places, self.judge = records, contexts, places, judge
@@ -149,15 +150,14 @@ class Job:
             self.notes.append(f"left out: {left} calls on communicators whose makers aren't recorded, or between two groups")
 
     def never_reached(self):
-        """Of each rank without an end, the calls that others have made and it hasn't: the place and another's command."""
+        """Of each rank without an end, or without a record, the calls that others have made and it hasn't: the place and another's command."""
         added = collections.defaultdict(list)
         for key in filter(None, self.number):
-            members = [rank for rank in self.contexts.members(key) if rank in self.records]
-            longest = max((self.records[rank].calls.get(key, []) for rank in members), key=len, default=[])
-            for rank in members:
-                if not self.records[rank].ended:
-                    made = len(self.records[rank].calls.get(key, []))
-                    added[rank] += [(index, longest[index]) for index in range(made, len(longest))]
+            made = {rank: self.records[rank].calls.get(key, []) if rank in self.records else [] for rank in self.contexts.members(key)}
+            longest = max(made.values(), key=len, default=[])
+            for rank, own in made.items():
+                if rank not in self.records or not self.records[rank].ended:
+                    added[rank] += [(index, longest[index]) for index in range(len(own), len(longest))]
         return added
 
     def own_signature(self, rank, command):
@@ -261,9 +261,10 @@ class Job:
         return command.key in self.number and window[0] <= command.index < window[1]
 
     def section(self, rank, window, starts):
-        record = self.records[rank]
         self.renumbered, self.started, self.written, self.most_kept = {}, collections.Counter(), 0, starts
-        lines = [f"rank {rank}"]
+        if rank not in self.records:
+            return [f"rank {rank}", "# there is no record of this rank", *self.added_lines(rank, window)]
+        record, lines = self.records[rank], [f"rank {rank}"]
         for command in record.commands:
             own = self.lines(rank, command, window, starts)
             if not own and (command.word or not command.remarks):
@@ -277,13 +278,13 @@ class Job:
 
     def added_lines(self, rank, window):
         """What a rank never reached: starts of its persistent requests, and calls."""
-        lines = []
-        for request, command in enumerate(self.records[rank].requests):
+        lines, why = [], f"never reached by rank {rank}" if rank in self.records else f"not recorded of rank {rank}"
+        for request, command in enumerate(self.records[rank].requests if rank in self.records else []):
             if request in self.renumbered and command.call.form == "p":
                 lines += self.added_starts(rank, request, command)
         for index, command in self.added[rank]:
             if window[0] <= index < window[1]:
-                lines += ["# place unknown", f"# never reached by rank {rank}: added as it must be if the ranks agree"] + self.remarks(rank, command)
+                lines += ["# place unknown", f"# {why}: added as it must be if the ranks agree"] + self.remarks(rank, command)
                 persistent = command.call.form == "p"
                 lines.append(" ".join(self.head("init" if persistent else "post", rank, command) + ([] if persistent else self.values(rank, command, []))))
                 if persistent:
@@ -318,7 +319,7 @@ class Job:
             lines.append(f"# communicator {self.number[key]}: {context.maker}" + (f", {where}" if where else ""))
             lines.append(" ".join(["comm", *map(str, context.members)]))
         for rank in range(self.size):
-            lines += self.section(rank, window, starts) if rank in self.records else [f"rank {rank}", "# there is no record of this rank"]
+            lines += self.section(rank, window, starts)
         return lines
 
     # What fits

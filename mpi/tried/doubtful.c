@@ -314,10 +314,34 @@ static void right_connected(void) {
         MPI_Close_port(port);
 }
 
+static void drop_file(const char *name) {
+    char path[4096];
+    snprintf(path, sizeof path, "%s/%s.%d", getenv("RECORD_DIR"), name, rank);
+    if (unlink(path))
+        MPI_Abort(world, 1);
+}
+
+/* The files of a rank are lost, as where its machine fails. */
+static void right_lost_record(void) {
+    INIT(Allreduce_init)(&one, &sum, 1, MPI_INT, MPI_SUM, world, MPI_INFO_NULL, &request);
+    for (int turn = 0; turn < 3; turn++) {
+        MPI_Start(&request);
+        MPI_Wait(&request, MPI_STATUS_IGNORE);
+    }
+    MPI_Request_free(&request);
+    MPI_Comm_dup(world, &twin);
+    MPI_Bcast(row, 4, MPI_INT, 1, twin);
+    MPI_Comm_free(&twin);
+    if (rank == 1) {
+        drop_file("rank");
+        drop_file("now");
+    }
+}
+
 const struct program programs[] = {
     PROGRAM(ended_after_cancel), PROGRAM(ended_after_refused), PROGRAM(ended_in_a_gatherv), PROGRAM(ended_in_an_alltoallv),
     PROGRAM(ended_before_threads), PROGRAM(right_waiting_threads), PROGRAM(right_jump_below), PROGRAM(right_copied_requests),
     PROGRAM(right_huge_type), PROGRAM(right_barrier_in_finalize), PROGRAM(right_other_names), PROGRAM(unsafe_free), PROGRAM(unsafe_tests), PROGRAM(unsafe_empty_waits), PROGRAM(unsafe_inits),
     PROGRAM(never_completed_start), PROGRAM(refused_root), PROGRAM(skipped_info), PROGRAM(skipped_window_hints),
-    PROGRAM(ended_in_status_tests), PROGRAM(ended_in_a_matched_message), PROGRAM(ended_in_accept), PROGRAM(right_connected), {0},
+    PROGRAM(ended_in_status_tests), PROGRAM(ended_in_a_matched_message), PROGRAM(ended_in_accept), PROGRAM(right_connected), PROGRAM(right_lost_record), {0},
 };

@@ -155,6 +155,7 @@ PROGRAMS.update({
     "ended_in_a_matched_message": right(2, "no fault found in what is there", status=3),
     "ended_in_accept": right(2, "ranks 0, 1: in MPI_Comm_accept, {A}", "no fault found in what is there", status=3),
     "right_connected": right(2, "not judged: ", "no fault found in what is there", status=3),
+    "right_lost_record": right(3, "no record of rank 1: what these called isn't known", "no fault found in what is there", status=3),
 })
 
 MESSAGES = "no fault: the collective calls agree, and by themselves let no run stall; what else the ranks wait for isn't judged for that"

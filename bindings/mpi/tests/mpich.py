@@ -50,7 +50,7 @@ def rows(folder, part):
 
 def source_of(folder, name):
     """A test's source, and whether it is compiled for the nonblocking calls."""
-    part, word = name.split("/")
+    part, word = name.rsplit("/", 1)
     plain, other = folder / f"{name}.c", folder / part / f"{word[2:]}.c"
     if plain.exists():
         return plain, False
@@ -141,7 +141,7 @@ def main():
         out = options.keep or pathlib.Path(made)
         out.mkdir(parents=True, exist_ok=True)
         programs = Programs(options.folder, str(options.bin / "wzcc"), out)
-        wanted = [it for part in options.parts for it in rows(options.folder, part) if not options.only or it[0].split("/")[1] in options.only]
+        wanted = [it for part in options.parts for it in rows(options.folder, part) if not options.only or it[0].rsplit("/", 1)[1] in options.only]
         lacks = [it for it in wanted if source_of(options.folder, it[0])[0] is None]
         wanted = [it for it in wanted if it not in lacks]
         programs.compile_util()
