@@ -134,7 +134,7 @@ fn push_start(site: &Site<'_>, all: &mut Vec<Mending>) -> Result<(), AllocError>
     if let Some(request) = request.and_then(|request| made.get(request)) {
         let mut line = Vec::from_slice(site.alloc, b"start")?;
         push_word(&mut line, site.word(1))?;
-        let due = site.due(request.comm, request.sig);
+        let due = site.due(request.comm, &request.sig);
         push_zeros(&mut line, due.values, request.sig.ty)?;
         push(all, site.patch(line)?, true)?;
     }

@@ -2,9 +2,8 @@
 
 use crate::difference::{Difference, differences};
 use crate::draft::Written;
-use crate::postings::{ComparedRequest, PostingList, all_postings};
-use coll_history::History;
-use coll_kinds::Signature;
+use crate::seats::{Seat, all_seats, earliest};
+use coll_history::{History, Start};
 use coll_script::Cause;
 use std::alloc::{AllocError, Global};
 
@@ -87,16 +86,17 @@ pub(crate) fn place_faults(
     written: &Written,
     history: &History,
 ) -> Result<Vec<PlaceFault>, AllocError> {
-    let all = all_postings(alloc, history)?;
+    let requests = history.requests(alloc)?;
     let mut mismatches = Vec::new(alloc);
     let mut places = Vec::new(alloc);
     let mut starts = Vec::new(alloc);
-    for (comm, lists) in all.iter().enumerate() {
-        if let Some(fault) = mismatch_on(alloc, written, comm, lists)? {
+    for (comm, group) in history.groups().iter().enumerate() {
+        let seats = all_seats(alloc, comm, group, &requests)?;
+        if let Some(fault) = mismatch_on(alloc, written, comm, &seats)? {
             push_by_line(&mut mismatches, fault)?;
-        } else if let Some(fault) = missing_place(alloc, written, comm, lists)? {
+        } else if let Some(fault) = missing_place(alloc, written, comm, group, &seats)? {
             places.push(PlaceFault::MissingPlace(fault))?;
-        } else if let Some(fault) = missing_start(alloc, written, comm, lists)? {
+        } else if let Some(fault) = missing_start(alloc, written, comm, &seats)? {
             starts.push(PlaceFault::MissingStart(fault))?;
         }
     }
@@ -122,97 +122,39 @@ fn push_by_line(mismatches: &mut Vec<Mismatch>, mismatch: Mismatch) -> Result<()
     Ok(())
 }
 
-/// A request at a place, as far as it is compared with the others there.
-#[derive(Clone, Copy)]
-struct PlaceRequest {
-    rank: u8,
-    line: u32,
-    sig: Signature,
-    starts: usize,
-}
-
-/// The requests at a place, of the members that have one.
-fn at_place(
-    alloc: Global,
-    lists: &[PostingList],
-    place: usize,
-) -> Result<Vec<PlaceRequest>, AllocError> {
-    let mut seats = Vec::new(alloc);
-    for list in lists {
-        if let Some(posted) = list.posted.get(place) {
-            seats.push(PlaceRequest {
-                rank: posted.rank,
-                line: posted.line,
-                sig: posted.sig,
-                starts: posted.starts.len(),
-            })?;
-        }
-    }
-    Ok(seats)
-}
-
-/// The request in the earliest line.
-fn earliest(seats: &[PlaceRequest]) -> Option<PlaceRequest> {
-    let mut earliest: Option<PlaceRequest> = None;
-    for seat in seats {
-        let is_earlier = match earliest {
-            Some(first) => seat.line < first.line,
-            None => true,
-        };
-        if is_earlier {
-            earliest = Some(*seat);
-        }
-    }
-    earliest
-}
-
-/// The greatest number of places that a member has.
-fn places(lists: &[PostingList]) -> usize {
-    let mut places: usize = 0;
-    for list in lists {
-        places = places.max(list.posted.len());
-    }
-    places
-}
-
-fn standing_of(written: &Written, seat: PlaceRequest, first: PlaceRequest) -> PlacedRequest {
+fn standing_of(written: &Written, seat: Seat<'_, '_>, first: Seat<'_, '_>) -> PlacedRequest {
     PlacedRequest {
         rank: seat.rank,
-        line: written.of(seat.line),
-        agrees: seat.sig == first.sig,
+        line: written.of(seat.request.line),
+        agrees: seat.request.sig == first.request.sig,
     }
 }
 
-/// The request in the earliest line, of those that differ from the earliest request at their place, with that place.
-fn first_to_differ(
-    alloc: Global,
-    lists: &[PostingList],
-) -> Result<Option<(usize, PlaceRequest)>, AllocError> {
-    let mut least: Option<(usize, PlaceRequest)> = None;
-    for place in 0..places(lists) {
-        let seats = at_place(alloc, lists, place)?;
-        if let Some(first) = earliest(&seats) {
-            least = lesser(least, place, first, &seats);
+/// The request in the earliest line, of those that differ from the earliest request at their place.
+fn first_to_differ<'r, 'h>(places: &[Vec<Seat<'r, 'h>>]) -> Option<Seat<'r, 'h>> {
+    let mut least: Option<Seat<'r, 'h>> = None;
+    for seats in places {
+        if let Some(first) = earliest(seats) {
+            least = lesser(least, first, seats);
         }
     }
-    Ok(least)
+    least
 }
 
 /// The request in the earliest line: `least`, or one of this place that differs from the earliest request there.
-fn lesser(
-    least: Option<(usize, PlaceRequest)>,
-    place: usize,
-    first: PlaceRequest,
-    seats: &[PlaceRequest],
-) -> Option<(usize, PlaceRequest)> {
+fn lesser<'r, 'h>(
+    least: Option<Seat<'r, 'h>>,
+    first: Seat<'r, 'h>,
+    seats: &[Seat<'r, 'h>],
+) -> Option<Seat<'r, 'h>> {
     let mut least = least;
     for seat in seats {
         let is_lesser = match least {
-            Some((_, other)) => seat.line < other.line,
+            Some(other) => seat.request.line < other.request.line,
             None => true,
         };
-        if is_lesser && seat.sig != first.sig {
-            least = Some((place, *seat));
+        if is_lesser && seat.request.sig != first.request.sig {
+            least = Some(*seat);
         }
     }
     least
@@ -223,17 +165,20 @@ fn mismatch_on(
     alloc: Global,
     written: &Written,
     comm: usize,
-    lists: &[PostingList],
+    places: &[Vec<Seat<'_, '_>>],
 ) -> Result<Option<Mismatch>, AllocError> {
-    let Some((place, differs)) = first_to_differ(alloc, lists)? else {
+    let Some(differs) = first_to_differ(places) else {
         return Ok(None);
     };
-    let seats = at_place(alloc, lists, place)?;
-    let Some(first) = earliest(&seats) else {
+    let place = differs.request.place;
+    let Some(seats) = places.get(place) else {
+        return Ok(None);
+    };
+    let Some(first) = earliest(seats) else {
         return Ok(None);
     };
     let mut members = Vec::new(alloc);
-    for seat in &seats {
+    for seat in seats {
         members.push(standing_of(written, *seat, first))?;
     }
     Ok(Some(Mismatch {
@@ -241,23 +186,24 @@ fn mismatch_on(
         place,
         first: standing_of(written, first, first),
         differs: standing_of(written, differs, first),
-        fields: differences(alloc, &differs.sig, &first.sig)?,
+        fields: differences(alloc, &differs.request.sig, &first.request.sig)?,
         members,
-        elsewhere: elsewhere(written, lists, differs, first),
+        elsewhere: elsewhere(written, places, differs, first),
     }))
 }
 
 /// The place and the line at which the rank of `differs` has the signature of `first`.
 fn elsewhere(
     written: &Written,
-    lists: &[PostingList],
-    differs: PlaceRequest,
-    first: PlaceRequest,
+    places: &[Vec<Seat<'_, '_>>],
+    differs: Seat<'_, '_>,
+    first: Seat<'_, '_>,
 ) -> Option<(usize, u32)> {
-    let list = lists.iter().find(|list| list.rank == differs.rank)?;
-    for (place, posted) in list.posted.iter().enumerate() {
-        if posted.sig == first.sig {
-            return Some((place, written.of(posted.line)));
+    for seats in places {
+        for seat in seats {
+            if seat.rank == differs.rank && seat.request.sig == first.request.sig {
+                return Some((seat.request.place, written.of(seat.request.line)));
+            }
         }
     }
     None
@@ -268,28 +214,38 @@ fn missing_place(
     alloc: Global,
     written: &Written,
     comm: usize,
-    lists: &[PostingList],
+    group: &[u8],
+    places: &[Vec<Seat<'_, '_>>],
 ) -> Result<Option<MissingPlace>, AllocError> {
-    let mut least = places(lists);
-    for list in lists {
-        least = least.min(list.posted.len());
-    }
-    let seats = at_place(alloc, lists, least)?;
-    let Some(first) = earliest(&seats) else {
-        return Ok(None);
-    };
-    let mut lacking = Vec::new(alloc);
-    for list in lists {
-        if list.posted.len() <= least {
-            lacking.push((list.rank, list.posted.len()))?;
+    for (place, seats) in places.iter().enumerate() {
+        if let Some(first) = earliest(seats) {
+            if seats.len() < group.len() {
+                return Ok(Some(MissingPlace {
+                    comm,
+                    place,
+                    first: standing_of(written, first, first),
+                    lacking: lacking(alloc, group, place, seats)?,
+                }));
+            }
         }
     }
-    Ok(Some(MissingPlace {
-        comm,
-        place: least,
-        first: standing_of(written, first, first),
-        lacking,
-    }))
+    Ok(None)
+}
+
+/// The ranks that lack the first place that some member lacks, with the number of places that each of them has.
+fn lacking(
+    alloc: Global,
+    group: &[u8],
+    place: usize,
+    seats: &[Seat<'_, '_>],
+) -> Result<Vec<(u8, usize)>, AllocError> {
+    let mut lacking = Vec::new(alloc);
+    for rank in group {
+        if !seats.iter().any(|seat| seat.rank == *rank) {
+            lacking.push((*rank, place))?;
+        }
+    }
+    Ok(lacking)
 }
 
 /// The first place whose members start it different numbers of times.
@@ -297,53 +253,55 @@ fn missing_start(
     alloc: Global,
     written: &Written,
     comm: usize,
-    lists: &[PostingList],
+    places: &[Vec<Seat<'_, '_>>],
 ) -> Result<Option<MissingStart>, AllocError> {
-    for place in 0..places(lists) {
-        let seats = at_place(alloc, lists, place)?;
-        if !are_started_alike(&seats) {
+    for (place, seats) in places.iter().enumerate() {
+        if !are_started_alike(seats) {
             return Ok(Some(MissingStart {
                 comm,
                 place,
-                members: all_started(alloc, written, lists, place)?,
+                members: all_started(alloc, written, seats)?,
             }));
         }
     }
     Ok(None)
 }
 
-/// The request of each member at a place, with the lines of its starts.
+/// Each rank with the line of its request, and the lines of the request's starts.
 fn all_started(
     alloc: Global,
     written: &Written,
-    lists: &[PostingList],
-    place: usize,
+    seats: &[Seat<'_, '_>],
 ) -> Result<Vec<(u8, u32, Vec<u32>)>, AllocError> {
     let mut members = Vec::new(alloc);
-    for list in lists {
-        if let Some(posted) = list.posted.get(place) {
-            members.push(started(alloc, written, posted)?)?;
-        }
+    for seat in seats {
+        members.push((
+            seat.rank,
+            written.of(seat.request.line),
+            started_in(alloc, written, &seat.request.starts)?,
+        ))?;
     }
     Ok(members)
 }
 
-/// The rank of a request, its line, and the lines of its starts.
-fn started(
+fn started_in(
     alloc: Global,
     written: &Written,
-    posted: &ComparedRequest,
-) -> Result<(u8, u32, Vec<u32>), AllocError> {
-    let mut starts = Vec::new(alloc);
-    for line in &posted.starts {
-        starts.push(written.of(*line))?;
+    starts: &[Start<'_>],
+) -> Result<Vec<u32>, AllocError> {
+    let mut lines = Vec::new(alloc);
+    for start in starts {
+        lines.push(written.of(start.line))?;
     }
-    Ok((posted.rank, written.of(posted.line), starts))
+    Ok(lines)
 }
 
-fn are_started_alike(seats: &[PlaceRequest]) -> bool {
+fn are_started_alike(seats: &[Seat<'_, '_>]) -> bool {
     match seats.first() {
-        Some(first) => seats.iter().all(|seat| seat.starts == first.starts),
+        Some(first) => {
+            let starts = first.request.starts.len();
+            seats.iter().all(|seat| seat.request.starts.len() == starts)
+        }
         None => true,
     }
 }

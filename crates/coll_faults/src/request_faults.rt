@@ -2,7 +2,7 @@
 
 use crate::remark::Remark;
 use crate::site::Site;
-use coll_kinds::{MAX_REQUESTS, read_number};
+use coll_kinds::{MAX_REQUESTS, Mode, read_number};
 use std::alloc::AllocError;
 
 /// The remark on the first request that the section hasn't made.
@@ -57,12 +57,13 @@ pub(crate) fn not_startable(site: &Site<'_>) -> Result<Remark, AllocError> {
     let alloc = site.alloc;
     let made = site.made()?;
     let number = site.number(1).unwrap_or(0);
-    let Some(request) = usize::try_from(number).ok().and_then(|at| made.get(at)) else {
+    let at = usize::try_from(number).unwrap_or(usize::MAX);
+    let Some(request) = made.get(at) else {
         return Ok(Remark::of(alloc, 1, "it can't be started or freed here")?);
     };
     let written = site.draft.written(alloc)?;
     let made_in = written.of(request.line);
-    if !request.is_persistent() {
+    if request.sig.mode != Mode::Persistent {
         let label = format!(in alloc;
             "request {number} was posted in line {made_in}, so it starts and ends by itself"
         )?;
@@ -70,12 +71,12 @@ pub(crate) fn not_startable(site: &Site<'_>) -> Result<Remark, AllocError> {
         remark.note(String::from_str(alloc, "only requests of `init` are started and freed")?)?;
         return Ok(remark);
     }
-    if let Some(freed) = request.freed {
+    if let Some(freed) = site.scene.freed_in(at) {
         let freed = written.of(freed);
         let label = format!(in alloc; "request {number} was freed in line {freed}")?;
         return Ok(Remark::new(alloc, 1, label));
     }
-    let started = written.of(request.active.unwrap_or(0));
+    let started = written.of(request.starts.last().map_or(0, |start| start.line));
     let label = format!(in alloc;
         "request {number} was started in line {started} and may be active still"
     )?;

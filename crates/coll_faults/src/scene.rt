@@ -1,8 +1,8 @@
 use crate::accepting::accepted;
 use crate::draft::MendedText;
 use crate::words::{first_word, words_of};
-use coll_history::{Command, History};
-use coll_kinds::{Mode, Signature, read_number};
+use coll_history::{Command, History, Request};
+use coll_kinds::read_number;
 use std::alloc::{AllocError, Global};
 
 /// What the lines before a faulty one have said.
@@ -11,19 +11,6 @@ pub(crate) struct Scene {
     history: History,
     /// The rank whose section is open.
     rank: Option<u8>,
-}
-
-/// A request of the rank whose section is open.
-#[derive(Drop)]
-pub(crate) struct SectionRequest<'s> {
-    /// The line that made it, in the mended text.
-    pub line: u32,
-    pub comm: u8,
-    pub sig: &'s Signature,
-    /// The line of its last start, unless a wait has named it since.
-    pub active: Option<u32>,
-    /// The line that freed it.
-    pub freed: Option<u32>,
 }
 
 impl Scene {
@@ -70,67 +57,29 @@ impl Scene {
         }
     }
 
-    /// The requests of the rank whose section is open. Linear in the commands, and for each wait for several requests in those
-    /// that it names.
-    pub(crate) fn made(&self, alloc: Global) -> Result<Vec<SectionRequest<'_>>, AllocError> {
-        let mut made = Vec::new(alloc);
-        for issued in self.history.commands() {
-            if self.rank == Some(issued.rank) {
-                note(&mut made, issued.line, &issued.command)?;
-            }
-        }
-        Ok(made)
+    /// The requests of the rank whose section is open. Linear in the commands.
+    pub(crate) fn made(&self, alloc: Global) -> Result<Vec<Request<'_>>, AllocError> {
+        let Some(rank) = self.rank else {
+            return Ok(Vec::new(alloc));
+        };
+        let ranks = self.history.requests(alloc)?;
+        let requests = ranks.into_iter().nth(usize::from(rank));
+        Ok(requests.unwrap_or(Vec::new(alloc)))
+    }
+
+    /// The line that freed a request of the rank whose section is open, if one did. Linear in the commands.
+    pub(crate) fn freed_in(&self, request: usize) -> Option<u32> {
+        let rank = self.rank?;
+        self.history
+            .commands()
+            .iter()
+            .find(|issued| issued.rank == rank && frees(&issued.command, request))
+            .map(|issued| issued.line)
     }
 }
 
-impl<'s> SectionRequest<'s> {
-    pub(crate) fn is_persistent(&self) -> bool {
-        self.sig.mode == Mode::Persistent
-    }
-}
-
-/// Takes in what a line says about the requests of its rank.
-fn note<'s>(
-    made: &mut Vec<SectionRequest<'s>>,
-    line: u32,
-    command: &'s Command,
-) -> Result<(), AllocError> {
-    match command {
-        Command::Post { comm, sig, .. } | Command::Init { comm, sig } => made.push(
-            SectionRequest {
-                line,
-                comm: *comm,
-                sig: sig.sig(),
-                active: None,
-                freed: None,
-            },
-        )?,
-        Command::Start { req, .. } => {
-            if let Some(request) = made.get_mut(*req as usize) {
-                request.active = Some(line);
-            }
-        }
-        Command::Wait(req) => rest(made, *req as usize),
-        Command::WaitAll(named) => {
-            for index in 0..named.len() {
-                rest(made, named.get(index));
-            }
-        }
-        Command::Free(req) => {
-            if let Some(request) = made.get_mut(*req as usize) {
-                request.freed = Some(line);
-            }
-        }
-        Command::Test(_) | Command::WaitAny(_) | Command::WaitSome(_) => {}
-    }
-    Ok(())
-}
-
-/// Notes that a request is surely inactive.
-fn rest(made: &mut [SectionRequest<'_>], request: usize) {
-    if let Some(request) = made.get_mut(request) {
-        request.active = None;
-    }
+fn frees(command: &Command, request: usize) -> bool {
+    matches!(command, Command::Free(req) if *req as usize == request)
 }
 
 /// The rank whose section is open after these lines, none of which has a fault.

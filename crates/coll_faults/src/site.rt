@@ -2,9 +2,9 @@ use crate::accepting::accepted;
 use crate::draft::MendedText;
 use crate::patch::Patch;
 use crate::remark::Remark;
-use crate::scene::{Scene, SectionRequest};
+use crate::scene::Scene;
 use crate::words::{Word, push_word, shown, spliced, words_of};
-use coll_history::{Command, History};
+use coll_history::{Command, History, Request};
 use coll_kinds::{Signature, member_of, read_number};
 use std::alloc::{AllocError, Global};
 
@@ -113,7 +113,7 @@ impl<'s> Site<'s> {
     }
 
     /// The requests of the section's rank.
-    pub(crate) fn made(&self) -> Result<Vec<SectionRequest<'s>>, AllocError> {
+    pub(crate) fn made(&self) -> Result<Vec<Request<'s>>, AllocError> {
         self.scene.made(self.alloc)
     }
 

@@ -36,7 +36,7 @@ pub(crate) fn of_values(site: &Site<'_>, speak: ValueFault) -> Result<Option<Rem
         };
         let values = ValuesDue {
             colon: 2,
-            due: site.due(request.comm, request.sig),
+            due: site.due(request.comm, &request.sig),
         };
         return Ok(Some(speak.remark(site, &values)?));
     }
