@@ -160,13 +160,15 @@ static void tell_samples(void) {
 
 /* Samples of TURNS_OF operations until rank 0 says that the time is over, with the threads where the system puts them: what a loaded machine makes
    of the waiting. Beside it, c_interface_mpi.c does the same by MPI. */
-enum { TURNS_OF = 20, MOST_SAMPLES = 1500 }; /* a communicator has places for two measures of that many */
+enum { TURNS_OF = 20, MOST_SAMPLES = 1500 }; /* a communicator has places for all measures of that many */
 static double waits[MOST_SAMPLES];
 static double seconds = 0.7;
 
-static void waited(uint8_t me, const char *name, const wz_call *call, size_t length) {
+static void waited(uint8_t me, const char *name, const wz_call *call, size_t length, bool persistent) {
     const wz_call flag = { WZ_BCAST, WZ_NO_OPERATION, WZ_INT32, 0, 1 };
+    wz_request kept = WZ_NULL_REQUEST;
     int32_t goes_on = 1, one = 1, sum = 0;
+    if (persistent) must(wz_shared_init(&shared, me, 0, call, &kept));
     double end = now() + 1e9 * seconds;
     int many = 0;
     while (goes_on) {
@@ -174,14 +176,16 @@ static void waited(uint8_t me, const char *name, const wz_call *call, size_t len
         size_t count;
         double from = now();
         for (int turn = 0; turn < TURNS_OF; turn++) {
-            must(wz_shared_post(&shared, me, 0, call, &one, length, &request));
-            must(wz_shared_wait(&shared, me, &request, &sum, sizeof sum, &count));
+            must(persistent ? wz_shared_start(&shared, me, &kept, &one, length)
+                            : wz_shared_post(&shared, me, 0, call, &one, length, &request));
+            must(wz_shared_wait(&shared, me, persistent ? &kept : &request, &sum, sizeof sum, &count));
         }
         if (me == 0) waits[many] = (now() - from) / TURNS_OF;
         goes_on = ++many < MOST_SAMPLES && now() < end;
         must(wz_shared_post(&shared, me, 0, &flag, &goes_on, me == 0 ? sizeof goes_on : 0, &request));
         must(wz_shared_wait(&shared, me, &request, &goes_on, sizeof goes_on, &count));
     }
+    if (persistent) must(wz_shared_free(&shared, me, &kept));
     if (me != 0) return;
     qsort(waits, (size_t)many, sizeof waits[0], is_less);
     printf("%s: %.0f %.0f\n", name, waits[many / 2], waits[many * 9 / 10]);
@@ -189,8 +193,9 @@ static void waited(uint8_t me, const char *name, const wz_call *call, size_t len
 
 static void *waited_of(void *number) {
     uint8_t me = (uint8_t)(size_t)number;
-    waited(me, "barrier", &barrier, 0);
-    waited(me, "allreduce of one i32", &allreduce, sizeof(int32_t));
+    waited(me, "barrier", &barrier, 0, false);
+    waited(me, "allreduce of one i32", &allreduce, sizeof(int32_t), false);
+    waited(me, "persistent allreduce of one i32", &allreduce, sizeof(int32_t), true);
     wz_shared_leave(&shared, me);
     return NULL;
 }

@@ -4,10 +4,21 @@
 #include <stdio.h>
 #include <stdlib.h>
 
+#ifdef OPEN_MPI
+#include <mpi-ext.h>
+#endif
+#if MPI_VERSION >= 4
+#define ALLREDUCE_INIT MPI_Allreduce_init
+#elif defined(OMPI_HAVE_MPI_EXT_PCOLLREQ)
+#define ALLREDUCE_INIT MPIX_Allreduce_init
+#endif
+
 enum { MOST_SAMPLES = 20000, OF = 20 };
 
 static double samples[MOST_SAMPLES];
 static double seconds = 0.7;
+static int32_t given = 1, taken;
+static MPI_Request persistent;
 
 static int is_less(const void *left, const void *right) {
     double l = *(const double *)left, r = *(const double *)right;
@@ -25,11 +36,19 @@ static void barriers(void) {
 static void allreduces(void) {
     MPI_Request request;
     for (int turn = 0; turn < OF; turn++) {
-        int32_t one = 1, sum = 0;
-        MPI_Iallreduce(&one, &sum, 1, MPI_INT32_T, MPI_SUM, MPI_COMM_WORLD, &request);
+        MPI_Iallreduce(&given, &taken, 1, MPI_INT32_T, MPI_SUM, MPI_COMM_WORLD, &request);
         MPI_Wait(&request, MPI_STATUS_IGNORE);
     }
 }
+
+#ifdef ALLREDUCE_INIT
+static void starts(void) {
+    for (int turn = 0; turn < OF; turn++) {
+        MPI_Start(&persistent);
+        MPI_Wait(&persistent, MPI_STATUS_IGNORE);
+    }
+}
+#endif
 
 /* Samples until rank 0 says that the time is over: prints the median and the time that nine of ten stay below, as nanoseconds an operation. */
 static void measure(const char *name, void (*play)(void)) {
@@ -54,6 +73,11 @@ int main(int words, char **word) {
     if (words > 1) seconds = atof(word[1]);
     measure("barrier", barriers);
     measure("allreduce of one i32", allreduces);
+#ifdef ALLREDUCE_INIT
+    ALLREDUCE_INIT(&given, &taken, 1, MPI_INT32_T, MPI_SUM, MPI_COMM_WORLD, MPI_INFO_NULL, &persistent);
+    measure("persistent allreduce of one i32", starts);
+    MPI_Request_free(&persistent);
+#endif
     MPI_Finalize();
     return 0;
 }

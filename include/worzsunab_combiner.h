@@ -344,7 +344,7 @@ static inline int wz_see_through_(wz_shared *shared, wz_record *me, int looks) {
             look = 0;
         } else if (look < looks) {
             if (how == WZ_AT_ONCE) how = WZ_LOOKED;
-            wz_pause_();
+            wz_let_pass_(me, look);
         } else {
             wz_sleep_(shared, me);
             how = WZ_SLEPT;

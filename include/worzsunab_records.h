@@ -1,10 +1,12 @@
-/* What threads share under worzsunab_threads.h, which includes it: records, the words in them, and how a thread sleeps for its own. Nothing of it
+/* What threads share under worzsunab_threads.h, which includes it: records, the words in them, and how a thread waits for its own. Nothing of it
    is for callers. worzsunab_combiner.h says who does what with them. */
 #ifndef WORZSUNAB_RECORDS_H
 #define WORZSUNAB_RECORDS_H
 
 #include <pthread.h>
+#include <sched.h>
 #include <string.h>
+#include <time.h>
 
 #include "worzsunab.h"
 #ifdef WZ_HELGRIND
@@ -20,6 +22,22 @@ enum {
     WZ_MOST_COMMUNICATORS = 16,
     WZ_MOST_SLOTS = 4096
 };
+
+/* A thread that waits offers its processor at each look after the first WZ_CLOSE_LOOKS, since another rank's thread may wait for it. An offer that
+   lasts over WZ_LONG_OFFER went to another program, for a time slice. Of any time t a rank's long offers take (t + WZ_CREDIT) / WZ_SHARE, and one
+   offer more, at most: it makes none that could take more. All times are in nanoseconds. */
+#ifndef WZ_CLOSE_LOOKS
+#define WZ_CLOSE_LOOKS 5
+#endif
+#ifndef WZ_LONG_OFFER
+#define WZ_LONG_OFFER 500000
+#endif
+#ifndef WZ_SHARE
+#define WZ_SHARE 100
+#endif
+#ifndef WZ_CREDIT
+#define WZ_CREDIT 1000000000
+#endif
 
 /* When a call is answered: at once; at once, and progress follows; after progress; once it isn't pending, or no wait can end. */
 enum { WZ_ONCE, WZ_BEGINS, WZ_TESTS, WZ_WAITS };
@@ -65,8 +83,10 @@ typedef struct wz_record {
     int32_t run;   /* what wz_run_work answered */
     int late;      /* how often in a row, WZ_LOOKS at most, its rank gave the lock up while a rank that had been called before hadn't come */
     bool left;
-    uint32_t in_vain; /* how often its thread has looked long and slept all the same, less how often not; the thread's own, as is the next */
+    uint32_t in_vain; /* how often its thread has looked long and slept all the same, less how often not; the thread's own, as are the next three */
     uint32_t calls;   /* how often it has waited with few looks */
+    bool offers;      /* whether it offers its processor in this wait */
+    int64_t repaid;   /* when it offers it again: its long offers are within their share then */
     wz_reason reason; /* of the last refusal to this rank */
     wz_posted mine;   /* what was refused, and what stands in its place */
     wz_posted theirs;
@@ -139,6 +159,8 @@ static inline int wz_swap_(int *word, int value) {
     return old;
 }
 
+/* ---- looking */
+
 /* Lets the processor's other thread go on, where it has one. */
 static inline void wz_pause_(void) {
 #if defined(__x86_64__) || defined(__i386__)
@@ -146,6 +168,38 @@ static inline void wz_pause_(void) {
 #elif defined(__aarch64__)
     __asm__ __volatile__("yield");
 #endif
+}
+
+/* Nanoseconds of a clock that never goes back, where there is one. */
+static inline int64_t wz_now_(void) {
+    struct timespec now;
+#ifdef CLOCK_MONOTONIC
+    clock_gettime(CLOCK_MONOTONIC, &now);
+#else
+    timespec_get(&now, TIME_UTC);
+#endif
+    return (int64_t)now.tv_sec * 1000000000 + now.tv_nsec;
+}
+
+/* Offers the processor to other threads, and notes a long offer. */
+static inline void wz_offer_(wz_record *me) {
+    int64_t from = wz_now_();
+    sched_yield();
+    int64_t to = wz_now_();
+    if (to - from <= WZ_LONG_OFFER) return;
+    if (me->repaid < from - WZ_CREDIT) me->repaid = from - WZ_CREDIT;
+    me->repaid += WZ_SHARE * (to - from);
+    me->offers = to >= me->repaid;
+}
+
+/* Lets time pass after so many looks in a row and one more: a moment, or as long as others take the processor. */
+static inline void wz_let_pass_(wz_record *me, int looks) {
+    if (looks == WZ_CLOSE_LOOKS) me->offers = wz_now_() >= me->repaid;
+    if (looks >= WZ_CLOSE_LOOKS && me->offers) {
+        wz_offer_(me);
+    } else {
+        wz_pause_();
+    }
 }
 
 /* ---- sleeping */

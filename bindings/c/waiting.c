@@ -1,5 +1,6 @@
-/* Ranks that wait beside busy threads, as many as there are processors, offer nobody their processor, which gives whole turns away there: linked with
-   -Wl,--wrap=sched_yield, it counts that. It prints the median of small allreduces too.
+/* Ranks that wait offer their processor, and where offers take long, as beside busy threads, no more than the share of their time that
+   worzsunab_records.h says: linked with -Wl,--wrap=sched_yield, each offer takes a millisecond and more, and all are added up. It prints the median of
+   small allreduces too, beside busy threads, as many as there are processors.
    waiting RANKS */
 #include <stdio.h>
 #include <stdlib.h>
@@ -29,13 +30,28 @@ static double now(void) {
     return (double)t.tv_sec * 1e6 + (double)t.tv_nsec / 1e3;
 }
 
+static pthread_mutex_t guard = PTHREAD_MUTEX_INITIALIZER;
 static int offers;
+static double offered, longest; /* in microseconds, as all times here */
 
 int __wrap_sched_yield(void);
 
 int __wrap_sched_yield(void) {
-    __atomic_add_fetch(&offers, 1, __ATOMIC_RELAXED);
+    const struct timespec turn = { 0, 1000000 };
+    double from = now();
+    nanosleep(&turn, NULL);
+    double took = now() - from;
+    pthread_mutex_lock(&guard);
+    offers++;
+    offered += took;
+    if (took > longest) longest = took;
+    pthread_mutex_unlock(&guard);
     return 0;
+}
+
+/* What the offers of all ranks may take in a time. */
+static double allowed(double time) {
+    return ranks * ((time + WZ_CREDIT / 1e3) / WZ_SHARE + longest);
 }
 
 static void *busy(void *none) {
@@ -69,15 +85,18 @@ int main(int argc, char **argv) {
     HOLDS(ranks >= 2 && ranks <= MOST);
     if (processors > MOST_BUSY) processors = MOST_BUSY;
     HOLDS(wz_shared_open_world(&shared, (uint8_t)ranks) == WZ_DONE);
+    double from = now();
     for (long i = 0; i < processors; i++) pthread_create(&others[i], NULL, busy, NULL);
     for (size_t i = 0; i < (size_t)ranks; i++) pthread_create(&threads[i], NULL, rank, (void *)i);
     for (int i = 0; i < ranks; i++) pthread_join(threads[i], NULL);
+    double took = now() - from;
     __atomic_store_n(&over, 1, __ATOMIC_RELAXED);
     for (long i = 0; i < processors; i++) pthread_join(others[i], NULL);
     HOLDS(wz_shared_close(&shared) == WZ_DONE);
     qsort(samples, SAMPLES, sizeof samples[0], is_less);
     printf("waiting: an allreduce of %d ranks beside %ld busy threads: %.0f us\n", ranks, processors, samples[SAMPLES / 2]);
-    HOLDS(__atomic_load_n(&offers, __ATOMIC_RELAXED) == 0);
+    printf("waiting: %d offers took %.0f of %.0f us, and may take %.0f\n", offers, offered, took, allowed(took));
+    HOLDS(offers > 0 && offered <= allowed(took));
     puts("waiting: all as it should be");
     return 0;
 }
