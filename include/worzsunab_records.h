@@ -24,8 +24,9 @@ enum {
 };
 
 /* A thread that waits offers its processor at each look after the first WZ_CLOSE_LOOKS, since another rank's thread may wait for it. An offer that
-   lasts over WZ_LONG_OFFER went to another program, for a time slice. Of any time t a rank's long offers take (t + WZ_CREDIT) / WZ_SHARE, and one
-   offer more, at most: it makes none that could take more. All times are in nanoseconds. */
+   lasts over WZ_LONG_OFFER went to another program, for a time slice. Of any time t a rank's long offers take (t + WZ_CREDIT) / WZ_SHARE and one
+   offer more, at most, since it makes none until then; but it makes one again after WZ_REPAID at the latest, since a program may have been stopped
+   for hours while it made an offer. All times are in nanoseconds. */
 #ifndef WZ_CLOSE_LOOKS
 #define WZ_CLOSE_LOOKS 5
 #endif
@@ -37,6 +38,9 @@ enum {
 #endif
 #ifndef WZ_CREDIT
 #define WZ_CREDIT 1000000000
+#endif
+#ifndef WZ_REPAID
+#define WZ_REPAID 60000000000
 #endif
 
 /* When a call is answered: at once; at once, and progress follows; after progress; once it isn't pending, or no wait can end. */
@@ -189,6 +193,7 @@ static inline void wz_offer_(wz_record *me) {
     if (to - from <= WZ_LONG_OFFER) return;
     if (me->repaid < from - WZ_CREDIT) me->repaid = from - WZ_CREDIT;
     me->repaid += WZ_SHARE * (to - from);
+    if (me->repaid > to + WZ_REPAID) me->repaid = to + WZ_REPAID;
     me->offers = to >= me->repaid;
 }
 

@@ -31,13 +31,13 @@ static double now(void) {
 }
 
 static pthread_mutex_t guard = PTHREAD_MUTEX_INITIALIZER;
+static struct timespec turn = { 0, 1000000 };
 static int offers;
 static double offered, longest; /* in microseconds, as all times here */
 
 int __wrap_sched_yield(void);
 
 int __wrap_sched_yield(void) {
-    const struct timespec turn = { 0, 1000000 };
     double from = now();
     nanosleep(&turn, NULL);
     double took = now() - from;
@@ -52,6 +52,14 @@ int __wrap_sched_yield(void) {
 /* What the offers of all ranks may take in a time. */
 static double allowed(double time) {
     return ranks * ((time + WZ_CREDIT / 1e3) / WZ_SHARE + longest);
+}
+
+/* A program that is stopped while it makes an offer, here for 0.7 s, makes one again after a minute, and not after a hundred times as long. */
+static void stopped(void) {
+    static wz_record record;
+    turn.tv_nsec = 700000000;
+    wz_offer_(&record);
+    HOLDS(!record.offers && record.repaid <= wz_now_() + WZ_REPAID);
 }
 
 static void *busy(void *none) {
@@ -97,6 +105,7 @@ int main(int argc, char **argv) {
     printf("waiting: an allreduce of %d ranks beside %ld busy threads: %.0f us\n", ranks, processors, samples[SAMPLES / 2]);
     printf("waiting: %d offers took %.0f of %.0f us, and may take %.0f\n", offers, offered, took, allowed(took));
     HOLDS(offers > 0 && offered <= allowed(took));
+    stopped();
     puts("waiting: all as it should be");
     return 0;
 }
