@@ -26,13 +26,18 @@ bool mpi_read_called(const struct comm *comm, int member, uint64_t place, struct
     return true;
 }
 
+/* Several calls that make communicators are one collective of the engine. */
+static bool is_other_call(const struct called *one, const struct called *other) {
+    return one->function != other->function || (one->function >= COMM_DUP && one->form == other->form && strcmp(one->name, other->name) != 0);
+}
+
 bool mpi_agree(const struct called *one, const struct called *other) {
-    return one->function == other->function && one->form == other->form && one->root == other->root && one->operation == other->operation &&
+    return !is_other_call(one, other) && one->form == other->form && one->root == other->root && one->operation == other->operation &&
            one->elements == other->elements && one->signature == other->signature && one->counts == other->counts;
 }
 
 const char *mpi_difference(const struct called *one, const struct called *other) {
-    if (one->function != other->function) return "it is another collective";
+    if (is_other_call(one, other)) return "it is another collective";
     if (one->form != other->form) {
         bool persistent = one->form == PERSISTENT || other->form == PERSISTENT;
         return persistent ? "one is persistent (MPI 4.1, 6.13)" : "a blocking collective doesn't meet a nonblocking one (MPI 4.1, 6.12)";

@@ -94,7 +94,8 @@ struct request {
     void *to;
     MPI_Count many;
     const struct type *type;
-    struct message *message; /* what came, or what a synchronous send waits for */
+    struct message *message; /* what came */
+    uint64_t sent;           /* the number of the message that it has sent */
     _Atomic bool arrived;
 };
 
@@ -191,5 +192,6 @@ void mpi_warn_of_mail(void); /* once all ranks have ended: which messages nobody
 bool mpi_message_waits(const struct request *probe);
 int mpi_start_message(struct request *request);
 int mpi_post_and_wait(struct comm *comm, const struct arguments *arguments, struct request **kept);
+int mpi_split(MPI_Comm comm, int color, int key, MPI_Comm *made, const char *call);
 
 #endif

@@ -95,7 +95,7 @@ static int of_color(struct comm *comm, struct request *done, int from, int many,
     return (int)size;
 }
 
-static int split(MPI_Comm handle, int color, int key, MPI_Comm *made, const char *call) {
+int mpi_split(MPI_Comm handle, int color, int key, MPI_Comm *made, const char *call) {
     int code;
     struct comm *comm = judged(handle, call, &code);
     if (comm == NULL) return code;
@@ -113,13 +113,13 @@ static int split(MPI_Comm handle, int color, int key, MPI_Comm *made, const char
     return code;
 }
 
-int MPI_Comm_split(MPI_Comm comm, int color, int key, MPI_Comm *made) { return split(comm, color, key, made, "MPI_Comm_split"); }
+int MPI_Comm_split(MPI_Comm comm, int color, int key, MPI_Comm *made) { return mpi_split(comm, color, key, made, "MPI_Comm_split"); }
 
 /* All ranks share memory. */
 int MPI_Comm_split_type(MPI_Comm comm, int type, int key, MPI_Info info, MPI_Comm *made) {
     (void)info;
     int color = type == MPI_COMM_TYPE_SHARED ? 0 : MPI_UNDEFINED;
-    return split(comm, color, key, made, "MPI_Comm_split_type");
+    return mpi_split(comm, color, key, made, "MPI_Comm_split_type");
 }
 
 /* ---- MPI_Comm_create */

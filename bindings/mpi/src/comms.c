@@ -70,13 +70,15 @@ int mpi_near(const struct comm *comm, int *own) {
     return comm->size - comm->first;
 }
 
-int mpi_far(const struct comm *comm, int *other) {
+int mpi_far_from(const struct comm *comm, int member, int *other) {
     *other = 0;
     if (comm->first == 0) return comm->size;
-    if (mpi_my_member(comm) >= comm->first) return comm->first;
+    if (member >= comm->first) return comm->first;
     *other = comm->first;
     return comm->size - comm->first;
 }
+
+int mpi_far(const struct comm *comm, int *other) { return mpi_far_from(comm, comm->first > 0 ? mpi_my_member(comm) : 0, other); }
 
 /* ---- its users */
 

@@ -112,6 +112,7 @@ void mpi_give_topology(MPI_Comm comm, struct topology topology); /* topology.c: 
 /* An intercommunicator's two groups, seen by this rank: its own begins at member *own, the other at *other. */
 int mpi_near(const struct comm *comm, int *own);
 int mpi_far(const struct comm *comm, int *other);
+int mpi_far_from(const struct comm *comm, int member, int *other); /* as that member sees it; the calling thread needn't be a rank */
 
 /* ---- engines.c */
 struct engine *mpi_engine_at(struct comm *comm, uint64_t place); /* with one request more */

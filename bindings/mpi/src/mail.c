@@ -82,6 +82,7 @@ static void hand_over(struct message *message, struct request *receive) {
 }
 
 static struct message *write_message(struct request *it) {
+    static atomic_ullong messages;
     size_t length = (size_t)it->many * it->type->size;
     struct message *message = mpi_must(malloc(sizeof *message + length));
     int own;
@@ -90,9 +91,10 @@ static struct message *write_message(struct request *it) {
     message->group_rank = it->member - own;
     message->tag = it->tag;
     message->length = length;
-    message->signature = mpi_signature_of(it->type, (uint64_t)it->many);
+    message->spread = mpi_spread_of(it->type, (uint64_t)it->many);
     message->basic = it->type->basic;
     message->site = it->started_at;
+    message->number = it->sent = atomic_fetch_add(&messages, 1) + 1;
     message->awaited_by = it->synchronous ? it : NULL;
     message->author = mpi_me;
     message->later = NULL;
@@ -166,14 +168,13 @@ void mpi_receive_taken(struct message *message, struct request *receive) {
     pthread_mutex_unlock(&box->lock);
 }
 
-/* Takes a synchronous send's message back. */
 bool mpi_cancel_send(struct request *send) {
     int other;
     mpi_far(send->comm, &other);
     struct mailbox *box = mailbox_of(send->comm, other + send->other);
     pthread_mutex_lock(&box->lock);
     struct message **link = &box->oldest;
-    while (*link != NULL && (*link)->awaited_by != send) link = &(*link)->later;
+    while (*link != NULL && (*link)->number != send->sent) link = &(*link)->later;
     struct message *found = *link;
     if (found != NULL) {
         *link = found->later;

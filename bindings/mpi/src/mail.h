@@ -9,9 +9,10 @@ struct message {
     int group_rank; /* the sender's, in its group */
     int tag;
     size_t length;
-    struct signature signature;
+    struct signature spread;
     int basic; /* the basic type of all elements; 0 where there are several */
     const char *site;
+    uint64_t number; /* among all messages, from 1 */
     struct request *awaited_by; /* the synchronous send that ends once it is received; NULL: none */
     struct rank *author;
     struct message *later;
@@ -29,7 +30,7 @@ struct message *mpi_take_message(const struct request *probe);
 void mpi_receive_taken(struct message *message, struct request *receive);
 /* Gives up a receive that nothing has come for. Whether it could. */
 bool mpi_cancel_receive(struct request *receive);
-/* Gives up a synchronous send that nobody has received. Whether it could. */
+/* Gives up a send whose message nobody has received. Whether it could. */
 bool mpi_cancel_send(struct request *send);
 void mpi_write_status(MPI_Status *status, const struct message *message); /* NULL: of MPI_PROC_NULL */
 

@@ -18,20 +18,22 @@ int mpi_start_message(struct request *it) {
 
 /* ---- completing */
 
-/* As many elements as have come; the bytes of a part of one too, where they lie together. */
+/* As many elements as have come, and of a part of one its bytes. */
 static void unpack_message(const struct message *message, const struct request *it) {
     size_t size = it->type->size, whole = size > 0 ? message->length / size : 0, part = message->length - whole * size;
     mpi_unpack(it->type, whole, it->to, message->bytes);
-    if (it->type->dense && part > 0) memcpy((char *)it->to + whole * size, message->bytes + whole * size, part);
+    if (part > 0) mpi_unpack_part(it->type, (char *)it->to + (MPI_Aint)whole * it->type->extent, message->bytes + whole * size, part);
 }
 
-/* What is sent has to be of the types that are received (MPI 4.1, 3.3.1). Bytes and packed ones are let pass as any, and so is a part of an element of several types. */
+/* What is sent has to be of the types that are received (MPI 4.1, 3.3.1); a pair is as a structure of its value and its index. Bytes and packed ones are let pass as
+   any, and so is a part of an element of several types. */
 static bool is_of_type(const struct message *message, const struct type *type) {
     const struct basic *sent = mpi_basic(message->basic), *received = mpi_basic(type->basic);
-    uint64_t elements = type->signature.elements;
-    if (message->signature.elements == 0 || elements == 0 || sent->class == BITS || received->class == BITS) return true;
-    if (message->basic > 0 && type->basic > 0) return sent->code == received->code;
-    return message->signature.elements % elements != 0 || mpi_signature_of(type, message->signature.elements / elements).hash == message->signature.hash;
+    uint64_t elements = type->spread.elements, came = message->spread.elements;
+    if (came == 0 || elements == 0 || sent->class == BITS || received->class == BITS) return true;
+    bool pairs = sent->class == PAIR || received->class == PAIR;
+    if (message->basic > 0 && type->basic > 0 && !pairs) return sent->code == received->code;
+    return came % elements != 0 || mpi_spread_of(type, came / elements).hash == message->spread.hash;
 }
 
 static const char *types_text(int basic) { return basic > 0 ? mpi_basic(basic)->name : "elements of several types"; }

@@ -111,8 +111,7 @@ int mpi_Imrecv(void *into, MPI_Count many, MPI_Datatype type, MPI_Message *messa
     return code;
 }
 
-/* ---- giving up (MPI 4.1, 3.8.4): a receive that nothing has come for, and a synchronous send that nobody has received. Other sends have copied what they send
-   and are complete, so they aren't cancelled. */
+/* ---- giving up (MPI 4.1, 3.8.4): a receive that nothing has come for, and a send whose message nobody has received. */
 
 int MPI_Cancel(MPI_Request *handle) {
     const char *call = "MPI_Cancel";
@@ -125,7 +124,7 @@ int MPI_Cancel(MPI_Request *handle) {
     if (!it->active) return mpi_refuse(it->comm, MPI_ERR_REQUEST, call, "the request of %s isn't active", it->site);
     if (it->other == MPI_PROC_NULL) return MPI_SUCCESS;
     if (it->sort == RECEIVING) it->cancelled = mpi_cancel_receive(it);
-    else if (it->synchronous) it->cancelled = mpi_cancel_send(it);
+    else it->cancelled = mpi_cancel_send(it);
     return MPI_SUCCESS;
 }
 

@@ -173,14 +173,29 @@ int MPI_Cart_sub(MPI_Comm handle, const int stays[], MPI_Comm *made) {
         sizes[dimensions] = it->sizes[i];
         periods[dimensions++] = it->periods[i];
     }
-    code = MPI_Comm_split(handle, color, key, made);
+    code = mpi_split(handle, color, key, made, "MPI_Cart_sub");
     if (code == MPI_SUCCESS) mpi_give_topology(*made, grid(dimensions, sizes, periods, mpi_my_member(mpi_comm(*made))));
     return code;
 }
 
-/* The dimensions that are 0 get sizes as near to one another as can be, falling. */
+/* The least size that divides LEFT and is at least its root of that order. */
+static int next_size(int left, int order) {
+    for (int size = 1; size < left; size++) {
+        double power = 1;
+        for (int i = 0; i < order; i++) power *= size;
+        if (left % size == 0 && power + 0.5 >= left) return size;
+    }
+    return left;
+}
+
+static int falling(const void *one, const void *other) {
+    int a = *(const int *)one, b = *(const int *)other;
+    return (a < b) - (a > b);
+}
+
+/* The dimensions that are 0 get sizes near to one another, in falling order (MPI 4.1, 8.5.2). */
 int MPI_Dims_create(int nodes, int dimensions, int sizes[]) {
-    int left = nodes, open = 0, free_at[64];
+    int left = nodes, open = 0, free_at[64], found[64];
     for (int i = 0; i < dimensions && i < 64; i++) {
         if (sizes[i] < 0 || (sizes[i] > 0 && left % sizes[i] != 0))
             return mpi_refuse(NULL, MPI_ERR_DIMS, "MPI_Dims_create", "dimension %d has the size %d, which doesn't divide the %d nodes", i, sizes[i], nodes);
@@ -188,16 +203,12 @@ int MPI_Dims_create(int nodes, int dimensions, int sizes[]) {
         else free_at[open++] = i;
     }
     if (open == 0 && left != 1) return mpi_refuse(NULL, MPI_ERR_DIMS, "MPI_Dims_create", "the sizes don't make %d nodes", nodes);
-    for (int i = 0; i < open; i++) { /* the least size that is at least the root of what is left, and divides it */
-        int size = left, rest = open - i;
-        for (int s = left; s >= 1; s--) {
-            double power = 1;
-            for (int j = 0; j < rest; j++) power *= s;
-            if (left % s == 0 && power + 0.5 >= left) size = s;
-        }
-        sizes[free_at[i]] = size;
-        left /= size;
+    for (int i = 0; i < open; i++) {
+        found[i] = next_size(left, open - i);
+        left /= found[i];
     }
+    qsort(found, (size_t)open, sizeof *found, falling);
+    for (int i = 0; i < open; i++) sizes[free_at[i]] = found[i];
     return MPI_SUCCESS;
 }
 

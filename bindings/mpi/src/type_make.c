@@ -311,13 +311,19 @@ int MPI_Get_elements_x(const MPI_Status *status, MPI_Datatype of, MPI_Count *cou
     size_t left = (size_t)status->bytes_;
     *count = 0;
     if (type->size == 0) return code;
-    *count = (MPI_Count)(left / type->size * type->signature.elements);
+    *count = (MPI_Count)(left / type->size * type->spread.elements);
     left %= type->size;
     for (size_t i = 0; i < type->many && left > 0; i++) {
         size_t size = mpi_basic(type->runs[i].basic)->size, here = left / size < type->runs[i].many ? left / size : type->runs[i].many;
-        *count += (MPI_Count)here;
+        size_t value = mpi_value_size(type->runs[i].basic);
+        *count += (MPI_Count)here * (value > 0 ? 2 : 1);
         left -= here * size;
-        if (here < type->runs[i].many) break;
+        if (here == type->runs[i].many) continue;
+        if (value > 0 && left >= value) { /* a pair's value without its index */
+            *count += 1;
+            left -= value;
+        }
+        break;
     }
     if (left > 0) *count = MPI_UNDEFINED;
     return code;

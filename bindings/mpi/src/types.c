@@ -78,6 +78,25 @@ static struct signature repeated(struct signature one, uint64_t times) {
 
 struct signature mpi_signature_of(const struct type *type, uint64_t many) { return repeated(type->signature, many); }
 
+struct signature mpi_spread_of(const struct type *type, uint64_t many) { return repeated(type->spread, many); }
+
+/* The types of the pairs' values (MPI 4.1, 6.9.4), from MPI_2INT on. The gap within a MPI_SHORT_INT is moved with it, so it is as no structure. */
+static const int values[] = { MPI_INT, MPI_FLOAT, MPI_DOUBLE, MPI_LONG, 0, MPI_LONG_DOUBLE };
+
+static const struct basic *value_of(int basic) {
+    int value = basics[basic].class == PAIR ? values[basic - (MPI_2INT & 0xff)] : 0;
+    return value != 0 ? &basics[value & 0xff] : NULL;
+}
+
+size_t mpi_value_size(int basic) { return value_of(basic) != NULL ? value_of(basic)->size : 0; }
+
+static struct signature of_basic(uint32_t code) { return (struct signature){ 1, code, POINT }; }
+
+static struct signature spread_of_basic(int basic) {
+    const struct basic *value = value_of(basic);
+    return value != NULL ? followed(of_basic(value->code), of_basic(basics[MPI_INT & 0xff].code)) : of_basic(basics[basic].code);
+}
+
 /* ---- predefined types */
 
 /* A pair whose index is followed by a gap takes more memory than it has bytes. */
@@ -88,12 +107,11 @@ static size_t extent_of(int basic) {
 
 __attribute__((constructor)) static void fill_basic_types(void) {
     for (int i = 1; i < BASICS; i++) {
-        struct signature signature = { 1, basics[i].code, POINT };
         size_t extent = extent_of(i);
         basic_runs[i] = (struct run_of){ 0, i, 1 };
         basic_types[i] = (struct type){ .name = basics[i].name, .size = basics[i].size, .extent = (MPI_Aint)extent, .true_extent = (MPI_Aint)basics[i].size,
                                         .alignment = basics[i].alignment, .basic = i, .dense = extent == basics[i].size, .predefined = true,
-                                        .committed = true, .signature = signature, .many = 1, .runs = &basic_runs[i], .uses = 1 };
+                                        .committed = true, .signature = of_basic(basics[i].code), .spread = spread_of_basic(i), .many = 1, .runs = &basic_runs[i], .uses = 1 };
     }
 }
 
@@ -150,21 +168,23 @@ void mpi_type_unuse(const struct type *type) {
 static size_t run_bytes(const struct run_of *run) { return basics[run->basic].size * run->many; }
 
 static void measure(struct type *type) {
-    MPI_Aint at = 0;
+    MPI_Aint at = 0, high = 0;
     bool dense = true;
     type->basic = type->many > 0 ? type->runs[0].basic : (MPI_BYTE & 0xff);
-    type->signature.power = 1;
+    type->signature.power = type->spread.power = 1;
     for (size_t i = 0; i < type->many; i++) {
         const struct run_of *run = &type->runs[i];
         MPI_Aint end = run->at + (MPI_Aint)run_bytes(run);
         type->size += run_bytes(run);
         type->signature = followed(type->signature, repeated(basic_types[run->basic].signature, run->many));
+        type->spread = followed(type->spread, repeated(basic_types[run->basic].spread, run->many));
         if (run->basic != type->basic) type->basic = 0;
         dense = dense && run->at == at;
         at = end;
         if (i == 0 || run->at < type->true_low) type->true_low = run->at;
-        if (i == 0 || end > type->true_low + type->true_extent) type->true_extent = end - type->true_low;
+        if (i == 0 || end > high) high = end;
     }
+    type->true_extent = high - type->true_low;
     type->dense = dense && type->low == 0 && (size_t)type->extent == type->size;
 }
 
@@ -194,6 +214,16 @@ void mpi_pack(const struct type *type, size_t many, const void *from, void *byte
             memcpy(to, (const char *)from + (MPI_Aint)i * type->extent + run->at, run_bytes(run));
             to += run_bytes(run);
         }
+}
+
+void mpi_unpack_part(const struct type *type, void *to, const void *bytes, size_t length) {
+    const char *from = bytes;
+    for (size_t i = 0; i < type->many && length > 0; i++) {
+        size_t here = run_bytes(&type->runs[i]) < length ? run_bytes(&type->runs[i]) : length;
+        memcpy((char *)to + type->runs[i].at, from, here);
+        from += here;
+        length -= here;
+    }
 }
 
 void mpi_unpack(const struct type *type, size_t many, void *to, const void *bytes) {

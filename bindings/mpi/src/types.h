@@ -38,6 +38,7 @@ struct type {
     bool dense;             /* the elements lie without gaps, from 0 on, and the extent is the size */
     bool predefined, committed;
     struct signature signature;
+    struct signature spread; /* the same with a pair as its value and its index */
     size_t many;
     struct run_of *runs;
     int combiner, integers, addresses, parts; /* how it was made (MPI 4.1, 5.1.13): the call, and how many arguments it had */
@@ -64,11 +65,14 @@ void mpi_forget_type(MPI_Datatype type);
 void mpi_type_use(const struct type *type);
 void mpi_type_unuse(const struct type *type);
 struct signature mpi_signature_of(const struct type *type, uint64_t many);
+struct signature mpi_spread_of(const struct type *type, uint64_t many);
+size_t mpi_value_size(int basic); /* of a pair that is as a structure has it; 0: it is none */
 int mpi_type_error(MPI_Datatype type, const char *call); /* tells what is wrong with it */
 
 /* Copies MANY elements of a type from or to bytes without gaps. */
 void mpi_pack(const struct type *type, size_t many, const void *from, void *bytes);
 void mpi_unpack(const struct type *type, size_t many, void *to, const void *bytes);
+void mpi_unpack_part(const struct type *type, void *to, const void *bytes, size_t length); /* the first bytes of one element */
 
 /* ---- making types (type_make.c) */
 struct building {

@@ -61,7 +61,7 @@ static bool has_called(const struct request *it, int member) {
 uint64_t mpi_lacking(const struct request *it) {
     uint64_t ranks = 0;
     if (it->sort != COLLECTIVE) {
-        int other, far = mpi_far(it->comm, &other);
+        int other, far = mpi_far_from(it->comm, it->member, &other); /* the watching thread is no rank */
         int first = it->other == MPI_ANY_SOURCE ? 0 : it->other, last = it->other == MPI_ANY_SOURCE ? far - 1 : it->other;
         for (int i = first; i <= last; i++) ranks |= 1ull << it->comm->members[other + i].rank;
         return ranks;
