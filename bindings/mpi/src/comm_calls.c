@@ -40,6 +40,7 @@ static int duplicate(MPI_Comm handle, bool attributes, MPI_Comm *made, const cha
     if (code != MPI_SUCCESS) return code;
     *made = join_copy(comm, done->place, call);
     mpi_drop_request(done);
+    mpi_copy_topology(comm, *made);
     code = attributes ? mpi_copy_attributes(comm, handle, mpi_comm(*made)) : MPI_SUCCESS;
     if (code != MPI_SUCCESS) MPI_Comm_free(made);
     return code;
@@ -61,6 +62,7 @@ int MPI_Comm_idup(MPI_Comm handle, MPI_Comm *made, MPI_Request *request) {
     code = mpi_post(comm, &(struct arguments){ .function = COMM_DUP, .form = NONBLOCKING, .name = "MPI_Comm_idup" }, &posted);
     if (code != MPI_SUCCESS) return code;
     *made = join_copy(comm, posted->place, "MPI_Comm_idup");
+    mpi_copy_topology(comm, *made);
     *request = mpi_publish(posted);
     return mpi_copy_attributes(comm, handle, mpi_comm(*made));
 }

@@ -108,6 +108,7 @@ void mpi_open_world(int size);
 MPI_Comm mpi_join(struct comm *parent, uint64_t key, const char *maker, const int *ranks, int size, int first);
 
 void mpi_give_topology(MPI_Comm comm, struct topology topology); /* topology.c: this member's own */
+void mpi_copy_topology(struct comm *comm, MPI_Comm copy);
 
 /* An intercommunicator's two groups, seen by this rank: its own begins at member *own, the other at *other. */
 int mpi_near(const struct comm *comm, int *own);

@@ -51,6 +51,25 @@ void mpi_give_topology(MPI_Comm handle, struct topology topology) {
     comm->topologies[mpi_my_member(comm)] = own;
 }
 
+static int *copy_of_some(const int *numbers, int many) { return numbers != NULL ? copy_of(numbers, many) : NULL; }
+
+/* A copy of a communicator has its topology too (MPI 4.1, 7.4.2). */
+void mpi_copy_topology(struct comm *comm, MPI_Comm copy) {
+    const struct topology *it = topology_of(comm);
+    if (it == NULL) return;
+    int edges = it->kind == MPI_GRAPH && it->nodes > 0 ? it->index[it->nodes - 1] : 0;
+    struct topology own = *it;
+    own.sizes = copy_of_some(it->sizes, it->dimensions);
+    own.periods = copy_of_some(it->periods, it->dimensions);
+    own.index = copy_of_some(it->index, it->nodes);
+    own.edges = copy_of_some(it->edges, edges);
+    own.sources = copy_of_some(it->sources, it->in);
+    own.destinations = copy_of_some(it->destinations, it->out);
+    own.source_weights = copy_of_some(it->source_weights, it->in);
+    own.destination_weights = copy_of_some(it->destination_weights, it->out);
+    mpi_give_topology(copy, own);
+}
+
 /* ---- Cartesian topologies */
 
 static int rank_at(const struct topology *it, const int *at) {
@@ -178,24 +197,28 @@ int MPI_Cart_sub(MPI_Comm handle, const int stays[], MPI_Comm *made) {
     return code;
 }
 
-/* The least size that divides LEFT and is at least its root of that order. */
-static int next_size(int left, int order) {
-    for (int size = 1; size < left; size++) {
+/* Whether LEFT is a product of so many sizes of at most MOST. */
+static bool fits(int left, int order, int most) {
+    if (order <= 1) return left <= (order == 1 ? most : 1);
+    for (int size = most < left ? most : left; size >= 1; size--) {
         double power = 1;
         for (int i = 0; i < order; i++) power *= size;
-        if (left % size == 0 && power + 0.5 >= left) return size;
+        if (power + 0.5 < left) return false;
+        if (left % size == 0 && fits(left / size, order - 1, size)) return true;
     }
-    return left;
+    return false;
 }
 
-static int falling(const void *one, const void *other) {
-    int a = *(const int *)one, b = *(const int *)other;
-    return (a < b) - (a > b);
+/* The least size for which the others needn't be greater. */
+static int next_size(int left, int order) {
+    int size = 1;
+    while (left % size != 0 || !fits(left / size, order - 1, size)) size++;
+    return size;
 }
 
-/* The dimensions that are 0 get sizes near to one another, in falling order (MPI 4.1, 8.5.2). */
+/* The dimensions that are 0 get sizes as near to one another as can be, in falling order (MPI 4.1, 8.5.2): the greatest is as small as can be, then the next. */
 int MPI_Dims_create(int nodes, int dimensions, int sizes[]) {
-    int left = nodes, open = 0, free_at[64], found[64];
+    int left = nodes, open = 0, free_at[64];
     for (int i = 0; i < dimensions && i < 64; i++) {
         if (sizes[i] < 0 || (sizes[i] > 0 && left % sizes[i] != 0))
             return mpi_refuse(NULL, MPI_ERR_DIMS, "MPI_Dims_create", "dimension %d has the size %d, which doesn't divide the %d nodes", i, sizes[i], nodes);
@@ -204,11 +227,9 @@ int MPI_Dims_create(int nodes, int dimensions, int sizes[]) {
     }
     if (open == 0 && left != 1) return mpi_refuse(NULL, MPI_ERR_DIMS, "MPI_Dims_create", "the sizes don't make %d nodes", nodes);
     for (int i = 0; i < open; i++) {
-        found[i] = next_size(left, open - i);
-        left /= found[i];
+        sizes[free_at[i]] = next_size(left, open - i);
+        left /= sizes[free_at[i]];
     }
-    qsort(found, (size_t)open, sizeof *found, falling);
-    for (int i = 0; i < open; i++) sizes[free_at[i]] = found[i];
     return MPI_SUCCESS;
 }
 

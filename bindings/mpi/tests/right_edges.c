@@ -1,9 +1,11 @@
 /* Programs without a mistake, at the edges of what MPI allows: right_edges NAME runs one of them, which says nothing and ends with 0. */
 #include <mpi.h>
 #include <pthread.h>
+#include <stddef.h>
 #include <stdio.h>
 #include <stdlib.h>
 #include <string.h>
+#include <unistd.h>
 
 static int rank, size;
 
@@ -57,6 +59,137 @@ static void nothing_of_any_type(void) {
     MPI_Alltoallv(&number, zeros, zeros, MPI_INT, &real, zeros, zeros, mine, MPI_COMM_WORLD);
     MPI_Sendrecv(&number, 0, MPI_INT, next(), 1, &real, 0, MPI_DOUBLE, before(), 1, MPI_COMM_WORLD, MPI_STATUS_IGNORE);
     HOLDS(number == rank && real == rank);
+}
+
+/* ---- types */
+
+/* A message that ends within an element of a type with gaps fills the part that has come (MPI 4.1, 3.2.4 and 5.1). */
+static void parts_of_elements(void) {
+    int sent[5] = { 1, 2, 3, 4, 5 }, row[12], want[12] = { 1, -1, 2, -1, 3, -1, 4, -1, 5, -1, -1, -1 }, elements = -1, count = -1;
+    MPI_Datatype vector, three;
+    MPI_Request request, send;
+    MPI_Status status;
+    MPI_Type_vector(3, 1, 2, MPI_INT, &vector);
+    MPI_Type_create_resized(vector, 0, 6 * sizeof(int), &three);
+    MPI_Type_free(&vector);
+    MPI_Type_commit(&three);
+    for (int i = 0; i < 12; i++) row[i] = -1;
+    MPI_Irecv(row, 2, three, before(), 0, MPI_COMM_WORLD, &request);
+    MPI_Isend(sent, 5, MPI_INT, next(), 0, MPI_COMM_WORLD, &send);
+    MPI_Wait(&request, &status);
+    MPI_Wait(&send, MPI_STATUS_IGNORE);
+    HOLDS(memcmp(row, want, sizeof row) == 0);
+    MPI_Get_elements(&status, three, &elements);
+    MPI_Get_count(&status, three, &count);
+    HOLDS(elements == 5 && count == MPI_UNDEFINED);
+    MPI_Type_free(&three);
+}
+
+static void add_last_first(void *in, void *inout, int *len, MPI_Datatype *type) {
+    (void)type;
+    for (int i = 0; i < *len; i++)
+        for (int j = 0; j > -4; j -= 3) ((int *)inout)[4 * i + j] += ((int *)in)[4 * i + j];
+}
+
+/* A type whose later elements lie before its first one. */
+static void types_downwards(void) {
+    int row[8], sums[8];
+    MPI_Aint low, extent;
+    MPI_Datatype both, pair;
+    MPI_Op operation;
+    MPI_Type_create_hindexed(2, (int[]){ 1, 1 }, (MPI_Aint[]){ 0, -12 }, MPI_INT, &both);
+    MPI_Type_get_true_extent(both, &low, &extent);
+    HOLDS(low == -12 && extent == 16);
+    MPI_Type_create_resized(both, -12, 16, &pair);
+    MPI_Type_commit(&pair);
+    MPI_Op_create(add_last_first, 1, &operation);
+    for (int i = 0; i < 8; i++) row[i] = rank + i, sums[i] = -1;
+    MPI_Allreduce(row + 3, sums + 3, 2, pair, operation, MPI_COMM_WORLD);
+    for (int i = 0; i < 8; i++) HOLDS(sums[i] == (i % 4 % 3 == 0 ? size * (size - 1) / 2 + size * i : -1));
+    MPI_Op_free(&operation);
+    MPI_Type_free(&pair);
+    MPI_Type_free(&both);
+}
+
+/* A pair is as a structure of its value and its index (MPI 4.1, 6.9.4). */
+static void pairs_as_structures(void) {
+    struct pair { double value; int index; } mine[2] = { { 0.5, rank }, { 1.5, -rank } }, got[2];
+    int numbers[4], elements = -1;
+    MPI_Datatype structure, whole;
+    MPI_Request requests[2];
+    MPI_Status status;
+    MPI_Type_create_struct(2, (int[]){ 1, 1 }, (MPI_Aint[]){ offsetof(struct pair, value), offsetof(struct pair, index) }, (MPI_Datatype[]){ MPI_DOUBLE, MPI_INT }, &structure);
+    MPI_Type_create_resized(structure, 0, sizeof(struct pair), &whole);
+    MPI_Type_commit(&whole);
+    MPI_Isend(mine, 2, whole, next(), 0, MPI_COMM_WORLD, &requests[0]);
+    MPI_Recv(got, 2, MPI_DOUBLE_INT, before(), 0, MPI_COMM_WORLD, &status);
+    HOLDS(got[0].value == 0.5 && got[1].index == -before());
+    MPI_Get_elements(&status, MPI_DOUBLE_INT, &elements);
+    HOLDS(elements == 4);
+    MPI_Isend((int[]){ 1, 2, 3, 4 }, 2, MPI_2INT, next(), 1, MPI_COMM_WORLD, &requests[1]);
+    MPI_Recv(numbers, 4, MPI_INT, before(), 1, MPI_COMM_WORLD, &status);
+    HOLDS(numbers[0] == 1 && numbers[3] == 4);
+    MPI_Waitall(2, requests, MPI_STATUSES_IGNORE);
+    MPI_Type_free(&structure);
+    MPI_Type_free(&whole);
+}
+
+/* ---- communicators */
+
+/* A copy has the topology of what it is a copy of (MPI 4.1, 7.4.2). */
+static void copied_topologies(void) {
+    MPI_Comm grid, circle, copies[3];
+    MPI_Request request;
+    int kind, sizes[1], periods[1], at[1], got[2] = { -1, -1 }, ends[1] = { next() }, begins[1] = { before() };
+    MPI_Cart_create(MPI_COMM_WORLD, 1, &size, (int[]){ 1 }, 0, &grid);
+    MPI_Dist_graph_create_adjacent(MPI_COMM_WORLD, 1, begins, (int[]){ 7 }, 1, ends, (int[]){ 8 }, MPI_INFO_NULL, 0, &circle);
+    MPI_Comm_dup(grid, &copies[0]);
+    MPI_Comm_idup(grid, &copies[1], &request);
+    MPI_Wait(&request, MPI_STATUS_IGNORE);
+    MPI_Comm_dup(circle, &copies[2]);
+    MPI_Comm_free(&grid);
+    MPI_Comm_free(&circle);
+    for (int i = 0; i < 2; i++) {
+        MPI_Cart_get(copies[i], 1, sizes, periods, at);
+        HOLDS(sizes[0] == size && periods[0] == 1 && at[0] == rank);
+        MPI_Neighbor_allgather(&rank, 1, MPI_INT, got, 1, MPI_INT, copies[i]);
+        HOLDS(got[0] == before() && got[1] == next());
+    }
+    MPI_Topo_test(copies[2], &kind);
+    MPI_Dist_graph_neighbors(copies[2], 1, begins, at, 1, ends, sizes);
+    HOLDS(kind == MPI_DIST_GRAPH && begins[0] == before() && at[0] == 7 && sizes[0] == 8);
+    MPI_Neighbor_allgather(&rank, 1, MPI_INT, got, 1, MPI_INT, copies[2]);
+    HOLDS(got[0] == before());
+    for (int i = 0; i < 3; i++) MPI_Comm_free(&copies[i]);
+}
+
+/* The sizes of a grid are near to one another, and fall (MPI 4.1, 8.5.2). */
+static void falling_dimensions(void) {
+    static const int wanted[][4] = { { 20, 5, 2, 2 }, { 936, 13, 9, 8 }, { 2310, 15, 14, 11 }, { 7, 7, 1, 1 }, { 64, 4, 4, 4 } };
+    for (size_t i = 0; i < sizeof wanted / sizeof wanted[0]; i++) {
+        int sizes[3] = { 0, 0, 0 };
+        MPI_Dims_create(wanted[i][0], 3, sizes);
+        HOLDS(memcmp(sizes, wanted[i] + 1, sizeof sizes) == 0);
+    }
+    int sizes[4] = { 0, 2, 0, 0 };
+    MPI_Dims_create(24, 4, sizes);
+    HOLDS(sizes[0] == 3 && sizes[1] == 2 && sizes[2] == 2 && sizes[3] == 2);
+}
+
+/* Messages between two groups that are waited for while the run is watched. */
+static void slow_bridge(void) {
+    MPI_Comm half, bridge;
+    int side = rank % 2, got = -1, far;
+    if (size < 2) return;
+    MPI_Comm_split(MPI_COMM_WORLD, side, rank, &half);
+    MPI_Intercomm_create(half, 0, MPI_COMM_WORLD, 1 - side, 3, &bridge);
+    MPI_Comm_remote_size(bridge, &far);
+    if (side == 0) usleep(400000);
+    for (int i = 0; side == 0 && rank == 0 && i < far; i++) MPI_Send(&i, 1, MPI_INT, i, 4, bridge);
+    if (side == 1) MPI_Recv(&got, 1, MPI_INT, 0, 4, bridge, MPI_STATUS_IGNORE);
+    HOLDS(side == 0 || got == rank / 2);
+    MPI_Comm_free(&bridge);
+    MPI_Comm_free(&half);
 }
 
 /* ---- statuses */
@@ -151,7 +284,8 @@ static const struct {
     const char *name;
     void (*run)(void);
 } cases[] = {
-    CASE(first_of_exscan), CASE(nothing_of_any_type), CASE(errors_of_statuses), CASE(looked_at), CASE(cancelled_sends), CASE(asked_by_threads),
+    CASE(first_of_exscan), CASE(nothing_of_any_type), CASE(parts_of_elements), CASE(types_downwards), CASE(pairs_as_structures), CASE(copied_topologies),
+    CASE(falling_dimensions), CASE(slow_bridge), CASE(errors_of_statuses), CASE(looked_at), CASE(cancelled_sends), CASE(asked_by_threads),
 };
 
 int main(int argc, char **argv) {
