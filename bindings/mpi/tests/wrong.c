@@ -359,6 +359,22 @@ static void late_room(void) {
     MPI_Comm_free(&copy);
 }
 
+/* ---- calls that make communicators */
+static void sub_meets_split(void) {
+    MPI_Comm grid, part;
+    MPI_Cart_create(MPI_COMM_WORLD, 1, &size, (int[]){ 0 }, 0, &grid);
+    if (rank == 1) MPI_Comm_split(grid, 0, 0, &part);
+    else MPI_Cart_sub(grid, (int[]){ 1 }, &part);
+}
+/* Both groups wait for a message of the other. */
+static void bridge(void) {
+    MPI_Comm half, two;
+    MPI_Comm_split(MPI_COMM_WORLD, rank > 0, 0, &half);
+    MPI_Intercomm_create(half, 0, MPI_COMM_WORLD, rank > 0 ? 0 : 1, 3, &two);
+    MPI_Recv(numbers, 1, MPI_INT, 0, 5, two, MPI_STATUS_IGNORE);
+    MPI_Send(numbers, 1, MPI_INT, 0, 5, two);
+}
+
 #define CASE(name) { #name, name }
 static const struct {
     const char *name;
@@ -372,6 +388,7 @@ static const struct {
     CASE(no_topology), CASE(changed), CASE(finalized), CASE(too_many), CASE(lacking), CASE(crossed), CASE(missing_start), CASE(missing_split), CASE(any_of_two),
     CASE(receives_first), CASE(lucky_bcasts), CASE(lucky_sends), CASE(crash), CASE(never_completed), CASE(never_received), CASE(told_by_code), CASE(aborts), CASE(inits), CASE(late_room),
     CASE(null_counts), CASE(null_places), CASE(null_types), CASE(null_among_counts), CASE(changed_send), CASE(changed_outcome), CASE(changed_carried), CASE(changed_receive),
+    CASE(sub_meets_split), CASE(bridge),
 };
 
 int main(int argc, char **argv) {
