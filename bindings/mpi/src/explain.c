@@ -14,9 +14,8 @@ struct lines {
     size_t many;
 };
 
-static struct lines read_lines(const char *path) {
+static struct lines read_lines(FILE *from) {
     struct lines lines = { NULL, 0 };
-    FILE *from = fopen(path, "r");
     char *line = NULL;
     size_t room = 0;
     while (from != NULL && getline(&line, &room, from) > 0) {
@@ -25,7 +24,6 @@ static struct lines read_lines(const char *path) {
         lines.at[lines.many++] = mpi_must(strdup(line));
     }
     free(line);
-    if (from != NULL) fclose(from);
     return lines;
 }
 
@@ -70,18 +68,21 @@ static void tell_line(const struct lines *lines, const char *line) {
     fputc('\n', stderr);
 }
 
+/* Status 0 says that the text has no fault, or never stalls: then it hasn't what is wrong with the program. */
 static void run_colljob(const char *colljob, const char *words, const char *path) {
-    char command[2 * 4096 + 100], *line = NULL;
-    size_t room = 0;
-    struct lines lines = read_lines(path);
+    char command[2 * 4096 + 100];
+    FILE *text = fopen(path, "r");
+    struct lines lines = read_lines(text);
+    if (text != NULL) fclose(text);
     snprintf(command, sizeof command, "'%s' %s '%s' 2>&1", colljob, words, path);
     FILE *from = popen(command, "r");
-    while (from != NULL && getline(&line, &room, from) > 0) {
-        line[strcspn(line, "\n")] = '\0';
-        tell_line(&lines, line);
+    struct lines answer = read_lines(from);
+    if (from != NULL && pclose(from) == 0) {
+        fprintf(stderr, "  colljob %s can't tell why: a job text doesn't have what is wrong here\n", words);
+        return;
     }
-    free(line);
-    if (from != NULL) pclose(from);
+    fprintf(stderr, "  colljob %s %s says:\n", words, path);
+    for (size_t i = 0; i < answer.many; i++) tell_line(&lines, answer.at[i]);
 }
 
 /* A file of the text that nobody asked for. Whether there is one. */
@@ -107,7 +108,6 @@ void mpi_explain_end(const struct question *question) {
     if (path == NULL) path = own;
     if (colljob == NULL && system("command -v colljob > /dev/null 2>&1") == 0) colljob = "colljob";
     if (colljob != NULL) {
-        fprintf(stderr, "  colljob %s %s says:\n", question->words, path);
         run_colljob(colljob, question->words, path);
         if (path == own) unlink(own);
     } else fprintf(stderr, "  the calls stand in %s; with colljob in PATH, or its path in COLLJOB: colljob %s %s\n", path, question->words, path);

@@ -32,7 +32,7 @@ OPTIONS = {
     "changed_carried": "-n 2 --check", "changed_receive": "-n 2 --check", "too_many": "-n 2", "neighbors": "-n 2", "null_buffer": "-n 2", "told_by_code": "-n 2", "never_received": "-n 2", "gatherv": "-n 3", "inits": "-n 1", "late_room": "-n 2",
 }
 # Those that --explain is tried with.
-EXPLAINED = ["root", "lacking", "crossed", "missing_start", "missing_split", "any_of_two", "receives_first", "lucky_bcasts", "lucky_sends"]
+EXPLAINED = ["root", "blocking", "lacking", "crossed", "missing_start", "missing_split", "any_of_two", "receives_first", "lucky_bcasts", "lucky_sends"]
 # The programs without a mistake.
 RIGHT = [HERE / "right.c", HERE / "right_edges.c"]
 # How many ranks each right program is run with, where these aren't 1, 2 and 5.
