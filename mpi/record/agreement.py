@@ -1,6 +1,7 @@
 """Whether calls of several ranks agree as MPI asks for it, and a call in words."""
 
 import functools
+import math
 
 # Basic types that are alike in all but their names, beside their size.
 ALIKE = {
@@ -13,6 +14,11 @@ ALIKE = {
 }
 CLASS = {"MPI_" + name: kind for kind, names in ALIKE.items() for name in names.split()}
 
+# Pairs are as structures of two types (MPI 4.1, 6.9.4).
+PAIRS = {"MPI_2INT": "INT INT", "MPI_FLOAT_INT": "FLOAT INT", "MPI_DOUBLE_INT": "DOUBLE INT", "MPI_LONG_INT": "LONG INT", "MPI_SHORT_INT": "SHORT INT",
+         "MPI_LONG_DOUBLE_INT": "LONG_DOUBLE INT", "MPI_2INTEGER": "INTEGER INTEGER", "MPI_2REAL": "REAL REAL", "MPI_2DOUBLE_PRECISION": "DOUBLE_PRECISION DOUBLE_PRECISION"}
+INT_BYTES = 4
+
 # Libraries through which interpreted programs make operations.
 INTERPRETED = ("mpi4py", "libjulia", "Rmpi")
 
@@ -24,19 +30,41 @@ EQUAL = {"Bcast", "Reduce", "Allreduce", "Scan", "Exscan", "Reduce_scatter_block
 MOST_RUNS = 4096
 
 
-def expand(runs, count):
-    """The runs of COUNT elements, equal neighbours together; None where they are too many."""
+def repeated(runs, count):
+    """Runs, each a name, its bytes and how often it stands in a row, COUNT times, equal neighbours together; None where they are too many."""
     if len(runs) == 1:
-        return ((runs[0].name, runs[0].bytes, runs[0].times * count),)
+        return ((runs[0][0], runs[0][1], runs[0][2] * count),)
     if len(runs) * count > MOST_RUNS:
         return None
     found = []
-    for run in list(runs) * count:
-        if found and found[-1][0] == run.name:
-            found[-1] = (run.name, run.bytes, found[-1][2] + run.times)
+    for name, size, times in list(runs) * count:
+        if found and found[-1][0] == name:
+            found[-1] = (name, size, found[-1][2] + times)
         else:
-            found.append((run.name, run.bytes, run.times))
+            found.append((name, size, times))
     return tuple(found)
+
+
+def parts_of_pairs(runs):
+    """Runs with each pair as its two parts; None where they are too many."""
+    found = []
+    for name, size, times in runs:
+        parts = ["MPI_" + word for word in PAIRS.get(name, "").split()]
+        second = INT_BYTES if parts and parts[1] == "MPI_INT" else size // 2
+        both = repeated([(parts[0], size - second, 1), (parts[1], second, 1)], times) if parts else [(name, size, times)]
+        if both is None:
+            return None
+        found += both
+    return repeated(found, 1)
+
+
+def are_parted(runs_a, count_a, runs_b, count_b):
+    """Whether the parts of pairs make two rows alike. What both repeat is left out: as powers of one row two are equal where their roots are."""
+    parts_a, parts_b, common = parts_of_pairs(runs_a), parts_of_pairs(runs_b), math.gcd(count_a, count_b)
+    if parts_a is None or parts_b is None:
+        return True
+    all_a, all_b = repeated(parts_a, count_a // common), repeated(parts_b, count_b // common)
+    return all_a is None or all_b is None or all_a == all_b
 
 
 @functools.lru_cache(maxsize=1 << 17)
@@ -51,8 +79,10 @@ def compare_data(type_a, count_a, type_b, count_b):
         return DIFFERENT
     if not type_a.whole or not type_b.whole or type_a.bytes * count_a == 0:
         return SAME
-    runs_a, runs_b = expand(type_a.runs, count_a), expand(type_b.runs, count_b)
+    runs_a, runs_b = repeated(type_a.runs, count_a), repeated(type_b.runs, count_b)
     if runs_a is None or runs_b is None or runs_a == runs_b:
+        return SAME
+    if names & PAIRS.keys() and are_parted(type_a.runs, count_a, type_b.runs, count_b):
         return SAME
     plain_a, plain_b = classed(runs_a), classed(runs_b)
     return BY_LETTER if plain_a == plain_b else DIFFERENT

@@ -173,6 +173,7 @@ PROGRAMS.update({
     "right_pairs": right(4),
     "right_session": right(2, "no fault", status=None),
     "right_own_request": right(2, MESSAGES),
+    "right_pair_parts": right(3),
     "right_parts": right(2, "no fault: the collective calls agree"),
     "right_threads_apart": right(2, "not judged: 3 communicators, windows or files that were made of one on which several threads of a rank call", "no fault found in what is there; stalls aren't judged: several threads", status=3),
     "ended_before_callback": right(2, "rank 0: in MPI_Recv", "called MPI_Finalize and didn't come out of it", "no fault found in what is there", status=3),

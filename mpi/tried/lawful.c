@@ -432,9 +432,21 @@ static void threads_other_root(void) {
     MPI_Barrier(world);
 }
 
+/* A pair is as a structure of its value and its index (MPI 4.1, 6.9.4). */
+static void right_pair_parts(void) {
+    struct { double value; int index; } pair = {0.5, 1};
+    MPI_Datatype structure;
+    MPI_Aint places[] = {0, (char *)&pair.index - (char *)&pair.value};
+    MPI_Type_create_struct(2, (int[]){1, 1}, places, (MPI_Datatype[]){MPI_DOUBLE, MPI_INT}, &structure);
+    MPI_Type_commit(&structure);
+    MPI_Bcast(&pair, 1, rank ? MPI_DOUBLE_INT : structure, 0, world);
+    MPI_Bcast(row, rank ? 1000 : 2000, rank ? MPI_2INT : MPI_INT, 0, world);
+    MPI_Type_free(&structure);
+}
+
 const struct program programs[] = {
     PROGRAM(right_freed_before_wait), PROGRAM(right_freed_messages), PROGRAM(right_idup), PROGRAM(right_copied_within), PROGRAM(right_insignificant),
     PROGRAM(right_in_place_kinds), PROGRAM(right_types_by_precision), PROGRAM(right_counts_of_four), PROGRAM(right_neighbour_kinds), PROGRAM(right_bridge),
     PROGRAM(right_pairs), PROGRAM(right_session), PROGRAM(right_own_request), PROGRAM(right_parts), PROGRAM(right_threads_apart), PROGRAM(ended_before_callback), PROGRAM(freed_while_active),
-    PROGRAM(neighbour_forms), PROGRAM(idup_meets_receive), PROGRAM(counts_of_four), PROGRAM(in_place_count), PROGRAM(threads_other_root), {0},
+    PROGRAM(neighbour_forms), PROGRAM(idup_meets_receive), PROGRAM(counts_of_four), PROGRAM(in_place_count), PROGRAM(threads_other_root), PROGRAM(right_pair_parts), {0},
 };
