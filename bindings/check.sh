@@ -25,8 +25,9 @@ static="$lib/libworzsunab.a -pthread"
 shared="-L$lib -lworzsunab -pthread -Wl,-rpath,$lib"
 # No check takes more than a minute on an idle machine; one that takes a quarter of an hour hangs.
 limit="timeout 900"
-# The library publishes a combination that members share by an atomic of its own, which the sanitizer doesn't see.
+# The library publishes a combination that members share by an atomic of its own, which neither the sanitizer nor Helgrind sees.
 export TSAN_OPTIONS="suppressions=$here/c/tsan.suppressions"
+helgrind="valgrind --tool=helgrind -q --error-exitcode=9 --fair-sched=yes --suppressions=$here/c/helgrind.suppressions"
 passed=0
 failed=0
 under_way=
@@ -185,7 +186,7 @@ check_helgrind() {
         # shellcheck disable=SC2086
         [ -x "$work/$client.helgrind" ] || check "build $client, helgrind" $c -DWZ_HELGRIND $sources $static -o "$work/$client.helgrind"
         # shellcheck disable=SC2086
-        check "$words, helgrind" valgrind --tool=helgrind -q --error-exitcode=9 --fair-sched=yes "$work/$client.helgrind" $arguments
+        check "$words, helgrind" $helgrind "$work/$client.helgrind" $arguments
     done
 }
 
@@ -208,7 +209,8 @@ check_cpp() {
     if has valgrind && echo '#include <valgrind/helgrind.h>' | $cxx -x c++ -fsyntax-only - 2> /dev/null; then
         # shellcheck disable=SC2086
         check "build cpp, helgrind" $cplus -DWZ_HELGRIND "$here/cpp/sum.cpp" $static -o "$work/cpp.helgrind"
-        [ ! -x "$work/cpp.helgrind" ] || check "cpp, helgrind" valgrind --tool=helgrind -q --error-exitcode=9 --fair-sched=yes "$work/cpp.helgrind"
+        # shellcheck disable=SC2086
+        [ ! -x "$work/cpp.helgrind" ] || check "cpp, helgrind" $helgrind "$work/cpp.helgrind"
     fi
     if runs_threads_checked "${CC:-cc}"; then
         # shellcheck disable=SC2086

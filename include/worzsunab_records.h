@@ -24,9 +24,9 @@ enum {
 };
 
 /* A thread that waits offers its processor at each look after the first WZ_CLOSE_LOOKS, since another rank's thread may wait for it. An offer that
-   lasts over WZ_LONG_OFFER went to another program, for a time slice. Of any time t a rank's long offers take (t + WZ_CREDIT) / WZ_SHARE and one
-   offer more, at most, since it makes none until then; but it makes one again after WZ_REPAID at the latest, since a program may have been stopped
-   for hours while it made an offer. All times are in nanoseconds. */
+   lasts over WZ_LONG_OFFER went to a thread that computes, for a time slice. Of any time t a rank's long offers take (t + WZ_CREDIT) / WZ_SHARE and
+   one offer more, at most, since it makes none until then; but it makes one again after WZ_REPAID at the latest, since a program may have been
+   stopped for hours while it made an offer. All times are in nanoseconds. */
 #ifndef WZ_CLOSE_LOOKS
 #define WZ_CLOSE_LOOKS 5
 #endif
