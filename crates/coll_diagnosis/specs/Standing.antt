@@ -1,5 +1,5 @@
 -- What holds of a standstill that is reported, by the commands of the script and by the requests that they make.
-use Rattle.std.specs.Prelude.{◌≡◌, ℕ, ◌==◌, nat_lt, Bool, true, false, not, ◌&&◌, ◌||◌, if◌then◌else◌, List, length, count_by, take, Option, Some, None, Vec, slice_get}
+use Rattle.std.specs.Prelude.{◌≡◌, ℕ, ◌==◌, nat_lt, Bool, true, false, not, ◌&&◌, ◌||◌, if◌then◌else◌, List, length, Option, Some, None, Vec, slice_get}
 use Rattle.std.specs.List.{list_any, list_all, range_with_len}
 use Rattle.std.specs.Global.{Global}
 use Rattle.std.specs.Str.{bytes_eq}
@@ -10,6 +10,7 @@ use Rattle.coll_history.specs.declared.command.Command.TheVariants.{Post, Init, 
 use Rattle.coll_history.specs.declared.command.Command.TheVariants.{WaitAny, WaitSome, WaitAll}
 use Rattle.coll_history.specs.declared.issued_command.IssuedCommand.{IssuedCommand}
 use Rattle.coll_history.specs.declared.request.Request.{Request}
+use Rattle.coll_history.specs.declared.request.Start as rust_start
 use Rattle.coll_history.specs.Code.{requests_view, rows_view}
 use Rattle.coll_history.specs.Histories.{History, is_persistent, starts}
 use Rattle.coll_history.specs.Requests.{requests}
@@ -65,45 +66,29 @@ waits_in rank line t = t.line == line && t.rank == rank && waits t.command
 abbrev pub awaits_in : ℕ → ℕ → ℕ → IssuedCommand → Bool
 awaits_in rank line q t = t.line == line && t.rank == rank && awaits q t.command
 
--- the rank starts its request q in that line
-abbrev pub starts_in : ℕ → ℕ → ℕ → IssuedCommand → Bool
-starts_in rank line q t = t.line == line && t.rank == rank && starts q t.command
-
--- it starts it before that line
-abbrev pub starts_before : ℕ → ℕ → ℕ → IssuedCommand → Bool
-starts_before rank line q t = nat_lt t.line line && t.rank == rank && starts q t.command
-
--- after that line it starts it again, or a call of it doesn't return before the request is complete
+-- after that line the rank starts its request q again, or a call of it doesn't return before the request is complete
 abbrev pub ends_after : ℕ → ℕ → ℕ → IssuedCommand → Bool
 ends_after rank line q t = nat_lt line t.line && t.rank == rank && (starts q t.command || completes q t.command)
 
--- ---- requests of a rank, in the order in which it makes them
-
--- the place of request q on a communicator: how many the rank made there before
-abbrev pub place_of : ℕ → ℕ → List Request → ℕ
-place_of comm q own = count_by (λ r. r.comm == comm) (take q own)
-
--- that line makes the start of that number of the rank's request q; a post, in the line that makes its request, is start 0
-abbrev pub is_start_in : List IssuedCommand → ℕ → ℕ → Request → ℕ → ℕ → Bool
-is_start_in issued rank q r start line =
-    if is_persistent r.sig.mode
-    then list_any (starts_in rank line q) issued && count_by (starts_before rank line q) issued == start
-    else r.line == line && start == 0
-
 -- ---- what is reported
 
--- the lacking member's request stands at the place of the pending one, and the line makes the start that is lacked
-abbrev pub peer_holds : List IssuedCommand → Pending → Lack → List Request → Option Request → Bool
-peer_holds issued pending lack theirs None = false
-peer_holds issued pending lack theirs (Some r) =
-    r.comm == pending.comm
-    && place_of pending.comm lack.request theirs == pending.place
-    && r.member == lack.member
-    && is_start_in issued lack.rank lack.request r pending.start lack.line
+-- there is such a start of a request, and that line makes it
+abbrev pub is_start_in : Option rust_start.Start → ℕ → Bool
+is_start_in None line = false
+is_start_in (Some s) line = s.line == line
 
-abbrev pub theirs_hold : List IssuedCommand → Pending → Lack → Option (Vec Request Global) → Bool
-theirs_hold issued pending lack None = false
-theirs_hold issued pending lack (Some theirs) = peer_holds issued pending lack theirs.items (slice_get theirs.items lack.request)
+-- the lacking member's request stands at the place of the pending one, and the line makes the start that is lacked
+abbrev pub peer_holds : Pending → Lack → Option Request → Bool
+peer_holds pending lack None = false
+peer_holds pending lack (Some r) =
+    r.comm == pending.comm
+    && r.place == pending.place
+    && r.member == lack.member
+    && is_start_in (slice_get r.starts.items pending.start) lack.line
+
+abbrev pub theirs_hold : Pending → Lack → Option (Vec Request Global) → Bool
+theirs_hold pending lack None = false
+theirs_hold pending lack (Some theirs) = peer_holds pending lack (slice_get theirs.items lack.request)
 
 -- the outcome of a member of this signature among n rests on the lacking one exactly where that is said
 abbrev pub need_holds : Request → ℕ → Lack → Bool
@@ -114,7 +99,7 @@ abbrev pub lack_holds : List IssuedCommand → List (Vec Request Global) → ℕ
 lack_holds issued ranks n own pending lack =
     nat_lt lack.behind lack.line
     && list_any (waits_in lack.rank lack.behind) issued
-    && theirs_hold issued pending lack (slice_get ranks lack.rank)
+    && theirs_hold pending lack (slice_get ranks lack.rank)
     && need_holds own n lack
 
 -- how many members a communicator has: at most 64, as of each script
@@ -127,11 +112,11 @@ abbrev pub mode_holds : Pending → Mode → Bool
 mode_holds pending mode = if is_persistent mode then pending.is_persistent else not pending.is_persistent
 
 -- the request has the communicator, the place, the start with its line, the kind and the mode that are reported
-abbrev pub fits : List IssuedCommand → ℕ → List Request → Pending → Request → Bool
-fits issued rank own pending r =
+abbrev pub fits : Pending → Request → Bool
+fits pending r =
     r.comm == pending.comm
-    && place_of pending.comm pending.request own == pending.place
-    && is_start_in issued rank pending.request r pending.start pending.line
+    && r.place == pending.place
+    && is_start_in (slice_get r.starts.items pending.start) pending.line
     && bytes_eq pending.kind.now (kind_word r.sig.kind)
     && mode_holds pending r.sig.mode
 
@@ -142,9 +127,9 @@ lacks_hold issued ranks groups pending r =
     && list_all (lack_holds issued ranks (size_of (slice_get groups pending.comm)) r pending) pending.lacks.items
 
 -- the pending request is that of its number of the rank, and what is said of it is true
-abbrev pub request_holds : List IssuedCommand → List (Vec Request Global) → List (Vec ℕ Global) → ℕ → List Request → Pending → Option Request → Bool
-request_holds issued ranks groups rank own pending None = false
-request_holds issued ranks groups rank own pending (Some r) = fits issued rank own pending r && lacks_hold issued ranks groups pending r
+abbrev pub request_holds : List IssuedCommand → List (Vec Request Global) → List (Vec ℕ Global) → Pending → Option Request → Bool
+request_holds issued ranks groups pending None = false
+request_holds issued ranks groups pending (Some r) = fits pending r && lacks_hold issued ranks groups pending r
 
 -- the call in that line waits for the request, which was started before; no line is that of the unwritten waitall after all lines, which
 -- waits for a request that no line ends after its start
@@ -156,7 +141,7 @@ call_awaits issued rank (Some line) pending =
 abbrev pub pending_holds : List IssuedCommand → List (Vec Request Global) → List (Vec ℕ Global) → Stuck → List Request → Pending → Bool
 pending_holds issued ranks groups stuck own pending =
     call_awaits issued stuck.rank stuck.line pending
-    && request_holds issued ranks groups stuck.rank own pending (slice_get own pending.request)
+    && request_holds issued ranks groups pending (slice_get own pending.request)
 
 -- a rank that waits has requests that are pending, and what is said of each is true
 abbrev pub own_hold : List IssuedCommand → List (Vec Request Global) → List (Vec ℕ Global) → Stuck → Option (Vec Request Global) → Bool

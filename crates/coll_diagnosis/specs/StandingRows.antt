@@ -2,8 +2,9 @@
 -- communicator 1 in line 8, waits for that in line 9, and posts on communicator 0 in line 10. Rank 0 posts on communicator 0 in line 4 and
 -- waits for that in line 5. What is said of its wait is refused where a part of it is another one.
 use denote.Ref.{Bor}
-use Rattle.std.specs.Prelude.{◌≡◌, ℕ, Bool, true, false, List, [], ◌∷◌, Option, Some, None, Vec, refl}
+use Rattle.std.specs.Prelude.{◌≡◌, ℕ, Bool, true, false, List, [], ◌∷◌, Option, Some, None, Vec, refl, slice_get}
 use Rattle.std.specs.Global.{Global}
+use Rattle.std.proofs.Common.{ap}
 use Rattle.coll_kinds.specs.declared.datatype.Datatype.TheVariants.{Byte}
 use Rattle.coll_kinds.specs.declared.kind.Kind.TheVariants.{Barrier}
 use Rattle.coll_kinds.specs.declared.kind.Mode.TheVariants.{Once}
@@ -15,7 +16,7 @@ use Rattle.coll_history.specs.declared.request.Start.{Start}
 use Rattle.coll_diagnosis.specs.declared.lack.Lack.{Lack}
 use Rattle.coll_diagnosis.specs.declared.pending.Pending.{Pending}
 use Rattle.coll_diagnosis.specs.declared.stuck.Stuck.{Stuck}
-use Rattle.coll_diagnosis.specs.Standing.{call_awaits, circle_holds, ends_hold, lack_holds, need_holds, peer_holds, place_of, request_holds}
+use Rattle.coll_diagnosis.specs.Standing.{call_awaits, circle_holds, ends_hold, is_start_in, lack_holds, need_holds, peer_holds, request_holds}
 
 abbrev barrier : Signature
 barrier = record { kind = Barrier; mode = Once; root = 0; op = None; ty = Byte; count = 0; each = None }
@@ -30,9 +31,13 @@ crossed =
     ∷ record { line = 10; rank = 1; command = Post 0 barrier [] }
     ∷ []
 
--- where a request's starts and a list of members lie is left open
+-- where a request's starts, what they give and a list of members lie is left open
 abbrev Starts : Type 0
 Starts = Vec Start Global
+
+-- a post in that line
+abbrev posted_in : ℕ → Bor (List ℕ) → List Start
+posted_in line given = record { line = line; given = given } ∷ []
 
 abbrev of_rank_0 : Starts → List Request
 of_rank_0 starts =
@@ -63,9 +68,6 @@ waiting kind lacks line comm place mode =
 abbrev lacking : ℕ → ℕ → ℕ → Bool → Lack
 lacking member line behind needed = record { rank = 1; member = member; request = 1; is_needed = needed; line = line; behind = behind }
 
-place_of_the_second : (starts : Starts) → place_of 0 1 (of_rank_1 starts) ≡ 0
-place_of_the_second starts = refl
-
 -- ---- true
 
 awaited : (kind : Bor (List ℕ)) (lacks : Vec Lack Global) → call_awaits crossed 0 (Some 5) (waiting kind lacks 4 0 0 false) ≡ true
@@ -76,9 +78,13 @@ awaited_at_the_end : (kind : Bor (List ℕ)) (lacks : Vec Lack Global)
     → call_awaits crossed 1 None (record (waiting kind lacks 10 0 0 false) { request = 1 }) ≡ true
 awaited_at_the_end kind lacks = refl
 
-peer : (starts : Starts) (kind : Bor (List ℕ)) (lacks : Vec Lack Global)
-    → peer_holds crossed (waiting kind lacks 4 0 0 false) (lacking 1 10 9 true) (of_rank_1 starts) (its_second (of_rank_1 starts)) ≡ true
-peer starts kind lacks = refl
+the_line : (given : Bor (List ℕ)) → is_start_in (slice_get (posted_in 4 given) 0) 4 ≡ true
+the_line given = refl
+
+peer : (starts : Starts) (given kind : Bor (List ℕ)) (lacks : Vec Lack Global)
+    → starts.items ≡ posted_in 10 given
+    → peer_holds (waiting kind lacks 4 0 0 false) (lacking 1 10 9 true) (its_second (of_rank_1 starts)) ≡ true
+peer starts given kind lacks post = ap (λ (items : List Start). is_start_in (slice_get items 0) 10) post
 
 -- ---- false
 
@@ -95,26 +101,31 @@ another_request : (kind : Bor (List ℕ)) (lacks : Vec Lack Global)
     → call_awaits crossed 0 (Some 5) (record (waiting kind lacks 4 0 0 false) { request = 1 }) ≡ false
 another_request kind lacks = refl
 
--- another line of the post, communicator or place of the request
-another_line : (starts : Starts) (kind : Bor (List ℕ)) (lacks : Vec Lack Global)
-    → request_holds crossed [] [] 0 (of_rank_0 starts) (waiting kind lacks 6 0 0 false) (its_first (of_rank_0 starts)) ≡ false
-another_line starts kind lacks = refl
+-- another line of a post, or another number of the start
+another_line : (given : Bor (List ℕ)) → is_start_in (slice_get (posted_in 4 given) 0) 6 ≡ false
+another_line given = refl
+
+another_start : (given : Bor (List ℕ)) → is_start_in (slice_get (posted_in 4 given) 1) 4 ≡ false
+another_start given = refl
+
+-- another communicator or place of the request
 
 another_communicator : (starts : Starts) (kind : Bor (List ℕ)) (lacks : Vec Lack Global)
-    → request_holds crossed [] [] 0 (of_rank_0 starts) (waiting kind lacks 4 1 0 false) (its_first (of_rank_0 starts)) ≡ false
+    → request_holds crossed [] [] (waiting kind lacks 4 1 0 false) (its_first (of_rank_0 starts)) ≡ false
 another_communicator starts kind lacks = refl
 
 another_place : (starts : Starts) (kind : Bor (List ℕ)) (lacks : Vec Lack Global)
-    → request_holds crossed [] [] 0 (of_rank_0 starts) (waiting kind lacks 4 0 1 false) (its_first (of_rank_0 starts)) ≡ false
+    → request_holds crossed [] [] (waiting kind lacks 4 0 1 false) (its_first (of_rank_0 starts)) ≡ false
 another_place starts kind lacks = refl
 
 -- a line of the lacking rank that starts its request at another place, or another member
-another_peer : (starts : Starts) (kind : Bor (List ℕ)) (lacks : Vec Lack Global)
-    → peer_holds crossed (waiting kind lacks 4 0 0 false) (lacking 1 8 9 true) (of_rank_1 starts) (its_second (of_rank_1 starts)) ≡ false
-another_peer starts kind lacks = refl
+another_peer : (starts : Starts) (given kind : Bor (List ℕ)) (lacks : Vec Lack Global)
+    → starts.items ≡ posted_in 10 given
+    → peer_holds (waiting kind lacks 4 0 0 false) (lacking 1 8 9 true) (its_second (of_rank_1 starts)) ≡ false
+another_peer starts given kind lacks post = ap (λ (items : List Start). is_start_in (slice_get items 0) 8) post
 
 another_member : (starts : Starts) (kind : Bor (List ℕ)) (lacks : Vec Lack Global)
-    → peer_holds crossed (waiting kind lacks 4 0 0 false) (lacking 0 10 9 true) (of_rank_1 starts) (its_second (of_rank_1 starts)) ≡ false
+    → peer_holds (waiting kind lacks 4 0 0 false) (lacking 0 10 9 true) (its_second (of_rank_1 starts)) ≡ false
 another_member starts kind lacks = refl
 
 -- a member of a barrier on which nothing is said to rest

@@ -1,8 +1,8 @@
 use crate::job::Job;
 use crate::place::{Peer, Place};
-use crate::section::MadeRequest;
 use crate::step::{Act, Completes, Step};
 use crate::waiting::WaitsFor;
+use coll_history::Request;
 use coll_kinds::MAX_RANKS;
 use coll_script::Named;
 use std::alloc::{AllocError, Global};
@@ -24,7 +24,7 @@ pub enum Choice {
 /// How far the ranks of a job come if each goes on while it can.
 #[derive(Debug, Drop)]
 pub struct Course<'j> {
-    job: &'j Job,
+    job: &'j Job<'j>,
     waiting: WaitsFor,
     choice: Choice,
     stands: Vec<Stand>,
@@ -72,7 +72,7 @@ impl<'j> Course<'j> {
     /// Lets all ranks go on until none can. The cost is at most quadratic in the steps, and linear for most texts.
     pub fn of(
         alloc: Global,
-        job: &'j Job,
+        job: &'j Job<'j>,
         waiting: WaitsFor,
         choice: Choice,
     ) -> Result<Course<'j>, AllocError> {
@@ -92,7 +92,7 @@ impl<'j> Course<'j> {
     }
 
     /// The job whose ranks go on.
-    pub fn job(&self) -> &'j Job {
+    pub fn job(&self) -> &'j Job<'j> {
         self.job
     }
 
@@ -204,10 +204,10 @@ impl<'j> Course<'j> {
         let Some((made, _)) = self.made(peer.rank, peer.request) else {
             return false;
         };
-        let Some(stand) = self.stands.get(usize::from(peer.rank)) else {
-            return false;
-        };
-        made.step <= stand.at
+        match self.step_of(peer.rank).and_then(|step| step.line) {
+            Some(line) => made.line <= line,
+            None => true,
+        }
     }
 
     fn step_over(&mut self, rank: u8) {
@@ -325,10 +325,10 @@ impl<'j> Course<'j> {
     }
 
     /// A request of a rank, and its place.
-    pub fn made(&self, rank: u8, request: usize) -> Option<(&'j MadeRequest, &'j Place)> {
+    pub fn made(&self, rank: u8, request: usize) -> Option<(&'j Request<'j>, &'j Place)> {
         let section = self.job.sections.get(usize::from(rank))?;
         let made = section.requests.get(request)?;
-        let place = self.job.places.get(made.place)?;
+        let place = self.job.place_of(made)?;
         Some((made, place))
     }
 

@@ -6,6 +6,7 @@ ghost use Rattle.coll_diagnosis.specs.Hearings.{hears_here};
 
 use crate::hearing::heard;
 use crate::job::Job;
+use crate::place::Place;
 use coll_kinds::{MAX_RANKS, Refusal, Signature};
 use coll_verdict::HeardRows;
 use std::alloc::Global;
@@ -16,10 +17,20 @@ pub(crate) fn tables_of(alloc: Global, job: &Job) -> Result<Vec<HeardRows>, Refu
     ensures { IfOk result (λ tables. AreAllTrue hears_here tables.items) }
 {
     let mut tables = Vec::new(alloc);
-    for place in &job.places {
-        add(alloc, place.sig, place.size(), &mut tables)?;
+    for places in &job.places {
+        add_all(alloc, places, &mut tables)?;
     }
     Ok(tables)
+}
+
+/// Adds a table of each of these places' collectives.
+fn add_all(alloc: Global, places: &[Place], tables: &mut Vec<HeardRows>) -> Result<(), Refusal>
+    ensures { AreAllTrue hears_here tables.old.items → AreAllTrue hears_here tables.new.items }
+{
+    for place in places {
+        add(alloc, place.sig, place.size(), tables)?;
+    }
+    Ok(())
 }
 
 /// Adds the table of a collective among `n` members, if it isn't there.

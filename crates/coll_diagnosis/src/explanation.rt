@@ -101,7 +101,7 @@ fn stall_among(
     ensures { IfOk result (λ found. IfSome found (IsShown script.now)) }
 {
     for choice in [Choice::Best, Choice::First, Choice::Last] {
-        let course = Course::of(alloc, job, waiting, choice)?;
+        let course = Course::of(alloc, &*job, waiting, choice)?;
         if course.is_stuck() {
             let standstill = true_standstill(alloc, script, &course)?;
             let ring = shortest_ring(alloc, &standstill.stuck)?;

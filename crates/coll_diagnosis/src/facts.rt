@@ -1,13 +1,13 @@
 //! The facts of a script that a standstill is compared with, and what is looked up in them.
 
-ghost use Rattle.std.specs.Prelude.{◌≡◌, count_by, slice_get};
+ghost use Rattle.std.specs.Prelude.{◌≡◌, slice_get};
 ghost use Rattle.std.specs.List.{list_any};
 ghost use Rattle.coll_kinds.specs.Groups.{is_among};
 ghost use Rattle.coll_history.specs.Histories.{starts};
-ghost use Rattle.coll_diagnosis.specs.Standing.{awaits, completes, ends_after, is_start_in, place_of, size_of, starts_before, starts_in, waits};
+ghost use Rattle.coll_diagnosis.specs.Standing.{awaits, completes, ends_after, is_start_in, size_of, waits};
 
 use coll_history::{Command, IssuedCommand, Named, Request};
-use coll_kinds::{MAX_RANKS, Mode};
+use coll_kinds::MAX_RANKS;
 
 /// What a standstill is compared with: the script's commands, requests and groups.
 #[derive(Drop)]
@@ -20,53 +20,14 @@ pub(crate) struct Facts<'a> {
     pub(crate) groups: &'a [Vec<u8>],
 }
 
-/// The place of a rank's request on a communicator: the number of requests that the rank made there before.
-pub(crate) fn place_of(comm: u8, request: usize, own: &[Request<'_>]) -> usize
-    ensures { result ≡ place_of comm request own.now }
+/// Whether that line makes the start of that number of a request.
+pub(crate) fn is_start_in(request: &Request<'_>, start: u32, line: u32) -> bool
+    ensures { result ≡ is_start_in (slice_get request.now.starts.items start) line }
 {
-    own.iter()
-        .take(request)
-        .filter(|request| request.comm == comm)
-        .count()
-}
-
-/// Whether that line makes the start of that number of a rank's request.
-pub(crate) fn is_start_in(
-    issued: &[IssuedCommand],
-    rank: u8,
-    number: usize,
-    request: &Request<'_>,
-    start: u32,
-    line: u32,
-) -> bool
-    ensures { result ≡ is_start_in issued.now rank number request.now start line }
-{
-    match request.sig.mode {
-        Mode::Persistent => {
-            starts_in(issued, rank, number, line)
-                && starts_before(issued, rank, number, line) == start as usize
-        }
-        Mode::Once => request.line == line && start == 0,
+    match request.starts.get(start as usize) {
+        Some(start) => start.line == line,
+        None => false,
     }
-}
-
-fn starts_in(issued: &[IssuedCommand], rank: u8, request: usize, line: u32) -> bool
-    ensures { result ≡ list_any (starts_in rank line request) issued.now }
-{
-    issued.iter().any(|issued| issued.line == line
-        && issued.rank == rank
-        && starts(request, &issued.command))
-}
-
-fn starts_before(issued: &[IssuedCommand], rank: u8, request: usize, line: u32) -> usize
-    ensures { result ≡ count_by (starts_before rank line request) issued.now }
-{
-    issued
-        .iter()
-        .filter(|issued| issued.line < line
-            && issued.rank == rank
-            && starts(request, &issued.command))
-        .count()
 }
 
 /// How many members a communicator has: at most 64, as in each script.

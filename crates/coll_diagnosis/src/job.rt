@@ -1,35 +1,42 @@
 use crate::place::{Peer, Place};
 use crate::section::RankSection;
-use coll_history::Request;
-use coll_kinds::{MAX_COMMUNICATORS, MAX_RANKS, Refusal};
+use coll_history::{History, Request};
+use coll_kinds::{MAX_COMMUNICATORS, Refusal};
 use coll_script::Script;
 use std::alloc::{AllocError, Global};
 
 /// The job of a script, as the courses go through it.
 #[derive(Debug, Drop)]
-pub struct Job {
+pub struct Job<'s> {
     /// How many ranks there are.
     pub ranks: u8,
     /// The commands and requests of each rank.
-    pub sections: Vec<RankSection>,
-    /// The places of all communicators.
-    pub places: Vec<Place>,
+    pub sections: Vec<RankSection<'s>>,
+    /// The places of each communicator, in their order.
+    pub places: Vec<Vec<Place>>,
 }
 
-impl Job {
+impl<'s> Job<'s> {
     /// Lays a script out. Linear in the commands, in the actions of all requests' schedules, and for each communicator in the
     /// requests of its members.
-    pub fn of(alloc: Global, script: &Script) -> Result<Job, Refusal> {
-        let mut job = Job {
-            ranks: script.history().ranks(),
-            sections: sections(alloc, script)?,
-            places: Vec::new(alloc),
-        };
-        let ranks = script.history().requests(alloc)?;
-        for (comm, group) in (0..MAX_COMMUNICATORS as u8).zip(script.history().groups()) {
-            job.lay_out(alloc, comm, group, &ranks)?;
+    pub fn of(alloc: Global, script: &'s Script) -> Result<Job<'s>, Refusal> {
+        let history = script.history();
+        let sections = sections(alloc, history)?;
+        let mut places = Vec::new(alloc);
+        for (comm, group) in (0..MAX_COMMUNICATORS as u8).zip(history.groups()) {
+            places.push(places_on(alloc, comm, group, &sections)?)?;
         }
-        Ok(job)
+        Ok(Job {
+            ranks: history.ranks(),
+            sections,
+            places,
+        })
+    }
+
+    /// The place of a request.
+    pub fn place_of(&self, request: &Request<'_>) -> Option<&Place> {
+        let places = self.places.get(usize::from(request.comm))?;
+        places.get(request.place)
     }
 
     /// How many steps all ranks have together.
@@ -45,87 +52,60 @@ impl Job {
     pub fn is_open(&self) -> bool {
         self.sections.iter().any(|section| section.steps.iter().any(|step| step.act.is_open()))
     }
-
-    /// Finds the places of a communicator, and adds each member's requests to them.
-    fn lay_out(
-        &mut self,
-        alloc: Global,
-        comm: u8,
-        group: &[u8],
-        ranks: &[Vec<Request<'_>>],
-    ) -> Result<(), Refusal> {
-        let first = self.places.len();
-        for (member, rank) in (0..MAX_RANKS as u8).zip(group) {
-            if let Some(requests) = ranks.get(usize::from(*rank)) {
-                let lot = Lot {
-                    comm,
-                    n: group.len(),
-                    member,
-                    rank: *rank,
-                };
-                self.lay_out_member(alloc, first, lot, requests)?;
-            }
-        }
-        Ok(())
-    }
-
-    /// Adds the requests of one member to the places of its communicator, which begin at that index.
-    fn lay_out_member(
-        &mut self,
-        alloc: Global,
-        first: usize,
-        lot: Lot,
-        requests: &[Request<'_>],
-    ) -> Result<(), Refusal> {
-        let mut number: usize = 0;
-        for (index, request) in requests.iter().enumerate() {
-            if request.comm == lot.comm {
-                let place = first.saturating_add(number);
-                if place >= self.places.len() {
-                    self.places
-                        .push(Place::new(alloc, number, request, lot.n)?)?;
-                }
-                self.lay(place, index, lot)?;
-                number = number.saturating_add(1);
-            }
-        }
-        Ok(())
-    }
-
-    /// Adds one request of a rank to its place.
-    fn lay(&mut self, place: usize, index: usize, lot: Lot) -> Result<(), AllocError> {
-        if let Some(place) = self.places.get_mut(place) {
-            place.peers.push(Peer {
-                rank: lot.rank,
-                request: index,
-            })?;
-        }
-        if let Some(section) = self.sections.get_mut(usize::from(lot.rank)) {
-            if let Some(made) = section.requests.get_mut(index) {
-                made.member = lot.member;
-                made.place = place;
-            }
-        }
-        Ok(())
-    }
 }
 
-/// A rank as a member of a communicator of `n` members.
-#[derive(Clone, Copy, Debug)]
-struct Lot {
+/// The places of a communicator, each with the requests of its members.
+fn places_on(
+    alloc: Global,
+    comm: u8,
+    group: &[u8],
+    sections: &[RankSection<'_>],
+) -> Result<Vec<Place>, Refusal> {
+    let mut places = Vec::new(alloc);
+    for rank in group {
+        if let Some(section) = sections.get(usize::from(*rank)) {
+            lay_out(
+                alloc,
+                comm,
+                group.len(),
+                *rank,
+                &section.requests,
+                &mut places,
+            )?;
+        }
+    }
+    Ok(places)
+}
+
+/// Adds a rank's requests on a communicator of `n` members to their places.
+fn lay_out(
+    alloc: Global,
     comm: u8,
     n: usize,
-    member: u8,
     rank: u8,
+    requests: &[Request<'_>],
+    places: &mut Vec<Place>,
+) -> Result<(), Refusal> {
+    for (index, request) in requests.iter().enumerate() {
+        if request.comm == comm {
+            if request.place >= places.len() {
+                places.push(Place::new(alloc, request, n)?)?;
+            }
+            if let Some(place) = places.get_mut(request.place) {
+                place.peers.push(Peer {
+                    rank,
+                    request: index,
+                })?;
+            }
+        }
+    }
+    Ok(())
 }
 
 /// The section of each rank.
-fn sections(alloc: Global, script: &Script) -> Result<Vec<RankSection>, AllocError> {
-    let mut sections = Vec::new(alloc);
-    for _ in 0..script.history().ranks() {
-        sections.push(RankSection::new(alloc))?;
-    }
-    for issued in script.history().commands() {
+fn sections(alloc: Global, history: &History) -> Result<Vec<RankSection<'_>>, AllocError> {
+    let mut sections = begun(alloc, history)?;
+    for issued in history.commands() {
         if let Some(section) = sections.get_mut(usize::from(issued.rank)) {
             section.say(alloc, issued.line, &issued.command)?;
         }
@@ -134,7 +114,16 @@ fn sections(alloc: Global, script: &Script) -> Result<Vec<RankSection>, AllocErr
     Ok(sections)
 }
 
-fn end_all(sections: &mut [RankSection]) -> Result<(), AllocError> {
+/// The section of each rank before its first command.
+fn begun(alloc: Global, history: &History) -> Result<Vec<RankSection<'_>>, AllocError> {
+    let mut sections = Vec::new(alloc);
+    for requests in history.requests(alloc)? {
+        sections.push(RankSection::new(alloc, requests))?;
+    }
+    Ok(sections)
+}
+
+fn end_all(sections: &mut [RankSection<'_>]) -> Result<(), AllocError> {
     for section in sections.iter_mut() {
         section.end()?;
     }

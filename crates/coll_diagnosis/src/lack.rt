@@ -1,8 +1,7 @@
 use crate::course::Course;
-use crate::facts::{Facts, is_start_in, place_of, waits};
+use crate::facts::{Facts, is_start_in, waits};
 use crate::pending::Pending;
 use crate::place::{Peer, Place};
-use crate::section::MadeRequest;
 use coll_history::{IssuedCommand, Request};
 use coll_kinds::MAX_RANKS;
 use serde::Serialize;
@@ -56,35 +55,23 @@ impl Lack {
 
     /// Whether the lacking rank has a request at the place of the pending one, and starts it in the line that is reported.
     fn theirs_hold(&self, facts: &Facts<'_>, pending: &Pending) -> bool
-        ensures { result ≡ theirs_hold facts.now.issued.now pending.now self.now (slice_get facts.now.ranks.now self.now.rank) }
+        ensures { result ≡ theirs_hold pending.now self.now (slice_get facts.now.ranks.now self.now.rank) }
     {
         match facts.ranks.get(usize::from(self.rank)) {
-            Some(theirs) => self.peer_holds(facts.issued, pending, theirs),
+            Some(theirs) => self.peer_holds(pending, theirs),
             None => false,
         }
     }
 
-    fn peer_holds(
-        &self,
-        issued: &[IssuedCommand],
-        pending: &Pending,
-        theirs: &[Request<'_>],
-    ) -> bool
-        ensures { result ≡ peer_holds issued.now pending.now self.now theirs.now (slice_get theirs.now self.now.request) }
+    fn peer_holds(&self, pending: &Pending, theirs: &[Request<'_>]) -> bool
+        ensures { result ≡ peer_holds pending.now self.now (slice_get theirs.now self.now.request) }
     {
         match theirs.get(self.request) {
             Some(request) => {
                 request.comm == pending.comm
-                    && place_of(pending.comm, self.request, theirs) == pending.place
+                    && request.place == pending.place
                     && request.member == self.member
-                    && is_start_in(
-                        issued,
-                        self.rank,
-                        self.request,
-                        request,
-                        pending.start,
-                        self.line,
-                    )
+                    && is_start_in(request, pending.start, self.line)
             }
             None => false,
         }
@@ -113,7 +100,7 @@ pub(crate) fn lacks(
     alloc: Global,
     course: &Course<'_>,
     place: &Place,
-    made: &MadeRequest,
+    made: &Request<'_>,
     start: u32,
 ) -> Result<Vec<Lack>, AllocError> {
     let mut lacks = Vec::new(alloc);
@@ -137,7 +124,7 @@ fn absence(
     is_needed: bool,
 ) -> Option<Lack> {
     let (theirs, _) = course.made(peer.rank, peer.request)?;
-    let line = *theirs.starts.get(start as usize)?;
+    let line = theirs.starts.get(start as usize)?.line;
     let behind = course.step_of(peer.rank)?.line?;
     Some(Lack {
         rank: peer.rank,

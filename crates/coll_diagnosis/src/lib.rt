@@ -60,7 +60,7 @@ pub use lack::Lack;
 pub use members::Members;
 pub use pending::Pending;
 pub use place::{Peer, Place};
-pub use section::{MadeRequest, RankSection};
+pub use section::RankSection;
 pub use standstill::Standstill;
 pub use step::{Act, Completes, Step};
 pub use stuck::Stuck;

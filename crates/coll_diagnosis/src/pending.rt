@@ -1,5 +1,5 @@
 use crate::course::Course;
-use crate::facts::{Facts, awaits, ends_after, is_start_in, place_of, size_of};
+use crate::facts::{Facts, awaits, ends_after, is_start_in, size_of};
 use crate::lack::{Lack, lacks};
 use crate::step::Act;
 use crate::stuck::Stuck;
@@ -34,8 +34,7 @@ impl Pending {
     pub(crate) fn holds(&self, facts: &Facts<'_>, stuck: &Stuck, own: &[Request<'_>]) -> bool
         ensures { result ≡ pending_holds facts.now.issued.now facts.now.ranks.now facts.now.groups.now stuck.now own.now self.now }
     {
-        self.is_awaited(facts.issued, stuck.rank, stuck.line)
-            && self.request_holds(facts, stuck.rank, own)
+        self.is_awaited(facts.issued, stuck.rank, stuck.line) && self.request_holds(facts, own)
     }
 
     /// Whether the call in that line waits for the request, which was started before. No line is that of the unwritten `waitall`: then
@@ -59,30 +58,22 @@ impl Pending {
     }
 
     /// Whether the rank's own request of that number is as reported.
-    fn request_holds(&self, facts: &Facts<'_>, rank: u8, own: &[Request<'_>]) -> bool
-        ensures { result ≡ request_holds facts.now.issued.now facts.now.ranks.now facts.now.groups.now rank own.now self.now (slice_get own.now self.now.request) }
+    fn request_holds(&self, facts: &Facts<'_>, own: &[Request<'_>]) -> bool
+        ensures { result ≡ request_holds facts.now.issued.now facts.now.ranks.now facts.now.groups.now self.now (slice_get own.now self.now.request) }
     {
         match own.get(self.request) {
-            Some(request) => {
-                self.fits(facts.issued, rank, own, request) && self.lacks_hold(facts, request)
-            }
+            Some(request) => self.fits(request) && self.lacks_hold(facts, request),
             None => false,
         }
     }
 
     /// Whether the request has the communicator, the place, the start with its line, the kind and the mode that are reported.
-    fn fits(
-        &self,
-        issued: &[IssuedCommand],
-        rank: u8,
-        own: &[Request<'_>],
-        request: &Request<'_>,
-    ) -> bool
-        ensures { result ≡ fits issued.now rank own.now self.now request.now }
+    fn fits(&self, request: &Request<'_>) -> bool
+        ensures { result ≡ fits self.now request.now }
     {
         request.comm == self.comm
-            && place_of(self.comm, self.request, own) == self.place
-            && is_start_in(issued, rank, self.request, request, self.start, self.line)
+            && request.place == self.place
+            && is_start_in(request, self.start, self.line)
             && self.kind.as_bytes() == request.sig.kind.word().as_bytes()
             && self.mode_holds(request.sig.mode)
     }
@@ -151,7 +142,7 @@ fn pending_request(
     let Some(start) = course.start_of(rank, request) else {
         return Ok(None);
     };
-    let Some(line) = made.starts.get(start as usize) else {
+    let Some(started) = made.starts.get(start as usize) else {
         return Ok(None);
     };
     let lacks = lacks(alloc, course, place, made, start)?;
@@ -160,7 +151,7 @@ fn pending_request(
     }
     Ok(Some(Pending {
         request,
-        line: *line,
+        line: started.line,
         comm: place.comm,
         place: place.number,
         start,

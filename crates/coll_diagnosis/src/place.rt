@@ -26,16 +26,11 @@ pub struct Place {
 
 impl Place {
     /// A place among `n` members, for the first request that has it.
-    pub(crate) fn new(
-        alloc: Global,
-        number: usize,
-        request: &Request<'_>,
-        n: usize,
-    ) -> Result<Place, Refusal> {
+    pub(crate) fn new(alloc: Global, request: &Request<'_>, n: usize) -> Result<Place, Refusal> {
         let n = n.min(MAX_RANKS) as u8;
         Ok(Place {
             comm: request.comm,
-            number,
+            number: request.place,
             sig: request.sig,
             peers: Vec::new(alloc),
             heard: heard(alloc, request.sig, n)?,

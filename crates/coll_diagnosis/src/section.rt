@@ -1,58 +1,39 @@
 use crate::step::{Act, Completes, Step};
+use coll_history::Request;
 use coll_script::{Command, Named};
 use std::alloc::{AllocError, Global};
 
 /// The commands and requests of a rank, as far as they bear on which rank waits for which.
 #[derive(Debug, Drop)]
-pub struct RankSection {
+pub struct RankSection<'s> {
     /// The commands, and after them the unwritten `waitall`.
     pub steps: Vec<Step>,
     /// The requests, by their numbers.
-    pub requests: Vec<MadeRequest>,
+    pub requests: Vec<Request<'s>>,
+    /// The number of requests that the steps so far make.
+    made: usize,
 }
 
-/// A request of a rank.
-#[derive(Debug, Drop)]
-pub struct MadeRequest {
-    /// Its member number in the communicator.
-    pub member: u8,
-    /// The index of its place among the places of the job.
-    pub place: usize,
-    /// The index of the step that makes it.
-    pub step: usize,
-    /// The line of each start; for a once request the line of its post.
-    pub starts: Vec<u32>,
-}
-
-impl RankSection {
-    /// The section of a rank without commands.
-    pub(crate) fn new(alloc: Global) -> RankSection {
+impl<'s> RankSection<'s> {
+    /// The section of a rank with these requests, before its first command.
+    pub(crate) fn new(alloc: Global, requests: Vec<Request<'s>>) -> RankSection<'s> {
         RankSection {
             steps: Vec::new(alloc),
-            requests: Vec::new(alloc),
+            requests,
+            made: 0,
         }
     }
 
-    /// Adds a command, which stands in that line. The place of its request is found later.
+    /// Adds a command, which stands in that line.
     pub(crate) fn say(
         &mut self,
         alloc: Global,
         line: u32,
         command: &Command,
     ) -> Result<(), AllocError> {
-        let act = Act::of(alloc, command, self.requests.len())?;
+        let act = Act::of(alloc, command, self.made)?;
         if command.is_posting() {
-            self.requests.push(MadeRequest {
-                member: 0,
-                place: 0,
-                step: self.steps.len(),
-                starts: Vec::new(alloc),
-            })?;
-        }
-        if let Act::Give(request) = act {
-            if let Some(made) = self.requests.get_mut(request) {
-                made.starts.push(line)?;
-            }
+            self.made = self.made.saturating_add(1);
         }
         self.steps.push(Step {
             line: Some(line),
