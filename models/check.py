@@ -5,7 +5,7 @@
 
 It ends with 0 where all came out as they must, with 1 where some came out otherwise, and else with 2 where some searches weren't finished.
 It needs `spin` 6.5 and `gcc` (Debian: apt-get install spin gcc). --quick leaves out what takes longer than ten seconds, --jobs N
-searches N at a time. What --quick leaves takes some six minutes on one processor, mostly for the compiler; the whole half an hour, and at most 5 GiB for each search.
+searches N at a time. What --quick leaves takes three minutes of processor time, mostly for the compiler; the whole half an hour, and at most 5 GiB for each search.
 """
 
 import argparse
