@@ -100,7 +100,7 @@ impl<L: Entries> Combiner<L> {
 
     fn await_lock<R: Wait>(&self, rt: &R) -> Held<'_, L> {
         let backoff = Backoff::new();
-        for _ in 0..self.turns.without_turns().asks() {
+        for _ in 0..self.turns.asks() {
             if let Some(held) = self.try_enter() {
                 return held;
             }

@@ -1,72 +1,71 @@
-//! How long a thread that waits spins before it sleeps, and whether it gives turns to other threads meanwhile. `bench/RESULTS.md`,
+//! How long a thread that waits looks before it sleeps, and whether it gives turns to other threads meanwhile. `bench/RESULTS.md`,
 //! "Waiting", has the measurements.
 
 use std::hint::spin_loop;
 use std::rt::Clock;
 use std::sync::atomic::{AtomicU64, Ordering};
 use std::thread::yield_now;
-use std::time::{Duration, Instant};
 
 /// How a thread waits, before it sleeps.
 #[derive(Clone, Copy, Debug)]
 pub(crate) struct Patience {
-    /// Looks in a row, without a turn for others.
-    spins: u32,
-    /// Looks after these, with a turn for others before each.
-    snoozes: u32,
+    /// Looks in all.
+    looks: u32,
+    /// Looks in a row, before the first one with a turn for others.
+    close: u32,
     /// It tries to take the lock at the looks whose number has all of these bits.
     tries: u32,
     /// Looks in a row while it holds the lock, before it gives the lock up.
     holds: u32,
-    /// Tries to take the lock that it asks for, with longer and longer pauses between them.
-    asks: u32,
+    /// Whether it looks only shortly, since long looks were in vain.
+    is_short: bool,
 }
 
-/// Where each thread has a processor of its own, and turns are short. It seldom tries for the lock, since each try takes the lock's word out of
-/// the cache of the thread that has the lock; a port that nobody serves waits for the first try.
+/// Where each thread has a processor of its own. It seldom tries for the lock, since each try takes the lock's word out of the cache of the
+/// thread that has the lock; a port that nobody serves waits for the first try.
 const OWN_PROCESSOR: Patience = Patience {
-    spins: 20,
-    snoozes: 1_980,
+    looks: 2_000,
+    close: 20,
     tries: 1_023,
     holds: 1_250,
-    asks: 160,
+    is_short: false,
 };
 
-/// Where each thread has a processor of its own, and turns are long: it gives none.
-const OWN_PROCESSOR_CROWDED: Patience = Patience {
-    spins: 10_000,
-    snoozes: 0,
-    tries: 1_023,
-    holds: 1_250,
-    asks: 160,
-};
-
-/// Where threads share processors, and turns are short.
+/// Where threads share processors.
 const SHARED_PROCESSOR: Patience = Patience {
-    spins: 20,
-    snoozes: 1_980,
+    looks: 2_000,
+    close: 20,
     tries: 63,
     holds: 200,
-    asks: 8,
-};
-
-/// Where threads share processors, and turns are long: it looks about as long as it takes to sleep and be woken.
-const SHARED_PROCESSOR_CROWDED: Patience = Patience {
-    spins: 200,
-    snoozes: 0,
-    tries: 63,
-    holds: 50,
-    asks: 8,
+    is_short: false,
 };
 
 /// Where threads share one processor, and turns are long: nothing changes while it looks.
 const ONE_PROCESSOR_CROWDED: Patience = Patience {
-    spins: 0,
-    snoozes: 0,
+    looks: 0,
+    close: 0,
     tries: 0,
     holds: 0,
-    asks: 0,
+    is_short: true,
 };
+
+/// Looks in a row with the lock where turns are long.
+const CROWDED_HOLDS: u32 = 50;
+
+/// Looks where long looks were in vain.
+const FEW_LOOKS: u32 = 50;
+
+/// The number of long looks in vain, less those that helped, after which a thread looks shortly.
+const IN_VAIN: u64 = 3;
+
+/// Of the waits of a thread that looks shortly the one whose number has none of these bits looks long: it finds out whether that helps again.
+const SHORT: u64 = 15;
+
+/// Tries to take the lock that a thread asks for, with longer and longer pauses between them, where each thread has a processor of its own.
+const OWN_PROCESSOR_ASKS: u32 = 160;
+
+/// The same where threads share processors.
+const SHARED_PROCESSOR_ASKS: u32 = 8;
 
 /// The first looks with the lock, which follow one another without longer pauses.
 const CLOSE: u32 = 20;
@@ -77,16 +76,22 @@ const PAUSES: u32 = 8;
 /// The turns of a wait whose number has none of these bits are timed, the first one among them.
 const UNTIMED: u32 = 3;
 
-/// A turn of this many milliseconds went to another program. One that goes to a thread of the engine, or to nobody, takes some microseconds.
-const LONG: u64 = 1;
+/// A turn of over this many microseconds went to a thread that computes, for a time slice. Another one takes some microseconds.
+const LONG: u64 = 500;
 
-/// The number of waits that give no turns after a long one.
-const PERIOD: u64 = 10_000;
+/// A port's long turns take at most one part in so many of its time.
+const SHARE: u64 = 100;
+
+/// The microseconds whose part it can save.
+const CREDIT: u64 = 1_000_000;
+
+/// The microseconds after which it gives turns again at the latest, since the program may have been stopped while it gave one.
+const REPAID: u64 = 60_000_000;
 
 impl Patience {
     /// Looks in all.
     pub(crate) fn looks(self) -> u32 {
-        self.spins.saturating_add(self.snoozes)
+        self.looks
     }
 
     /// Looks while it holds the lock.
@@ -94,14 +99,31 @@ impl Patience {
         self.holds
     }
 
-    /// Tries to take the lock that it asks for, before it sleeps.
-    pub(crate) fn asks(self) -> u32 {
-        self.asks
-    }
-
     /// Whether it tries to take the lock at this look.
     pub(crate) fn tries(self, look: u32) -> bool {
         look & self.tries == self.tries
+    }
+
+    /// The same without turns for others.
+    fn crowded(self) -> Self {
+        Patience {
+            looks: self.looks,
+            close: u32::MAX,
+            tries: self.tries,
+            holds: CROWDED_HOLDS,
+            is_short: self.is_short,
+        }
+    }
+
+    /// The same with few looks.
+    fn short(self) -> Self {
+        Patience {
+            looks: FEW_LOOKS,
+            close: self.close,
+            tries: self.tries,
+            holds: self.holds,
+            is_short: true,
+        }
     }
 }
 
@@ -113,35 +135,108 @@ pub(crate) fn pause_with_the_lock(look: u32) {
     }
 }
 
-/// Gives a turn to others. Returns whether it was a long one.
-fn is_long_turn<C: Clock>(clock: &C) -> bool {
-    let Ok(before) = Instant::now(clock) else {
-        yield_now();
-        return false;
-    };
-    yield_now();
-    match before.elapsed(clock) {
-        Ok(took) => took >= Duration::from_millis(LONG),
-        Err(_) => false,
+/// The microseconds of the clock, or 0 where it can't be read.
+fn microseconds<C: Clock>(clock: &C) -> u64 {
+    match clock.monotonic() {
+        Ok(time) => time
+            .as_secs()
+            .saturating_mul(1_000_000)
+            .saturating_add(u64::from(time.subsec_micros())),
+        Err(_) => 0,
     }
 }
 
-/// What is known of the turns that threads give to others. Where other programs want the processors, a turn takes a time slice.
+/// What a port has found in its waits. Only the port uses it.
+#[derive(Drop)]
+pub(crate) struct Waits {
+    /// How often it has looked long and slept all the same, less how often not.
+    in_vain: AtomicU64,
+    /// How many waits there were since it looks shortly.
+    short: AtomicU64,
+    /// When its long turns are within their share, or 0 where they are for long.
+    repaid: AtomicU64,
+}
+
+impl Waits {
+    pub(crate) fn new() -> Self {
+        Waits {
+            in_vain: AtomicU64::new(0),
+            short: AtomicU64::new(0),
+            repaid: AtomicU64::new(0),
+        }
+    }
+
+    /// Whether the wait that begins now gives turns. The clock is read only where one was long.
+    fn gives_turns<C: Clock>(&self, clock: &C) -> bool {
+        let repaid = self.repaid.load(Ordering::Relaxed);
+        if repaid == 0 {
+            return true;
+        }
+        let now = microseconds(clock);
+        if now >= repaid.saturating_add(CREDIT) {
+            self.repaid.store(0, Ordering::Relaxed);
+        }
+        now >= repaid
+    }
+
+    /// Whether the wait that begins now looks shortly.
+    fn is_short(&self) -> bool {
+        if self.in_vain.load(Ordering::Relaxed) < IN_VAIN {
+            return false;
+        }
+        let short = self.short.load(Ordering::Relaxed).wrapping_add(1);
+        self.short.store(short, Ordering::Relaxed);
+        short & SHORT != 0
+    }
+
+    /// Gives a turn to others. Returns whether it is within the share.
+    fn give<C: Clock>(&self, clock: &C) -> bool {
+        let from = microseconds(clock);
+        yield_now();
+        let to = microseconds(clock);
+        let took = to.saturating_sub(from);
+        if took <= LONG {
+            return true;
+        }
+        let saved = self
+            .repaid
+            .load(Ordering::Relaxed)
+            .max(from.saturating_sub(CREDIT));
+        let repaid = saved
+            .saturating_add(took.saturating_mul(SHARE))
+            .min(to.saturating_add(REPAID));
+        self.repaid.store(repaid, Ordering::Relaxed);
+        to >= repaid
+    }
+
+    /// A wait is over, in which the port looked, or slept.
+    pub(crate) fn note(&self, patience: Patience, looked: bool, slept: bool) {
+        if patience.is_short {
+            return;
+        }
+        let in_vain = self.in_vain.load(Ordering::Relaxed);
+        if slept && in_vain <= IN_VAIN {
+            self.in_vain.store(in_vain.saturating_add(1), Ordering::Relaxed);
+        }
+        if looked && !slept && in_vain > 0 {
+            self.in_vain.store(in_vain.saturating_sub(1), Ordering::Relaxed);
+        }
+    }
+}
+
+/// How many threads there are, and how many processors for them.
 #[derive(Drop)]
 pub(crate) struct Turns {
     threads: AtomicU64,
     processors: AtomicU64,
-    /// The number of further waits that give no turns.
-    left: AtomicU64,
 }
 
 impl Turns {
-    /// Turns count as short, and threads as sharing processors.
+    /// Threads count as sharing processors.
     pub(crate) fn new() -> Self {
         Turns {
             threads: AtomicU64::new(3),
             processors: AtomicU64::new(2),
-            left: AtomicU64::new(0),
         }
     }
 
@@ -156,34 +251,49 @@ impl Turns {
         self.threads.load(Ordering::SeqCst) <= self.processors.load(Ordering::SeqCst)
     }
 
-    /// The patience of a thread that gives no turns.
-    pub(crate) fn without_turns(&self) -> Patience {
+    /// Tries to take the lock that a thread asks for, before it sleeps.
+    pub(crate) fn asks(&self) -> u32 {
         if self.has_each_a_processor() {
-            OWN_PROCESSOR_CROWDED
-        } else if self.processors.load(Ordering::SeqCst) > 1 {
-            SHARED_PROCESSOR_CROWDED
+            OWN_PROCESSOR_ASKS
         } else {
-            ONE_PROCESSOR_CROWDED
+            SHARED_PROCESSOR_ASKS
         }
     }
 
-    /// How the wait that begins now is made. Of the words that all threads which wait have in their caches none is written while turns are short.
-    pub(crate) fn patience(&self) -> Patience {
-        let left = self.left.load(Ordering::SeqCst);
-        if left > 0 {
-            self.left.store(left - 1, Ordering::SeqCst);
-            return self.without_turns();
+    /// The patience of a thread that gives no turns, for one that does.
+    fn crowded(&self, patience: Patience) -> Patience {
+        if self.processors.load(Ordering::SeqCst) <= 1 {
+            return ONE_PROCESSOR_CROWDED;
         }
-        if self.has_each_a_processor() {
+        patience.crowded()
+    }
+
+    /// How the wait of a port that begins now is made.
+    pub(crate) fn patience<C: Clock>(&self, clock: &C, waits: &Waits) -> Patience {
+        let mut patience = if self.has_each_a_processor() {
             OWN_PROCESSOR
         } else {
             SHARED_PROCESSOR
+        };
+        if waits.is_short() {
+            patience = patience.short();
+        }
+        if waits.gives_turns(clock) {
+            patience
+        } else {
+            self.crowded(patience)
         }
     }
 
-    /// A pause after a look. Returns how the wait goes on: after a long turn, without further ones.
-    pub(crate) fn pause<C: Clock>(&self, clock: &C, patience: Patience, look: u32) -> Patience {
-        let Some(turn) = look.checked_sub(patience.spins) else {
+    /// A pause after a look. Returns how the wait goes on: without further turns, where long ones have had their share.
+    pub(crate) fn pause<C: Clock>(
+        &self,
+        clock: &C,
+        waits: &Waits,
+        patience: Patience,
+        look: u32,
+    ) -> Patience {
+        let Some(turn) = look.checked_sub(patience.close) else {
             spin_loop();
             return patience;
         };
@@ -191,10 +301,10 @@ impl Turns {
             yield_now();
             return patience;
         }
-        if !is_long_turn(clock) {
-            return patience;
+        if waits.give(clock) {
+            patience
+        } else {
+            self.crowded(patience)
         }
-        self.left.store(PERIOD, Ordering::SeqCst);
-        self.without_turns()
     }
 }

@@ -5,6 +5,7 @@ ghost use Rattle.std.specs.Bool.{OnFalse, OnTrue};
 ghost use Rattle.coll_shared.specs.Publications.{IsAwake, IsExpected, IsUnanswered};
 
 use crate::publication::{Content, Expected, Publication};
+use crate::patience::Waits;
 use coll_kinds::Ticket;
 use coll_traced::{Completed, Entries, Receipt, Tally, TracedCore};
 use std::sync::atomic::{AtomicBool, AtomicU64, Ordering};
@@ -28,6 +29,7 @@ pub(crate) struct PublicationRecord<L: Entries> {
     word: AtomicU64,
     /// Whether the port served its last call itself. Only the port uses it.
     leads: AtomicBool,
+    waits: Waits,
     slot: Mutex<Option<Publication<L>>>,
 }
 
@@ -36,6 +38,7 @@ impl<L: Entries> PublicationRecord<L> {
         PublicationRecord {
             word: AtomicU64::new(EMPTY),
             leads: AtomicBool::new(true),
+            waits: Waits::new(),
             slot: Mutex::new(None),
         }
     }
@@ -44,6 +47,11 @@ impl<L: Entries> PublicationRecord<L> {
     /// it publishes the next one.
     pub(crate) fn leads(&self) -> bool {
         self.leads.load(Ordering::Relaxed)
+    }
+
+    /// What the port has found in its waits.
+    pub(crate) fn waits(&self) -> &Waits {
+        &self.waits
     }
 
     pub(crate) fn set_leads(&self, leads: bool) {

@@ -36,7 +36,10 @@ impl<L: Entries> Combiner<L> {
                     return Some(held);
                 }
             }
-            patience = self.turns.pause(rt, patience, look);
+            if look >= patience.looks() {
+                break;
+            }
+            patience = self.turns.pause(rt, record.waits(), patience, look);
         }
         Some(self.enter(rt))
     }
@@ -63,19 +66,31 @@ impl<L: Entries> Combiner<L> {
     ) -> Result<(), Refusal>
         ensures { IfErr result (IsHindrance L.setting rank) }
     {
-        let patience = self.turns.patience();
+        let patience = self.turns.patience(rt, record.waits());
         let mut may_park = false;
+        let mut looked = false;
+        let mut slept = false;
         for _ in rt.forever() {
             let turn = match held {
                 Some(held) => self.turn(rt, gate, held, rank, record, patience, may_park)?,
                 None => Turn::Spin,
             };
             let found = match turn {
-                Turn::Over => return Ok(()),
-                Turn::Spin => self.spin(rt, record, patience),
-                Turn::Park => self.park(rt, record),
+                Turn::Over => {
+                    record.waits().note(patience, looked, slept);
+                    return Ok(());
+                }
+                Turn::Spin => {
+                    looked = true;
+                    self.spin(rt, record, patience)
+                }
+                Turn::Park => {
+                    slept = true;
+                    self.park(rt, record)
+                }
             };
             let Some(again) = found else {
+                record.waits().note(patience, looked, slept);
                 return Ok(());
             };
             held = Some(again);
