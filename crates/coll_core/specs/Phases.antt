@@ -8,6 +8,7 @@ use Rattle.coll_kinds.specs.declared.ticket.Ticket.{Ticket}
 use Rattle.coll_core.specs.declared.phase.Phase.{Phase}
 use Rattle.coll_core.specs.declared.phase.Phase.TheVariants.{Idle, Pending, Done}
 use Rattle.coll_core.specs.declared.about.About.{About}
+use Rattle.coll_tables.specs.FreeLocks.{HasHeard}
 use Rattle.coll_tables.specs.Requests.{Live, key}
 use Rattle.coll_core.specs.Cores.{Parts, setting, tables}
 
@@ -50,3 +51,16 @@ IsFinished p = (i : ℕ) (q : Live)
     → q.active ≡ true
     → ((m : ℕ) → m < size (setting p) q.comm → (tables p).given (key q) m ≢ None)
     → (tables p).home i ≡ number_of (DoneList q.comm)
+
+-- those of its starts that members work on are Done exactly where all have given from whom the member hears by its schedule
+pub record AreDoneOnceHeard (p : Parts) : Type 0 where
+  pub once : IsQuiet p
+      → (i : ℕ) (q : Live)
+      → (tables p).request i ≡ Some q
+      → q.active ≡ true
+      → HasHeard (tables p) q
+      → (tables p).home i ≡ number_of (DoneList q.comm)
+  pub not_before : (i : ℕ) (q : Live)
+      → (tables p).request i ≡ Some q
+      → (tables p).home i ≡ number_of (DoneList q.comm)
+      → HasHeard (tables p) q

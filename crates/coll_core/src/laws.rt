@@ -7,7 +7,7 @@ ghost use Rattle.coll_arena.specs.ListNames.{list_count, number_of};
 ghost use Rattle.coll_core.specs.BetweenCalls.{BetweenCalls};
 ghost use Rattle.coll_core.specs.Cores.{tables};
 ghost use Rattle.coll_core.specs.LockSteps.{OfLockStep};
-ghost use Rattle.coll_core.specs.Phases.{IsFinished, IsQuiet};
+ghost use Rattle.coll_core.specs.Phases.{AreDoneOnceHeard, IsFinished, IsQuiet};
 ghost use Rattle.coll_core.specs.Steps.{IsOut};
 ghost use Rattle.coll_core.specs.Works.{Piece};
 
@@ -51,6 +51,15 @@ pub fn operands_are_of_lock_step(core: &Core)
 /// each member that works on it.
 pub fn quiet_is_finished(core: &Core)
     ensures { IsQuiet core.now → IsFinished core.now }
+{
+    core.check();
+    core.check_quiet();
+}
+
+/// A start is Done at a member that works on it only where all have given from whom the member hears by the end of its schedule;
+/// and where no request is ready and no combination is handed out, also wherever they have.
+pub fn done_once_heard(core: &Core)
+    ensures { AreDoneOnceHeard core.now }
 {
     core.check();
     core.check_quiet();

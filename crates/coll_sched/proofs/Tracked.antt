@@ -1,10 +1,10 @@
 -- The laws of worlds on their track
 use Rattle.std.proofs.Common.{◌≡◌, ℕ, List, Option, Some, None, refl}
 use Rattle.coll_sched.specs.Worlds.{empty}
-use Rattle.coll_sched.specs.Tracked.{StepsTrack, ReachedTracks, UnbegunTracks, TrackedFinishes}
+use Rattle.coll_sched.specs.Tracked.{StepsTrack, ReachedTracks, UnbegunTracks, TrackedFinishes, TrackedFinishesHeard}
 use Rattle.coll_sched.proofs.Track.{heard_self, keeps, not_begun, tracks, tracks_empty}
 use Rattle.coll_sched.proofs.Views.{tracks_agrees}
-use Rattle.coll_sched.proofs.Quiet.{all_done}
+use Rattle.coll_sched.proofs.Quiet.{all_done, heard_done}
 
 pub steps_track : StepsTrack
 steps_track n f lawful w v step t = keeps n f lawful step t
@@ -27,4 +27,7 @@ unbegun_tracks n f g w t none =
     nothing q r j (Some bytes) e = absurd ((t.in_transit q r j bytes e).heard q (heard_self f j q) (none q))
 
 pub tracked_finishes : TrackedFinishes
-tracked_finishes n f lawful w t all quiet r p e = all_done n f lawful w t all quiet r p e
+tracked_finishes n f lawful w t all quiet r p e = all_done n f lawful w t quiet all r p e
+
+pub tracked_finishes_heard : TrackedFinishesHeard
+tracked_finishes_heard n f lawful w t quiet r p e heard = heard_done n f lawful w t quiet r p e heard

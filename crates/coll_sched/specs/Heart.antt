@@ -60,6 +60,18 @@ Finishes = (n : ℕ) (f : Family)
     → w.progress r ≡ Some p
     → p.round ≡ length (f r).rounds
 
+-- and without the others: quiet means finished for a member once all have joined whom it hears
+abbrev pub FinishesHeard : Type 0
+FinishesHeard = (n : ℕ) (f : Family)
+    → IsLawful n f
+    → (w : World)
+    → Reached n f w
+    → IsQuiet f w
+    → (r : ℕ) (p : Progress)
+    → w.progress r ≡ Some p
+    → ((s : ℕ) → Heard f (length (f r).rounds) r s → w.given s ≢ None)
+    → p.round ≡ length (f r).rounds
+
 -- the theorem
 abbrev pub Heart : Type 0
 Heart = (n : ℕ) (f : Family) → IsLawful n f → (w : World) → Reached n f w → Holds n f w

@@ -1,7 +1,7 @@
 -- What an engine that keeps its instances on their track, call by call, may conclude of them
 use Rattle.std.specs.Prelude.{◌≡◌, ℕ, ◌<◌, ◌≢◌, length, Some, None}
 use Rattle.coll_kinds.specs.declared.signature.Signature.{Signature}
-use Rattle.coll_sched.specs.Families.{Family, IsLawful}
+use Rattle.coll_sched.specs.Families.{Family, Heard, IsLawful}
 use Rattle.coll_sched.specs.Worlds.{Progress, World, Reached, Step}
 use Rattle.coll_sched.specs.Tracks.{Tracks}
 use Rattle.coll_sched.specs.Heart.{Holds, IsQuiet}
@@ -36,3 +36,10 @@ TrackedFinishes =
     (n : ℕ) (f : Family) → IsLawful n f → (w : World) → Tracks n f w
     → ((r : ℕ) → r < n → w.given r ≢ None) → IsQuiet f w
     → (r : ℕ) (p : Progress) → w.progress r ≡ Some p → p.round ≡ length (f r).rounds
+
+abbrev pub TrackedFinishesHeard : Type 0
+TrackedFinishesHeard =
+    (n : ℕ) (f : Family) → IsLawful n f → (w : World) → Tracks n f w → IsQuiet f w
+    → (r : ℕ) (p : Progress) → w.progress r ≡ Some p
+    → ((s : ℕ) → Heard f (length (f r).rounds) r s → w.given s ≢ None)
+    → p.round ≡ length (f r).rounds

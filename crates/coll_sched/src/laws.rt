@@ -1,11 +1,11 @@
 //! Laws of families of schedules. Each is the contract of a function that does nothing, so a crate
 //! above may cite it.
 
-ghost use Rattle.coll_sched.specs.Heart.{Heart, Finishes};
+ghost use Rattle.coll_sched.specs.Heart.{Heart, Finishes, FinishesHeard};
 ghost use Rattle.coll_sched.specs.Orders.{BoundsMembers, Commutes, RestsOnHeard};
 ghost use Rattle.coll_sched.specs.Points.{Ends, GoesOver, KeepsRemaining, LowersRemaining};
 ghost use Rattle.coll_sched.specs.Served.{HeldValue};
-ghost use Rattle.coll_sched.specs.Tracked.{ReachedTracks, StepsTrack, TrackedFinishes, TrackedHolds, TrackedValue, UnbegunRests, UnbegunTracks};
+ghost use Rattle.coll_sched.specs.Tracked.{ReachedTracks, StepsTrack, TrackedFinishes, TrackedFinishesHeard, TrackedHolds, TrackedValue, UnbegunRests, UnbegunTracks};
 ghost use Rattle.coll_sched.specs.Views.{Empties, Skips};
 ghost use Rattle.coll_sched.specs.Writers.{RestsOnWriters};
 
@@ -27,6 +27,12 @@ pub fn holds_value()
 /// each has done all its actions.
 pub fn quiet_is_finished()
     ensures { Finishes }
+{}
+
+/// A member is finished before all have joined: in a world in which no member can go on, each whose heard have joined has done
+/// all its actions.
+pub fn quiet_has_heard()
+    ensures { FinishesHeard }
 {}
 
 /// Once all have joined and left, no message stands.
@@ -87,4 +93,5 @@ pub fn tracks_hold()
     ensures holds { TrackedHolds }
     ensures value { TrackedValue }
     ensures finishes { TrackedFinishes }
+    ensures finishes_heard { TrackedFinishesHeard }
 {}

@@ -7,7 +7,7 @@ use Rattle.coll_sched.specs.declared.region.Region.{Region}
 use Rattle.coll_sched.specs.declared.action.Action.TheVariants.{Recv}
 use Rattle.coll_sched.specs.Common.{Family, actions_at, Progress}
 use Rattle.coll_sched.specs.Heart.{IsQuiet}
-use Rattle.coll_sched.proofs.Tracked.{tracked_finishes}
+use Rattle.coll_sched.proofs.Tracked.{tracked_finishes, tracked_finishes_heard}
 use Rattle.coll_sched.proofs.Track.{tracks_empty}
 use Rattle.coll_machine.specs.Settings.{size}
 use Rattle.coll_machine.specs.declared.key.Key.{Key}
@@ -15,9 +15,10 @@ use Rattle.coll_plans.specs.Plans.{family}
 use Rattle.coll_tables.specs.Requests.{Live, before, key, progress}
 use Rattle.coll_tables.specs.Tables.{Mail, Tables, Paths, family_at, opened, world}
 use Rattle.coll_tables.specs.Sound.{Stands, ready, running, idle, queued, done, Sound}
-use Rattle.coll_tables.proofs.Statements.{QuietIsFinished, OpenKeeps}
+use Rattle.coll_tables.proofs.Statements.{QuietIsFinished, QuietHasHeard, DoneHasHeard, OpenKeeps}
 use Rattle.coll_tables.specs.FreeLocks.{NothingGoes}
 use Rattle.coll_tables.proofs.Basing.{family_own, serves_own, tracks_at}
+use Rattle.coll_tables.proofs.Holding.{has_heard}
 
 pub slice_get_past : {X : Type 0} (xs : List X) (i : ℕ) → length xs ≤ i → slice_get xs i ≡ None
 slice_get_past [] i h = refl
@@ -90,3 +91,14 @@ quiet_is_finished v s still i q here t all =
     let over : q.round ≡ length (f q.member).rounds = tracked_finishes (size v.setting q.comm) f (serves_own v s.paths s.sound.base i q here).lawful (world v s.paths (key q)) (tracks_at v s.paths s.sound.base i q here (before q.starts)) all
     (subst (λ (f : Family). IsQuiet f (world v s.paths (key q))) (family_own v s.paths s.sound.base i q here) (quiet_world v s.paths s.sound still (key q))) q.member (progress q) (s.sound.base.active i q here t).0 in
     rests_done v s.paths s.sound still (size v.setting q.comm) (v.home i) (v.mail (key q)) q t over (still i q here).0 (still i q here).1 (s.sound.stands i q here)
+
+pub quiet_has_heard : QuietHasHeard
+quiet_has_heard v s still i q here t heard =
+    let f : Family = family q.sig (size v.setting q.comm) in
+    let quiet : IsQuiet f (world v s.paths (key q)) = subst (λ (f : Family). IsQuiet f (world v s.paths (key q))) (family_own v s.paths s.sound.base i q here) (quiet_world v s.paths s.sound still (key q)) in
+    let over : q.round ≡ length (f q.member).rounds =
+    tracked_finishes_heard (size v.setting q.comm) f (serves_own v s.paths s.sound.base i q here).lawful (world v s.paths (key q)) (tracks_at v s.paths s.sound.base i q here (before q.starts)) quiet q.member (progress q) (s.sound.base.active i q here t).0 heard in
+    rests_done v s.paths s.sound still (size v.setting q.comm) (v.home i) (v.mail (key q)) q t over (still i q here).0 (still i q here).1 (s.sound.stands i q here)
+
+pub done_has_heard : DoneHasHeard
+done_has_heard v s i q here list = has_heard v s.paths s.sound i q here list

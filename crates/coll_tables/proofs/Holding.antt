@@ -5,7 +5,7 @@ use Rattle.std.proofs.lemmas.Option.{none-some, same_Some}
 use Rattle.std.proofs.lemmas.Bool.{cases_eq}
 use Rattle.coll_kinds.specs.Common.{given_len, put}
 use Rattle.coll_ops.specs.Values.{value}
-use Rattle.coll_sched.specs.Families.{Family}
+use Rattle.coll_sched.specs.Families.{Family, Heard}
 use Rattle.coll_sched.specs.Worlds.{filled as filled_by}
 use Rattle.coll_sched.specs.Served.{listing, Serves, HoldsValue}
 use Rattle.coll_kinds.proofs.Puts.{put_same, put_other}
@@ -18,7 +18,7 @@ use Rattle.coll_tables.specs.Requests.{Live, before, key, progress, as_request}
 use Rattle.coll_tables.specs.Tables.{Tables, Paths, family_at, world, asked, state}
 use Rattle.coll_tables.specs.Sound.{Base, Sound}
 use Rattle.coll_tables.proofs.Calls.{IsLast}
-use Rattle.coll_tables.specs.FreeLocks.{Holding}
+use Rattle.coll_tables.specs.FreeLocks.{HasHeard, Holding}
 use Rattle.coll_tables.proofs.Standing.{finished_there}
 use Rattle.coll_tables.proofs.Basing.{serves_own, tracks_at}
 
@@ -90,6 +90,13 @@ same_rows xs ys k (suc c) h =
 module _ (v : Tables) (paths : Paths) (s : Sound v paths) (i : ℕ) (q : Live) (here : v.request i ≡ Some q) (list : v.home i ≡ 6 + 3 * q.comm) where
   pub over : (q.active ≡ true) × (q.round ≡ length (family q.sig (size v.setting q.comm) q.member).rounds)
   over = finished_there (size v.setting q.comm) (v.home i) (v.mail (key q)) q list (s.stands i q here)
+
+  pub has_heard : HasHeard v q
+  has_heard m hears =
+      let n : ℕ = size v.setting q.comm in
+      let f : Family = family q.sig n in
+      ((tracks_at v paths s.base i q here (before q.starts)).members q.member (progress q) (s.base.active i q here over.0).0).heard m
+      (subst (λ (j : ℕ). Heard f j q.member m) (sym over.1) hears)
 
   pub holding_value : Holding v q
   holding_value =

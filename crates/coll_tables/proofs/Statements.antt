@@ -17,7 +17,7 @@ use Rattle.coll_tables.specs.Sound.{IsSound, Lies, Stands}
 use Rattle.coll_tables.specs.Changes.{posting, joining, acting, leaving, dissolving, freeing, rehoming, delivered, newcomer, received}
 use Rattle.coll_tables.proofs.Calls.{Acting, Away, Starting, IsLast, Joining, New, Retiring, Waking, new_ticket, ticket}
 use Rattle.coll_tables.specs.Remaining.{actions_left}
-use Rattle.coll_tables.specs.FreeLocks.{FreeLock, NothingGoes}
+use Rattle.coll_tables.specs.FreeLocks.{FreeLock, HasHeard, NothingGoes}
 
 abbrev pub OpenKeeps : Type 0
 OpenKeeps =
@@ -205,3 +205,25 @@ QuietIsFinished =
     → q.active ≡ true
     → ((m : ℕ) → m < size v.setting q.comm → v.given (key q) m ≢ None)
     → v.home i ≡ number_of (Done q.comm)
+
+-- and it is Done at a member before all have given: once those have from whom the member hears
+abbrev pub QuietHasHeard : Type 0
+QuietHasHeard =
+    (v : Tables)
+    → IsSound v
+    → NothingGoes v
+    → (i : ℕ) (q : Live)
+    → v.request i ≡ Some q
+    → q.active ≡ true
+    → HasHeard v q
+    → v.home i ≡ number_of (Done q.comm)
+
+-- but not earlier
+abbrev pub DoneHasHeard : Type 0
+DoneHasHeard =
+    (v : Tables)
+    → IsSound v
+    → (i : ℕ) (q : Live)
+    → v.request i ≡ Some q
+    → v.home i ≡ number_of (Done q.comm)
+    → HasHeard v q

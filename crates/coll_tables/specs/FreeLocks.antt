@@ -1,9 +1,10 @@
 -- What callers can see of the tables whenever no call is under way.
-use Rattle.std.specs.Prelude.{◌≡◌, ◌≢◌, ◌<◌, ◌⊎◌, ℕ, Bool, true, false, slice_get, Some, None}
+use Rattle.std.specs.Prelude.{◌≡◌, ◌≢◌, ◌<◌, ◌⊎◌, ℕ, Bool, true, false, List, length, slice_get, Option, Some, None}
 use Rattle.coll_kinds.specs.declared.signature.Signature.{Signature}
 use Rattle.coll_kinds.specs.Needs.{needs}
 use Rattle.coll_ops.specs.Values.{value}
 use Rattle.coll_sched.specs.Regions.{read_of}
+use Rattle.coll_sched.specs.Families.{Family, Heard}
 use Rattle.coll_plans.specs.Plans.{family}
 use Rattle.coll_arena.specs.declared.list_name.ListName.TheVariants.{Ready, Running, Idle, Queue, Done}
 use Rattle.coll_arena.specs.ListNames.{number_of}
@@ -43,3 +44,11 @@ pub record FreeLock (v : Tables) : Type 0 where
 abbrev pub NothingGoes : Tables → Type 0
 NothingGoes v = (i : ℕ) (q : Live) → v.request i ≡ Some q
     → (v.home i ≢ number_of Ready) × (v.home i ≢ number_of Running)
+
+-- from whom a member of the family hears by the end of its schedule have given
+abbrev pub HaveGiven : Family → ℕ → (ℕ → Option (List ℕ)) → Type 0
+HaveGiven f r given = (m : ℕ) → Heard f (length (f r).rounds) r m → given m ≢ None
+
+-- so it is with the start that the request works on
+abbrev pub HasHeard : Tables → Live → Type 0
+HasHeard v q = HaveGiven (family q.sig (size v.setting q.comm)) q.member (v.given (key q))
