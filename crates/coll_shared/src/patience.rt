@@ -216,10 +216,12 @@ impl Waits {
         }
         let in_vain = self.in_vain.load(Ordering::Relaxed);
         if slept && in_vain <= IN_VAIN {
-            self.in_vain.store(in_vain.saturating_add(1), Ordering::Relaxed);
+            self.in_vain
+                .store(in_vain.saturating_add(1), Ordering::Relaxed);
         }
         if looked && !slept && in_vain > 0 {
-            self.in_vain.store(in_vain.saturating_sub(1), Ordering::Relaxed);
+            self.in_vain
+                .store(in_vain.saturating_sub(1), Ordering::Relaxed);
         }
     }
 }

@@ -4,8 +4,8 @@ ghost use Rattle.std.specs.Prelude.{◌≡◌, ◌+◌, IfNone, IfSome, Ok};
 ghost use Rattle.std.specs.Bool.{OnFalse, OnTrue};
 ghost use Rattle.coll_shared.specs.Publications.{IsAwake, IsExpected, IsUnanswered};
 
-use crate::publication::{Content, Expected, Publication};
 use crate::patience::Waits;
+use crate::publication::{Content, Expected, Publication};
 use coll_kinds::Ticket;
 use coll_traced::{Completed, Entries, Receipt, Tally, TracedCore};
 use std::sync::atomic::{AtomicBool, AtomicU64, Ordering};
