@@ -1,41 +1,19 @@
--- From whom the members of a collective hear by its schedules, which is for whom this engine waits.
-use Rattle.std.specs.Prelude.{◌≡◌, ◌==◌, ◌||◌, ◌<◌, ℕ, zero, suc, Bool, true, false, List, [], length, map, slice_get, Option, Some, None, Vec, IfSome}
+-- Rows of truth values that say from whom the members of a collective hear by its schedules.
+use Rattle.std.specs.Prelude.{◌≡◌, ◌||◌, ◌<◌, ℕ, Bool, List, [], length, map, slice_get, Option, Some, None, Vec, IfSome}
 use Rattle.std.specs.Global.{Global}
 use Rattle.std.specs.List.{list_any, range_with_len}
 use Rattle.coll_kinds.specs.declared.signature.Signature.{Signature}
-use Rattle.coll_sched.specs.declared.action.Action.{Action}
-use Rattle.coll_sched.specs.declared.action.Action.TheVariants.{Send, Copy, Combine, Recv}
-use Rattle.coll_sched.specs.Common.{Family, Heard, actions_at}
+use Rattle.coll_sched.specs.Common.{actions_at}
+use Rattle.coll_plans.specs.Hearings.{hears_from, hears_here}
 use Rattle.coll_plans.specs.Plans.{family, Planned, IsPlanned}
 use Rattle.coll_verdict.specs.Checking.{said_in, is_yes}
-use Rattle.coll_verdict.specs.Waiting.{Hearing}
-
--- the action receives of a member of which this holds
-abbrev pub hears_from : (ℕ → Bool) → Action → Bool
-hears_from holds (Send to from) = false
-hears_from holds (Copy from into) = false
-hears_from holds (Combine op ty left right into) = false
-hears_from holds (Recv of into) = holds of
-
--- what a member gave can have reached another before a round, computed
-abbrev pub heard_in : Family → ℕ → ℕ → ℕ → Bool
-heard_in f zero r p = p == r
-heard_in f (suc j) r p = heard_in f j r p || list_any (hears_from (λ q. heard_in f j q p)) (actions_at f j r)
-
--- this engine's: by the end of the member's schedule
-abbrev pub hears_here : Hearing
-hears_here sig n r p = heard_in (family sig n) (length (family sig n r).rounds) r p
-
--- it is what the proofs of schedules speak of
-abbrev pub HeardIsHeard : Type 0
-HeardIsHeard = (f : Family) (j r p : ℕ) → (heard_in f j r p ≡ true → Heard f j r p) × (Heard f j r p → heard_in f j r p ≡ true)
 
 -- ---- rows of bits
 
 abbrev pub bit : List (Vec Bool Global) → ℕ → ℕ → Bool
 bit rows r p = is_yes (said_in (slice_get rows r) p)
 
--- so many rows of so many bits
+-- n rows of n truth values
 pub record AreRows (n : ℕ) (holds : ℕ → ℕ → Bool) (rows : List (Vec Bool Global)) : Type 0 where
   pub size : length rows ≡ n
   pub each : (r : ℕ) → IfSome (slice_get rows r) (λ row. row.items ≡ map (holds r) (range_with_len 0 n))

@@ -7,7 +7,7 @@ use Rattle.coll_history.specs.Histories.{History}
 use Rattle.coll_script.specs.Jobs.{script_of}
 use Rattle.coll_verdict.specs.Stalls.{StallsAlways, StallsNever}
 use Rattle.coll_verdict.specs.Waiting.{StallsAlwaysBy, StallsNeverBy}
-use Rattle.coll_diagnosis.specs.Hearings.{hears_here}
+use Rattle.coll_plans.specs.Hearings.{hears_here}
 use Rattle.coll_diagnosis.specs.declared.explaining.ExplainOptions.{ExplainOptions}
 use Rattle.coll_diagnosis.specs.declared.explaining.Form.TheVariants.{Text, Json}
 use Rattle.coll_diagnosis.specs.declared.verdict.Verdict.{Verdict}

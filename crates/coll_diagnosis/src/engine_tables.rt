@@ -2,7 +2,7 @@
 
 ghost use Rattle.std.specs.Prelude.{◌≤◌, IfOk};
 ghost use Rattle.coll_verdict.specs.Code.{AreAllTrue, AreTrue};
-ghost use Rattle.coll_diagnosis.specs.Hearings.{hears_here};
+ghost use Rattle.coll_plans.specs.Hearings.{hears_here};
 
 use crate::hearing::heard;
 use crate::job::Job;

@@ -4,7 +4,8 @@ ghost use Rattle.std.specs.Prelude.{◌≡◌, ◌≤◌, ◌==◌, map, IfOk, s
 ghost use Rattle.std.specs.List.{range_with_len};
 ghost use Rattle.coll_sched.specs.Common.{actions_at};
 ghost use Rattle.coll_plans.specs.Plans.{family};
-ghost use Rattle.coll_diagnosis.specs.Hearings.{ArePlans, AreRows, AreRowsAfter, IsHearing, bit, hears_from, hears_in, hears_now, rounds_in};
+ghost use Rattle.coll_plans.specs.Hearings.{hears_from};
+ghost use Rattle.coll_diagnosis.specs.Hearings.{ArePlans, AreRows, AreRowsAfter, IsHearing, bit, hears_in, hears_now, rounds_in};
 
 use coll_kinds::{Refusal, Signature};
 use coll_plans::{Plan, plan};

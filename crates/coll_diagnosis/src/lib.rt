@@ -22,7 +22,6 @@
 //! | `text_form` | an explanation as lines for a reader |
 //! | `json_form`, `dot_form` | an explanation as JSON, and as a graph |
 //! | `explaining` | `explain_job`, from a reader to a writer |
-//! | `laws` | what holds of all schedules |
 #![tactic(auto)]
 
 mod circle;
@@ -38,7 +37,6 @@ mod hearing;
 mod job;
 mod json_form;
 mod lack;
-pub mod laws;
 mod members;
 mod pending;
 mod place;

@@ -1,7 +1,7 @@
 ghost use Rattle.std.specs.Prelude.{IfOk, IsTrue};
 ghost use Rattle.coll_verdict.specs.Stalls.{StallsAlways, StallsNever};
 ghost use Rattle.coll_verdict.specs.Waiting.{StallsAlwaysBy, StallsNeverBy};
-ghost use Rattle.coll_diagnosis.specs.Hearings.{hears_here};
+ghost use Rattle.coll_plans.specs.Hearings.{hears_here};
 
 use crate::course::{Choice, Course};
 use crate::engine_tables::tables_of;

@@ -28,3 +28,4 @@ pub mod ChainRounds
 pub mod ChainBcast
 mod Counts
 pub mod Plans
+pub mod Hearings

@@ -1,5 +1,7 @@
 -- the family of a signature and a number of members
 pub mod Plans
+-- from whom members hear
+pub mod Hearings
 -- the families of each kind
 pub mod DisseminationBarrier
 pub mod DirectExchange

@@ -1,6 +1,7 @@
-//! What is known of every plan's family, as the contract of a function that does nothing, so that a crate
+//! What is known of every plan's family, as contracts of functions that do nothing, so that a crate
 //! above may cite it.
 
+ghost use Rattle.coll_plans.specs.Hearings.{HeardIsHeard};
 ghost use Rattle.coll_plans.specs.Plans.{FamiliesServe};
 
 /// The family of every checked signature serves it, for 1 to 64 members: it is lawful, its lock-step result is the
@@ -8,4 +9,10 @@ ghost use Rattle.coll_plans.specs.Plans.{FamiliesServe};
 /// and it is narrow unless the kind is direct.
 pub fn families_serve()
     ensures { FamiliesServe }
+{}
+
+/// The computed `hears_here` is what the proofs of schedules speak of: what a member gave can have reached another by the end of
+/// the other's schedule.
+pub fn heard_is_heard()
+    ensures { HeardIsHeard }
 {}

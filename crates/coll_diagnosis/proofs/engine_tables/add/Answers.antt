@@ -1,5 +1,5 @@
 use Rattle.coll_verdict.specs.Code.{AreTrue}
-use Rattle.coll_diagnosis.specs.Hearings.{hears_here}
+use Rattle.coll_plans.specs.Hearings.{hears_here}
 use Rattle.coll_diagnosis.proofs.HearingRounds.{each_more}
 use Rattle.coll_diagnosis.proofs.engine_tables.add.Goals as goal
 

@@ -1,5 +1,5 @@
 use Rattle.coll_verdict.specs.Code.{AreAllTrue}
-use Rattle.coll_diagnosis.specs.Hearings.{hears_here}
+use Rattle.coll_plans.specs.Hearings.{hears_here}
 use Rattle.coll_diagnosis.proofs.engine_tables.tables_of.Given as goal
 
 abbrev pub invariant-loop-places : goal.invariant-loop-places

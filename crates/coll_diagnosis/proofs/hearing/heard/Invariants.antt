@@ -1,5 +1,6 @@
 use Rattle.coll_plans.specs.Plans.{family}
-use Rattle.coll_diagnosis.specs.Hearings.{ArePlans, AreRows, heard_in}
+use Rattle.coll_plans.specs.Hearings.{heard_in}
+use Rattle.coll_diagnosis.specs.Hearings.{ArePlans, AreRows}
 use Rattle.coll_diagnosis.proofs.hearing.heard.Given as goal
 
 abbrev pub invariant-loop-round : goal.invariant-loop-round
