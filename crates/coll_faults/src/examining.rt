@@ -36,26 +36,31 @@ pub(crate) fn examine(
     let Some(remark) = remark_of(&site, cause)? else {
         return Ok(Examined {
             detail: Detail::Bare,
-            mending: first_accepted(alloc, draft, line, mendings(&site, cause)?)?,
+            mending: mended(&site, cause)?,
         });
     };
     let (marked, proposals) = marked(&site, remark);
     let mut marked = marked;
-    let mut mending = None;
-    if let Some((suggestion, is_guess)) = suggested(&site, proposals, &mut marked.notes)? {
-        mending = Some(Mending {
-            patches: copied(alloc, suggestion.patches())?,
-            is_sure: !is_guess,
-        });
-        marked.suggestion = Some(suggestion);
-    }
-    if mending.is_none() {
-        mending = first_accepted(alloc, draft, line, mendings(&site, cause)?)?;
-    }
+    let mending = match suggested(&site, proposals, &mut marked.notes)? {
+        Some((suggestion, is_guess)) => {
+            let patches = copied(alloc, suggestion.patches())?;
+            marked.suggestion = Some(suggestion);
+            Some(Mending {
+                patches,
+                is_sure: !is_guess,
+            })
+        }
+        None => mended(&site, cause)?,
+    };
     Ok(Examined {
         detail: Detail::Words(marked),
         mending,
     })
+}
+
+/// The mending of the line, which breaks that rule.
+fn mended(site: &Site<'_>, cause: Cause) -> Result<Option<Mending>, AllocError> {
+    first_accepted(site.alloc, site.draft, site.line, mendings(site, cause)?)
 }
 
 /// The words of a remark as they are marked, and the remark's proposals.

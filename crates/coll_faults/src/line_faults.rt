@@ -15,25 +15,25 @@ use std::alloc::AllocError;
 /// The remark on the line, which breaks that rule.
 pub(crate) fn remark_of(site: &Site<'_>, cause: Cause) -> Result<Option<Remark>, AllocError> {
     let remark = match cause {
-        Cause::MissingRanks => missing_ranks(site)?,
-        Cause::UnknownCommand => unknown_command(site)?,
-        Cause::OutOfPlace => out_of_place(site)?,
+        Cause::MissingRanks => missing_ranks(site),
+        Cause::UnknownCommand => unknown_command(site),
+        Cause::OutOfPlace => out_of_place(site),
         Cause::BadWords => return bad_words(site),
-        Cause::BadNumber => bad_number(site)?,
-        Cause::BadRank => bad_rank(site)?,
-        Cause::BadCommunicator => bad_communicator(site)?,
-        Cause::BadSignature => bad_signature(site)?,
+        Cause::BadNumber => bad_number(site),
+        Cause::BadRank => bad_rank(site),
+        Cause::BadCommunicator => bad_communicator(site),
+        Cause::BadSignature => bad_signature(site),
         Cause::WrongValueCount => return of_values(site, ValueFault::Count),
         Cause::BadValue => return of_values(site, ValueFault::Value),
-        Cause::UnknownRequest => unknown_request(site)?,
-        Cause::NamedTwice => named_twice(site)?,
-        Cause::NotStartable => not_startable(site)?,
-        Cause::TooManyRequests => too_many_requests(site)?,
+        Cause::UnknownRequest => unknown_request(site),
+        Cause::NamedTwice => named_twice(site),
+        Cause::NotStartable => not_startable(site),
+        Cause::TooManyRequests => too_many_requests(site),
         Cause::TooLong | Cause::PlaceMismatch | Cause::PlaceMissing | Cause::StartMissing => {
             return Ok(None);
         }
     };
-    Ok(Some(remark))
+    Ok(Some(remark?))
 }
 
 /// The least number of ranks, at least two, with which every `rank` line names a rank of the job.
@@ -54,22 +54,12 @@ pub(crate) fn guessed_ranks(site: &Site<'_>) -> u128 {
 fn missing_ranks(site: &Site<'_>) -> Result<Remark, AllocError> {
     let alloc = site.alloc;
     if site.words.is_empty() {
-        return Ok(Remark::of(alloc, 0, "no line says how many ranks there are")?);
+        return Remark::of(alloc, 0, "no line says how many ranks there are");
     }
-    let mut remark = Remark::of(alloc, 0, "the first line that says anything is `ranks N`")?;
     if let [0xef, 0xbb, 0xbf, word @ ..] = site.word(0) {
-        let text =
-            "the text begins with a byte order mark (ef bb bf); save it as UTF-8 without one";
-        let by = shown(alloc, word)?;
-        site.propose(
-            &mut remark,
-            String::from_str(alloc, text)?,
-            0,
-            1,
-            by.as_str(),
-        )?;
-        return Ok(remark);
+        return byte_order_mark(site, word);
     }
+    let mut remark = Remark::of(alloc, 0, RANKS_FIRST)?;
     if let Some(meant) = word_meant(alloc, site.word(0), &["ranks"])? {
         site.propose(&mut remark, meant.help, 0, 1, meant.word)?;
     }
@@ -77,6 +67,20 @@ fn missing_ranks(site: &Site<'_>) -> Result<Remark, AllocError> {
     let line = format!(in alloc; "ranks {ranks}")?;
     let help = format!(in alloc; "write the number of ranks first: `{line}`")?;
     remark.guess(help, site.behind(line.as_str())?)?;
+    Ok(remark)
+}
+
+/// The label of a line that stands in place of `ranks`.
+const RANKS_FIRST: &str = "the first line that says anything is `ranks N`";
+
+/// The remark on a word after a byte order mark, with which the text begins.
+fn byte_order_mark(site: &Site<'_>, word: &[u8]) -> Result<Remark, AllocError> {
+    let alloc = site.alloc;
+    let mut remark = Remark::of(alloc, 0, RANKS_FIRST)?;
+    let text = "the text begins with a byte order mark (ef bb bf); save it as UTF-8 without one";
+    let help = String::from_str(alloc, text)?;
+    let by = shown(alloc, word)?;
+    site.propose(&mut remark, help, 0, 1, by.as_str())?;
     Ok(remark)
 }
 
@@ -103,11 +107,8 @@ fn unknown_command(site: &Site<'_>) -> Result<Remark, AllocError> {
 fn out_of_place(site: &Site<'_>) -> Result<Remark, AllocError> {
     let alloc = site.alloc;
     if site.begins("ranks") {
-        return Ok(Remark::of(
-            alloc,
-            0,
-            "the number of ranks is said once, in the first line",
-        )?);
+        let text = "the number of ranks is said once, in the first line";
+        return Remark::of(alloc, 0, text);
     }
     if site.begins("comm") {
         return late_communicator(site);

@@ -29,7 +29,7 @@ pub(crate) fn mendings(site: &Site<'_>, cause: Cause) -> Result<Vec<Mending>, Al
         Cause::TooManyRequests => {}
         Cause::MissingRanks => {
             if has_ranks_later(site) {
-                push(&mut all, site.dropped()?, true)?;
+                push_dropped(site, &mut all, true)?;
             }
         }
         Cause::UnknownCommand => {
@@ -46,6 +46,25 @@ fn push(all: &mut Vec<Mending>, patches: Vec<Patch>, is_sure: bool) -> Result<()
     Ok(())
 }
 
+/// Adds the patch that puts another line in place of the faulty one.
+fn push_line(
+    site: &Site<'_>,
+    all: &mut Vec<Mending>,
+    line: &[u8],
+    is_sure: bool,
+) -> Result<(), AllocError> {
+    push(
+        all,
+        site.patch(Vec::from_slice(site.alloc, line)?)?,
+        is_sure,
+    )
+}
+
+/// Adds the patch that leaves the line out.
+fn push_dropped(site: &Site<'_>, all: &mut Vec<Mending>, is_sure: bool) -> Result<(), AllocError> {
+    push(all, site.dropped()?, is_sure)
+}
+
 /// Adds what may stand in place of a line, by its first word.
 fn by_command(site: &Site<'_>, all: &mut Vec<Mending>) -> Result<(), AllocError> {
     if site.begins("post") || site.begins("init") {
@@ -55,21 +74,10 @@ fn by_command(site: &Site<'_>, all: &mut Vec<Mending>) -> Result<(), AllocError>
     }
     if site.begins("start") {
         push_start(site, all)?;
-        return push(all, site.dropped()?, false);
+        return push_dropped(site, all, false);
     }
-    if site.begins("wait")
-        || site.begins("waitany")
-        || site.begins("waitsome")
-        || site.begins("waitall")
-    {
-        return push(
-            all,
-            site.patch(Vec::from_slice(site.alloc, b"waitall")?)?,
-            true,
-        );
-    }
-    if site.begins("comm") && site.scene.rank().is_none() {
-        push(all, site.patch(all_ranks(site)?)?, false)?;
+    if waits(site) {
+        return push_line(site, all, b"waitall", true);
     }
     if site.begins("rank") {
         return push(all, section(site)?, false);
@@ -77,14 +85,19 @@ fn by_command(site: &Site<'_>, all: &mut Vec<Mending>) -> Result<(), AllocError>
     if site.begins("ranks") && !site.scene.has_ranks() {
         let ranks = guessed_ranks(site);
         let line = format!(in site.alloc; "ranks {ranks}")?;
-        return push(
-            all,
-            site.patch(Vec::from_slice(site.alloc, line.as_str().as_bytes())?)?,
-            false,
-        );
+        return push_line(site, all, line.as_str().as_bytes(), false);
+    }
+    if site.begins("comm") && site.scene.rank().is_none() {
+        push_line(site, all, &all_ranks(site)?, false)?;
     }
     let is_sure = site.begins("ranks") || site.begins("test") || site.begins("free");
-    push(all, site.dropped()?, is_sure)
+    push_dropped(site, all, is_sure)
+}
+
+/// Whether the line is a wait.
+fn waits(site: &Site<'_>) -> bool {
+    let waits = ["wait", "waitany", "waitsome", "waitall"];
+    waits.iter().any(|word| site.begins(word))
 }
 
 /// Adds posts that make one request, as the line was meant to, unless it is sure that it wasn't; and after these the patch that
@@ -99,11 +112,10 @@ fn push_posts(
         let comm = site.number(1).unwrap_or(0);
         for comm in [comm, 0] {
             let line = format!(in site.alloc; "{verb} {comm} barrier")?;
-            let line = Vec::from_slice(site.alloc, line.as_str().as_bytes())?;
-            push(all, site.patch(line)?, false)?;
+            push_line(site, all, line.as_str().as_bytes(), false)?;
         }
     }
-    push(all, site.dropped()?, false)
+    push_dropped(site, all, false)
 }
 
 /// Adds a line with the same signature and other values.
@@ -122,7 +134,7 @@ fn push_same(site: &Site<'_>, all: &mut Vec<Mending>) -> Result<(), AllocError> 
         let due = site.due(comm, sig);
         push_zeros(&mut line, due.values, sig.ty)?;
     }
-    push(all, site.patch(line)?, true)
+    push_line(site, all, &line, true)
 }
 
 /// Adds a start of the same request with other values.
@@ -136,7 +148,7 @@ fn push_start(site: &Site<'_>, all: &mut Vec<Mending>) -> Result<(), AllocError>
         push_word(&mut line, site.word(1))?;
         let due = site.due(request.comm, &request.sig);
         push_zeros(&mut line, due.values, request.sig.ty)?;
-        push(all, site.patch(line)?, true)?;
+        push_line(site, all, &line, true)?;
     }
     Ok(())
 }

@@ -92,12 +92,15 @@ pub(crate) fn place_faults(
     let mut starts = Vec::new(alloc);
     for (comm, group) in history.groups().iter().enumerate() {
         let seats = all_seats(alloc, comm, group, &requests)?;
-        if let Some(fault) = mismatch_on(alloc, written, comm, &seats)? {
-            push_by_line(&mut mismatches, fault)?;
-        } else if let Some(fault) = missing_place(alloc, written, comm, group, &seats)? {
-            places.push(PlaceFault::MissingPlace(fault))?;
-        } else if let Some(fault) = missing_start(alloc, written, comm, &seats)? {
-            starts.push(PlaceFault::MissingStart(fault))?;
+        match fault_on(alloc, written, comm, group, &seats)? {
+            Some(PlaceFault::Mismatch(fault)) => push_by_line(&mut mismatches, fault)?,
+            Some(PlaceFault::MissingPlace(fault)) => {
+                places.push(PlaceFault::MissingPlace(fault))?;
+            }
+            Some(PlaceFault::MissingStart(fault)) => {
+                starts.push(PlaceFault::MissingStart(fault))?;
+            }
+            None => {}
         }
     }
     let mut faults = Vec::new(alloc);
@@ -107,6 +110,26 @@ pub(crate) fn place_faults(
     faults.extend(places)?;
     faults.extend(starts)?;
     Ok(faults)
+}
+
+/// The fault of a communicator's requests: of signatures, else of places, else of starts.
+fn fault_on(
+    alloc: Global,
+    written: &Written,
+    comm: usize,
+    group: &[u8],
+    places: &[Vec<Seat<'_, '_>>],
+) -> Result<Option<PlaceFault>, AllocError> {
+    if let Some(fault) = mismatch_on(alloc, written, comm, places)? {
+        return Ok(Some(PlaceFault::Mismatch(fault)));
+    }
+    if let Some(fault) = missing_place(alloc, written, comm, group, places)? {
+        return Ok(Some(PlaceFault::MissingPlace(fault)));
+    }
+    match missing_start(alloc, written, comm, places)? {
+        Some(fault) => Ok(Some(PlaceFault::MissingStart(fault))),
+        None => Ok(None),
+    }
 }
 
 /// Inserts a mismatch after those of earlier lines.

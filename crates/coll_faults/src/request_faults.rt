@@ -54,31 +54,48 @@ fn stands_before(site: &Site<'_>, at: usize) -> bool {
 
 /// The remark on a request that can't be started or freed.
 pub(crate) fn not_startable(site: &Site<'_>) -> Result<Remark, AllocError> {
-    let alloc = site.alloc;
     let made = site.made()?;
     let number = site.number(1).unwrap_or(0);
     let at = usize::try_from(number).unwrap_or(usize::MAX);
     let Some(request) = made.get(at) else {
-        return Ok(Remark::of(alloc, 1, "it can't be started or freed here")?);
+        return Remark::of(site.alloc, 1, "it can't be started or freed here");
     };
-    let written = site.draft.written(alloc)?;
-    let made_in = written.of(request.line);
     if request.sig.mode != Mode::Persistent {
-        let label = format!(in alloc;
-            "request {number} was posted in line {made_in}, so it starts and ends by itself"
-        )?;
-        let mut remark = Remark::new(alloc, 1, label);
-        remark.note(String::from_str(alloc, "only requests of `init` are started and freed")?)?;
-        return Ok(remark);
+        return posted(site, number, request.line);
     }
-    if let Some(freed) = site.scene.freed_in(at) {
-        let freed = written.of(freed);
-        let label = format!(in alloc; "request {number} was freed in line {freed}")?;
-        return Ok(Remark::new(alloc, 1, label));
+    if let Some(line) = site.scene.freed_in(at) {
+        return freed(site, number, line);
     }
-    let started = written.of(request.starts.last().map_or(0, |start| start.line));
+    let line = request.starts.last().map_or(0, |start| start.line);
+    perhaps_active(site, number, line)
+}
+
+/// The remark on a request that was posted in that line of the draft.
+fn posted(site: &Site<'_>, number: u128, line: u32) -> Result<Remark, AllocError> {
+    let alloc = site.alloc;
+    let line = site.draft.written(alloc)?.of(line);
     let label = format!(in alloc;
-        "request {number} was started in line {started} and may be active still"
+        "request {number} was posted in line {line}, so it starts and ends by itself"
+    )?;
+    let mut remark = Remark::new(alloc, 1, label);
+    remark.note(String::from_str(alloc, "only requests of `init` are started and freed")?)?;
+    Ok(remark)
+}
+
+/// The remark on a request that was freed in that line of the draft.
+fn freed(site: &Site<'_>, number: u128, line: u32) -> Result<Remark, AllocError> {
+    let alloc = site.alloc;
+    let line = site.draft.written(alloc)?.of(line);
+    let label = format!(in alloc; "request {number} was freed in line {line}")?;
+    Ok(Remark::new(alloc, 1, label))
+}
+
+/// The remark on a request whose last start is in that line of the draft, and which no call has completed for sure since.
+fn perhaps_active(site: &Site<'_>, number: u128, line: u32) -> Result<Remark, AllocError> {
+    let alloc = site.alloc;
+    let line = site.draft.written(alloc)?.of(line);
+    let label = format!(in alloc;
+        "request {number} was started in line {line} and may be active still"
     )?;
     let mut remark = Remark::new(alloc, 1, label);
     let text = "a `test`, `waitany` or `waitsome` may leave a request active";

@@ -58,13 +58,25 @@ pub(crate) fn bad_signature(site: &Site<'_>) -> Result<Remark, AllocError> {
 }
 
 fn unknown_kind(site: &Site<'_>) -> Result<Remark, AllocError> {
-    let words = kind_words(site.alloc)?;
-    let mut remark = Remark::of(site.alloc, KIND, "no collective has this name")?;
-    match word_meant(site.alloc, site.word(KIND), &words)? {
-        Some(meant) => site.propose(&mut remark, meant.help, KIND, 1, meant.word)?,
+    let remark = Remark::of(site.alloc, KIND, "no collective has this name")?;
+    meant(site, remark, "collectives", &kind_words(site.alloc)?)
+}
+
+/// The remark on a word that is none of these `words`, which are the names of those `things`: with the one that may be meant, else with
+/// all of them.
+fn meant(
+    site: &Site<'_>,
+    remark: Remark,
+    things: &str,
+    words: &[&'static str],
+) -> Result<Remark, AllocError> {
+    let mut remark = remark;
+    let at = remark.word;
+    match word_meant(site.alloc, site.word(at), words)? {
+        Some(meant) => site.propose(&mut remark, meant.help, at, 1, meant.word)?,
         None => {
-            let list = listed(site.alloc, &words)?;
-            remark.note(format!(in site.alloc; "collectives are {list}")?)?;
+            let list = listed(site.alloc, words)?;
+            remark.note(format!(in site.alloc; "{things} are {list}")?)?;
         }
     }
     Ok(remark)
@@ -83,27 +95,25 @@ fn root_due(site: &Site<'_>, kind: Kind, at: usize) -> Result<Remark, AllocError
 }
 
 fn unknown_operation(site: &Site<'_>, at: usize) -> Result<Remark, AllocError> {
-    let alloc = site.alloc;
-    let words = operation_words(alloc)?;
-    let mut remark = Remark::of(alloc, at, "no operation has this name")?;
-    let next = at.saturating_add(1);
-    if let Some(ty) = Datatype::from_word(site.word(at)) {
-        if let Some(op) = Op::from_word(site.word(next)) {
-            let by = format!(in alloc; "{op} {ty}")?;
-            let help = format!(in alloc; "the operation stands before the type: `{by} ..`")?;
-            site.propose(&mut remark, help, at, 2, by.as_str())?;
-        } else {
-            let help = format!(in alloc; "the operation is missing, as in `sum {ty} ..`")?;
-            remark.guess(help, site.spliced(at, 0, "sum")?)?;
-        }
-        return Ok(remark);
+    let remark = Remark::of(site.alloc, at, "no operation has this name")?;
+    match Datatype::from_word(site.word(at)) {
+        Some(ty) => operation_due(site, remark, ty),
+        None => meant(site, remark, "operations", &operation_words(site.alloc)?),
     }
-    match word_meant(alloc, site.word(at), &words)? {
-        Some(meant) => site.propose(&mut remark, meant.help, at, 1, meant.word)?,
-        None => {
-            let list = listed(alloc, &words)?;
-            remark.note(format!(in alloc; "operations are {list}")?)?;
-        }
+}
+
+/// The remark on a type in the place of the operation.
+fn operation_due(site: &Site<'_>, remark: Remark, ty: Datatype) -> Result<Remark, AllocError> {
+    let alloc = site.alloc;
+    let mut remark = remark;
+    let at = remark.word;
+    if let Some(op) = Op::from_word(site.word(at.saturating_add(1))) {
+        let by = format!(in alloc; "{op} {ty}")?;
+        let help = format!(in alloc; "the operation stands before the type: `{by} ..`")?;
+        site.propose(&mut remark, help, at, 2, by.as_str())?;
+    } else {
+        let help = format!(in alloc; "the operation is missing, as in `sum {ty} ..`")?;
+        remark.guess(help, site.spliced(at, 0, "sum")?)?;
     }
     Ok(remark)
 }
@@ -111,17 +121,13 @@ fn unknown_operation(site: &Site<'_>, at: usize) -> Result<Remark, AllocError> {
 fn unknown_type(site: &Site<'_>, at: usize) -> Result<Remark, AllocError> {
     let alloc = site.alloc;
     let words = type_words(alloc)?;
-    let list = listed(alloc, &words)?;
     let mut remark = Remark::of(alloc, at, "no type has this name")?;
     if is_fraction(alloc, site.word(at))? {
+        let list = listed(alloc, &words)?;
         remark.note(format!(in alloc; "values are whole numbers alone: {list}")?)?;
         return Ok(remark);
     }
-    match word_meant(alloc, site.word(at), &words)? {
-        Some(meant) => site.propose(&mut remark, meant.help, at, 1, meant.word)?,
-        None => remark.note(format!(in alloc; "types are {list}")?)?,
-    }
-    Ok(remark)
+    meant(site, remark, "types", &words)
 }
 
 /// The remark on a signature whose words can be read.
@@ -138,23 +144,28 @@ fn checked(site: &Site<'_>, fields: &Fields) -> Result<Remark, AllocError> {
         if root >= members as u128 {
             let comm = site.shown(1)?;
             let last = members.saturating_sub(1);
-            return Ok(Remark::new(
-                alloc,
-                at,
-                format!(in alloc; "communicator {comm} has {members} members, 0 to {last}")?,
-            ));
+            let label = format!(in alloc;
+                "communicator {comm} has {members} members, 0 to {last}"
+            )?;
+            return Ok(Remark::new(alloc, at, label));
         }
     }
     if let (Some((at, op)), Some((_, ty))) = (fields.op, fields.ty) {
         if !op.is_allowed_on(ty) {
-            let list = listed(alloc, &allowed_words(alloc, ty)?)?;
-            let label = format!(in alloc; "`{op}` isn't defined on `{ty}`")?;
-            let mut remark = Remark::new(alloc, at, label);
-            remark.note(format!(in alloc; "on `{ty}` there are {list}")?)?;
-            return Ok(remark);
+            return undefined(site, at, op, ty);
         }
     }
     Ok(Remark::new(alloc, fields.count, size(site, fields)?))
+}
+
+/// The remark on an operation that isn't defined on the type.
+fn undefined(site: &Site<'_>, at: usize, op: Op, ty: Datatype) -> Result<Remark, AllocError> {
+    let alloc = site.alloc;
+    let label = format!(in alloc; "`{op}` isn't defined on `{ty}`")?;
+    let mut remark = Remark::new(alloc, at, label);
+    let list = listed(alloc, &allowed_words(alloc, ty)?)?;
+    remark.note(format!(in alloc; "on `{ty}` there are {list}")?)?;
+    Ok(remark)
 }
 
 /// The remark on a signature that isn't complete.
@@ -164,7 +175,7 @@ pub(crate) fn incomplete(site: &Site<'_>) -> Result<Remark, AllocError> {
     if has_counts && Datatype::from_word(site.word(ty)).is_some() {
         return bad_counts(site, ty.saturating_add(1));
     }
-    Ok(Remark::of(site.alloc, site.words.len(), "the signature goes on here")?)
+    Remark::of(site.alloc, site.words.len(), "the signature goes on here")
 }
 
 /// The remark on the first of the members' counts that breaks a rule.
@@ -216,9 +227,9 @@ fn member_count_due(
 fn size(site: &Site<'_>, fields: &Fields) -> Result<String, AllocError> {
     let alloc = site.alloc;
     if site.number(fields.count).unwrap_or(0) > u128::from(MAX_COUNT) {
-        return Ok(format!(in alloc; "a count is at most {MAX_COUNT}")?);
+        return format!(in alloc; "a count is at most {MAX_COUNT}");
     }
-    Ok(format!(in alloc; "some member would give or get more than {MAX_LEN} bytes")?)
+    format!(in alloc; "some member would give or get more than {MAX_LEN} bytes")
 }
 
 fn count_due(site: &Site<'_>, at: usize) -> Result<Remark, AllocError> {
