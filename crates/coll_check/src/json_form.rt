@@ -199,10 +199,10 @@ fn missing_place_fields(
 
 fn all_lacking(alloc: Global, missing: &MissingPlace) -> Result<Vec<Lacking>, AllocError> {
     let mut all = Vec::new(alloc);
-    for (rank, has) in &missing.lacking {
+    for rank in &missing.lacking {
         all.push(Lacking {
             rank: *rank,
-            has: *has,
+            has: missing.place,
         })?;
     }
     Ok(all)

@@ -262,14 +262,15 @@ fn differences_of(alloc: Global, mismatch: &Mismatch) -> Result<String, AllocErr
 fn lacking_of(alloc: Global, missing: &MissingPlace) -> Result<String, AllocError> {
     let mut list = String::new(alloc);
     let mut is_first = true;
-    for (rank, has) in missing.lacking.iter().take(LISTED) {
+    for rank in missing.lacking.iter().take(LISTED) {
         if !is_first {
             list.push_str(", ")?;
         }
         is_first = false;
         write!(
             list,
-            "rank {rank} (has {has} of {})",
+            "rank {rank} (has {} of {})",
+            missing.place,
             missing.place.saturating_add(1)
         )?;
     }

@@ -185,7 +185,7 @@ impl<'t> Search<'t> {
         let PlaceFault::MissingPlace(missing) = place else {
             return Ok(None);
         };
-        let Some((rank, _)) = missing.lacking.first() else {
+        let Some(rank) = missing.lacking.first() else {
             return Ok(None);
         };
         let post = self.draft.line(missing.first.line);

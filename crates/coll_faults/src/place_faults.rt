@@ -2,7 +2,7 @@
 
 use crate::difference::{Difference, differences};
 use crate::draft::Written;
-use crate::seats::{Seat, all_seats, earliest};
+use crate::member_requests::{MemberRequest, earliest, requests_by_place};
 use coll_history::{History, Start};
 use coll_script::Cause;
 use std::alloc::{AllocError, Global};
@@ -39,8 +39,8 @@ pub struct MissingPlace {
     pub place: usize,
     /// The earliest request at the place.
     pub first: PlacedRequest,
-    /// The ranks that lack the place, and how many places each of them has.
-    pub lacking: Vec<(u8, usize)>,
+    /// The ranks that lack the place; each has all places before it.
+    pub lacking: Vec<u8>,
 }
 
 /// A place whose members start it different numbers of times.
@@ -91,8 +91,8 @@ pub(crate) fn place_faults(
     let mut places = Vec::new(alloc);
     let mut starts = Vec::new(alloc);
     for (comm, group) in history.groups().iter().enumerate() {
-        let seats = all_seats(alloc, comm, group, &requests)?;
-        match fault_on(alloc, written, comm, group, &seats)? {
+        let by_place = requests_by_place(alloc, comm, group, &requests)?;
+        match fault_on(alloc, written, comm, group, &by_place)? {
             Some(PlaceFault::Mismatch(fault)) => push_by_line(&mut mismatches, fault)?,
             Some(PlaceFault::MissingPlace(fault)) => {
                 places.push(PlaceFault::MissingPlace(fault))?;
@@ -118,7 +118,7 @@ fn fault_on(
     written: &Written,
     comm: usize,
     group: &[u8],
-    places: &[Vec<Seat<'_, '_>>],
+    places: &[Vec<MemberRequest<'_, '_>>],
 ) -> Result<Option<PlaceFault>, AllocError> {
     if let Some(fault) = mismatch_on(alloc, written, comm, places)? {
         return Ok(Some(PlaceFault::Mismatch(fault)));
@@ -145,20 +145,24 @@ fn push_by_line(mismatches: &mut Vec<Mismatch>, mismatch: Mismatch) -> Result<()
     Ok(())
 }
 
-fn standing_of(written: &Written, seat: Seat<'_, '_>, first: Seat<'_, '_>) -> PlacedRequest {
+fn placed(
+    written: &Written,
+    member: MemberRequest<'_, '_>,
+    first: MemberRequest<'_, '_>,
+) -> PlacedRequest {
     PlacedRequest {
-        rank: seat.rank,
-        line: written.of(seat.request.line),
-        agrees: seat.request.sig == first.request.sig,
+        rank: member.rank,
+        line: written.of(member.request.line),
+        agrees: member.request.sig == first.request.sig,
     }
 }
 
 /// The request in the earliest line, of those that differ from the earliest request at their place.
-fn first_to_differ<'r, 'h>(places: &[Vec<Seat<'r, 'h>>]) -> Option<Seat<'r, 'h>> {
-    let mut least: Option<Seat<'r, 'h>> = None;
-    for seats in places {
-        if let Some(first) = earliest(seats) {
-            least = lesser(least, first, seats);
+fn first_to_differ<'r, 'h>(places: &[Vec<MemberRequest<'r, 'h>>]) -> Option<MemberRequest<'r, 'h>> {
+    let mut least: Option<MemberRequest<'r, 'h>> = None;
+    for requests in places {
+        if let Some(first) = earliest(requests) {
+            least = lesser(least, first, requests);
         }
     }
     least
@@ -166,18 +170,18 @@ fn first_to_differ<'r, 'h>(places: &[Vec<Seat<'r, 'h>>]) -> Option<Seat<'r, 'h>>
 
 /// The request in the earliest line: `least`, or one of this place that differs from the earliest request there.
 fn lesser<'r, 'h>(
-    least: Option<Seat<'r, 'h>>,
-    first: Seat<'r, 'h>,
-    seats: &[Seat<'r, 'h>],
-) -> Option<Seat<'r, 'h>> {
+    least: Option<MemberRequest<'r, 'h>>,
+    first: MemberRequest<'r, 'h>,
+    requests: &[MemberRequest<'r, 'h>],
+) -> Option<MemberRequest<'r, 'h>> {
     let mut least = least;
-    for seat in seats {
+    for member in requests {
         let is_lesser = match least {
-            Some(other) => seat.request.line < other.request.line,
+            Some(other) => member.request.line < other.request.line,
             None => true,
         };
-        if is_lesser && seat.request.sig != first.request.sig {
-            least = Some(*seat);
+        if is_lesser && member.request.sig != first.request.sig {
+            least = Some(*member);
         }
     }
     least
@@ -188,27 +192,27 @@ fn mismatch_on(
     alloc: Global,
     written: &Written,
     comm: usize,
-    places: &[Vec<Seat<'_, '_>>],
+    places: &[Vec<MemberRequest<'_, '_>>],
 ) -> Result<Option<Mismatch>, AllocError> {
     let Some(differs) = first_to_differ(places) else {
         return Ok(None);
     };
     let place = differs.request.place;
-    let Some(seats) = places.get(place) else {
+    let Some(requests) = places.get(place) else {
         return Ok(None);
     };
-    let Some(first) = earliest(seats) else {
+    let Some(first) = earliest(requests) else {
         return Ok(None);
     };
     let mut members = Vec::new(alloc);
-    for seat in seats {
-        members.push(standing_of(written, *seat, first))?;
+    for member in requests {
+        members.push(placed(written, *member, first))?;
     }
     Ok(Some(Mismatch {
         comm,
         place,
-        first: standing_of(written, first, first),
-        differs: standing_of(written, differs, first),
+        first: placed(written, first, first),
+        differs: placed(written, differs, first),
         fields: differences(alloc, &differs.request.sig, &first.request.sig)?,
         members,
         elsewhere: elsewhere(written, places, differs, first),
@@ -218,14 +222,14 @@ fn mismatch_on(
 /// The place and the line at which the rank of `differs` has the signature of `first`.
 fn elsewhere(
     written: &Written,
-    places: &[Vec<Seat<'_, '_>>],
-    differs: Seat<'_, '_>,
-    first: Seat<'_, '_>,
+    places: &[Vec<MemberRequest<'_, '_>>],
+    differs: MemberRequest<'_, '_>,
+    first: MemberRequest<'_, '_>,
 ) -> Option<(usize, u32)> {
-    for seats in places {
-        for seat in seats {
-            if seat.rank == differs.rank && seat.request.sig == first.request.sig {
-                return Some((seat.request.place, written.of(seat.request.line)));
+    for requests in places {
+        for member in requests {
+            if member.rank == differs.rank && member.request.sig == first.request.sig {
+                return Some((member.request.place, written.of(member.request.line)));
             }
         }
     }
@@ -238,16 +242,16 @@ fn missing_place(
     written: &Written,
     comm: usize,
     group: &[u8],
-    places: &[Vec<Seat<'_, '_>>],
+    places: &[Vec<MemberRequest<'_, '_>>],
 ) -> Result<Option<MissingPlace>, AllocError> {
-    for (place, seats) in places.iter().enumerate() {
-        if let Some(first) = earliest(seats) {
-            if seats.len() < group.len() {
+    for (place, requests) in places.iter().enumerate() {
+        if let Some(first) = earliest(requests) {
+            if requests.len() < group.len() {
                 return Ok(Some(MissingPlace {
                     comm,
                     place,
-                    first: standing_of(written, first, first),
-                    lacking: lacking(alloc, group, place, seats)?,
+                    first: placed(written, first, first),
+                    lacking: lacking(alloc, group, requests)?,
                 }));
             }
         }
@@ -255,17 +259,16 @@ fn missing_place(
     Ok(None)
 }
 
-/// The ranks that lack the first place that some member lacks, with the number of places that each of them has.
+/// The ranks of the group that have none of these requests.
 fn lacking(
     alloc: Global,
     group: &[u8],
-    place: usize,
-    seats: &[Seat<'_, '_>],
-) -> Result<Vec<(u8, usize)>, AllocError> {
+    requests: &[MemberRequest<'_, '_>],
+) -> Result<Vec<u8>, AllocError> {
     let mut lacking = Vec::new(alloc);
     for rank in group {
-        if !seats.iter().any(|seat| seat.rank == *rank) {
-            lacking.push((*rank, place))?;
+        if !requests.iter().any(|member| member.rank == *rank) {
+            lacking.push(*rank)?;
         }
     }
     Ok(lacking)
@@ -276,14 +279,14 @@ fn missing_start(
     alloc: Global,
     written: &Written,
     comm: usize,
-    places: &[Vec<Seat<'_, '_>>],
+    places: &[Vec<MemberRequest<'_, '_>>],
 ) -> Result<Option<MissingStart>, AllocError> {
-    for (place, seats) in places.iter().enumerate() {
-        if !are_started_alike(seats) {
+    for (place, requests) in places.iter().enumerate() {
+        if !are_started_alike(requests) {
             return Ok(Some(MissingStart {
                 comm,
                 place,
-                members: all_started(alloc, written, seats)?,
+                members: all_started(alloc, written, requests)?,
             }));
         }
     }
@@ -294,14 +297,14 @@ fn missing_start(
 fn all_started(
     alloc: Global,
     written: &Written,
-    seats: &[Seat<'_, '_>],
+    requests: &[MemberRequest<'_, '_>],
 ) -> Result<Vec<(u8, u32, Vec<u32>)>, AllocError> {
     let mut members = Vec::new(alloc);
-    for seat in seats {
+    for member in requests {
         members.push((
-            seat.rank,
-            written.of(seat.request.line),
-            started_in(alloc, written, &seat.request.starts)?,
+            member.rank,
+            written.of(member.request.line),
+            started_in(alloc, written, &member.request.starts)?,
         ))?;
     }
     Ok(members)
@@ -319,11 +322,13 @@ fn started_in(
     Ok(lines)
 }
 
-fn are_started_alike(seats: &[Seat<'_, '_>]) -> bool {
-    match seats.first() {
+fn are_started_alike(requests: &[MemberRequest<'_, '_>]) -> bool {
+    match requests.first() {
         Some(first) => {
             let starts = first.request.starts.len();
-            seats.iter().all(|seat| seat.request.starts.len() == starts)
+            requests
+                .iter()
+                .all(|member| member.request.starts.len() == starts)
         }
         None => true,
     }

@@ -1,23 +1,23 @@
-//! The places of a communicator.
+//! The requests at the places of a communicator.
 
 use coll_history::Request;
 use std::alloc::{AllocError, Global};
 
-/// A request at a place, with its rank.
+/// A request that a member of a communicator makes, with the member's rank in the job.
 #[derive(Clone, Copy)]
-pub(crate) struct Seat<'r, 'h> {
+pub(crate) struct MemberRequest<'r, 'h> {
     pub rank: u8,
     pub request: &'r Request<'h>,
 }
 
-/// The places of a communicator of this group, each with the requests there, in member order; `requests` are those of each
-/// rank. Linear in those of the members.
-pub(crate) fn all_seats<'r, 'h>(
+/// The requests at each place of a communicator of this group, in member order; `requests` are those of each rank. Linear in
+/// those of the members.
+pub(crate) fn requests_by_place<'r, 'h>(
     alloc: Global,
     comm: usize,
     group: &[u8],
     requests: &'r [Vec<Request<'h>>],
-) -> Result<Vec<Vec<Seat<'r, 'h>>>, AllocError> {
+) -> Result<Vec<Vec<MemberRequest<'r, 'h>>>, AllocError> {
     let mut places = Vec::new(alloc);
     for rank in group {
         if let Some(requests) = requests.get(usize::from(*rank)) {
@@ -33,15 +33,15 @@ fn lay<'r, 'h>(
     comm: usize,
     rank: u8,
     requests: &'r [Request<'h>],
-    places: &mut Vec<Vec<Seat<'r, 'h>>>,
+    places: &mut Vec<Vec<MemberRequest<'r, 'h>>>,
 ) -> Result<(), AllocError> {
     for request in requests {
         if usize::from(request.comm) == comm {
             if request.place >= places.len() {
                 places.push(Vec::new(alloc))?;
             }
-            if let Some(seats) = places.get_mut(request.place) {
-                seats.push(Seat { rank, request })?;
+            if let Some(here) = places.get_mut(request.place) {
+                here.push(MemberRequest { rank, request })?;
             }
         }
     }
@@ -49,15 +49,17 @@ fn lay<'r, 'h>(
 }
 
 /// The request in the earliest line.
-pub(crate) fn earliest<'r, 'h>(seats: &[Seat<'r, 'h>]) -> Option<Seat<'r, 'h>> {
-    let mut earliest: Option<Seat<'r, 'h>> = None;
-    for seat in seats {
+pub(crate) fn earliest<'r, 'h>(
+    requests: &[MemberRequest<'r, 'h>],
+) -> Option<MemberRequest<'r, 'h>> {
+    let mut earliest: Option<MemberRequest<'r, 'h>> = None;
+    for member in requests {
         let is_earlier = match earliest {
-            Some(first) => seat.request.line < first.request.line,
+            Some(first) => member.request.line < first.request.line,
             None => true,
         };
         if is_earlier {
-            earliest = Some(*seat);
+            earliest = Some(*member);
         }
     }
     earliest
