@@ -1,0 +1,4 @@
+mod Hearing
+mod Running
+mod Stalling
+mod Rows

@@ -1,0 +1,5 @@
+-- what is Done by this engine's schedules, and what runs of a job come to with it
+pub mod Heard
+pub mod Runs
+pub mod Laws
+pub mod Rows
