@@ -5,7 +5,7 @@ mod held;
 ghost use Rattle.std.specs.Prelude.{◌≡◌, IfErr};
 
 use crate::locked::{Locked, Successor};
-use crate::patience::Turns;
+use crate::patience::Processors;
 use crate::record::PublicationRecord;
 use coll_core::{DoneShortWork, ShortWork};
 use coll_kinds::Refusal;
@@ -34,7 +34,7 @@ pub(crate) struct Combiner<L: Entries> {
     sleepers: CachePadded<AtomicU64>,
     /// The ranks whose ports were dropped unfinished, as bits, until a combiner notes that they have ended.
     departed: CachePadded<AtomicU64>,
-    pub(crate) turns: CachePadded<Turns>,
+    pub(crate) processors: CachePadded<Processors>,
 }
 
 fn zero() -> CachePadded<AtomicU64> {
@@ -57,7 +57,7 @@ impl<L: Entries> Combiner<L> {
             idlers: EventCount::new(),
             sleepers: zero(),
             departed: zero(),
-            turns: CachePadded::new(Turns::new()),
+            processors: CachePadded::new(Processors::new()),
         })
     }
 
@@ -100,7 +100,7 @@ impl<L: Entries> Combiner<L> {
 
     fn await_lock<R: Wait>(&self, rt: &R) -> Held<'_, L> {
         let backoff = Backoff::new();
-        for _ in 0..self.turns.asks() {
+        for _ in 0..self.processors.asks() {
             if let Some(held) = self.try_enter() {
                 return held;
             }

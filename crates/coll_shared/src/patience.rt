@@ -11,12 +11,12 @@ use std::thread::yield_now;
 pub(crate) struct Patience {
     /// Looks in all.
     looks: u32,
-    /// Looks in a row, before the first one with a turn for others.
-    close: u32,
     /// It tries to take the lock at the looks whose number has all of these bits.
     tries: u32,
     /// Looks in a row while it holds the lock, before it gives the lock up.
     holds: u32,
+    /// Whether it gives turns to other threads between its looks.
+    gives_turns: bool,
     /// Whether it looks only shortly, since long looks were in vain.
     is_short: bool,
 }
@@ -25,27 +25,27 @@ pub(crate) struct Patience {
 /// thread that has the lock; a port that nobody serves waits for the first try.
 const OWN_PROCESSOR: Patience = Patience {
     looks: 2_000,
-    close: 20,
     tries: 1_023,
     holds: 1_250,
+    gives_turns: true,
     is_short: false,
 };
 
 /// Where threads share processors.
 const SHARED_PROCESSOR: Patience = Patience {
     looks: 2_000,
-    close: 20,
     tries: 63,
     holds: 200,
+    gives_turns: true,
     is_short: false,
 };
 
 /// Where threads share one processor, and turns are long: nothing changes while it looks.
 const ONE_PROCESSOR_CROWDED: Patience = Patience {
     looks: 0,
-    close: 0,
     tries: 0,
     holds: 0,
+    gives_turns: false,
     is_short: true,
 };
 
@@ -58,8 +58,8 @@ const FEW_LOOKS: u32 = 50;
 /// The number of long looks in vain, less those that helped, after which a thread looks shortly.
 const IN_VAIN: u64 = 3;
 
-/// Of the waits of a thread that looks shortly the one whose number has none of these bits looks long: it finds out whether that helps again.
-const SHORT: u64 = 15;
+/// How often in a row it looks shortly. The next wait looks long, and finds out whether that helps again.
+const SHORT_WAITS: u64 = 15;
 
 /// Tries to take the lock that a thread asks for, with longer and longer pauses between them, where each thread has a processor of its own.
 const OWN_PROCESSOR_ASKS: u32 = 160;
@@ -67,14 +67,11 @@ const OWN_PROCESSOR_ASKS: u32 = 160;
 /// The same where threads share processors.
 const SHARED_PROCESSOR_ASKS: u32 = 8;
 
-/// The first looks with the lock, which follow one another without longer pauses.
+/// The first looks, which follow one another with short pauses alone.
 const CLOSE: u32 = 20;
 
-/// Pauses between the later ones, which take about as long as a short turn.
+/// Pauses between the later ones with the lock, which take about as long as a short turn.
 const PAUSES: u32 = 8;
-
-/// The turns of a wait whose number has none of these bits are timed, the first one among them.
-const UNTIMED: u32 = 3;
 
 /// A turn of over this many microseconds went to a thread that computes, for a time slice. Another one takes some microseconds.
 const LONG: u64 = 500;
@@ -107,11 +104,9 @@ impl Patience {
     /// The same without turns for others.
     fn crowded(self) -> Self {
         Patience {
-            looks: self.looks,
-            close: u32::MAX,
-            tries: self.tries,
             holds: CROWDED_HOLDS,
-            is_short: self.is_short,
+            gives_turns: false,
+            ..self
         }
     }
 
@@ -119,10 +114,8 @@ impl Patience {
     fn short(self) -> Self {
         Patience {
             looks: FEW_LOOKS,
-            close: self.close,
-            tries: self.tries,
-            holds: self.holds,
             is_short: true,
+            ..self
         }
     }
 }
@@ -151,7 +144,7 @@ fn microseconds<C: Clock>(clock: &C) -> u64 {
 pub(crate) struct Waits {
     /// How often it has looked long and slept all the same, less how often not.
     in_vain: AtomicU64,
-    /// How many waits there were since it looks shortly.
+    /// How many waits there were since the last one that looked long.
     short: AtomicU64,
     /// When its long turns are within their share, or 0 where they are for long.
     repaid: AtomicU64,
@@ -181,12 +174,8 @@ impl Waits {
 
     /// Whether the wait that begins now looks shortly.
     fn is_short(&self) -> bool {
-        if self.in_vain.load(Ordering::Relaxed) < IN_VAIN {
-            return false;
-        }
-        let short = self.short.load(Ordering::Relaxed).wrapping_add(1);
-        self.short.store(short, Ordering::Relaxed);
-        short & SHORT != 0
+        self.in_vain.load(Ordering::Relaxed) >= IN_VAIN
+            && self.short.load(Ordering::Relaxed) < SHORT_WAITS
     }
 
     /// Gives a turn to others. Returns whether it is within the share.
@@ -209,10 +198,15 @@ impl Waits {
         to >= repaid
     }
 
-    /// A wait is over, in which the port looked, or slept.
+    /// A wait is over, in which the port looked, or slept. Nothing is written where all is as before: the combiner reads words beside these.
     pub(crate) fn note(&self, patience: Patience, looked: bool, slept: bool) {
+        let short = self.short.load(Ordering::Relaxed);
         if patience.is_short {
+            self.short.store(short.saturating_add(1), Ordering::Relaxed);
             return;
+        }
+        if short > 0 {
+            self.short.store(0, Ordering::Relaxed);
         }
         let in_vain = self.in_vain.load(Ordering::Relaxed);
         if slept && in_vain <= IN_VAIN {
@@ -228,15 +222,15 @@ impl Waits {
 
 /// How many threads there are, and how many processors for them.
 #[derive(Drop)]
-pub(crate) struct Turns {
+pub(crate) struct Processors {
     threads: AtomicU64,
     processors: AtomicU64,
 }
 
-impl Turns {
+impl Processors {
     /// Threads count as sharing processors.
     pub(crate) fn new() -> Self {
-        Turns {
+        Processors {
             threads: AtomicU64::new(3),
             processors: AtomicU64::new(2),
         }
@@ -249,13 +243,13 @@ impl Turns {
     }
 
     /// Whether each thread has a processor of its own.
-    fn has_each_a_processor(&self) -> bool {
+    fn has_each_its_own(&self) -> bool {
         self.threads.load(Ordering::SeqCst) <= self.processors.load(Ordering::SeqCst)
     }
 
     /// Tries to take the lock that a thread asks for, before it sleeps.
     pub(crate) fn asks(&self) -> u32 {
-        if self.has_each_a_processor() {
+        if self.has_each_its_own() {
             OWN_PROCESSOR_ASKS
         } else {
             SHARED_PROCESSOR_ASKS
@@ -272,7 +266,7 @@ impl Turns {
 
     /// How the wait of a port that begins now is made.
     pub(crate) fn patience<C: Clock>(&self, clock: &C, waits: &Waits) -> Patience {
-        let mut patience = if self.has_each_a_processor() {
+        let mut patience = if self.has_each_its_own() {
             OWN_PROCESSOR
         } else {
             SHARED_PROCESSOR
@@ -287,26 +281,18 @@ impl Turns {
         }
     }
 
-    /// A pause after a look. Returns how the wait goes on: without further turns, where long ones have had their share.
+    /// A pause after a look. The wait goes on without further turns where long ones have had their share.
     pub(crate) fn pause<C: Clock>(
         &self,
         clock: &C,
         waits: &Waits,
-        patience: Patience,
+        patience: &mut Patience,
         look: u32,
-    ) -> Patience {
-        let Some(turn) = look.checked_sub(patience.close) else {
+    ) {
+        if look < CLOSE || !patience.gives_turns {
             spin_loop();
-            return patience;
-        };
-        if turn & UNTIMED != 0 {
-            yield_now();
-            return patience;
-        }
-        if waits.give(clock) {
-            patience
-        } else {
-            self.crowded(patience)
+        } else if !waits.give(clock) {
+            *patience = self.crowded(*patience);
         }
     }
 }

@@ -21,7 +21,8 @@ use std::sync::Wait;
 impl<L: Entries> Combiner<L> {
     /// Waits until there is an answer in the record, or serves it as the combiner.
     fn await_made<R: Wait + Clock>(&self, rt: &R, record: &PublicationRecord<L>) {
-        if let Some(held) = self.spin(rt, record, self.turns.patience(rt, record.waits())) {
+        let mut patience = self.processors.patience(rt, record.waits());
+        if let Some(held) = self.spin(rt, record, &mut patience) {
             self.release(held);
             record.set_leads(true);
         }

@@ -114,7 +114,7 @@ fn run_in_scope<
 fn fit<L: Entries, R: Threads>(rt: &R, engine: &Engine<L>, ranks: usize, workers: u8) {
     let processors = thread::available_parallelism(rt).map_or(1, |count| count.get());
     let threads = ranks.saturating_add(usize::from(workers));
-    engine.combiner.turns.fit(threads, processors);
+    engine.combiner.processors.fit(threads, processors);
 }
 
 /// Starts the threads of the ranks, in their order, up to one that can't be started. Returns whether there was none.

@@ -24,7 +24,7 @@ impl<L: Entries> Combiner<L> {
         &self,
         rt: &R,
         record: &PublicationRecord<L>,
-        mut patience: Patience,
+        patience: &mut Patience,
     ) -> Option<Held<'_, L>> {
         for look in 0..patience.looks() {
             if record.is_answered() {
@@ -39,7 +39,7 @@ impl<L: Entries> Combiner<L> {
             if look >= patience.looks() {
                 break;
             }
-            patience = self.turns.pause(rt, record.waits(), patience, look);
+            self.processors.pause(rt, record.waits(), patience, look);
         }
         Some(self.enter(rt))
     }
@@ -66,7 +66,7 @@ impl<L: Entries> Combiner<L> {
     ) -> Result<(), Refusal>
         ensures { IfErr result (IsHindrance L.setting rank) }
     {
-        let patience = self.turns.patience(rt, record.waits());
+        let mut patience = self.processors.patience(rt, record.waits());
         let mut may_park = false;
         let mut looked = false;
         let mut slept = false;
@@ -82,7 +82,7 @@ impl<L: Entries> Combiner<L> {
                 }
                 Turn::Spin => {
                     looked = true;
-                    self.spin(rt, record, patience)
+                    self.spin(rt, record, &mut patience)
                 }
                 Turn::Park => {
                     slept = true;
