@@ -76,10 +76,10 @@ const PAUSES: u32 = 8;
 /// A turn of over this many microseconds went to a thread that computes, for a time slice. Another one takes some microseconds.
 const LONG: u64 = 500;
 
-/// A port's long turns take at most one part in so many of its time.
+/// A port's long turns take at most this part of its time: one in a hundred.
 const SHARE: u64 = 100;
 
-/// The microseconds whose part it can save.
+/// The microseconds whose share it can save for a later turn.
 const CREDIT: u64 = 1_000_000;
 
 /// The microseconds after which it gives turns again at the latest, since the program may have been stopped while it gave one.
@@ -146,7 +146,7 @@ pub(crate) struct Waits {
     in_vain: AtomicU64,
     /// How many waits there were since the last one that looked long.
     short: AtomicU64,
-    /// When its long turns are within their share, or 0 where they are for long.
+    /// From when on its long turns are within their share again, or 0 once they have been for a second.
     repaid: AtomicU64,
 }
 
