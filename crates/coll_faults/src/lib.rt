@@ -14,7 +14,7 @@
 //! | `signature_faults`, `value_faults`, `request_faults`, `line_faults` | remarks by the rule that is broken |
 //! | `suggestion`, `trying` | `Suggestion`, a change that was tried; how proposals for a line are tried |
 //! | `mending` | what stands in place of a faulty line while those after it are judged |
-//! | `seats`, `difference`, `place_faults` | requests at one place that don't belong together |
+//! | `member_requests`, `difference`, `place_faults` | requests at one place that don't belong together |
 //! | `finding`, `examining`, `faults` | `Faults`, all that is found in one text |
 #![tactic(auto)]
 
