@@ -8,7 +8,7 @@ use Rattle.coll_plans.specs.Hearings.{hears_from, hears_here}
 use Rattle.coll_plans.specs.Plans.{family, Planned, IsPlanned}
 use Rattle.coll_verdict.specs.Checking.{said_in, is_yes}
 
--- ---- rows of bits
+-- ---- rows of truth values
 
 abbrev pub bit : List (Vec Bool Global) → ℕ → ℕ → Bool
 bit rows r p = is_yes (said_in (slice_get rows r) p)

@@ -1,7 +1,7 @@
 use crate::job::Job;
 use crate::place::{Peer, Place};
 use crate::step::{Act, Completes, Step};
-use crate::waiting::WaitsFor;
+use crate::waiting::{Reading, hears};
 use coll_history::Request;
 use coll_kinds::MAX_RANKS;
 use coll_script::Named;
@@ -25,7 +25,7 @@ pub enum Choice {
 #[derive(Debug, Drop)]
 pub struct Course<'j> {
     job: &'j Job<'j>,
-    waiting: WaitsFor,
+    reading: Reading<'j>,
     choice: Choice,
     stands: Vec<Stand>,
     /// The ranks that passed a step, in the order in which they did.
@@ -73,12 +73,12 @@ impl<'j> Course<'j> {
     pub fn of(
         alloc: Global,
         job: &'j Job<'j>,
-        waiting: WaitsFor,
+        reading: Reading<'j>,
         choice: Choice,
     ) -> Result<Course<'j>, AllocError> {
         let mut course = Course {
             job,
-            waiting,
+            reading,
             choice,
             stands: stands(alloc, job)?,
             order: Vec::new(alloc),
@@ -94,11 +94,6 @@ impl<'j> Course<'j> {
     /// The job whose ranks go on.
     pub fn job(&self) -> &'j Job<'j> {
         self.job
-    }
-
-    /// For which members completions wait in this course.
-    pub fn waiting(&self) -> WaitsFor {
-        self.waiting
     }
 
     /// The step that a rank hasn't passed; None at its end.
@@ -139,7 +134,16 @@ impl<'j> Course<'j> {
     /// Whether `member` waits at this place for `other` to join the start of that number, and `other`, whose request is `peer`,
     /// hasn't joined it yet.
     pub fn lacks(&self, place: &Place, start: u32, member: u8, other: u8, peer: Peer) -> bool {
-        place.waits_for(self.waiting, member, other) && !self.has_joined(peer, start)
+        self.waits_for(place, member, other) && !self.has_joined(peer, start)
+    }
+
+    /// Whether the completion of `member` waits at this place for `other` to join.
+    fn waits_for(&self, place: &Place, member: u8, other: u8) -> bool {
+        match self.reading {
+            Reading::Needed => place.needs(member, other),
+            Reading::Heard(tables) => hears(tables, place.collective, member, other),
+            Reading::All => true,
+        }
     }
 
     /// Lets each rank go on while it can. Returns whether some rank passed a step.
@@ -190,7 +194,7 @@ impl<'j> Course<'j> {
 
     /// Whether an initialisation returns: MPI lets a library wait in it until all members have come to it (MPI 4.1, 6.13).
     fn makes(&self, rank: u8, request: usize) -> bool {
-        if self.waiting != WaitsFor::All || self.choice != Choice::Worst {
+        if self.choice != Choice::Worst || !matches!(self.reading, Reading::All) {
             return true;
         }
         match self.made(rank, request) {

@@ -3,12 +3,13 @@ ghost use Rattle.coll_diagnosis.specs.Standing.{IsShown, IsStandstill};
 
 use crate::course::{Choice, Course};
 use crate::cure::{Move, cure};
+use crate::engine_tables::tables_of;
 use crate::facts::Facts;
 use crate::job::Job;
 use crate::ring::shortest_ring;
 use crate::standstill::Standstill;
 use crate::verdict::Verdict;
-use crate::waiting::WaitsFor;
+use crate::waiting::{Reading, WaitsFor};
 use coll_kinds::Refusal;
 use coll_script::Script;
 use std::alloc::Global;
@@ -62,8 +63,8 @@ impl Explanation {
         let verdict = Verdict::of(alloc, script, &job)?;
         let shown = match verdict {
             Verdict::Never => None,
-            Verdict::NeverHere => stall_among(alloc, script, &job, WaitsFor::All)?,
-            Verdict::Perhaps => stall_among(alloc, script, &job, WaitsFor::Heard)?,
+            Verdict::NeverHere => stall_among(alloc, script, &job, Reading::All)?,
+            Verdict::Perhaps => stall_by_schedules(alloc, script, &job)?,
             Verdict::AlwaysHere | Verdict::Always => Some(stall_here(alloc, script, &job)?),
         };
         let cure = match &shown {
@@ -84,24 +85,36 @@ impl Explanation {
 fn stall_here(alloc: Global, script: &Script, job: &Job) -> Result<ShownStall, Refusal>
     ensures { IfOk result (IsShown script.now) }
 {
-    match stall_among(alloc, script, job, WaitsFor::Heard)? {
+    match stall_by_schedules(alloc, script, job)? {
         Some(shown) => Ok(shown),
         None => Err(Refusal::Torn),
     }
 }
 
-/// A stall with that waiting: of the course that helps the ranks most, and so of every run; else of one of the two courses that
+/// A stall by this engine's schedules, if a course comes to one.
+fn stall_by_schedules(
+    alloc: Global,
+    script: &Script,
+    job: &Job,
+) -> Result<Option<ShownStall>, Refusal>
+    ensures { IfOk result (λ found. IfSome found (IsShown script.now)) }
+{
+    let tables = tables_of(alloc, &job.collectives)?;
+    stall_among(alloc, script, job, Reading::Heard(&tables))
+}
+
+/// A stall with that reading: of the course that helps the ranks most, and so of every run; else of one of the two courses that
 /// a run may take. Refuses [`Refusal::Torn`] if the stall isn't true of the script, which doesn't happen.
 fn stall_among(
     alloc: Global,
     script: &Script,
     job: &Job,
-    waiting: WaitsFor,
+    reading: Reading<'_>,
 ) -> Result<Option<ShownStall>, Refusal>
     ensures { IfOk result (λ found. IfSome found (IsShown script.now)) }
 {
     for choice in [Choice::Best, Choice::First, Choice::Last] {
-        let course = Course::of(alloc, &*job, waiting, choice)?;
+        let course = Course::of(alloc, &*job, reading, choice)?;
         if course.is_stuck() {
             let standstill = true_standstill(alloc, script, &course)?;
             let ring = shortest_ring(alloc, &standstill.stuck)?;
@@ -109,7 +122,7 @@ fn stall_among(
                 return Err(Refusal::Torn);
             }
             return Ok(Some(ShownStall {
-                waiting,
+                waiting: reading.waits_for(),
                 choice,
                 standstill,
                 ring,

@@ -1,7 +1,8 @@
+use crate::collectives::{Collective, Collectives};
 use crate::place::{Peer, Place};
 use crate::section::RankSection;
 use coll_history::{History, Request};
-use coll_kinds::{MAX_COMMUNICATORS, Refusal};
+use coll_kinds::MAX_COMMUNICATORS;
 use coll_script::Script;
 use std::alloc::{AllocError, Global};
 
@@ -14,22 +15,26 @@ pub struct Job<'s> {
     pub sections: Vec<RankSection<'s>>,
     /// The places of each communicator, in their order.
     pub places: Vec<Vec<Place>>,
+    /// The collectives of the places, each once.
+    pub collectives: Vec<Collective>,
 }
 
 impl<'s> Job<'s> {
-    /// Lays a script out. Linear in the commands, in the actions of all requests' schedules, and for each communicator in the
-    /// requests of its members.
-    pub fn of(alloc: Global, script: &'s Script) -> Result<Job<'s>, Refusal> {
+    /// Lays a script out. Linear in the commands, for each communicator in the requests of its members, and for each place in
+    /// the collectives with as many elements and members that differ.
+    pub fn of(alloc: Global, script: &'s Script) -> Result<Job<'s>, AllocError> {
         let history = script.history();
         let sections = sections(alloc, history)?;
+        let mut collectives = Collectives::new(alloc);
         let mut places = Vec::new(alloc);
         for (comm, group) in (0..MAX_COMMUNICATORS as u8).zip(history.groups()) {
-            places.push(places_on(alloc, comm, group, &sections)?)?;
+            places.push(places_on(alloc, comm, group, &sections, &mut collectives)?)?;
         }
         Ok(Job {
             ranks: history.ranks(),
             sections,
             places,
+            collectives: collectives.into_all(),
         })
     }
 
@@ -60,7 +65,8 @@ fn places_on(
     comm: u8,
     group: &[u8],
     sections: &[RankSection<'_>],
-) -> Result<Vec<Place>, Refusal> {
+    collectives: &mut Collectives,
+) -> Result<Vec<Place>, AllocError> {
     let mut places = Vec::new(alloc);
     for rank in group {
         if let Some(section) = sections.get(usize::from(*rank)) {
@@ -71,6 +77,7 @@ fn places_on(
                 *rank,
                 &section.requests,
                 &mut places,
+                collectives,
             )?;
         }
     }
@@ -85,11 +92,13 @@ fn lay_out(
     rank: u8,
     requests: &[Request<'_>],
     places: &mut Vec<Place>,
-) -> Result<(), Refusal> {
+    collectives: &mut Collectives,
+) -> Result<(), AllocError> {
     for (index, request) in requests.iter().enumerate() {
         if request.comm == comm {
             if request.place >= places.len() {
-                places.push(Place::new(alloc, request, n)?)?;
+                let collective = collectives.index_of(request.sig, n)?;
+                places.push(Place::new(alloc, request, collective))?;
             }
             if let Some(place) = places.get_mut(request.place) {
                 place.peers.push(Peer {

@@ -7,7 +7,8 @@
 //! | Module | Has |
 //! |---|---|
 //! | `members` | `Members`, a set of members or ranks |
-//! | `waiting` | `WaitsFor`, the members for which the completion of a collective waits |
+//! | `waiting` | `WaitsFor`, the members for which the completion of a collective waits; `Reading`, the same with the tables of a job |
+//! | `collectives` | `Collective`, of which a job has each once |
 //! | `hearing`, `engine_tables` | from which members the schedule of each member hears; the same of all collectives of a job |
 //! | `step`, `section`, `place`, `job` | `Job`, the commands and requests of the ranks of a script |
 //! | `course` | `Course`, how far the ranks come |
@@ -25,6 +26,7 @@
 #![tactic(auto)]
 
 mod circle;
+mod collectives;
 mod course;
 mod cure;
 mod cured_text;
@@ -49,6 +51,7 @@ mod text_form;
 mod verdict;
 mod waiting;
 
+pub use collectives::Collective;
 pub use course::{Choice, Course};
 pub use cure::Move;
 pub use explaining::{ExplainOptions, ExplainedText, Form, explain_job, explain_text};
@@ -63,4 +66,4 @@ pub use standstill::Standstill;
 pub use step::{Act, Completes, Step};
 pub use stuck::Stuck;
 pub use verdict::Verdict;
-pub use waiting::WaitsFor;
+pub use waiting::{Reading, WaitsFor};

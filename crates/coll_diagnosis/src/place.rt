@@ -1,7 +1,5 @@
-use crate::hearing::heard;
-use crate::waiting::WaitsFor;
 use coll_history::Request;
-use coll_kinds::{MAX_RANKS, Refusal, Signature};
+use coll_kinds::{MAX_RANKS, Signature};
 use std::alloc::Global;
 
 /// A request of a job: the rank that made it, and its number there.
@@ -18,45 +16,27 @@ pub struct Place {
     /// The place's number in the communicator, from 0 on.
     pub number: usize,
     pub sig: Signature,
+    /// The index of its collective in the job's.
+    pub collective: usize,
     /// The members' requests, in the order of the members.
     pub peers: Vec<Peer>,
-    /// For each member, of each whether it hears from that one before it is done.
-    heard: Vec<Vec<bool>>,
 }
 
 impl Place {
-    /// A place among `n` members, for the first request that has it.
-    pub(crate) fn new(alloc: Global, request: &Request<'_>, n: usize) -> Result<Place, Refusal> {
-        let n = n.min(MAX_RANKS) as u8;
-        Ok(Place {
+    /// The place of that collective, for the first request that has it.
+    pub(crate) fn new(alloc: Global, request: &Request<'_>, collective: usize) -> Place {
+        Place {
             comm: request.comm,
             number: request.place,
             sig: request.sig,
+            collective,
             peers: Vec::new(alloc),
-            heard: heard(alloc, request.sig, n)?,
-        })
-    }
-
-    /// How many members the communicator has.
-    pub(crate) fn size(&self) -> usize {
-        self.heard.len()
+        }
     }
 
     /// Whether the outcome of `member` needs what `other` gives.
     pub fn needs(&self, member: u8, other: u8) -> bool {
         let n = self.peers.len().min(MAX_RANKS) as u8;
         self.sig.needs(n, member, other)
-    }
-
-    /// Whether the completion of `member` waits for `other` to join.
-    pub fn waits_for(&self, waiting: WaitsFor, member: u8, other: u8) -> bool {
-        match waiting {
-            WaitsFor::Needed => self.needs(member, other),
-            WaitsFor::Heard => match self.heard.get(usize::from(member)) {
-                Some(heard) => heard.get(usize::from(other)).copied() == Some(true),
-                None => false,
-            },
-            WaitsFor::All => true,
-        }
     }
 }

@@ -1,15 +1,16 @@
 ghost use Rattle.std.specs.Prelude.{IfOk, IsTrue};
 ghost use Rattle.coll_verdict.specs.Stalls.{StallsAlways, StallsNever};
-ghost use Rattle.coll_verdict.specs.Waiting.{StallsAlwaysBy, StallsNeverBy};
-ghost use Rattle.coll_plans.specs.Hearings.{hears_here};
+ghost use Rattle.coll_verdict.specs.Code.{AlwaysFor, NeverFor};
 
 use crate::course::{Choice, Course};
 use crate::engine_tables::tables_of;
 use crate::job::Job;
-use crate::waiting::WaitsFor;
+use crate::waiting::Reading;
 use coll_kinds::Refusal;
 use coll_script::Script;
-use coll_verdict::{Library, always_stalls, always_stalls_by, never_stalls, never_stalls_by};
+use coll_verdict::{
+    HeardRows, Library, always_stalls, always_stalls_by, never_stalls, never_stalls_by,
+};
 use std::alloc::Global;
 
 /// Whether the runs of a job stall: in a run that stalls, a rank's thread waits for what never comes.
@@ -45,14 +46,21 @@ impl Verdict {
         if is_always_shown(alloc, script, job)? {
             return Ok(Verdict::Always);
         }
-        if is_never_here_shown(alloc, script, job)? {
+        Verdict::of_schedules(alloc, script, job)
+    }
+
+    /// Whether the runs by this engine's schedules stall.
+    fn of_schedules(alloc: Global, script: &Script, job: &Job) -> Result<Verdict, Refusal>
+        ensures { IfOk result (λ verdict. Means verdict script.now) }
+    {
+        let library = Library::Hears(tables_of(alloc, &job.collectives)?);
+        if is_never_here_shown(alloc, script, job, &library)? {
             return Ok(Verdict::NeverHere);
         }
-        if is_always_here_shown(alloc, script, job)? {
-            Ok(Verdict::AlwaysHere)
-        } else {
-            Ok(Verdict::Perhaps)
+        if is_always_here_shown(alloc, script, job, &library)? {
+            return Ok(Verdict::AlwaysHere);
         }
+        Ok(Verdict::Perhaps)
     }
 
     /// Whether every run by this engine's schedules stalls.
@@ -96,7 +104,7 @@ impl Verdict {
 pub(crate) fn is_never_shown(alloc: Global, script: &Script, job: &Job) -> Result<bool, Refusal>
     ensures { IfOk result (λ is_shown. IsTrue is_shown → StallsNever script.now) }
 {
-    let course = Course::of(alloc, job, WaitsFor::All, Choice::Worst)?;
+    let course = Course::of(alloc, job, Reading::All, Choice::Worst)?;
     if course.is_stuck() {
         return Ok(false);
     }
@@ -107,7 +115,7 @@ pub(crate) fn is_never_shown(alloc: Global, script: &Script, job: &Job) -> Resul
 fn is_always_shown(alloc: Global, script: &Script, job: &Job) -> Result<bool, Refusal>
     ensures { IfOk result (λ is_shown. IsTrue is_shown → StallsAlways script.now) }
 {
-    let course = Course::of(alloc, job, WaitsFor::Needed, Choice::Best)?;
+    let course = Course::of(alloc, job, Reading::Needed, Choice::Best)?;
     if !course.is_stuck() {
         return Ok(false);
     }
@@ -115,27 +123,45 @@ fn is_always_shown(alloc: Global, script: &Script, job: &Job) -> Result<bool, Re
     Ok(always_stalls(alloc, script.history(), &stands)?)
 }
 
-/// Whether the course that hinders the ranks most shows that no run by this engine's schedules stalls.
-fn is_never_here_shown(alloc: Global, script: &Script, job: &Job) -> Result<bool, Refusal>
-    ensures { IfOk result (λ is_shown. IsTrue is_shown → StallsNeverBy hears_here script.now) }
+/// Whether the course that hinders the ranks most shows that no run with this library stalls.
+fn is_never_here_shown(
+    alloc: Global,
+    script: &Script,
+    job: &Job,
+    library: &Library,
+) -> Result<bool, Refusal>
+    ensures { IfOk result (λ is_shown. IsTrue is_shown → NeverFor library.now script.now) }
 {
-    let course = Course::of(alloc, job, WaitsFor::Heard, Choice::Worst)?;
+    let reading = Reading::Heard(tables_in(library));
+    let course = Course::of(alloc, job, reading, Choice::Worst)?;
     if course.is_stuck() {
         return Ok(false);
     }
-    let library = Library::Hears(tables_of(alloc, job)?);
-    Ok(never_stalls_by(alloc, script.history(), course.order(), &library)?)
+    Ok(never_stalls_by(alloc, script.history(), course.order(), library)?)
 }
 
-/// Whether the course that helps the ranks most shows that every run by this engine's schedules stalls.
-fn is_always_here_shown(alloc: Global, script: &Script, job: &Job) -> Result<bool, Refusal>
-    ensures { IfOk result (λ is_shown. IsTrue is_shown → StallsAlwaysBy hears_here script.now) }
+/// Whether the course that helps the ranks most shows that every run with this library stalls.
+fn is_always_here_shown(
+    alloc: Global,
+    script: &Script,
+    job: &Job,
+    library: &Library,
+) -> Result<bool, Refusal>
+    ensures { IfOk result (λ is_shown. IsTrue is_shown → AlwaysFor library.now script.now) }
 {
-    let course = Course::of(alloc, job, WaitsFor::Heard, Choice::Best)?;
+    let reading = Reading::Heard(tables_in(library));
+    let course = Course::of(alloc, job, reading, Choice::Best)?;
     if !course.is_stuck() {
         return Ok(false);
     }
-    let library = Library::Hears(tables_of(alloc, job)?);
     let stands = course.stands(alloc)?;
-    Ok(always_stalls_by(alloc, script.history(), &stands, &library)?)
+    Ok(always_stalls_by(alloc, script.history(), &stands, library)?)
+}
+
+/// The tables of a library; none where nothing is known of it.
+fn tables_in(library: &Library) -> &[HeardRows] {
+    match library {
+        Library::Any => &[],
+        Library::Hears(tables) => tables,
+    }
 }
