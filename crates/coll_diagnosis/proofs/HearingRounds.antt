@@ -1,6 +1,5 @@
 -- Rows that are computed round by round say from whom a member hears.
-use Rattle.std.proofs.Common.{◌≡◌, ℕ, zero, suc, ◌+◌, ◌<◌, inl, inr, Bool, true, false, ◌||◌, List, [], ◌∷◌, length, map, Option, Some, None, Vec, Global, refl, sym, ap, subst, ◌∙◌, arith, eq-eqb, eqb-true, zero-add, ◌++◌}
-use Rattle.std.proofs.lemmas.Bool.{false≢true}
+use Rattle.std.proofs.Common.{◌≡◌, ℕ, zero, suc, ◌+◌, ◌<◌, Bool, true, ◌||◌, List, [], ◌∷◌, length, map, Option, Some, None, Vec, Global, refl, sym, ap, subst, ◌∙◌, arith, zero-add, ◌++◌}
 use Rattle.std.proofs.lemmas.Option.{none-some, same_Some, slice_get_within}
 use Rattle.std.specs.Prelude.{slice_get, IfSome}
 use Rattle.std.specs.List.{AllByRecursion, list_any, range_with_len}
@@ -8,7 +7,7 @@ use Rattle.coll_kinds.specs.declared.signature.Signature.{Signature}
 use Rattle.coll_kinds.specs.Common.{needs}
 use Rattle.coll_sched.specs.declared.action.Action.{Action}
 use Rattle.coll_sched.specs.declared.action.Action.TheVariants.{Send, Copy, Combine, Recv}
-use Rattle.coll_sched.specs.Common.{Family, Heard, IsAmong, Receives, actions_at}
+use Rattle.coll_sched.specs.Common.{IsAmong, actions_at}
 use Rattle.coll_plans.specs.Plans.{family, Planned}
 use Rattle.coll_verdict.specs.Checking.{said_in, is_yes}
 use Rattle.coll_verdict.specs.Code.{AreTrue}

@@ -21,7 +21,7 @@ pub struct Job<'s> {
 
 impl<'s> Job<'s> {
     /// Lays a script out. Linear in the commands, for each communicator in the requests of its members, and for each place in
-    /// the collectives with as many elements and members that differ.
+    /// the collectives of the same count and size.
     pub fn of(alloc: Global, script: &'s Script) -> Result<Job<'s>, AllocError> {
         let history = script.history();
         let sections = sections(alloc, history)?;
