@@ -1,0 +1,119 @@
+-- Where nothing can go on, each rank whose port is in its next line waits there.
+use Rattle.std.proofs.Common.{◌≡◌, ℕ, zero, suc, Bool, true, false, ◌&&◌, not, List, [], ◌∷◌, All, Option, Some, None, refl, ap, subst, ◌∙◌}
+use Rattle.std.proofs.lemmas.Bool.{false≢true}
+use Rattle.std.proofs.lemmas.Option.{none-some, same_Some}
+use Rattle.std.proofs.lemmas.List.Elements.{All-contains, All-head, All-tail}
+use Rattle.std.specs.Prelude.{slice_get}
+use Rattle.coll_kinds.specs.declared.signature.Signature.{Signature}
+use Rattle.coll_kinds.specs.declared.ticket.Ticket.{Ticket}
+use Rattle.coll_machine.specs.Common.{Machine, Request, Setting, found, refusal}
+use Rattle.coll_machine.specs.Calls.{Retire}
+use Rattle.coll_plans.specs.Hearings.{hears_here}
+use Rattle.coll_history.specs.declared.command.Command.{Command}
+use Rattle.coll_history.specs.declared.command.Command.TheVariants.{Init}
+use Rattle.coll_verdict.specs.Standings.{NoneDone, Standing, active_in, is_active, is_done, is_pending}
+use Rattle.coll_verdict.specs.Stalls.{Waits, lines_of}
+use Rattle.coll_verdict.specs.Stalls as stalls
+use Rattle.coll_core.specs.declared.phase.Phase.TheVariants.{Done}
+use Rattle.coll_core.specs.Cores.{Parts, setting}
+use Rattle.coll_core.specs.Phases.{IsQuiet, phase_by, phase_in, phase_of}
+use Rattle.coll_stalls.specs.Laws.{NeverHereEnds, QuietStalls}
+use Rattle.coll_stalls.specs.Runs.{AllWait, IsRunOf}
+use Rattle.coll_traced.specs.Stalls.{IsBlocked, IsDone, IsStalled}
+use Rattle.coll_traced.specs.Traced.{Traced}
+use Rattle.coll_traced.specs.Waits.{WaitFor}
+use Rattle.coll_blocked.specs.Lines.{AreAtLines, AreListed, IsInLine, awake, in_wait, in_wait_all, in_wait_any, in_wait_some}
+use Rattle.coll_blocked.specs.Laws.{NeverHereIsNoStall, StallIsStall}
+use Rattle.coll_blocked.proofs.Owning.{accepted}
+
+-- ---- one request
+
+record IsActive (m : Machine) (t : Ticket) : Type 0 where
+  request : Request
+  is : found m.state t ≡ Some request
+  active : request.active ≡ true
+
+active_found : (m : Machine) (t : Ticket) → is_active m (Some t) ≡ true → IsActive m t
+active_found m t e = go (found m.state t) refl e
+  where
+    go : (o : Option Request) → found m.state t ≡ o → active_in o ≡ true → IsActive m t
+    go None is e = absurd (false≢true e)
+    go (Some request) is e = record { request = request; is = is; active = e }
+
+-- a request that is active and Done can be completed
+done_here : (g : Setting) (m : Machine) (rank : ℕ) (t : Ticket) → IsActive m t → m.done t.slot ≡ true → phase_in m t ≡ Some Done
+done_here g m rank t a done = ap (phase_of m t) a.is ∙ (λ z. Some (phase_by (a.active z) (done z)))
+
+not_both : (a b : Bool) → (a ≡ true → b ≡ true → ⊥) → (a && b) ≡ false
+not_both true true none = absurd (none refl refl)
+not_both true false none = refl
+not_both false b none = refl
+
+not_so : (b : Bool) → (b ≡ true → ⊥) → b ≡ false
+not_so true none = absurd (none refl)
+not_so false none = refl
+
+All-slice_get : {X : Type 0} (P : X → Type 0) (xs : List X) (i : ℕ) (x : X) → All P xs → slice_get xs i ≡ Some x → P x
+All-slice_get P [] i x all is = absurd (none-some x is)
+All-slice_get P (y ∷ xs) zero x all is = subst P (same_Some y x is) (All-head P y xs all)
+All-slice_get P (y ∷ xs) (suc i) x all is = All-slice_get P xs i x (All-tail P y xs all) is
+
+-- ---- all ranks
+
+module _ (p : Parts) (lines : ℕ → List Command) (s : Standing) (run : IsRunOf p lines s) where
+  -- what the engine says that can be completed
+  completable : (rank q : ℕ) (t : Ticket) → (s.holds rank).of q ≡ Some t → is_active s.machine (Some t) ≡ true → s.machine.done t.slot ≡ true → IsDone p rank t
+  completable rank q t held active done =
+      let a = active_found s.machine t active in
+      let may : refusal (setting p) s.machine.state (Retire rank t) ≡ None = accepted hears_here (setting p) lines s rank q t a.request run.reached held a.is in
+      subst (λ (m : Machine). (refusal (setting p) m.state (Retire rank t) ≡ None) × (phase_in m t ≡ Some Done)) run.machine_is (may, done_here (setting p) s.machine rank t a done)
+
+  pending : (rank q : ℕ) (t : Ticket) → (s.holds rank).of q ≡ Some t → is_active s.machine (Some t) ≡ true → (IsDone p rank t → ⊥) → is_pending s.machine ((s.holds rank).of q) ≡ true
+  pending rank q t held active blocked =
+      let undone : s.machine.done t.slot ≡ false = not_so (s.machine.done t.slot) (λ done. blocked (completable rank q t held active done)) in
+      ap (is_pending s.machine) held ∙ (λ z. active z && not (undone z))
+
+  none_done : (rank : ℕ) (qs : List ℕ) (tickets : List Ticket) → AreListed (s.holds rank) qs tickets → All (λ t. IsDone p rank t → ⊥) tickets → NoneDone s.machine (s.holds rank) qs
+  none_done rank qs tickets listed blocked q among = go ((s.holds rank).of q) refl
+    where
+      go : (o : Option Ticket) → (s.holds rank).of q ≡ o → is_done s.machine ((s.holds rank).of q) ≡ false
+      go None e = ap (is_done s.machine) e
+      go (Some t) e = ap (is_done s.machine) e ∙ not_both (is_active s.machine (Some t)) (s.machine.done t.slot)
+          (λ active done. All-contains (λ t. IsDone p rank t → ⊥) tickets t blocked (listed q t among e) (completable rank q t e active done))
+
+  waits : (rank : ℕ) (c : Command) (wait : WaitFor) → IsInLine s.machine rank (s.holds rank) c wait → IsBlocked p wait → Waits (setting p) lines s rank c
+  waits rank _ _ (awake c) blocked = absurd blocked
+  waits rank _ _ (in_wait q t held active) blocked = stalls.wait q (pending rank q t held active blocked)
+  waits rank _ _ (in_wait_all qs q t among held active) blocked = stalls.wait_all qs q among (pending rank q t held active blocked)
+  waits rank _ _ (in_wait_some qs q tickets among active listed) blocked = stalls.wait_some qs q among active (none_done rank qs tickets listed blocked)
+  waits rank _ _ (in_wait_any qs q tickets among active listed) blocked = stalls.wait_any qs q among active (none_done rank qs tickets listed blocked)
+
+  no_init : (rank : ℕ) (c : Command) (wait : WaitFor) → IsInLine s.machine rank (s.holds rank) c wait → IsBlocked p wait → (comm : ℕ) (sig : Signature) → c ≡ Init comm sig → ⊥
+  no_init rank _ _ (awake c) blocked comm sig e = absurd blocked
+  no_init rank _ _ (in_wait q t held active) blocked comm sig e = absurd cc
+  no_init rank _ _ (in_wait_all qs q t among held active) blocked comm sig e = absurd cc
+  no_init rank _ _ (in_wait_some qs q tickets among active listed) blocked comm sig e = absurd cc
+  no_init rank _ _ (in_wait_any qs q tickets among active listed) blocked comm sig e = absurd cc
+
+  all_wait : (list : List WaitFor) → AreAtLines list lines s → All (IsBlocked p) list → AllWait (setting p) lines s
+  all_wait list at blocked = record {
+    waits = λ rank c get. (let w = at rank c get in waits rank c w.wait w.in_line (All-slice_get (IsBlocked p) list rank w.wait blocked w.is));
+    returns = λ rank comm sig get. (let w = at rank (Init comm sig) get in no_init rank (Init comm sig) w.wait w.in_line (All-slice_get (IsBlocked p) list rank w.wait blocked w.is) comm sig refl);
+  }
+
+record IsBlockedAt (p : Parts) (list : List WaitFor) : Type 0 where
+  quiet : IsQuiet p
+  blocked : All (IsBlocked p) list
+
+blocked_at : (t : Traced) (p : Parts) → t.core ≡ p → IsStalled t → IsBlockedAt p t.waits
+blocked_at t p same st = subst (λ (p : Parts). IsBlockedAt p t.waits) same (record { quiet = st.quiet; blocked = st.blocked })
+
+pub stall_is_stall : (p : Parts) → QuietStalls p → StallIsStall p
+stall_is_stall p stalls t lines s same groups run at st early =
+    let b = blocked_at t p same st in
+    stalls lines s groups run b.quiet (all_wait p lines s run t.waits at b.blocked) early
+
+pub never_here_is_no_stall : (p : Parts) → NeverHereEnds p → NeverHereIsNoStall p
+never_here_is_no_stall p ends t h s never groups_are same groups run at st =
+    let b = blocked_at t p same st in
+    ends h s never groups_are groups run b.quiet (all_wait p (lines_of h) s run t.waits at b.blocked)

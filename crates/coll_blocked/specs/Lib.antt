@@ -1,0 +1,3 @@
+-- ports that are blocked in the calls of a job's ranks
+pub mod Lines
+pub mod Laws
