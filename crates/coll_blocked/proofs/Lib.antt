@@ -1,2 +1,6 @@
 mod Owning
 mod Blocking
+mod Registering
+mod Staying
+mod Lining
+mod Rows

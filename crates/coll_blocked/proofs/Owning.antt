@@ -226,10 +226,14 @@ reached_own : (hears : Hearing) (g : Setting) (lines : ℕ → List Command) (s 
 reached_own hears g lines _ waiting.begins = λ rank q t e. absurd (none-some t e)
 reached_own hears g lines _ (waiting.goes_on {s} {u} before step) = own_after hears g lines s u step (reached_own hears g lines s before)
 
--- so a completion of a request that a ticket names isn't refused
-pub accepted : (hears : Hearing) (g : Setting) (lines : ℕ → List Command) (s : Standing) (rank q : ℕ) (t : Ticket) (request : Request) → ReachesBy hears g lines s → (s.holds rank).of q ≡ Some t
-    → found s.machine.state t ≡ Some request → refusal g s.machine.state (calls.Retire rank t) ≡ None
+-- what a rank's ticket names is the rank's,
+pub own_request : (hears : Hearing) (g : Setting) (lines : ℕ → List Command) (s : Standing) (rank q : ℕ) (t : Ticket) (request : Request) → ReachesBy hears g lines s
+    → (s.holds rank).of q ≡ Some t → found s.machine.state t ≡ Some request → request.rank ≡ rank
+own_request hears g lines s rank q t request run held is = let there = found_is s.machine.state t request is in (reached_own hears g lines s run rank q t held).mine request there.0 there.1
+
+-- so its completion isn't refused
+pub accepted : (hears : Hearing) (g : Setting) (lines : ℕ → List Command) (s : Standing) (rank q : ℕ) (t : Ticket) (request : Request) → ReachesBy hears g lines s
+    → (s.holds rank).of q ≡ Some t → found s.machine.state t ≡ Some request → refusal g s.machine.state (calls.Retire rank t) ≡ None
 accepted hears g lines s rank q t request run held is =
-    let there = found_is s.machine.state t request is in
-    let own : request.rank ≡ rank = (reached_own hears g lines s run rank q t held).mine request there.0 there.1 in
+    let own : request.rank ≡ rank = own_request hears g lines s rank q t request run held is in
     ap (λ (o : Option Request). first_of (naming_refusals o rank)) is ∙ rw (eq-eqb request.rank rank own) refl

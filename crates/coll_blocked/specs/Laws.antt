@@ -1,17 +1,45 @@
 -- Where nothing can go on in an engine whose ports are in the lines of a job.
-use Rattle.std.specs.Prelude.{◌≡◌, ℕ, List}
-use Rattle.coll_machine.specs.Common.{AreGroups}
+use Rattle.std.specs.Prelude.{◌≡◌, ◌⊎◌, ℕ, List, Some, slice_get, slice_set}
+use Rattle.coll_machine.specs.Common.{AreGroups, Machine, Setting}
 use Rattle.coll_plans.specs.Hearings.{hears_here}
 use Rattle.coll_history.specs.declared.command.Command.{Command}
 use Rattle.coll_history.specs.Histories.{History}
-use Rattle.coll_verdict.specs.Standings.{Standing, AtEnd}
+use Rattle.coll_verdict.specs.Standings.{Holding, Standing, AtEnd}
 use Rattle.coll_verdict.specs.Stalls.{lines_of}
-use Rattle.coll_verdict.specs.Waiting.{IsStalledBy, StallsNeverBy}
+use Rattle.coll_verdict.specs.Waiting.{Hearing, ReachesBy, StepsBy, IsStalledBy, StallsNeverBy}
 use Rattle.coll_core.specs.Cores.{Parts, setting}
 use Rattle.coll_stalls.specs.Runs.{IsRunOf}
+use Rattle.coll_traced.specs.declared.awaited.Awaited.{Awaited}
+use Rattle.coll_traced.specs.Awaiting.{IsWaitFor}
 use Rattle.coll_traced.specs.Stalls.{IsStalled}
 use Rattle.coll_traced.specs.Traced.{Traced}
-use Rattle.coll_blocked.specs.Lines.{AreAtLines}
+use Rattle.coll_traced.specs.Waits.{WaitFor, Awake}
+use Rattle.coll_blocked.specs.Calls.{IsCallOf, IsUnmet}
+use Rattle.coll_blocked.specs.Lines.{AreAtLines, IsInLine}
+
+-- a port that is registered in the call of its rank's next line is in that line,
+abbrev pub RegistersInLine : Type 0
+RegistersInLine = (m : Machine) (rank : ℕ) (h : Holding) (c : Command) (wanted : Awaited) (wait : WaitFor)
+    → IsCallOf h c wanted → IsUnmet m wanted → IsWaitFor m rank wanted wait → IsInLine m rank h c wait
+
+-- and stays there, whatever others do, as long as its rank hasn't carried the line out
+abbrev pub StaysInLine : Type 0
+StaysInLine = (hears : Hearing) (g : Setting) (lines : ℕ → List Command) (s u : Standing) (rank : ℕ) (c : Command) (wait : WaitFor)
+    → ReachesBy hears g lines s → StepsBy hears g lines s u → u.at rank ≡ s.at rank
+    → IsInLine s.machine rank (s.holds rank) c wait → IsInLine u.machine rank (u.holds rank) c wait
+
+-- so a step of the job leaves all ports in their ranks' lines, if each rank stays where it is or has a port that is awake,
+abbrev pub StayAtLines : Type 0
+StayAtLines = (hears : Hearing) (g : Setting) (lines : ℕ → List Command) (s u : Standing) (waits : List WaitFor)
+    → ReachesBy hears g lines s → StepsBy hears g lines s u
+    → ((rank : ℕ) → (u.at rank ≡ s.at rank) ⊎ (slice_get waits rank ≡ Some Awake))
+    → AreAtLines waits lines s → AreAtLines waits lines u
+
+-- and so does what is noted of one port that is in its rank's line, awake, or at its rank's end
+abbrev pub NotedAtLines : Type 0
+NotedAtLines = (lines : ℕ → List Command) (s : Standing) (waits : List WaitFor) (rank : ℕ) (wait : WaitFor)
+    → ((c : Command) → slice_get (lines rank) (s.at rank) ≡ Some c → IsInLine s.machine rank (s.holds rank) c wait)
+    → AreAtLines waits lines s → AreAtLines (slice_set waits rank wait) lines s
 
 -- an engine that is stalled, with this core, shows a stall of the job's run, unless all ranks are at their ends
 abbrev pub StallIsStall : Parts → Type 0

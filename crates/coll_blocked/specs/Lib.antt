@@ -1,3 +1,5 @@
 -- ports that are blocked in the calls of a job's ranks
 pub mod Lines
+pub mod Calls
 pub mod Laws
+pub mod Rows

@@ -1,9 +1,30 @@
 //! Laws of engines whose ports are in the lines of a job. A call does nothing; its contract is the law.
 
-ghost use Rattle.coll_blocked.specs.Laws.{NeverHereIsNoStall, StallIsStall};
+ghost use Rattle.coll_blocked.specs.Laws.{NeverHereIsNoStall, NotedAtLines, RegistersInLine, StallIsStall, StayAtLines, StaysInLine};
+ghost use Rattle.coll_blocked.specs.Rows.{EndedIsAtNoLine, IsAwakeAtLine, NobodyIsAtLine, OtherIsAtNoLine, WaitsAtLine};
 
 use coll_core::Core;
 use coll_stalls::laws::{never_here_ends, quiet_stalls};
+
+/// A port that is registered in the call of its rank's next line, whose test said that it isn't over, is in that line,
+pub fn registers_in_line()
+    ensures { RegistersInLine }
+{}
+
+/// and stays there, whatever other ranks do and whichever requests become Done.
+pub fn stays_in_line()
+    ensures { StaysInLine }
+{}
+
+/// So a step of the job leaves all ports in their ranks' lines, if each rank stays where it is or has a port that is awake,
+pub fn stay_at_lines()
+    ensures { StayAtLines }
+{}
+
+/// and so does what is noted of one port that is in its rank's line, awake, or at its rank's end.
+pub fn noted_at_lines()
+    ensures { NotedAtLines }
+{}
 
 /// A stalled engine with this core, whose ports are in the lines of a job, shows a stall of the job's run, unless all ranks are at their
 /// ends.
@@ -19,3 +40,28 @@ pub fn never_here_is_no_stall(core: &Core)
 {
     never_here_ends(core);
 }
+
+/// One rank that has posted a barrier and is at its wait has a port that waits for the barrier,
+pub fn waits_at_line()
+    ensures { WaitsAtLine }
+{}
+
+/// or one that can make calls;
+pub fn is_awake_at_line()
+    ensures { IsAwakeAtLine }
+{}
+
+/// none that has ended,
+pub fn ended_is_at_no_line()
+    ensures { EndedIsAtNoLine }
+{}
+
+/// that waits for another rank's request,
+pub fn other_is_at_no_line()
+    ensures { OtherIsAtNoLine }
+{}
+
+/// or that isn't there.
+pub fn nobody_is_at_line()
+    ensures { NobodyIsAtLine }
+{}
