@@ -1,4 +1,5 @@
 mod Hearing
 mod Running
+mod Calling
 mod Stalling
 mod Rows

@@ -2,6 +2,7 @@
 //! the law.
 
 ghost use Rattle.coll_core.specs.Cores.{seen, setting};
+ghost use Rattle.coll_stalls.specs.Calls.{CallsCarryOut};
 ghost use Rattle.coll_stalls.specs.Heard.{NoneEarly};
 ghost use Rattle.coll_stalls.specs.Laws.{AlwaysHereNeverEnds, BeginsWhereOpened, ConfigsAreGroups, FinishIsStep, GoesOnByCalls, GoesOnByCommit, GoesOnByStep, GoesOnBySteps, GoesOnWhereNothingChanges, NeverHereEnds, QuietIsSettled, QuietStalls};
 ghost use Rattle.coll_stalls.specs.Rows.{BothAreUnsettled, HearsMore, OneIsEarly, WaitsUnsettled};
@@ -48,6 +49,13 @@ pub fn goes_on_by_calls(core: &Core)
     ensures { GoesOnByCalls core.now }
 {
     none_is_early(core);
+}
+
+/// in particular each call that is accepted, by what its contract says;
+pub fn calls_carry_out(core: &Core)
+    ensures { CallsCarryOut core.now }
+{
+    goes_on_by_calls(core);
 }
 
 /// and so do a step of the core,

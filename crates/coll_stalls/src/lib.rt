@@ -7,7 +7,8 @@
 //! |---|---|
 //! | `Heard` | whatever has heard is Done; nothing is Done that hasn't |
 //! | `Runs` | a run of a job that an engine shows |
-//! | `Laws` | what the core's calls and steps are in it, and where it stalls |
+//! | `Calls` | what each call of the core is in it, by its contract's clauses |
+//! | `Laws` | what calls and steps are in it, and where it stalls |
 //! | `Rows` | worked rows, of which the definitions are false |
 #![tactic(auto)]
 
