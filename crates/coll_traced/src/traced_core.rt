@@ -12,11 +12,14 @@ mod testing;
 mod waiting;
 
 ghost use Rattle.std.specs.Prelude.{◌≡◌, ◌≤◌, [], Some, false, length, true, is_some, replicate, IfErr, IfOk};
+ghost use Rattle.coll_machine.specs.Settings.{AreGroups};
 ghost use Rattle.coll_machine.specs.States.{found};
 ghost use Rattle.coll_machine.specs.Traces.{LegalTrace};
+ghost use Rattle.coll_tables.specs.FreeLocks.{FreeLock};
+ghost use Rattle.coll_core.specs.BetweenCalls.{BetweenCalls};
 ghost use Rattle.coll_core.specs.Configs.{idle, setting_by, IsUnopened};
-ghost use Rattle.coll_core.specs.Cores.{seen, setting};
-ghost use Rattle.coll_core.specs.Phases.{about_in};
+ghost use Rattle.coll_core.specs.Cores.{seen, setting, tables};
+ghost use Rattle.coll_core.specs.Phases.{about_in, AreDoneOnceHeard};
 ghost use Rattle.coll_traced.specs.Moments.{IsMoment};
 ghost use Rattle.coll_traced.specs.Waits.{Awake};
 
@@ -25,6 +28,7 @@ use crate::recent::Recent;
 use crate::tally::{Entries, Tally};
 use crate::trace::Trace;
 use crate::waits::Waits;
+use coll_core::laws::{between_calls, done_once_heard, lock_is_free};
 use coll_core::{About, Config, Core};
 use coll_kinds::{Refusal, Ticket};
 pub use completed::Completed;
@@ -103,6 +107,20 @@ impl<L: Entries> TracedCore<L> {
         ensures legal { LegalTrace L.setting self.now.entries (seen self.now.core).state }
     {
         let _config = &self.config;
+    }
+
+    /// What the laws of `coll_core` say of its core, and that its communicators are groups, for proofs of callers. It does nothing at run
+    /// time.
+    pub fn knows_core(&self)
+        ensures between { BetweenCalls self.now.core }
+        ensures free { FreeLock (tables self.now.core) }
+        ensures heard { AreDoneOnceHeard self.now.core }
+        ensures groups { AreGroups (setting self.now.core) }
+    {
+        let _config = &self.config;
+        between_calls(&self.core);
+        lock_is_free(&self.core);
+        done_once_heard(&self.core);
     }
 
     /// It is at a moment of its engine at which the caller had made no more entries than there were, for proofs of callers. It does
