@@ -6,24 +6,29 @@ use Rattle.std.proofs.lemmas.List.Elements.{All-contains, All-head, All-tail}
 use Rattle.std.specs.Prelude.{slice_get}
 use Rattle.coll_kinds.specs.declared.signature.Signature.{Signature}
 use Rattle.coll_kinds.specs.declared.ticket.Ticket.{Ticket}
-use Rattle.coll_machine.specs.Common.{Machine, Request, Setting, found, refusal}
+use Rattle.coll_machine.specs.Common.{AreGroups, Machine, Request, Setting, found, refusal}
 use Rattle.coll_machine.specs.Calls.{Retire}
 use Rattle.coll_plans.specs.Hearings.{hears_here}
+use Rattle.coll_tables.specs.FreeLocks.{FreeLock}
 use Rattle.coll_history.specs.declared.command.Command.{Command}
 use Rattle.coll_history.specs.declared.command.Command.TheVariants.{Init}
 use Rattle.coll_verdict.specs.Standings.{NoneDone, Standing, active_in, is_active, is_done, is_pending}
 use Rattle.coll_verdict.specs.Stalls.{Waits, lines_of}
 use Rattle.coll_verdict.specs.Stalls as stalls
 use Rattle.coll_core.specs.declared.phase.Phase.TheVariants.{Done}
-use Rattle.coll_core.specs.Cores.{Parts, setting}
-use Rattle.coll_core.specs.Phases.{IsQuiet, phase_by, phase_in, phase_of}
-use Rattle.coll_stalls.specs.Laws.{NeverHereEnds, QuietStalls}
+use Rattle.coll_core.specs.BetweenCalls.{BetweenCalls}
+use Rattle.coll_core.specs.Cores.{Parts, seen, setting, tables}
+use Rattle.coll_core.specs.Phases.{AreDoneOnceHeard, phase_by, phase_in, phase_of}
 use Rattle.coll_stalls.specs.Runs.{AllWait, IsRunOf}
+use Rattle.coll_stalls.proofs.Calling.{calls_carry_out}
+use Rattle.coll_stalls.proofs.Hearing.{none_early, quiet_is_settled}
+use Rattle.coll_stalls.proofs.Running.{goes_on_by_calls, goes_on_by_commit, goes_on_by_step, goes_on_where_nothing_changes}
+use Rattle.coll_stalls.proofs.Stalling.{never_here_ends, quiet_stalls}
 use Rattle.coll_traced.specs.Stalls.{IsBlocked, IsDone, IsStalled}
 use Rattle.coll_traced.specs.Traced.{Traced}
 use Rattle.coll_traced.specs.Waits.{WaitFor}
 use Rattle.coll_blocked.specs.Lines.{AreAtLines, AreListed, IsInLine, awake, in_wait, in_wait_all, in_wait_any, in_wait_some}
-use Rattle.coll_blocked.specs.Laws.{NeverHereIsNoStall, StallIsStall}
+use Rattle.coll_blocked.specs.Laws.{GoesOn, NeverHereIsNoStall, StallIsStall}
 use Rattle.coll_blocked.proofs.Owning.{accepted}
 
 -- ---- one request
@@ -101,19 +106,20 @@ module _ (p : Parts) (lines : ℕ → List Command) (s : Standing) (run : IsRunO
     returns = λ rank comm sig get. (let w = at rank (Init comm sig) get in no_init rank (Init comm sig) w.wait w.in_line (All-slice_get (IsBlocked p) list rank w.wait blocked w.is) comm sig refl);
   }
 
-record IsBlockedAt (p : Parts) (list : List WaitFor) : Type 0 where
-  quiet : IsQuiet p
-  blocked : All (IsBlocked p) list
+module _ (t : Traced) (free : FreeLock (tables t.core)) (heard : AreDoneOnceHeard t.core) (groups : AreGroups (setting t.core)) where
+  pub stall_is_stall : StallIsStall t
+  stall_is_stall lines s run at st early =
+      quiet_stalls t.core (quiet_is_settled t.core free heard) lines s groups run st.quiet (all_wait t.core lines s run t.waits at st.blocked) early
 
-blocked_at : (t : Traced) (p : Parts) → t.core ≡ p → IsStalled t → IsBlockedAt p t.waits
-blocked_at t p same st = subst (λ (p : Parts). IsBlockedAt p t.waits) same (record { quiet = st.quiet; blocked = st.blocked })
+  pub never_here_is_no_stall : NeverHereIsNoStall t
+  never_here_is_no_stall h s never same run at st =
+      never_here_ends t.core (quiet_is_settled t.core free heard) h s never same groups run st.quiet (all_wait t.core (lines_of h) s run t.waits at st.blocked)
 
-pub stall_is_stall : (p : Parts) → QuietStalls p → StallIsStall p
-stall_is_stall p stalls t lines s same groups run at st early =
-    let b = blocked_at t p same st in
-    stalls lines s groups run b.quiet (all_wait p lines s run t.waits at b.blocked) early
-
-pub never_here_is_no_stall : (p : Parts) → NeverHereEnds p → NeverHereIsNoStall p
-never_here_is_no_stall p ends t h s never groups_are same groups run at st =
-    let b = blocked_at t p same st in
-    ends h s never groups_are groups run b.quiet (all_wait p (lines_of h) s run t.waits at b.blocked)
+pub goes_on : (p : Parts) → BetweenCalls p → FreeLock (tables p) → AreDoneOnceHeard p → GoesOn p
+goes_on p between free heard = record {
+  by_calls = goes_on_by_calls p (none_early p between free heard);
+  by_each = calls_carry_out p (goes_on_by_calls p (none_early p between free heard));
+  by_step = goes_on_by_step p (none_early p between free heard);
+  by_commit = goes_on_by_commit p (none_early p between free heard);
+  where_nothing_changes = goes_on_where_nothing_changes p (none_early p between free heard);
+}

@@ -1,12 +1,29 @@
 -- All ports stay in their ranks' lines.
-use Rattle.std.proofs.Common.{◌≡◌, ℕ, zero, suc, ◌⊎◌, inl, inr, List, [], ◌∷◌, Some, refl, sym, ap, subst, ◌∙◌}
-use Rattle.std.proofs.lemmas.Bool.{cases_eq}
+use Rattle.std.proofs.Common.{◌≡◌, ℕ, zero, suc, ◌<◌, ◌≤◌, ◌⊎◌, inl, inr, List, [], ◌∷◌, Some, refl, sym, ap, subst, ◌∙◌, arith}
+use Rattle.std.proofs.lemmas.Bool.{cases_eq, cases_lt}
 use Rattle.std.proofs.lemmas.Option.{none-some}
-use Rattle.std.specs.Prelude.{slice_get, slice_set}
+use Rattle.std.specs.Prelude.{replicate, slice_get, slice_set}
+use Rattle.coll_history.specs.declared.command.Command.{Command}
+use Rattle.coll_verdict.specs.Standings.{beginning}
 use Rattle.coll_traced.specs.Waits.{Awake}
 use Rattle.coll_blocked.specs.Lines.{IsAtLine, awake}
-use Rattle.coll_blocked.specs.Laws.{NotedAtLines, StayAtLines}
+use Rattle.coll_blocked.specs.Laws.{NotedAtLines, OpenAtLines, StayAtLines}
 use Rattle.coll_blocked.proofs.Staying.{stays_in_line}
+
+awake_there : (n rank : ℕ) → rank < n → slice_get (replicate n Awake) rank ≡ Some Awake
+awake_there zero rank low = absurd (omega arith)
+awake_there (suc n) zero low = refl
+awake_there (suc n) (suc rank) low = awake_there n rank (omega arith)
+
+pub open_at_lines : OpenAtLines
+open_at_lines lines n none rank c get = go (cases_lt rank n)
+  where
+    nothing : (list : List Command) → list ≡ [] → slice_get list 0 ≡ Some c → ⊥
+    nothing list e is = none-some c (ap (λ (list : List Command). slice_get list 0) (sym e) ∙ is)
+
+    go : (rank < n) ⊎ (n ≤ rank) → IsAtLine (replicate n Awake) beginning.machine rank (beginning.holds rank) c
+    go (inl low) = record { wait = Awake; is = awake_there n rank low; in_line = awake c }
+    go (inr past) = absurd (nothing (lines rank) (none rank past) get)
 
 pub stay_at_lines : StayAtLines
 stay_at_lines hears g lines s u waits run step each at rank c get = go (each rank)

@@ -1,13 +1,15 @@
 -- Where nothing can go on in an engine whose ports are in the lines of a job.
-use Rattle.std.specs.Prelude.{◌≡◌, ◌⊎◌, ℕ, List, Some, slice_get, slice_set}
-use Rattle.coll_machine.specs.Common.{AreGroups, Machine, Setting}
+use Rattle.std.specs.Prelude.{◌≡◌, ◌≤◌, ◌⊎◌, ℕ, List, [], Some, replicate, slice_get, slice_set}
+use Rattle.coll_machine.specs.Common.{Machine, Setting}
 use Rattle.coll_plans.specs.Hearings.{hears_here}
 use Rattle.coll_history.specs.declared.command.Command.{Command}
 use Rattle.coll_history.specs.Histories.{History}
-use Rattle.coll_verdict.specs.Standings.{Holding, Standing, AtEnd}
+use Rattle.coll_verdict.specs.Standings.{Holding, Standing, AtEnd, beginning}
 use Rattle.coll_verdict.specs.Stalls.{lines_of}
 use Rattle.coll_verdict.specs.Waiting.{Hearing, ReachesBy, StepsBy, IsStalledBy, StallsNeverBy}
 use Rattle.coll_core.specs.Cores.{Parts, setting}
+use Rattle.coll_stalls.specs.Calls.{CallsCarryOut}
+use Rattle.coll_stalls.specs.Laws.{GoesOnByCalls, GoesOnByCommit, GoesOnByStep, GoesOnWhereNothingChanges}
 use Rattle.coll_stalls.specs.Runs.{IsRunOf}
 use Rattle.coll_traced.specs.declared.awaited.Awaited.{Awaited}
 use Rattle.coll_traced.specs.Awaiting.{IsWaitFor}
@@ -16,6 +18,18 @@ use Rattle.coll_traced.specs.Traced.{Traced}
 use Rattle.coll_traced.specs.Waits.{WaitFor, Awake}
 use Rattle.coll_blocked.specs.Calls.{IsCallOf, IsUnmet}
 use Rattle.coll_blocked.specs.Lines.{AreAtLines, IsInLine}
+
+-- the core goes on with a job's run by its calls and steps
+pub record GoesOn (p : Parts) : Type 0 where
+  pub by_calls : GoesOnByCalls p
+  pub by_each : CallsCarryOut p
+  pub by_step : GoesOnByStep p
+  pub by_commit : GoesOnByCommit p
+  pub where_nothing_changes : GoesOnWhereNothingChanges p
+
+-- where an engine was opened, all ports are awake, so each rank that has lines has a port which is in them
+abbrev pub OpenAtLines : Type 0
+OpenAtLines = (lines : ℕ → List Command) (n : ℕ) → ((rank : ℕ) → n ≤ rank → lines rank ≡ []) → AreAtLines (replicate n Awake) lines beginning
 
 -- a port that is registered in the call of its rank's next line is in that line,
 abbrev pub RegistersInLine : Type 0
@@ -41,15 +55,15 @@ NotedAtLines = (lines : ℕ → List Command) (s : Standing) (waits : List WaitF
     → ((c : Command) → slice_get (lines rank) (s.at rank) ≡ Some c → IsInLine s.machine rank (s.holds rank) c wait)
     → AreAtLines waits lines s → AreAtLines (slice_set waits rank wait) lines s
 
--- an engine that is stalled, with this core, shows a stall of the job's run, unless all ranks are at their ends
-abbrev pub StallIsStall : Parts → Type 0
-StallIsStall p = (t : Traced) (lines : ℕ → List Command) (s : Standing)
-    → t.core ≡ p → AreGroups (setting p) → IsRunOf p lines s → AreAtLines t.waits lines s → IsStalled t → (AtEnd lines s → ⊥)
-    → IsStalledBy hears_here (setting p) lines s
+-- an engine that is stalled shows a stall of the job's run, unless all ranks are at their ends
+abbrev pub StallIsStall : Traced → Type 0
+StallIsStall t = (lines : ℕ → List Command) (s : Standing)
+    → IsRunOf t.core lines s → AreAtLines t.waits lines s → IsStalled t → (AtEnd lines s → ⊥)
+    → IsStalledBy hears_here (setting t.core) lines s
 
 -- so where it is known that by this engine's schedules no run of the job stalls, the engine is stalled only where all are
-abbrev pub NeverHereIsNoStall : Parts → Type 0
-NeverHereIsNoStall p = (t : Traced) (h : History) (s : Standing)
-    → StallsNeverBy hears_here h → (setting p).groups ≡ h.groups
-    → t.core ≡ p → AreGroups (setting p) → IsRunOf p (lines_of h) s → AreAtLines t.waits (lines_of h) s → IsStalled t
+abbrev pub NeverHereIsNoStall : Traced → Type 0
+NeverHereIsNoStall t = (h : History) (s : Standing)
+    → StallsNeverBy hears_here h → (setting t.core).groups ≡ h.groups
+    → IsRunOf t.core (lines_of h) s → AreAtLines t.waits (lines_of h) s → IsStalled t
     → AtEnd (lines_of h) s

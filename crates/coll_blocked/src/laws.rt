@@ -1,10 +1,14 @@
 //! Laws of engines whose ports are in the lines of a job. A call does nothing; its contract is the law.
 
-ghost use Rattle.coll_blocked.specs.Laws.{NeverHereIsNoStall, NotedAtLines, RegistersInLine, StallIsStall, StayAtLines, StaysInLine};
+ghost use Rattle.coll_blocked.specs.Laws.{GoesOn, NeverHereIsNoStall, NotedAtLines, OpenAtLines, RegistersInLine, StallIsStall, StayAtLines, StaysInLine};
 ghost use Rattle.coll_blocked.specs.Rows.{EndedIsAtNoLine, IsAwakeAtLine, NobodyIsAtLine, OtherIsAtNoLine, WaitsAtLine};
 
-use coll_core::Core;
-use coll_stalls::laws::{never_here_ends, quiet_stalls};
+use coll_traced::{Entries, TracedCore};
+
+/// Where an engine was opened, all ports are awake, so they are in the lines of their ranks.
+pub fn open_at_lines()
+    ensures { OpenAtLines }
+{}
 
 /// A port that is registered in the call of its rank's next line, whose test said that it isn't over, is in that line,
 pub fn registers_in_line()
@@ -26,19 +30,25 @@ pub fn noted_at_lines()
     ensures { NotedAtLines }
 {}
 
-/// A stalled engine with this core, whose ports are in the lines of a job, shows a stall of the job's run, unless all ranks are at their
-/// ends.
-pub fn stall_is_stall(core: &Core)
-    ensures { StallIsStall core.now }
+/// The core of an engine goes on with a job's run, as `coll_stalls` says of each core.
+pub fn goes_on<L: Entries>(traced: &TracedCore<L>)
+    ensures { GoesOn traced.now.core }
 {
-    quiet_stalls(core);
+    traced.knows_core();
+}
+
+/// A stalled engine whose ports are in the lines of a job shows a stall of the job's run, unless all ranks are at their ends.
+pub fn stall_is_stall<L: Entries>(traced: &TracedCore<L>)
+    ensures { StallIsStall traced.now }
+{
+    traced.knows_core();
 }
 
 /// Where it is known that by this engine's schedules no run of the job stalls, all ranks are at their ends in a stalled engine.
-pub fn never_here_is_no_stall(core: &Core)
-    ensures { NeverHereIsNoStall core.now }
+pub fn never_here_is_no_stall<L: Entries>(traced: &TracedCore<L>)
+    ensures { NeverHereIsNoStall traced.now }
 {
-    never_here_ends(core);
+    traced.knows_core();
 }
 
 /// One rank that has posted a barrier and is at its wait has a port that waits for the barrier,

@@ -1,5 +1,5 @@
-mod Hearing
-mod Running
-mod Calling
-mod Stalling
+pub mod Hearing
+pub mod Running
+pub mod Calling
+pub mod Stalling
 mod Rows

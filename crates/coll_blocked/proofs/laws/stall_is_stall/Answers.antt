@@ -2,4 +2,4 @@ use Rattle.coll_blocked.proofs.Blocking.{stall_is_stall}
 use Rattle.coll_blocked.proofs.laws.stall_is_stall.Goals as goal
 
 pub returns : goal.returns
-returns c = stall_is_stall c.args.core.now c.quiet_stalls.ensures
+returns g c = stall_is_stall c.args.traced.now c.knows_core.ensures.free c.knows_core.ensures.heard c.knows_core.ensures.groups
