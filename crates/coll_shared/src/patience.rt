@@ -11,6 +11,8 @@ use std::thread::yield_now;
 pub(crate) struct Patience {
     /// Looks in all.
     looks: u32,
+    /// Looks made so far.
+    made: u32,
     /// It tries to take the lock at the looks whose number has all of these bits.
     tries: u32,
     /// Looks in a row while it holds the lock, before it gives the lock up.
@@ -25,6 +27,7 @@ pub(crate) struct Patience {
 /// thread that has the lock; a port that nobody serves waits for the first try.
 const OWN_PROCESSOR: Patience = Patience {
     looks: 2_000,
+    made: 0,
     tries: 1_023,
     holds: 1_250,
     gives_turns: true,
@@ -34,6 +37,7 @@ const OWN_PROCESSOR: Patience = Patience {
 /// Where threads share processors.
 const SHARED_PROCESSOR: Patience = Patience {
     looks: 2_000,
+    made: 0,
     tries: 63,
     holds: 200,
     gives_turns: true,
@@ -43,6 +47,7 @@ const SHARED_PROCESSOR: Patience = Patience {
 /// Where threads share one processor, and turns are long: nothing changes while it looks.
 const ONE_PROCESSOR_CROWDED: Patience = Patience {
     looks: 0,
+    made: 0,
     tries: 0,
     holds: 0,
     gives_turns: false,
@@ -51,6 +56,13 @@ const ONE_PROCESSOR_CROWDED: Patience = Patience {
 
 /// Looks in a row with the lock where turns are long.
 const CROWDED_HOLDS: u32 = 50;
+
+/// Looks where turns are long and each thread has a processor of its own. Who sleeps leaves the processor to another program for a time slice,
+/// for which all others may wait.
+const CROWDED_LOOKS: u32 = 10_000;
+
+/// The bits of a try for the lock where turns are long: the thread that serves the others may have lost its processor.
+const CROWDED_TRIES: u32 = 63;
 
 /// Looks where long looks were in vain.
 const FEW_LOOKS: u32 = 50;
@@ -86,9 +98,19 @@ const CREDIT: u64 = 1_000_000;
 const REPAID: u64 = 60_000_000;
 
 impl Patience {
-    /// Looks in all.
-    pub(crate) fn looks(self) -> u32 {
-        self.looks
+    /// Counts a look, and returns its number; none where all have been made.
+    pub(crate) fn look(&mut self) -> Option<u32> {
+        if self.is_over() {
+            return None;
+        }
+        let look = self.made;
+        self.made = look.saturating_add(1);
+        Some(look)
+    }
+
+    /// Whether all looks have been made.
+    pub(crate) fn is_over(self) -> bool {
+        self.made >= self.looks
     }
 
     /// Looks while it holds the lock.
@@ -104,6 +126,7 @@ impl Patience {
     /// The same without turns for others.
     fn crowded(self) -> Self {
         Patience {
+            tries: CROWDED_TRIES,
             holds: CROWDED_HOLDS,
             gives_turns: false,
             ..self
@@ -261,7 +284,11 @@ impl Processors {
         if self.processors.load(Ordering::SeqCst) <= 1 {
             return ONE_PROCESSOR_CROWDED;
         }
-        patience.crowded()
+        let mut crowded = patience.crowded();
+        if self.has_each_its_own() && !patience.is_short {
+            crowded.looks = CROWDED_LOOKS;
+        }
+        crowded
     }
 
     /// How the wait of a port that begins now is made.

@@ -69,7 +69,6 @@ impl<L: Entries> Combiner<L> {
         rank: u8,
         record: &PublicationRecord<L>,
         patience: Patience,
-        may_park: bool,
     ) -> Result<Turn, Refusal>
         ensures { IfErr result (IsHindrance L.setting rank) }
     {
@@ -81,7 +80,7 @@ impl<L: Entries> Combiner<L> {
             if gate.is_always_open() {
                 held = self.compute_short(rt, held, rank)?;
             }
-            match self.next(&mut held, rank, record, patience, may_park, &mut effort) {
+            match self.next(&mut held, rank, record, patience, &mut effort) {
                 Ok(Next::Again) => {}
                 Ok(Next::Compute(work)) => {
                     let (again, piece) = self.compute(rt, gate, held, Some(rank), written, work)?;
@@ -141,7 +140,6 @@ impl<L: Entries> Combiner<L> {
         rank: u8,
         record: &PublicationRecord<L>,
         patience: Patience,
-        may_park: bool,
         effort: &mut Effort,
     ) -> Result<Next, Refusal>
         ensures { IfErr result (IsHindrance L.setting rank) }
@@ -168,7 +166,7 @@ impl<L: Entries> Combiner<L> {
                 return Ok(effort.look());
             }
         }
-        if may_park {
+        if patience.is_over() {
             held.locked.parked = held.locked.parked.with(rank);
             return Ok(Next::End(Turn::Park));
         }

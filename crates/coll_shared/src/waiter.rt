@@ -19,14 +19,18 @@ use std::rt::Clock;
 use std::sync::Wait;
 
 impl<L: Entries> Combiner<L> {
-    /// Looks for an answer in the record, and now and then whether the lock is free. None where there is an answer.
+    /// Looks for an answer in the record, and now and then whether the lock is free; takes the lock after the last look. None where there is an
+    /// answer.
     pub(crate) fn spin<R: Wait + Clock>(
         &self,
         rt: &R,
         record: &PublicationRecord<L>,
         patience: &mut Patience,
     ) -> Option<Held<'_, L>> {
-        for look in 0..patience.looks() {
+        for _ in rt.forever() {
+            let Some(look) = patience.look() else {
+                return Some(self.enter(rt));
+            };
             if record.is_answered() {
                 record.set_leads(false);
                 return None;
@@ -36,12 +40,9 @@ impl<L: Entries> Combiner<L> {
                     return Some(held);
                 }
             }
-            if look >= patience.looks() {
-                break;
-            }
             self.processors.pause(rt, record.waits(), patience, look);
         }
-        Some(self.enter(rt))
+        unreachable!()
     }
 
     /// A port that is noted as parked sleeps until it is answered, or called: then it takes the lock.
@@ -67,12 +68,11 @@ impl<L: Entries> Combiner<L> {
         ensures { IfErr result (IsHindrance L.setting rank) }
     {
         let mut patience = self.processors.patience(rt, record.waits());
-        let mut may_park = false;
         let mut looked = false;
         let mut slept = false;
         for _ in rt.forever() {
             let turn = match held {
-                Some(held) => self.turn(rt, gate, held, rank, record, patience, may_park)?,
+                Some(held) => self.turn(rt, gate, held, rank, record, patience)?,
                 None => Turn::Spin,
             };
             let found = match turn {
@@ -94,7 +94,6 @@ impl<L: Entries> Combiner<L> {
                 return Ok(());
             };
             held = Some(again);
-            may_park = true;
         }
         unreachable!()
     }
