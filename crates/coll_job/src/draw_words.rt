@@ -31,7 +31,7 @@ pub(crate) fn draw_command<'a>(alloc: Global) -> Result<Command<'a>, AllocError>
         .num_args(1..)
         .action(ArgAction::Append)
         .help(
-            "A collective as a job text says it behind `post C`, with quotes or without: allreduce sum i32 1",
+            "A collective as after `post C` in a job text, with quotes or without: allreduce sum i32 1",
         );
     let members = Arg::new(alloc, MEMBERS)
         .long("members")

@@ -66,7 +66,7 @@ The schedules of a collective are drawn without a text; what a run did is drawn 
 Exit status: 0 done; 1 a file can't be opened, read fault, write fault; 2 a fault of the text or of the words;
 3 stalled; 4 another refusal of the engine; 5 no memory, no thread, or a report that doesn't agree with the text;
 6 may stall, neither proved to end nor proved to stall.
-At a fault standard output stays empty, and one line on standard error tells it, behind the name of FILE; `check` tells all
+At a fault standard output stays empty, and standard error has one line, after the name of FILE; `check` reports all
 faults of a text, each with its line.";
 
 /// The one command of the program, with its subcommands.
@@ -76,7 +76,7 @@ fn command<'a>(alloc: Global) -> Result<Command<'a>, AllocError> {
         .bin_name(NAME)?
         .version("0.1.0")
         .about(
-            "Answers job texts: MPI's nonblocking and persistent collectives of the ranks of a job",
+            "Computes what a job's ranks receive by MPI's nonblocking and persistent collectives",
         )
         .after_help(FORMAT)
         .subcommand_required(true)
@@ -101,7 +101,7 @@ fn run_command<'a>(alloc: Global) -> Result<Command<'a>, AllocError> {
         .help("Where the run stalls, writes to the file OUT why it does");
     let run = Command::new(alloc, "run")
         .about(
-            "Has a job text carried out by threads on one engine, and writes the values that they got",
+            "Runs a job text by threads on one engine, and writes the values that its ranks receive",
         )
         .arg(workers_argument(alloc))?
         .arg(quiet)?
@@ -136,9 +136,7 @@ fn explain_command<'a>(alloc: Global) -> Result<Command<'a>, AllocError> {
         .action(ArgAction::SetTrue)
         .help("Exit status 6 also where only the runs of another MPI library may stall");
     Command::new(alloc, "explain")
-        .about(
-            "Tells whether the runs of a job text stall, and who then waits in which line for whom",
-        )
+        .about("Reports whether a job text's runs stall, and who then waits in which line for whom")
         .arg(form)?
         .arg(color_argument(
             alloc,
@@ -168,7 +166,7 @@ fn check_command<'a>(alloc: Global) -> Result<Command<'a>, AllocError> {
         );
     Command::new(alloc, "check")
         .about(
-            "Tells all faults of a job text, with their words and what may be meant; where it has none, whether it stalls",
+            "Reports all faults of a job text, with words and what may be meant; where it has none, whether it stalls",
         )
         .arg(form)?
         .arg(color_argument(
