@@ -18,13 +18,13 @@ use std::alloc::Global;
 pub enum Verdict {
     /// No run stalls, with any library. This is proved.
     Never,
-    /// No run stalls in which each request waits for those from whom it hears by this engine's schedules; a library whose collectives
-    /// wait for all their members may stall. This is proved; that this engine waits just so isn't.
+    /// No run stalls in which each request waits for those from whom it hears by this engine's schedules, as in this engine's core; a
+    /// library whose collectives wait for all their members may stall. This is proved.
     NeverHere,
     /// Neither was shown: that by this engine's schedules no run stalls, or that every one does.
     Perhaps,
-    /// No run comes to its end in which each request waits for those from whom it hears by this engine's schedules; it wasn't shown
-    /// of other libraries. This is proved; that this engine waits just so isn't.
+    /// No run comes to its end in which each request waits for those from whom it hears by this engine's schedules, as in this engine's
+    /// core; it wasn't shown of other libraries. This is proved.
     AlwaysHere,
     /// No run comes to its end, with any library. This is proved.
     Always,
