@@ -17,14 +17,14 @@ use Rattle.coll_verdict.specs.Stalls.{Waits, lines_of}
 use Rattle.coll_verdict.specs.Stalls as stalls
 use Rattle.coll_core.specs.declared.phase.Phase.TheVariants.{Done}
 use Rattle.coll_core.specs.BetweenCalls.{BetweenCalls}
-use Rattle.coll_core.specs.Cores.{Parts, seen, setting, tables}
+use Rattle.coll_core.specs.Cores.{Parts, setting, tables}
 use Rattle.coll_core.specs.Phases.{AreDoneOnceHeard, phase_by, phase_in, phase_of}
 use Rattle.coll_stalls.specs.Runs.{AllWait, IsRunOf}
 use Rattle.coll_stalls.proofs.Calling.{calls_carry_out}
 use Rattle.coll_stalls.proofs.Hearing.{none_early, quiet_is_settled}
 use Rattle.coll_stalls.proofs.Running.{goes_on_by_calls, goes_on_by_commit, goes_on_by_step, goes_on_where_nothing_changes}
 use Rattle.coll_stalls.proofs.Stalling.{never_here_ends, quiet_stalls}
-use Rattle.coll_traced.specs.Stalls.{IsBlocked, IsDone, IsStalled}
+use Rattle.coll_traced.specs.Stalls.{IsBlocked, IsDone}
 use Rattle.coll_traced.specs.Traced.{Traced}
 use Rattle.coll_traced.specs.Waits.{WaitFor}
 use Rattle.coll_blocked.specs.Lines.{AreAtLines, AreListed, IsInLine, awake, in_wait, in_wait_all, in_wait_any, in_wait_some}

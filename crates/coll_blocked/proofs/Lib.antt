@@ -3,4 +3,5 @@ mod Blocking
 mod Registering
 mod Staying
 mod Lining
+mod Locking
 mod Rows

@@ -1,13 +1,16 @@
 -- Where nothing can go on in an engine whose ports are in the lines of a job.
 use Rattle.std.specs.Prelude.{◌≡◌, ◌≤◌, ◌⊎◌, ℕ, List, [], Some, replicate, slice_get, slice_set}
-use Rattle.coll_machine.specs.Common.{Machine, Setting}
+use Rattle.coll_machine.specs.Common.{Machine, MayFinish, Setting}
 use Rattle.coll_plans.specs.Hearings.{hears_here}
 use Rattle.coll_history.specs.declared.command.Command.{Command}
 use Rattle.coll_history.specs.Histories.{History}
 use Rattle.coll_verdict.specs.Standings.{Holding, Standing, AtEnd, beginning}
 use Rattle.coll_verdict.specs.Stalls.{lines_of}
-use Rattle.coll_verdict.specs.Waiting.{Hearing, ReachesBy, StepsBy, IsStalledBy, StallsNeverBy}
-use Rattle.coll_core.specs.Cores.{Parts, setting}
+use Rattle.coll_verdict.specs.Waiting.{Hearing, ReachesBy, StepsBy, IsStalledBy, StallsAlwaysBy, StallsNeverBy}
+use Rattle.coll_core.specs.declared.stepped.Stepped.{Stepped}
+use Rattle.coll_core.specs.Cores.{Parts, seen, setting}
+use Rattle.coll_core.specs.Steps.{CommitSteps, Returns, Steps}
+use Rattle.coll_core.specs.Works.{Made, Piece}
 use Rattle.coll_stalls.specs.Calls.{CallsCarryOut}
 use Rattle.coll_stalls.specs.Laws.{GoesOnByCalls, GoesOnByCommit, GoesOnByStep, GoesOnWhereNothingChanges}
 use Rattle.coll_stalls.specs.Runs.{IsRunOf}
@@ -18,6 +21,7 @@ use Rattle.coll_traced.specs.Traced.{Traced}
 use Rattle.coll_traced.specs.Waits.{WaitFor, Awake}
 use Rattle.coll_blocked.specs.Calls.{IsCallOf, IsUnmet}
 use Rattle.coll_blocked.specs.Lines.{AreAtLines, IsInLine}
+use Rattle.coll_blocked.specs.Locks.{ComesTo}
 
 -- the core goes on with a job's run by its calls and steps
 pub record GoesOn (p : Parts) : Type 0 where
@@ -67,3 +71,25 @@ NeverHereIsNoStall t = (h : History) (s : Standing)
     → StallsNeverBy hears_here h → (setting t.core).groups ≡ h.groups
     → IsRunOf t.core (lines_of h) s → AreAtLines t.waits (lines_of h) s → IsStalled t
     → AtEnd (lines_of h) s
+
+-- ---- all calls, one after the other
+
+-- a step of the core is that perhaps a request becomes Done; so is the last of a combination, and one that comes back
+pub record MayFinishBySteps (p r : Parts) : Type 0 where
+  pub step : (stepped : Stepped) → Steps p r stepped → (setting r ≡ setting p) × MayFinish (setting p) (seen p) (seen r)
+  pub commit : (d : Made) (stepped : Stepped) → CommitSteps p r d stepped → (setting r ≡ setting p) × MayFinish (setting p) (seen p) (seen r)
+  pub abandon : (w : Piece) → Returns p r w → (setting r ≡ setting p) × MayFinish (setting p) (seen p) (seen r)
+
+abbrev pub StepsMayFinish : Type 0
+StepsMayFinish = (p r : Parts) → MayFinishBySteps p r
+
+-- where it is known that by this engine's schedules no run of the job stalls, no calls come to a stalled engine, unless all ranks are at
+-- their ends;
+abbrev pub NoStallUnderLock : Type 0
+NoStallUnderLock = (h : History) (t : Traced) (s : Standing)
+    → StallsNeverBy hears_here h → (setting t.core).groups ≡ h.groups → ComesTo (lines_of h) t s → IsStalled t → AtEnd (lines_of h) s
+
+-- and where it is known that each stalls, no calls come to where all are
+abbrev pub AlwaysHereIsNoEnd : Type 0
+AlwaysHereIsNoEnd = (h : History) (t : Traced) (s : Standing)
+    → StallsAlwaysBy hears_here h → (setting t.core).groups ≡ h.groups → ComesTo (lines_of h) t s → AtEnd (lines_of h) s → ⊥

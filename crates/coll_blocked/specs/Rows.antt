@@ -1,10 +1,13 @@
--- Worked rows: one rank that has posted a barrier and is at its wait, beside what may be noted of its port.
-use Rattle.std.specs.Prelude.{[], ◌∷◌}
-use Rattle.coll_verdict.specs.Standings.{Standing, beginning, carried_out, nothing_made, one_more}
+-- Worked rows: one rank that has posted a barrier and is at its wait, beside what may be noted of its port; and crossed barriers.
+use Rattle.std.specs.Prelude.{◌≡◌, [], ◌∷◌}
+use Rattle.coll_verdict.specs.Standings.{AtEnd, Standing, beginning, carried_out, nothing_made, one_more}
 use Rattle.coll_verdict.specs.Stalls.{lines_of}
-use Rattle.coll_verdict.specs.Rows.{lone, only_ticket, posted}
+use Rattle.coll_verdict.specs.Rows.{crossed, lone, only_ticket, posted}
 use Rattle.coll_traced.specs.Waits.{Awake, ForOne, Ended}
 use Rattle.coll_blocked.specs.Lines.{AreAtLines}
+use Rattle.coll_core.specs.Cores.{setting}
+use Rattle.coll_traced.specs.Traced.{Traced}
+use Rattle.coll_blocked.specs.Locks.{ComesTo}
 
 -- it is at the unwritten `waitall`
 abbrev pub has_posted : Standing
@@ -29,3 +32,10 @@ OtherIsAtNoLine = AreAtLines (ForOne 1 only_ticket ∷ []) (lines_of lone) has_p
 -- nor is without a port
 abbrev pub NobodyIsAtLine : Type 0
 NobodyIsAtLine = AreAtLines [] (lines_of lone) has_posted → ⊥
+
+-- ---- two ranks post the barriers of two communicators crosswise
+
+-- no calls of theirs come to where both are at their ends
+abbrev pub CrossedComesToNoEnd : Type 0
+CrossedComesToNoEnd = (t : Traced) (s : Standing)
+    → (setting t.core).groups ≡ crossed.groups → AtEnd (lines_of crossed) s → ComesTo (lines_of crossed) t s → ⊥

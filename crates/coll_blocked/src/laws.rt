@@ -1,9 +1,10 @@
 //! Laws of engines whose ports are in the lines of a job. A call does nothing; its contract is the law.
 
-ghost use Rattle.coll_blocked.specs.Laws.{GoesOn, NeverHereIsNoStall, NotedAtLines, OpenAtLines, RegistersInLine, StallIsStall, StayAtLines, StaysInLine};
-ghost use Rattle.coll_blocked.specs.Rows.{EndedIsAtNoLine, IsAwakeAtLine, NobodyIsAtLine, OtherIsAtNoLine, WaitsAtLine};
+ghost use Rattle.coll_blocked.specs.Laws.{AlwaysHereIsNoEnd, GoesOn, NeverHereIsNoStall, NoStallUnderLock, NotedAtLines, OpenAtLines, RegistersInLine, StallIsStall, StayAtLines, StaysInLine, StepsMayFinish};
+ghost use Rattle.coll_blocked.specs.Rows.{CrossedComesToNoEnd, EndedIsAtNoLine, IsAwakeAtLine, NobodyIsAtLine, OtherIsAtNoLine, WaitsAtLine};
 
 use coll_traced::{Entries, TracedCore};
+use coll_verdict::laws::crossed_barriers_stall_by;
 
 /// Where an engine was opened, all ports are awake, so they are in the lines of their ranks.
 pub fn open_at_lines()
@@ -51,6 +52,22 @@ pub fn never_here_is_no_stall<L: Entries>(traced: &TracedCore<L>)
     traced.knows_core();
 }
 
+/// Each step of the core, each combination that is committed or comes back is that perhaps a request becomes Done.
+pub fn steps_may_finish()
+    ensures { StepsMayFinish }
+{}
+
+/// Where it is known that by this engine's schedules no run of a job stalls, no calls by which its ranks carry their lines out, in whatever
+/// order, come to a stalled engine, unless all ranks are at their ends.
+pub fn no_stall_under_lock()
+    ensures { NoStallUnderLock }
+{}
+
+/// Where it is known that each such run stalls, no such calls come to where all ranks are at their ends.
+pub fn always_here_is_no_end()
+    ensures { AlwaysHereIsNoEnd }
+{}
+
 /// One rank that has posted a barrier and is at its wait has a port that waits for the barrier,
 pub fn waits_at_line()
     ensures { WaitsAtLine }
@@ -75,3 +92,11 @@ pub fn other_is_at_no_line()
 pub fn nobody_is_at_line()
     ensures { NobodyIsAtLine }
 {}
+
+/// No calls of two ranks that post the barriers of two communicators crosswise come to where both are at their ends.
+pub fn crossed_comes_to_no_end()
+    ensures { CrossedComesToNoEnd }
+{
+    always_here_is_no_end();
+    crossed_barriers_stall_by();
+}

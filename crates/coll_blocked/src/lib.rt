@@ -4,7 +4,10 @@
 //! | In `specs/` | Has |
 //! |---|---|
 //! | `Lines` | ports in the lines of a job |
+//! | `Calls` | the calls by which ranks wait |
+//! | `Locks` | what lies under the lock, from one call to the next |
 //! | `Laws` | what a stalled engine shows |
+//! | `Rows` | worked rows |
 #![tactic(auto)]
 
 pub mod laws;
