@@ -61,6 +61,8 @@ PROTOCOL = [
     (HOLDS, SAFE, True, "mixed, 3 ranks", f"MIXED WATCHED {THREE} {TWO}"),
     (HOLDS, SAFE, True, "refused memory, 2 ranks", "REFUSED_MEMORY WATCHED REFUSALS=2"),
     (HOLDS, SAFE, True, "refused memory, 2 ranks, 1 worker", f"REFUSED_MEMORY WATCHED REFUSALS=1 {WORKER} STEPS=8"),
+    (HOLDS, SAFE, True, "refused again, 2 ranks", "REFUSED_AGAIN WATCHED REFUSALS=2"),
+    (HOLDS, SAFE, False, "refused again, 2 ranks, 1 worker", f"REFUSED_AGAIN WATCHED REFUSALS=1 {WORKER} STEPS=8"),
     (HOLDS, SAFE, False, "gate, 2 ranks, 1 worker", f"THREE WATCHED COLLECTIVES=3 {WORKER} GATED STEPS=8 UNCHAINED"),
     (HOLDS, SAFE, True, "no second look, 2 ranks, 1 worker", f"ONE {WORKER} NO_SECOND_LOOK"),
     (HOLDS, LIVE, True, "one ends, 2 ranks", "ONE"),

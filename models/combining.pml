@@ -487,7 +487,7 @@ byte ending[RANKS];
 #define POLL 4          /* tests until it is complete */
 #define WAIT_ANY 5      /* of the collectives whose bits are set */
 #define AWAIT 6         /* outside the engine, until that rank has ended */
-#define TRY 7           /* waits, and goes on also where that is refused as Stalled */
+#define TRY 7           /* waits, and goes on also where that is refused as Stalled, or memory is */
 #define DROP 8          /* lets the port go unfinished */
 #define LINES 8
 byte command[RANKS * LINES], argument[RANKS * LINES], length[RANKS];
@@ -623,7 +623,7 @@ Computes:       /* the lock is free */
     ENTER;
     if
     :: refusals > 0 ->
-        d_step { abandon(); piece = 0; away = away & ~BIT(me); goes_on(me); ending[me] = REFUSED; inside = inside & ~BIT(me); next = TO_GIVE_UP };
+        d_step { abandon(); piece = 0; away = away & ~BIT(me); goes_on(me); ending[me] = (what == TRY -> WELL : REFUSED); inside = inside & ~BIT(me); next = TO_GIVE_UP };
         goto Release
     :: true -> d_step { commit(); away = away & ~BIT(me); NOTE_DUE };
         if

@@ -139,6 +139,11 @@ inline program() { members[0] = EVERYONE; combines[0] = 1; everyone(POST, 0); ev
 inline verdict() { skip }
 #endif
 
+#ifdef REFUSED_AGAIN    /* combinations are refused: a rank whose wait is given up waits again, and all end well */
+inline program() { members[0] = EVERYONE; combines[0] = 1; everyone(POST, 0); everyone(TRY, 0); everyone(TRY, 0); everyone(WAIT, 0) }
+inline verdict() { all_end_well }
+#endif
+
 #ifdef AGAIN            /* two collectives one after the other, so that records are used again */
 inline program() {
     members[0] = 3; combines[0] = 1; members[1] = 3; combines[1] = 1;
