@@ -3,6 +3,7 @@
 
     models/shim.py [WORD ..]    (only configurations whose names have one of the words)
 
+It ends with 0 where all came out as they must, with 1 where some came out otherwise, and else with 2 where some searches weren't finished.
 It needs `spin` 6.5 and `gcc` (Debian: apt-get install spin gcc). --quick leaves out those of three ranks that must hold, --jobs N searches N at a time,
 each for --seconds N at most (600) and in 3 GB.
 """
@@ -20,6 +21,8 @@ import time
 HERE = os.path.dirname(os.path.abspath(__file__))
 MEBIBYTES = 3000
 THREE, TWO = "RANKS=3", "COLLECTIVES=2"
+# how a configuration came out: as it must, otherwise, or with no result, since its search was cut off or couldn't begin
+RIGHT, WRONG, OPEN = "ok", "WRONG", "OPEN"
 # whether it must hold, whether every run must end (else: no run ends but as it must), the name, the program and its flags
 CONFIGURATIONS = [
     (True, False, "one, 2 ranks", "ONE"),
@@ -97,7 +100,7 @@ def searched(ends, flags, folder, limit):
 
 
 def judged(configuration, limit):
-    """One line on a configuration, and whether it came out as it must."""
+    """One line on a configuration, and how it came out."""
     must_hold, ends, name, flags = configuration
     folder = tempfile.mkdtemp(prefix="shim")
     try:
@@ -105,8 +108,11 @@ def judged(configuration, limit):
     finally:
         shutil.rmtree(folder)
     is_fault = re.search("invalid end state|assertion violated|acceptance cycle", what) is not None
-    right = what == "holds" if must_hold else is_fault
-    return f"{'ok ' if right else 'BAD'} {name:36} {what[:60]:60} {states:>12} {seconds:7.1f} s", right
+    if what != "holds" and not is_fault:
+        how = OPEN
+    else:
+        how = RIGHT if is_fault != must_hold else WRONG
+    return f"{how:5} {name:36} {what[:60]:60} {states:>12} {seconds:7.1f} s", how
 
 
 def main():
@@ -119,13 +125,13 @@ def main():
     wanted = [c for c in CONFIGURATIONS if not asked.names or any(word in c[2] for word in asked.names)]
     if asked.quick:
         wanted = [c for c in wanted if not (c[0] and THREE in c[3])]
-    right = True
+    came = []
     with concurrent.futures.ThreadPoolExecutor(asked.jobs) as pool:
-        for line, is_right in pool.map(lambda it: judged(it, asked.seconds), wanted):
+        for line, how in pool.map(lambda it: judged(it, asked.seconds), wanted):
             print(line, flush=True)
-            right = right and is_right
-    print("all as it must be" if right else "some came out otherwise")
-    sys.exit(0 if right else 1)
+            came.append(how)
+    print(f"{came.count(RIGHT)} came out as they must, {came.count(WRONG)} otherwise, {came.count(OPEN)} weren't finished")
+    sys.exit(1 if WRONG in came else 2 if OPEN in came else 0)
 
 
 if __name__ == "__main__":
