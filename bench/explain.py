@@ -1,17 +1,20 @@
 #!/usr/bin/env python3
-"""Verdicts of `colljob explain` beside runs of the same texts: explain.py PROGRAM [TEXTS [SEED]]
+"""Verdicts and values of `colljob explain` and `plain` beside runs of the same texts: explain.py PROGRAM [TEXTS [SEED [RANKS]]]
 
-Each text has 2 to 6 ranks, some communicators, and collectives that are posted or started in an order of each rank's own among
-communicators, with waits, waits for any and some, and tests in between. It is explained once and run with 0 to 8 progress threads, three
-times. A text that never stalls must end in each run, one that stalls in every run must stall in each. Ends with 1 where one doesn't, and
-shows the text. So it does where the shortest circle that is reported is no circle, or a search of all circles finds a shorter one. It also prints
-how many of the texts that may stall did so in some run, and in each.
+Each text has 2 to 6 ranks, or 2 to RANKS and at most 100 lines, some communicators, and collectives that are posted or started in an order of
+each rank's own among communicators, with waits, waits for any and some, and tests in between. It is explained once, and run three times with 0
+to 8 progress threads. A text that never stalls must end in each run, one that stalls in every run must stall in each, and a run that ends must
+write what `plain` writes. Ends with 1 where one doesn't, and shows the text. So it does where the shortest circle that is reported is no circle,
+or a search of all circles finds a shorter one. It also prints how many of the texts that may stall did so in some run, and in each, and how
+long the runs took.
 """
 import collections
 import json
 import random
+import statistics
 import subprocess
 import sys
+import time
 
 KINDS = ["barrier", "bcast", "gather", "scatter", "allgather", "alltoall", "reduce", "allreduce", "rsblock", "scan", "exscan"]
 ROOTED = {"bcast", "gather", "scatter", "reduce"}
@@ -19,6 +22,7 @@ REDUCING = {"reduce", "allreduce", "rsblock", "scan", "exscan"}
 OF_ROOT = {"bcast": 1, "scatter": 0}
 RUNS = 3
 SECONDS = 60
+MOST_LINES = 100
 
 
 class Collective:
@@ -103,8 +107,9 @@ def section(rng, rank, lists):
     return lines
 
 
-def random_text(rng):
-    ranks = rng.randint(2, 6)
+def random_text(rng, most):
+    """A text of 2 to `most` ranks."""
+    ranks = rng.randint(2, most)
     groups = [list(range(ranks))]
     for _ in range(rng.randint(1, 3)):
         groups.append(rng.sample(range(ranks), rng.randint(2, ranks)))
@@ -116,6 +121,15 @@ def random_text(rng):
     for rank in range(ranks):
         lines += section(rng, rank, lists)
     return "\n".join(lines) + "\n"
+
+
+def short_text(rng, most):
+    """A text of 2 to `most` ranks and at most MOST_LINES lines; a rank that calls nothing has no section."""
+    while True:
+        lines = random_text(rng, most).splitlines()
+        kept = [line for line, after in zip(lines, lines[1:] + ["rank"]) if not (line.startswith("rank ") and after.startswith("rank"))]
+        if len(kept) <= MOST_LINES:
+            return "\n".join(kept) + "\n"
 
 
 def shortest_length(awaited):
@@ -149,12 +163,21 @@ def verdict(program, text):
     return objects[-1]["verdict"]
 
 
-def stalls(program, text, workers):
-    """Whether a run stalls; any other end is an error."""
-    ended = subprocess.run([program, "run", "--workers", str(workers)], input=text.encode(), capture_output=True, timeout=SECONDS)
+def output(program, words, text):
+    """The status of the program, what it writes, and the seconds that it takes; any status but 0 and 3 is an error."""
+    begin = time.monotonic()
+    ended = subprocess.run([program, *words], input=text.encode(), capture_output=True, timeout=SECONDS)
     if ended.returncode not in (0, 3):
-        raise ValueError(f"{ended.returncode} {ended.stderr.decode()}")
-    return ended.returncode == 3
+        raise ValueError(f"{ended.returncode} {ended.stderr.decode()}\n{text}")
+    return ended.returncode, ended.stdout, time.monotonic() - begin
+
+
+def run(program, text, workers):
+    """Whether a run stalls, and the seconds that it takes; other values than those of `plain` are an error."""
+    status, values, seconds = output(program, ["run", "--workers", str(workers)], text)
+    if status == 0 and values != output(program, ["plain"], text)[1]:
+        raise ValueError(f"other values than those of plain:\n{text}")
+    return status == 3, seconds
 
 
 def main():
@@ -163,10 +186,12 @@ def main():
     rng = random.Random(int(sys.argv[3]) if len(sys.argv) > 3 else 1)
     verdicts = collections.Counter()
     some = each = 0
+    times = []
     for number in range(texts):
-        text = random_text(rng)
+        text = short_text(rng, int(sys.argv[4])) if len(sys.argv) > 4 else random_text(rng, 6)
         told = verdict(program, text)
-        runs = [stalls(program, text, (number + 3 * it) % 9) for it in range(RUNS)]
+        runs, seconds = zip(*(run(program, text, (number + 3 * it) % 9) for it in range(RUNS)))
+        times += seconds
         wanted = {"never": [False], "never here": [False], "perhaps": [False, True], "always here": [True], "always": [True]}
         if told not in wanted or any(it not in wanted[told] for it in runs):
             print(f"{told}, but runs stall so: {runs}\n--\n{text}")
@@ -177,6 +202,7 @@ def main():
             each += all(runs)
     print(f"{texts} texts, each run {RUNS} times:", ", ".join(f"{it} {verdicts[it]}" for it in verdicts))
     print(f"of those that may stall {some} did in some run, {each} in each")
+    print(f"a run took {statistics.median(times):.3f} s, the longest {max(times):.3f} s, {sum(it > 1 for it in times)} took over a second")
     return 0
 
 
