@@ -1,4 +1,4 @@
-ghost use Rattle.std.specs.Prelude.{◌≡◌, ◌+◌, ◌<◌, ◌≤◌, ◌^◌, ◌==◌, [], ◌++◌, length, IfErr, IfOk, IfSome, IsOk, vec_capacity, vec_len};
+ghost use Rattle.std.specs.Prelude.{◌≡◌, ◌+◌, ◌<◌, ◌≤◌, ◌^◌, ◌==◌, [], ◌++◌, length, take, IfErr, IfOk, IfSome, IsOk, vec_capacity, vec_len};
 ghost use Rattle.std.specs.Arc.{arc_value};
 ghost use Rattle.coll_sched.specs.Regions.{Inside, read_of};
 
@@ -14,11 +14,22 @@ pub const FEW: usize = 31;
 /// Where bytes lie. A block stays whole as long as somebody has a part of it.
 #[derive(Debug, Drop)]
 enum Memory {
-    InPlace { len: u8, row: [u8; FEW] },
+    /// The row lies where a block's words do, so that all bytes are moved as words.
+    InPlace {
+        words: [u64; 0],
+        row: [u8; FEW],
+        len: u8,
+    },
     /// A part of a block that has one owner.
-    Owned { block: Vec<u8>, place: Region },
+    Owned {
+        block: Vec<u8>,
+        place: Region,
+    },
     /// A part of a block that counts its owners.
-    Shared { block: Arc<Vec<u8>>, place: Region },
+    Shared {
+        block: Arc<Vec<u8>>,
+        place: Region,
+    },
 }
 
 /// Bytes that are never written again: a few in place, more as a part of a block, which others may have parts of too. Contracts see
@@ -139,6 +150,22 @@ fn copied(bytes: &[u8], room: Vec<u8>) -> Vec<u8>
     copy
 }
 
+// A row that begins with a few bytes. Those of one number are copied as one word.
+#[inline(always)]
+fn row_of(bytes: &[u8]) -> [u8; FEW]
+    requires { length bytes.now ≤ FEW }
+    ensures { take (length bytes.now) result ≡ bytes.now }
+{
+    let mut row = [0; FEW];
+    match bytes.len() {
+        0 => {}
+        4 => row[..4].copy_from_slice(bytes),
+        8 => row[..8].copy_from_slice(bytes),
+        len => row[..len].copy_from_slice(bytes),
+    }
+    row
+}
+
 impl Bytes {
     /// None.
     pub fn empty() -> Bytes
@@ -152,12 +179,11 @@ impl Bytes {
         requires { length bytes.now ≤ FEW }
         ensures { result ≡ bytes.now }
     {
-        let mut row = [0; FEW];
-        row[..bytes.len()].copy_from_slice(bytes);
         Bytes {
             memory: Memory::InPlace {
+                words: [],
+                row: row_of(bytes),
                 len: bytes.len() as u8,
-                row,
             },
         }
     }
@@ -192,7 +218,7 @@ impl Bytes {
         ensures { result.now ≡ self.now }
     {
         match &self.memory {
-            Memory::InPlace { len, row } => &row[..*len as usize],
+            Memory::InPlace { row, len, .. } => &row[..*len as usize],
             Memory::Owned { block, place } => place.read(block),
             Memory::Shared { block, place } => place.read(block),
         }
@@ -227,8 +253,28 @@ impl Bytes {
         ensures few { length self.old ≤ FEW → IsOk result }
         ensures same { self.new ≡ self.old }
     {
+        if let Some(copy) = self.copy_in_place() {
+            return Ok(copy);
+        }
         let all = Region::front(self.len());
         self.part(alloc, all)
+    }
+
+    // A copy of bytes that lie in place.
+    #[inline(always)]
+    fn copy_in_place(&self) -> Option<Bytes>
+        ensures { IfSome result (λ copy. copy ≡ self.now) }
+    {
+        match &self.memory {
+            Memory::InPlace { row, len, .. } => Some(Bytes {
+                memory: Memory::InPlace {
+                    words: [],
+                    row: *row,
+                    len: *len,
+                },
+            }),
+            _ => None,
+        }
     }
 
     /// The bytes of a region of these, with an owner of their own, as by `share`.
@@ -317,6 +363,9 @@ impl Bytes {
         requires room { FEW < length self.now → length self.now ≤ vec_capacity room }
         ensures { result ≡ self.now }
     {
+        if let Some(copy) = self.copy_in_place() {
+            return copy;
+        }
         if self.len() as usize <= FEW {
             return Bytes::few(self.as_slice());
         }

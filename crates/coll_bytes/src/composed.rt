@@ -109,7 +109,7 @@ pub(crate) fn shows_bytes(segments: &[Segment], size: u32, from: Region, bytes: 
     true
 }
 
-/// A region, put together. A few bytes take no memory.
+/// A region, put together in a block that counts its owners: it is sent on, or it is the outcome. A few bytes take no memory.
 pub(crate) fn composed(
     alloc: Global,
     segments: &[Segment],
@@ -125,5 +125,7 @@ pub(crate) fn composed(
         return Ok(composed_few(segments, size, from));
     }
     let room = Vec::with_capacity(alloc, from.len as usize)?;
-    Ok(composed_in(segments, size, from, room))
+    let mut bytes = composed_in(segments, size, from, room);
+    bytes.count_owners(alloc)?;
+    Ok(bytes)
 }
