@@ -144,6 +144,7 @@ impl<R: Drop> Arena<R> {
 
     /// Gives the first slot of Free to a request, at the back of a list. A weight is what a request lends to the engine,
     /// in bytes, and `coll_kinds::MAX_LENT` at most. Only Full is refused, exactly where Free is empty.
+    #[inline(always)]
     pub fn take(&mut self, request: R, weight: u32, list: ListName) -> Result<Ticket, Refused<R>>
         requires light { weight ≤ max_lent }
         requires live_list { 2 ≤ number_of list }

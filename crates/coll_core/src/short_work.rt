@@ -1,15 +1,11 @@
 //! Combinations of a few bytes, which are handed out by value.
 
-ghost use Rattle.std.specs.Prelude.{◌≡◌, ◌%◌, length, IsTrue};
-ghost use Rattle.coll_kinds.specs.Checks.{allowed};
-ghost use Rattle.coll_kinds.specs.Elements.{width};
-ghost use Rattle.coll_ops.specs.Combinations.{combined as combination};
+ghost use Rattle.std.specs.Prelude.{◌≡◌};
 ghost use Rattle.coll_core.specs.Works.{IsPiece, result_of};
 
-use crate::word::{WORD, Word};
+use crate::word::{Word, combined_words};
 use coll_bytes::Bytes;
 use coll_kinds::{Datatype, Op, Ticket};
-use coll_ops::combine_into;
 use std::marker::Model;
 
 /// A combination of operands of up to eight bytes that was handed out by value, to be computed outside the engine. It is spent by
@@ -51,22 +47,6 @@ impl Model for DoneShortWork {
     ghost view = { λ d. record { piece = d.work; bytes = d.result } };
 
     ghost invariant = { λ d. d.result ≡ result_of d.work };
-}
-
-/// The combination of two operands, `left` being the first.
-#[inline(always)]
-fn combined_words(op: Op, ty: Datatype, left: &Word, right: &Word) -> Word
-    requires allowed { IsTrue (allowed op ty) }
-    requires whole { length left.now % width ty ≡ 0 }
-    requires same { length right.now ≡ length left.now }
-    ensures { result ≡ combination op ty left.now right.now }
-{
-    let first = left.as_slice();
-    let mut row = [0; WORD];
-    let out = &mut row[..first.len()];
-    out.copy_from_slice(first);
-    combine_into(op, ty, out, right.as_slice());
-    Word::of(out)
 }
 
 impl ShortWork {

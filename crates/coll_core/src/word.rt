@@ -1,5 +1,10 @@
-ghost use Rattle.std.specs.Prelude.{◌≡◌, ◌≤◌, length};
+ghost use Rattle.std.specs.Prelude.{◌≡◌, ◌≤◌, ◌%◌, length, take, IsTrue};
+ghost use Rattle.coll_kinds.specs.Checks.{allowed};
+ghost use Rattle.coll_kinds.specs.Elements.{width};
+ghost use Rattle.coll_ops.specs.Combinations.{combined as combination};
 
+use coll_kinds::{Datatype, Op};
+use coll_ops::combine_into;
 use std::marker::Model;
 
 /// Operands of up to that many bytes are handed out by value.
@@ -23,17 +28,43 @@ impl Model for Word {
     ghost invariant = { λ w. (w.len ≤ WORD) × (w.len ≤ length w.row) };
 }
 
+/// A row that begins with these bytes. Those of one number are copied at one time.
+#[inline(always)]
+fn row_of(bytes: &[u8]) -> [u8; WORD]
+    requires { length bytes.now ≤ WORD }
+    ensures { take (length bytes.now) result ≡ bytes.now }
+{
+    let mut row = [0; WORD];
+    match bytes.len() {
+        4 => row[..4].copy_from_slice(bytes),
+        8 => row[..8].copy_from_slice(bytes),
+        len => row[..len].copy_from_slice(bytes),
+    }
+    row
+}
+
+/// The combination of two operands, `left` being the first.
+#[inline(always)]
+pub(crate) fn combined_words(op: Op, ty: Datatype, left: &Word, right: &Word) -> Word
+    requires allowed { IsTrue (allowed op ty) }
+    requires whole { length left.now % width ty ≡ 0 }
+    requires same { length right.now ≡ length left.now }
+    ensures { result ≡ combination op ty left.now right.now }
+{
+    let mut row = left.row;
+    combine_into(op, ty, &mut row[..left.len as usize], right.as_slice());
+    Word { len: left.len, row }
+}
+
 impl Word {
     /// These bytes.
     pub(crate) fn of(bytes: &[u8]) -> Word
         requires { length bytes.now ≤ WORD }
         ensures { result ≡ bytes.now }
     {
-        let mut row = [0; WORD];
-        row[..bytes.len()].copy_from_slice(bytes);
         Word {
             len: bytes.len() as u8,
-            row,
+            row: row_of(bytes),
         }
     }
 
