@@ -100,6 +100,7 @@ impl Buffer {
 
     /// The schedule's buffer with the contribution laid in, and zeros elsewhere. A long buffer shares the contribution. Only NoMemory is
     /// refused.
+    #[inline(always)]
     pub(crate) fn lay_in(
         alloc: Global,
         schedule: &Schedule,

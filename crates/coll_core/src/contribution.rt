@@ -101,6 +101,7 @@ impl Contribution {
     /// # Errors
     ///
     /// NoMemory, to count the owners.
+    #[inline(always)]
     pub fn share(&mut self, alloc: Global) -> Result<Bytes, Refusal>
         requires { length self.old < 2 ^ 32 }
         ensures ok { IfOk result (λ other. other ≡ self.old) }

@@ -93,6 +93,7 @@ impl Matches {
 
     /// Keeps the bytes that a member gives to an instance, for which room was made. It takes no memory. A member joins
     /// an instance once. The answer is a hint for the calls that follow.
+    #[inline(always)]
     pub fn join(&mut self, key: Key, member: u8, bytes: Bytes) -> usize
         requires room { member < size self.old key }
         requires new { given self.old key member ≡ None }

@@ -27,6 +27,7 @@ pub(crate) fn shared(alloc: Global, given: &mut Contribution) -> Result<Bytes, R
 
 impl Prepared {
     /// For a post. It is made before the lock is taken.
+    #[inline(always)]
     pub fn of(alloc: Global, offer: &mut Offer) -> Result<Prepared, Refusal>
         ensures prepared { IfOk result (IsPreparedFor offer.old) }
         ensures refused { IfErr result (λ why. why ≡ Refusal.NoMemory) }

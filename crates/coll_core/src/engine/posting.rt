@@ -224,6 +224,7 @@ impl Core {
     }
 
     /// Makes room for one more signature in the rank's posting list.
+    #[inline(always)]
     fn make_place(&mut self, rank: u8, comm: u32) -> Result<(), Refusal>
         requires { member_refusal self.old.queues comm rank ≡ None }
         ensures unchanged { Unchanged self.old self.new }
@@ -234,6 +235,7 @@ impl Core {
     }
 
     /// Makes room for what the members of a communicator give to a collective.
+    #[inline(always)]
     pub(crate) fn make_instance(&mut self, key: Key, n: u8) -> Result<(), Refusal>
         requires { n ≡ size (setting self.old) key.comm }
         ensures unchanged { Unchanged self.old self.new }
