@@ -19,6 +19,10 @@ pub(crate) struct Patience {
     holds: u32,
     /// Whether it gives turns to other threads between its looks.
     gives_turns: bool,
+    /// Else the turns that it gives before it sleeps.
+    turns: u32,
+    /// Since when it has looked without a turn, in microseconds of the clock; 0 before the first reading.
+    since: u64,
     /// Whether it looks only shortly, since long looks were in vain.
     is_short: bool,
 }
@@ -31,6 +35,8 @@ const OWN_PROCESSOR: Patience = Patience {
     tries: 1_023,
     holds: 1_250,
     gives_turns: true,
+    turns: TURNS,
+    since: 0,
     is_short: false,
 };
 
@@ -41,6 +47,8 @@ const SHARED_PROCESSOR: Patience = Patience {
     tries: 63,
     holds: 200,
     gives_turns: true,
+    turns: TURNS,
+    since: 0,
     is_short: false,
 };
 
@@ -51,18 +59,24 @@ const ONE_PROCESSOR_CROWDED: Patience = Patience {
     tries: 0,
     holds: 0,
     gives_turns: false,
+    turns: TURNS,
+    since: 0,
     is_short: true,
 };
 
-/// Looks in a row with the lock where turns are long.
+/// Looks in a row with the lock where turns are long and threads share processors.
 const CROWDED_HOLDS: u32 = 50;
 
-/// Looks where turns are long and each thread has a processor of its own. Who sleeps leaves the processor to another program for a time slice,
-/// for which all others may wait.
-const CROWDED_LOOKS: u32 = 10_000;
+/// The turns that a thread with a processor of its own gives before it sleeps, where turns are long. A thread that sleeps may be woken on the
+/// processor of the one that wakes it, and the two share that processor for many time slices.
+const TURNS: u32 = 16;
 
-/// The bits of a try for the lock where turns are long: the thread that serves the others may have lost its processor.
-const CROWDED_TRIES: u32 = 63;
+/// The microseconds of looks after which a thread gives a turn where turns are long. After so many in vain it has its time slices while those it
+/// waits for don't have theirs: it gives the rest of this one away, and has the next one together with them.
+const OUT_OF_STEP: u64 = 200;
+
+/// Where turns are long, the clock is read at the looks whose number has all of these bits.
+const READINGS: u32 = 1_023;
 
 /// Looks where long looks were in vain.
 const FEW_LOOKS: u32 = 50;
@@ -110,7 +124,7 @@ impl Patience {
 
     /// Whether all looks have been made.
     pub(crate) fn is_over(self) -> bool {
-        self.made >= self.looks
+        self.made >= self.looks || self.turns == 0
     }
 
     /// Looks while it holds the lock.
@@ -123,14 +137,21 @@ impl Patience {
         look & self.tries == self.tries
     }
 
-    /// The same without turns for others.
-    fn crowded(self) -> Self {
-        Patience {
-            tries: CROWDED_TRIES,
-            holds: CROWDED_HOLDS,
-            gives_turns: false,
-            ..self
+    /// Whether it gives a turn after this look: each time, or where turns are long, once it has looked for so long in vain.
+    fn is_turn_due<C: Clock>(&mut self, clock: &C, look: u32) -> bool {
+        if self.gives_turns || look & READINGS != READINGS {
+            return self.gives_turns;
         }
+        let now = microseconds(clock);
+        if self.since == 0 {
+            self.since = now;
+        }
+        let is_due = now.saturating_sub(self.since) >= OUT_OF_STEP;
+        if is_due {
+            self.since = 0;
+            self.turns = self.turns.saturating_sub(1);
+        }
+        is_due
     }
 
     /// The same with few looks.
@@ -201,24 +222,25 @@ impl Waits {
             && self.short.load(Ordering::Relaxed) < SHORT_WAITS
     }
 
-    /// Gives a turn to others. Returns whether it is within the share.
+    /// Gives a turn to others. Returns whether it was short, or within the share. After a short one later waits give turns again.
     fn give<C: Clock>(&self, clock: &C) -> bool {
         let from = microseconds(clock);
         yield_now();
         let to = microseconds(clock);
         let took = to.saturating_sub(from);
-        if took <= LONG {
-            return true;
+        let repaid = self.repaid.load(Ordering::Relaxed);
+        let next = if took > LONG {
+            repaid
+                .max(from.saturating_sub(CREDIT))
+                .saturating_add(took.saturating_mul(SHARE))
+                .min(to.saturating_add(REPAID))
+        } else {
+            repaid.min(to)
+        };
+        if next != repaid {
+            self.repaid.store(next, Ordering::Relaxed);
         }
-        let saved = self
-            .repaid
-            .load(Ordering::Relaxed)
-            .max(from.saturating_sub(CREDIT));
-        let repaid = saved
-            .saturating_add(took.saturating_mul(SHARE))
-            .min(to.saturating_add(REPAID));
-        self.repaid.store(repaid, Ordering::Relaxed);
-        to >= repaid
+        to >= next
     }
 
     /// A wait is over, in which the port looked, or slept. Nothing is written where all is as before: the combiner reads words beside these.
@@ -279,16 +301,18 @@ impl Processors {
         }
     }
 
-    /// The patience of a thread that gives no turns, for one that does.
-    fn crowded(&self, patience: Patience) -> Patience {
+    /// The same patience where turns are long.
+    fn crowded(&self, mut patience: Patience) -> Patience {
         if self.processors.load(Ordering::SeqCst) <= 1 {
             return ONE_PROCESSOR_CROWDED;
         }
-        let mut crowded = patience.crowded();
-        if self.has_each_its_own() && !patience.is_short {
-            crowded.looks = CROWDED_LOOKS;
+        if !self.has_each_its_own() {
+            patience.holds = CROWDED_HOLDS;
+        } else if !patience.is_short {
+            patience.looks = u32::MAX;
         }
-        crowded
+        patience.gives_turns = false;
+        patience
     }
 
     /// How the wait of a port that begins now is made.
@@ -308,7 +332,7 @@ impl Processors {
         }
     }
 
-    /// A pause after a look. The wait goes on without further turns where long ones have had their share.
+    /// A pause after a look. Where long turns have had their share, the wait goes on with few.
     pub(crate) fn pause<C: Clock>(
         &self,
         clock: &C,
@@ -316,7 +340,7 @@ impl Processors {
         patience: &mut Patience,
         look: u32,
     ) {
-        if look < CLOSE || !patience.gives_turns {
+        if look < CLOSE || !patience.is_turn_due(clock, look) {
             spin_loop();
         } else if !waits.give(clock) {
             *patience = self.crowded(*patience);
