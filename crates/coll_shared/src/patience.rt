@@ -73,7 +73,7 @@ const TURNS: u32 = 16;
 
 /// The microseconds of looks after which a thread gives a turn where turns are long. After so many in vain it has its time slices while those it
 /// waits for don't have theirs: it gives the rest of this one away, and has the next one together with them.
-const OUT_OF_STEP: u64 = 200;
+const OUT_OF_STEP: u64 = 500;
 
 /// Where turns are long, the clock is read at the looks whose number has all of these bits.
 const READINGS: u32 = 1_023;
@@ -102,7 +102,7 @@ const PAUSES: u32 = 8;
 /// A turn of over this many microseconds went to a thread that computes, for a time slice. Another one takes some microseconds.
 const LONG: u64 = 500;
 
-/// A port's long turns take at most this part of its time: one in a hundred.
+/// A port's long turns take at most this part of its time, one in a hundred, but for those that it gives since it is out of step.
 const SHARE: u64 = 100;
 
 /// The microseconds whose share it can save for a later turn.
