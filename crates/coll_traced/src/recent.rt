@@ -1,6 +1,6 @@
 ghost use Rattle.std.specs.Prelude.{◌≡◌, IfSome};
 
-use coll_bytes::Bytes;
+use coll_bytes::{Bytes, FEW};
 use coll_ops::are_same;
 
 /// The owners of a block that no earlier entry of the trace has: the caller that completes the request, and the entry of that.
@@ -21,6 +21,7 @@ impl Recent {
     }
 
     /// Keeps bytes that the trace is about to take in, if entries can share them.
+    #[inline(always)]
     pub(crate) fn remember(&mut self, bytes: &Bytes) {
         if let Some(shared) = bytes.share_counted() {
             self.bytes = Some(shared);
@@ -40,8 +41,20 @@ impl Recent {
         bytes.share_counted()
     }
 
-    /// An outcome's bytes for the trace: the kept ones where they are the same, else the outcome's own. Takes no memory.
+    /// An outcome's bytes for the trace: the kept ones where they are the same, else the outcome's own. Takes no memory. A few have none
+    /// to share.
+    #[inline(always)]
     pub(crate) fn outcome(&mut self, outcome: Bytes) -> Bytes
+        ensures { result ≡ outcome }
+    {
+        if outcome.len() as usize <= FEW {
+            return outcome;
+        }
+        self.long_outcome(outcome)
+    }
+
+    /// The same of more bytes.
+    fn long_outcome(&mut self, outcome: Bytes) -> Bytes
         ensures { result ≡ outcome }
     {
         if !outcome.has_owners_beyond(OWN) {
