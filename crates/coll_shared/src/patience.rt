@@ -75,8 +75,9 @@ const TURNS: u32 = 16;
 /// waits for don't have theirs: it gives the rest of this one away, and has the next one together with them.
 const OUT_OF_STEP: u64 = 500;
 
-/// Where turns are long, the clock is read at the looks whose number has all of these bits.
-const READINGS: u32 = 1_023;
+/// Where turns are long, the clock is read at the looks whose number has all of these bits. Half of these are no tries for the lock: a thread that
+/// gets it by each try reads the clock too.
+const READINGS: u32 = 511;
 
 /// Looks where long looks were in vain.
 const FEW_LOOKS: u32 = 50;
