@@ -1,5 +1,5 @@
 -- A combination that was out.
-use Rattle.std.proofs.Common.{◌≡◌, ◌∙◌, ◌&&◌, ◌==◌, inr, ℕ, Bool, true, false, List, length, cond, Option, Some, ap, sym, subst, eqb-true, ne_eqb}
+use Rattle.std.proofs.Common.{◌≡◌, ◌∙◌, ◌&&◌, ◌==◌, inr, ℕ, Bool, true, false, List, length, cond, Option, Some, ap, refl, sym, subst, eqb-true, ne_eqb}
 use Rattle.std.specs.Prelude.{IsTrue}
 use Rattle.std.proofs.lemmas.Bool.{and_parts}
 use Rattle.std.proofs.lemmas.Option.{same_Some}
@@ -27,8 +27,8 @@ use Rattle.coll_core.specs.declared.stepped.Stepped.{Stepped}
 use Rattle.coll_core.specs.Cores.{IsCore, Parts, setting}
 use Rattle.coll_core.specs.Requests.{schedule, shown}
 use Rattle.coll_core.specs.Advancing.{CanAdvance, HasAdvanced}
-use Rattle.coll_core.specs.Steps.{Commits, CommitSteps, IsOut, MovesOne, stepped_by}
-use Rattle.coll_core.specs.Works.{Combined, Made, Piece, StandsAt, result_of}
+use Rattle.coll_core.specs.Steps.{Commits, CommitSteps, CommitsOwn, HasOwnResult, IsOut, MovesOne, stepped_by}
+use Rattle.coll_core.specs.Works.{Combined, Made, NamesSame, Piece, StandsAt, result_of}
 use Rattle.coll_core.proofs.Acting.{Gone, Rewrites, can_go_on, core_after, done_here, goes, goes_on, going_not_done, gone_written, list_low, none_ends, parts}
 use Rattle.coll_core.proofs.Reading.{have_lists, running_acting}
 
@@ -78,7 +78,46 @@ out_at p v e w u u_is t t_is x out here = record {
     at : IsOut p w
     at = subst (λ (z : Parts). IsOut z w) (sym e) (subst (λ (z : Piece). IsOut v z) u_is out)
 
+-- ---- the result of the request's own operands
+
+-- the piece of its own operands
+pub record OwnAt (p : Parts) (t : Ticket) (x : Request) (w : Piece) (bytes : List ℕ) : Type 0 where
+  pub own : Piece
+  pub names : NamesSame own w
+  pub t_is : t ≡ own.ticket
+  pub out : OutAt p t x own
+  pub is : bytes ≡ result_of own
+
+pub own_at : (p v : Parts) → p ≡ v → (w : Piece) (t : Ticket) → t ≡ w.ticket → (x : Request) (bytes : List ℕ) → HasOwnResult v w bytes → record_in p.arena t.slot ≡ Some x → OwnAt p t x w bytes
+own_at p v e w t t_is x bytes has here = record {
+  own = h.result.own;
+  names = h.result.names;
+  t_is = t_is ∙ sym h.result.names.ticket_is;
+  out = record {
+    live = subst (λ (z : Ticket). names p.arena z ≡ true) (sym t_is) h.live;
+    here = here;
+    runs = subst (λ (z : Ticket). home p.arena z.slot ≡ 3) (sym t_is) h.runs;
+    stands = subst (λ (r : Request). StandsAt (shown r) h.result.own) (same_Some h.request x (sym h.here ∙ subst (λ (z : Ticket). record_in p.arena z.slot ≡ Some x) t_is here)) h.result.stands;
+  };
+  is = h.result.is;
+}
+  where
+    h : HasOwnResult p w bytes
+    h = subst (λ (z : Parts). HasOwnResult z w bytes) (sym e) has
+
 -- ---- the commit
+
+abbrev left_in : Action → Region → Region
+left_in (Combine op ty left right into) other = left
+left_in (Send to from) other = other
+left_in (Copy from into) other = other
+left_in (Recv of into) other = other
+
+abbrev right_in : Action → Region → Region
+right_in (Combine op ty left right into) other = right
+right_in (Send to from) other = other
+right_in (Copy from into) other = other
+right_in (Recv of into) other = other
 
 abbrev region_into : Action → Region → Region
 region_into (Combine op ty left right into) other = into
@@ -160,3 +199,55 @@ module _ (ranks starts trace : ℕ) (a b : Slots Request) (q : Postings) (m : In
 pub commit_steps : (p r : Parts) (d : Made) (finished : Bool) (s : Stepped) → s ≡ stepped_by finished → Commits p r d finished → CommitSteps p r d s
 commit_steps p r d true s e c = subst (λ (z : Stepped). CommitSteps p r d z) (sym e) c
 commit_steps p r d false s e c = subst (λ (z : Stepped). CommitSteps p r d z) (sym e) c
+
+pub commits_own : (p v r : Parts) → p ≡ v → (x : Request) (w : Piece) (t : Ticket) (bytes : List ℕ) (finished : Bool) (s : Stepped) → s ≡ stepped_by finished
+    → (o : OwnAt p t x w bytes) → Commits p r (record { piece = o.own; bytes = bytes }) finished → CommitsOwn v r w s
+commits_own p v r e x w t bytes finished s s_is o c = subst (λ (z : Parts). CommitsOwn z r w s) e (record {
+  own = o.own;
+  names = o.names;
+  out = record {
+    request = x;
+    live = subst (λ (z : Ticket). names p.arena z ≡ true) o.t_is o.out.live;
+    here = subst (λ (z : Ticket). record_in p.arena z.slot ≡ Some x) o.t_is o.out.here;
+    runs = subst (λ (z : Ticket). home p.arena z.slot ≡ 3) o.t_is o.out.runs;
+    stands = o.out.stands;
+  };
+  steps = subst (λ (b : List ℕ). CommitSteps p r (record { piece = o.own; bytes = b }) s) o.is (commit_steps p r (record { piece = o.own; bytes = bytes }) finished s s_is c);
+})
+
+-- a piece that is out is that of its own operands
+module _ (p v : Parts) (e : p ≡ v) (x : Request) (w : Piece) (t : Ticket) (t_is : t ≡ w.ticket) (bytes : List ℕ) (o : OwnAt p t x w bytes) (out : IsOut v w) where
+  at : OutAt p t x w
+  at = out_at p v e w w refl t t_is x out o.out.here
+
+  same_next : Some (Combine o.own.op o.own.ty o.out.stands.left o.out.stands.right o.out.stands.into) ≡ Some (Combine w.op w.ty at.stands.left at.stands.right at.stands.into)
+  same_next = sym o.out.stands.next_is ∙ at.stands.next_is
+
+  same_left : o.own.left ≡ w.left
+  same_left = sym o.out.stands.left_is ∙ (ap (λ (a : Action). read_of x.buffer (left_in a o.out.stands.left)) (same_Some _ _ same_next) ∙ at.stands.left_is)
+
+  same_right : o.own.right ≡ w.right
+  same_right = sym o.out.stands.right_is ∙ (ap (λ (a : Action). read_of x.buffer (right_in a o.out.stands.right)) (same_Some _ _ same_next) ∙ at.stands.right_is)
+
+  pub same_piece : o.own ≡ w
+  same_piece = λ k. record {
+    ticket = o.names.ticket_is k;
+    round = o.names.round_is k;
+    index = o.names.index_is k;
+    op = o.names.op_is k;
+    ty = o.names.ty_is k;
+    left = same_left k;
+    right = same_right k;
+  }
+
+pub steps_exactly : (p v r : Parts) (e : p ≡ v) (x : Request) (w : Piece) (t : Ticket) (t_is : t ≡ w.ticket) (bytes : List ℕ) (finished : Bool) (s : Stepped) → s ≡ stepped_by finished
+    → (o : OwnAt p t x w bytes) → Commits p r (record { piece = o.own; bytes = bytes }) finished → (d : Made) → d.piece ≡ w → d.bytes ≡ result_of d.piece → IsOut v w → CommitSteps v r d s
+steps_exactly p v r e x w t t_is bytes finished s s_is o c d is made out =
+    subst (λ (z : Made). CommitSteps v r z s) same
+    (commit_steps v r (record { piece = o.own; bytes = bytes }) finished s s_is (subst (λ (z : Parts). Commits z r (record { piece = o.own; bytes = bytes }) finished) e c))
+  where
+    own_is : o.own ≡ d.piece
+    own_is = same_piece p v e x w t t_is bytes o out ∙ sym is
+
+    same : record { piece = o.own; bytes = bytes } ≡ d
+    same = λ k. record { piece = own_is k; bytes = (o.is ∙ (ap result_of own_is ∙ sym made)) k }

@@ -1,5 +1,5 @@
 -- When a request stands before a piece.
-use Rattle.std.proofs.Common.{◌≡◌, ◌∙◌, ℕ, Bool, true, List, Some, ap, sym, subst}
+use Rattle.std.proofs.Common.{◌≡◌, ◌∙◌, ℕ, Bool, true, List, Some, None, ap, refl, sym, subst}
 use Rattle.std.specs.Bool.{Decides}
 use Rattle.std.proofs.lemmas.Option.{same_Some}
 use Rattle.coll_kinds.specs.declared.datatype.Datatype.{Datatype}
@@ -10,7 +10,8 @@ use Rattle.coll_sched.specs.declared.region.Region.{Region}
 use Rattle.coll_sched.specs.Common.{read_of, Inside, Fits}
 use Rattle.coll_tables.specs.Requests.{Live}
 use Rattle.coll_core.specs.Requests.{next_of}
-use Rattle.coll_core.specs.Works.{Made, Piece, StandsAt, result_of}
+use Rattle.coll_core.specs.Works.{IsOwnResult, Made, Piece, StandsAt, result_of}
+use Rattle.coll_ops.specs.Combinations.{combined}
 use Rattle.coll_ops.proofs.RowLists.{length-combined}
 use Rattle.std.specs.Prelude.{IfSome, Option, length, ◌%◌}
 use Rattle.coll_kinds.specs.Elements.{width}
@@ -46,6 +47,42 @@ stands_by q w op ty left right into b next round index op_is ty_is left_is l r l
   where
     same : (stands : StandsAt q w) → right ≡ stands.right
     same stands = ap (λ (a : Action). right_in a right) (same_Some _ _ (sym next ∙ stands.next_is))
+
+-- ---- the result of its own operands
+
+-- a piece's result, where the request stands at the piece
+pub own_of_piece : (q : Live) (w : Piece) (bytes : List ℕ) → StandsAt q w → bytes ≡ result_of w → IsOwnResult q w bytes
+own_of_piece q w bytes stands is = record {
+  own = w;
+  names = record { ticket_is = refl; round_is = refl; index_is = refl; op_is = refl; ty_is = refl };
+  stands = stands;
+  is = is;
+}
+
+-- the combination of regions of its buffer that was found, where its next action is that
+pub own_of_regions : (q : Live) (w : Piece) (op of_op : Op) (ty of_ty : Datatype) (left of_left right of_right into : Region) (cell : List ℕ)
+    → next_of q ≡ Some (Combine op ty left right into)
+    → q.round ≡ w.round → q.index ≡ w.index
+    → (op ≡ w.op) × (ty ≡ w.ty)
+    → (of_op ≡ op) × (of_ty ≡ ty) × (of_left ≡ left) × (of_right ≡ right)
+    → cell ≡ combined of_op of_ty (read_of q.buf of_left) (read_of q.buf of_right)
+    → (found : Option (List ℕ)) → IfSome found (λ bytes. bytes ≡ cell) → IfSome found (IsOwnResult q w)
+own_of_regions q w op of_op ty of_ty left of_left right of_right into cell next round index alike same cell_is None h = tt
+own_of_regions q w op of_op ty of_ty left of_left right of_right into cell next round index alike same cell_is (Some bytes) bytes_is = record {
+  own = record w { left = read_of q.buf left; right = read_of q.buf right };
+  names = record { ticket_is = refl; round_is = refl; index_is = refl; op_is = refl; ty_is = refl };
+  stands = record {
+    left = left;
+    right = right;
+    into = into;
+    next_is = next ∙ (λ k. Some (Combine (alike.0 k) (alike.1 k) left right into));
+    round_is = round;
+    index_is = index;
+    left_is = refl;
+    right_is = refl;
+  };
+  is = bytes_is ∙ (cell_is ∙ (λ k. combined ((same.0 ∙ alike.0) k) ((same.1 ∙ alike.1) k) (read_of q.buf (same.2 k)) (read_of q.buf (same.3 k))));
+}
 
 -- ---- the length of a result
 

@@ -2,7 +2,7 @@
 use Rattle.std.specs.Prelude.{◌≡◌, ◌<◌, ◌≤◌, ℕ, List, length, [], Option, Some, None, Box, Vec, vec_capacity, vec_len}
 use Rattle.std.specs.Global.{Global}
 use Rattle.coll_bytes.specs.declared.bytes.TheConstants.{FEW}
-use Rattle.coll_core.specs.declared.buffer.Long.{Long}
+use Rattle.coll_core.specs.declared.long.Long.{Long}
 
 -- those that lie together, or else those of the segments
 abbrev pub bytes_of : Option (Box Long Global) → List ℕ → List ℕ

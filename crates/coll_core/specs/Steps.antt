@@ -22,7 +22,7 @@ use Rattle.coll_core.specs.declared.stepped.Stepped.TheVariants.{Quiet, Moved, F
 use Rattle.coll_core.specs.Cores.{Parts, seen, setting, tables}
 use Rattle.coll_tables.specs.Requests.{advanced, key}
 use Rattle.coll_core.specs.Requests.{next_of, schedule, shown}
-use Rattle.coll_core.specs.Works.{IsShort, Made, Piece, StandsAt}
+use Rattle.coll_core.specs.Works.{IsOwnResult, IsShort, Made, NamesSame, Piece, StandsAt, result_of}
 
 -- the actions that all requests have still to do
 abbrev pub left : Parts → ℕ
@@ -195,6 +195,21 @@ CommitSteps p r d Quiet = ⊥
 CommitSteps p r d Moved = Commits p r d false
 CommitSteps p r d Finished = Commits p r d true
 CommitSteps p r d (Out w) = ⊥
+
+-- the request that the piece names runs, and these bytes combine its own operands at the action that the piece names
+pub record HasOwnResult (p : Parts) (w : Piece) (bytes : List ℕ) : Type 0 where
+  pub request : Request
+  pub live : names p.arena w.ticket ≡ true
+  pub here : record_in p.arena w.ticket.slot ≡ Some request
+  pub runs : home p.arena w.ticket.slot ≡ number_of Running
+  pub result : IsOwnResult (shown request) w bytes
+
+-- the combination that is out for the action that the piece names is done, with the combination of its request's own operands
+pub record CommitsOwn (p r : Parts) (w : Piece) (stepped : Stepped) : Type 0 where
+  pub own : Piece
+  pub names : NamesSame own w
+  pub out : IsOut p own
+  pub steps : CommitSteps p r (record { piece = own; bytes = result_of own }) stepped
 
 -- some requests became Done, one after the other
 pub data Finishings (g : Setting) (m : Machine) : Machine → Type 0 where

@@ -65,6 +65,21 @@ pub record Combines (q : Live) (len : ℕ) : Type 0 where
   pub next_is : next_of q ≡ Some (Combine op ty left right into)
   pub long : len ≡ into.len
 
+-- the two are the same action of one ticket's request, with the same operation and type
+pub record NamesSame (v w : Piece) : Type 0 where
+  pub ticket_is : v.ticket ≡ w.ticket
+  pub round_is : v.round ≡ w.round
+  pub index_is : v.index ≡ w.index
+  pub op_is : v.op ≡ w.op
+  pub ty_is : v.ty ≡ w.ty
+
+-- the request's next action is one that the piece names, and these bytes combine the request's own operands
+pub record IsOwnResult (q : Live) (w : Piece) (bytes : List ℕ) : Type 0 where
+  pub own : Piece
+  pub names : NamesSame own w
+  pub stands : StandsAt q own
+  pub is : bytes ≡ result_of own
+
 -- the bytes are written into that region
 pub record Combined (q r : Live) (bytes : List ℕ) : Type 0 where
   pub op : Op

@@ -1,4 +1,4 @@
-ghost use Rattle.std.specs.Prelude.{◌≡◌, ◌≤◌, ◌↔◌, ◌%◌, [], length, IfOk, IsOkUnless, IsTrue, OnErr, OnOk};
+ghost use Rattle.std.specs.Prelude.{◌≡◌, ◌≤◌, ◌↔◌, ◌%◌, [], length, IfOk, IfSome, IsOkUnless, IsTrue, OnErr, OnOk};
 ghost use Rattle.coll_core.specs.Buffers.{HasRoom};
 ghost use Rattle.coll_kinds.specs.Checks.{allowed};
 ghost use Rattle.coll_kinds.specs.Elements.{width};
@@ -9,7 +9,9 @@ ghost use Rattle.coll_sched.specs.Regions.{Inside, read_of, written};
 
 use crate::combined::{combined, combined_few};
 use crate::contribution::Contribution;
+use crate::long::{Awaited, Long};
 use crate::word::{WORD, Word};
+use crate::work::Work;
 use coll_bytes::{Bytes, FEW, Segments, Shell};
 use coll_kinds::{Datatype, Op, Refusal};
 use coll_ops::are_same;
@@ -19,14 +21,6 @@ use std::marker::Model;
 
 /// Buffers of up to this many bytes lie in one piece from the beginning: sharing them costs more than copying them.
 pub(crate) const SHORT: u32 = 1_024;
-
-/// What a long buffer has until its bytes lie together.
-#[derive(Debug, Drop)]
-struct Long {
-    segments: Segments,
-    /// In which an outcome that is put together counts its owners.
-    shell: Shell,
-}
 
 /// A schedule's buffer. What was written to a long one lies in segments, which messages, operands, contributions and outcomes share with
 /// it, as long as there is room for one more of them. Then the bytes are put together, and from then on a write copies. So no write takes
@@ -155,7 +149,7 @@ impl Buffer {
         let own = Vec::with_capacity(alloc, size as usize)?;
         let spare = spare(alloc, size as usize)?;
         let shell = Shell::new(alloc);
-        let long = match Box::new(alloc, Long { segments, shell }) {
+        let long = match Box::new(alloc, Long::new(segments, shell)) {
             Ok(long) => long,
             Err(_) => return Err(Refusal::NoMemory),
         };
@@ -175,7 +169,7 @@ impl Buffer {
     {
         if let Some(long) = &mut self.long {
             if long.segments.has_room() {
-                long.segments.put(into, bytes);
+                long.put(into, bytes);
                 return;
             }
             long.segments.copy_to(&mut self.own);
@@ -196,7 +190,7 @@ impl Buffer {
         ensures refusal { IsOkUnless result Refusal.NoMemory }
     {
         match &mut self.long {
-            Some(long) => Ok(long.segments.part(alloc, from)?),
+            Some(long) => Ok(long.part(alloc, from)?),
             None => Ok(Bytes::copy(alloc, from.read(&self.own))?),
         }
     }
@@ -211,12 +205,52 @@ impl Buffer {
     {
         match &mut self.long {
             Some(long) => {
-                let Ok(part) = long.segments.part(alloc, from) else {
+                let Ok(part) = long.part(alloc, from) else {
                     unreachable!()
                 };
                 Word::of(part.as_slice())
             }
             None => Word::of(from.read(&self.own)),
+        }
+    }
+
+    /// Awaits the result of a combination of two regions that is handed out, where there is memory for that and the bytes don't lie together.
+    pub(crate) fn await_result(
+        &mut self,
+        alloc: Global,
+        work: &mut Work,
+        left: Region,
+        right: Region,
+    )
+        requires left { work.old.left ≡ read_of self.old left }
+        requires right { work.old.right ≡ read_of self.old right }
+        ensures same { self.new ≡ self.old }
+        ensures work { work.new ≡ work.old }
+    {
+        let Some(long) = &mut self.long else {
+            return;
+        };
+        let awaited = match work.make_cell(alloc) {
+            Some(cell) => Some(Awaited {
+                op: work.op(),
+                ty: work.ty(),
+                left,
+                right,
+                cell,
+            }),
+            None => None,
+        };
+        long.set_awaited(awaited);
+    }
+
+    /// The combination of its bytes whose result is awaited.
+    #[inline(always)]
+    pub(crate) fn awaited(&self) -> Option<&Awaited>
+        ensures { IfSome result (λ a. a.now.cell ≡ combination_of a.now.op a.now.ty (read_of self.now a.now.left) (read_of self.now a.now.right)) }
+    {
+        match &self.long {
+            Some(long) => long.awaited(),
+            None => None,
         }
     }
 
@@ -302,7 +336,11 @@ impl Buffer {
         match long {
             None => (Bytes::from_vec(cut(own, region)), spare),
             Some(long) => {
-                let Long { segments, shell } = Box::into_inner(long);
+                let Long {
+                    segments,
+                    shell,
+                    ..
+                } = Box::into_inner(long);
                 (segments.into_part(region, own, shell), spare)
             }
         }

@@ -10,9 +10,12 @@
 //! | `about` | `About`, what a ticket names |
 //! | `outcome` | `Outcome`, what a completion hands out |
 //! | `buffer` | `Buffer`, the bytes that a schedule's actions read and write |
+//! | `long` | `Long`, a long buffer's bytes, and the combination of them whose result is awaited |
 //! | `request` | `Request`, what the engine keeps of a live request |
 //! | `sent` | `Sent`, the way of a message |
 //! | `shared_result` | results of long combinations that several members need |
+//! | `result_cell` | `ResultCell`, where the result of a combination that was handed out is put and found |
+//! | `expected` | what may lie there |
 //! | `combined` | the combination of two operands, as `Bytes` |
 //! | `work` | `Work` and `DoneWork`, a combination that is computed outside the engine |
 //! | `short_work` | `ShortWork` and `DoneShortWork`, the same of a few bytes, by value |
@@ -37,11 +40,14 @@ mod communicators;
 mod config;
 mod contribution;
 mod engine;
+mod expected;
 pub mod laws;
+mod long;
 mod offer;
 mod outcome;
 mod phase;
 mod request;
+mod result_cell;
 mod sent;
 mod shared_result;
 mod short_work;

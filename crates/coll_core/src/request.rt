@@ -1,4 +1,4 @@
-ghost use Rattle.std.specs.Prelude.{◌≡◌, ◌≢◌, ◌≤◌, ◌<◌, ◌+◌, ◌^◌, suc, length, take, drop, None, Some, IsTrue, ◌↔◌, IsSome, IfSome, IfOk, IsOkUnless, IfErr, []};
+ghost use Rattle.std.specs.Prelude.{◌≡◌, ◌≢◌, ◌≤◌, ◌<◌, ◌+◌, ◌^◌, suc, length, take, drop, None, Some, IsTrue, ◌↔◌, IsSome, IfSome, IfOk, IsOkUnless, IfErr, [], is_some};
 ghost use Rattle.coll_arena.specs.ListNames.{number_of};
 ghost use Rattle.coll_match.specs.Instances.{mail};
 ghost use Rattle.coll_sched.specs.Actions.{Fits, IsCombine};
@@ -9,7 +9,7 @@ ghost use Rattle.coll_tables.specs.Sound.{Stands};
 ghost use Rattle.coll_core.specs.Buffers.{HasRoom};
 ghost use Rattle.coll_core.specs.Requests.{PassesEnds, CanReceive, IsListOf, next_of, schedule, shown};
 ghost use Rattle.coll_core.specs.Advancing.{IsSent};
-ghost use Rattle.coll_core.specs.Works.{Combined, IsShort, StandsAt, result_of};
+ghost use Rattle.coll_core.specs.Works.{Combined, IsOwnResult, IsShort, Piece, StandsAt, result_of};
 
 use crate::buffer::Buffer;
 use crate::sent::Sent;
@@ -162,9 +162,13 @@ impl Request {
         } else {
             None
         };
-        Ok(Work::new(
+        let mut work = Work::new(
             alloc, ticket, self.round, self.index, op, ty, first, second, shared,
-        ))
+        );
+        if left.len >= LONG {
+            self.buffer.await_result(alloc, &mut work, left, right);
+        }
+        Ok(work)
     }
 
     /// The combination that comes next, with its operands of up to eight bytes. It takes no memory.
@@ -247,16 +251,59 @@ impl Request {
         self.buffer.has(left, work.left()) && self.buffer.has(right, work.right())
     }
 
+    /// The result of the combination that comes next, if the work is of it: that of its own operands, where whoever computed it has put it
+    /// there, or else the work's, whose operands have the same bytes then.
+    pub(crate) fn result_by(&self, done: DoneWork) -> Option<Bytes>
+        requires { length self.now.buffer ≡ (schedule (shown self.now)).size }
+        ensures own { IfSome result (IsOwnResult (shown self.now) done.piece) }
+        ensures stands { StandsAt (shown self.now) done.piece → IsTrue (is_some result) }
+    {
+        if let Some(bytes) = self.own_result(done.work()) {
+            return Some(bytes);
+        }
+        if self.stands_at(done.work()) {
+            return Some(done.into_result());
+        }
+        None
+    }
+
+    /// The result that was put there for the combination that comes next, if the work names it.
+    #[inline(always)]
+    fn own_result(&self, work: &Work) -> Option<Bytes>
+        ensures { IfSome result (IsOwnResult (shown self.now) work.now) }
+    {
+        let awaited = self.buffer.awaited()?;
+        let Some(
+            Action::Combine {
+                op,
+                ty,
+                left,
+                right,
+                ..
+            },
+        ) = self.next()
+        else {
+            return None;
+        };
+        if work.round() != self.round || work.index() != self.index {
+            return None;
+        }
+        if !are_alike(op, ty, work) || !awaited.is_of(op, ty, left, right) {
+            return None;
+        }
+        awaited.cell.result()
+    }
+
     /// Writes the result of the combination that comes next.
-    pub(crate) fn write(&mut self, done: DoneWork)
-        requires stands { StandsAt (shown self.old) done.piece }
+    pub(crate) fn write(&mut self, bytes: Bytes)
+        requires own { (work : Piece) × IsOwnResult (shown self.old) work bytes }
         requires sized { length self.old.buffer ≡ (schedule (shown self.old)).size }
-        ensures { Combined (shown self.old) (shown self.new) done.bytes }
+        ensures { Combined (shown self.old) (shown self.new) bytes }
     {
         let Some(Action::Combine { into, .. }) = self.next() else {
             unreachable!()
         };
-        self.buffer.write(into, done.into_result());
+        self.buffer.write(into, bytes);
     }
 
     /// Writes the result of the combination that comes next.

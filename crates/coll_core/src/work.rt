@@ -1,8 +1,10 @@
-ghost use Rattle.std.specs.Prelude.{◌≡◌, IfOk, IfErr};
+ghost use Rattle.std.specs.Prelude.{◌≡◌, IfOk, IfErr, IfSome};
 ghost use Rattle.coll_core.specs.Works.{IsPiece, result_of};
 
 use crate::combined::combined;
+use crate::result_cell::ResultCell;
 use crate::shared_result::SharedResult;
+use boxcar::tag::{Names, Tag};
 use coll_bytes::Bytes;
 use coll_kinds::{Datatype, Op, Refusal, Refused, Ticket};
 use std::alloc::Global;
@@ -22,16 +24,27 @@ pub struct Work {
     right: Bytes,
     /// Where other members that combine the same look for the result.
     shared: Option<SharedResult>,
+    /// Where the engine finds the result.
+    cell: Option<ResultCell>,
 }
 
 impl Model for Work {
-    ghost use Rattle.coll_core.specs.Works.{Piece, IsPiece};
+    ghost use Rattle.std.specs.Prelude.{◌≡◌, IfSome};
+    ghost use Rattle.coll_core.specs.Works.{Piece, IsPiece, result_of};
 
     ghost Value = { Piece };
 
     ghost view = { λ w. record { ticket = w.ticket; round = w.round; index = w.index; op = w.op; ty = w.ty; left = w.left; right = w.right } };
 
-    ghost invariant = { λ w. IsPiece (record { ticket = w.ticket; round = w.round; index = w.index; op = w.op; ty = w.ty; left = w.left; right = w.right }) };
+    ghost invariant = { λ w. let piece : Piece = record { ticket = w.ticket; round = w.round; index = w.index; op = w.op; ty = w.ty; left = w.left; right = w.right } in
+        IsPiece piece × IfSome w.cell (λ cell. cell ≡ result_of piece) };
+}
+
+/// How the result of a work is read off it.
+struct ItsResult;
+
+impl Names<Work> for ItsResult {
+    ghost numbers = { result_of };
 }
 
 /// A combination with its result.
@@ -78,6 +91,7 @@ impl Work {
             left,
             right,
             shared,
+            cell: None,
         }
     }
 
@@ -128,6 +142,26 @@ impl Work {
         self.right.as_slice()
     }
 
+    /// Makes a place for the result, which the work and the engine know. None where memory is refused.
+    pub(crate) fn make_cell(&mut self, alloc: Global) -> Option<ResultCell>
+        ensures same { self.new ≡ self.old }
+        ensures cell { IfSome result (λ cell. cell ≡ result_of self.old) }
+    {
+        let (own, other) = ResultCell::pair(alloc, &Tag::of::<Work, ItsResult>(self))?;
+        self.cell = Some(other);
+        Some(own)
+    }
+
+    /// Puts the result where the engine finds it.
+    #[inline(always)]
+    fn put(&self, bytes: &Bytes)
+        requires { bytes.now ≡ result_of self.now }
+    {
+        if let Some(cell) = &self.cell {
+            cell.fill(bytes);
+        }
+    }
+
     /// Computes the combination. Only NoMemory is refused, and hands the work back; a few bytes take none.
     #[inline(always)]
     pub fn run(self) -> Result<DoneWork, Refused<Work>>
@@ -135,7 +169,10 @@ impl Work {
         ensures refused { IfErr result (λ refused. refused ≡ record { why = Refusal.NoMemory; back = self }) }
     {
         match self.found_or_combined() {
-            Ok(result) => Ok(DoneWork { work: self, result }),
+            Ok(result) => {
+                self.put(&result);
+                Ok(DoneWork { work: self, result })
+            }
             Err(_) => Err(Refused {
                 why: Refusal::NoMemory,
                 back: self,

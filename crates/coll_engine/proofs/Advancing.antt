@@ -5,8 +5,8 @@ use Rattle.coll_machine.specs.Common.{Setting, Machine}
 use Rattle.coll_core.specs.declared.stepped.Stepped.{Stepped}
 use Rattle.coll_core.specs.declared.stepped.Stepped.TheVariants.{Quiet, Moved, Finished, Out}
 use Rattle.coll_core.specs.Cores.{Parts, seen, setting}
-use Rattle.coll_core.specs.Steps.{Acts, CommitSteps, Finishings, none, more, Goes, Steps, StepsBy, Stays, left}
-use Rattle.coll_core.specs.Works.{Made}
+use Rattle.coll_core.specs.Steps.{Acts, CommitSteps, CommitsOwn, Finishings, none, more, Goes, Steps, StepsBy, Stays, left}
+use Rattle.coll_core.specs.Works.{Made, Piece, result_of}
 use Rattle.coll_engine.specs.Progress.{Advances}
 
 pub advances_none : (p : Parts) → Advances p p 0
@@ -58,6 +58,9 @@ advances_commit p r d Quiet h = absurd h
 advances_commit p r d Moved h = advances_one p r false h.goes
 advances_commit p r d Finished h = advances_one p r true h.goes
 advances_commit p r d (Out w) h = absurd h
+
+pub advances_own : (p r : Parts) (w : Piece) (stepped : Stepped) → CommitsOwn p r w stepped → Advances p r 1
+advances_own p r w stepped h = advances_commit p r (record { piece = h.own; bytes = result_of h.own }) stepped h.steps
 
 -- what a step did, from the engine's view on
 pub quiet : (p v r : Parts) → p ≡ v → (s : Stepped) → s ≡ Quiet → Steps p r s → Advances v r 0

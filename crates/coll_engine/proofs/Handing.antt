@@ -5,14 +5,14 @@ use Rattle.coll_kinds.specs.declared.refusal.Refusal.{Refusal}
 use Rattle.coll_core.specs.declared.stepped.Stepped.{Stepped}
 use Rattle.coll_core.specs.declared.stepped.Stepped.TheVariants.{Quiet, Moved, Finished, Out}
 use Rattle.coll_core.specs.Cores.{Parts}
-use Rattle.coll_core.specs.Steps.{CommitSteps, Returns, Steps}
-use Rattle.coll_core.specs.Works.{Made, Piece}
+use Rattle.coll_core.specs.Steps.{CommitsOwn, Returns, Steps}
+use Rattle.coll_core.specs.Works.{Piece}
 use Rattle.coll_engine.specs.declared.combination.Stage.{Stage}
 use Rattle.coll_engine.specs.declared.combination.Stage.TheVariants.{Due}
 use Rattle.coll_engine.specs.Combinations.{is_computed}
 use Rattle.coll_engine.specs.Engines.{IsEngine}
 use Rattle.coll_engine.specs.Progress.{Advances}
-use Rattle.coll_engine.proofs.Advancing.{advances_commit, advances_one, advances_stay}
+use Rattle.coll_engine.proofs.Advancing.{advances_one, advances_own, advances_stay}
 use Rattle.coll_engine.proofs.Keeping.{kept_advanced, kept_same}
 
 kept_stepped : (p r : Parts) (comms : List (List ℕ)) (xs : List ℕ) (s : Stepped) → IsEngine p comms xs → Steps p r s → IsEngine r comms xs
@@ -27,9 +27,9 @@ kept_step p r comms xs (Ok s) e steps err = kept_stepped p r comms xs s e steps
 kept_step p r comms xs (Err why) e steps err = subst (λ (k : Parts). IsEngine k comms xs) (sym err) e
 
 -- and where a combination comes back
-pub kept_committed : (p r : Parts) (comms : List (List ℕ)) (xs : List ℕ) (d : Made) (result : Result Stepped Refusal) → IsEngine p comms xs → IfOk result (CommitSteps p r d) → OnErr result (r ≡ p) → IsEngine r comms xs
-kept_committed p r comms xs d (Ok s) e steps err = kept_advanced p r comms xs 1 e (advances_commit p r d s steps)
-kept_committed p r comms xs d (Err why) e steps err = subst (λ (k : Parts). IsEngine k comms xs) (sym err) e
+pub kept_committed : (p r : Parts) (comms : List (List ℕ)) (xs : List ℕ) (w : Piece) (result : Result Stepped Refusal) → IsEngine p comms xs → IfOk result (CommitsOwn p r w) → OnErr result (r ≡ p) → IsEngine r comms xs
+kept_committed p r comms xs w (Ok s) e own err = kept_advanced p r comms xs 1 e (advances_own p r w s own)
+kept_committed p r comms xs w (Err why) e own err = subst (λ (k : Parts). IsEngine k comms xs) (sym err) e
 
 pub advances_returned : (p v r : Parts) → p ≡ v → (w : Piece) (result : Result (Unit {0}) Refusal) → OnOk result (Returns p r w) → (c : Option Stage) → c ≡ Some (Due w) → OnOk result (Advances v r (if is_computed c then 1 else 0))
 advances_returned p v r same w (Ok u) back c is =

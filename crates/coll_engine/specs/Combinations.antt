@@ -1,7 +1,7 @@
 -- Combinations outside an engine, by their stage.
 use Rattle.std.specs.Prelude.{Bool, true, false, Option, Some, None}
 use Rattle.coll_core.specs.Cores.{Parts}
-use Rattle.coll_core.specs.Steps.{CommitSteps, IsOut, Returns}
+use Rattle.coll_core.specs.Steps.{CommitsOwn, IsOut, Returns}
 use Rattle.coll_core.specs.Works.{Piece}
 use Rattle.coll_core.specs.declared.stepped.Stepped.{Stepped}
 use Rattle.coll_engine.specs.declared.combination.Stage.{Stage}
@@ -34,8 +34,8 @@ IsHandedOut p None = ⊥
 IsHandedOut p (Some (Due work)) = IsOut p work
 IsHandedOut p (Some (Computed done)) = ⊥
 
--- it comes back: undone, and its request is the first that is ready; or with its result, and its request goes on
+-- it comes back: undone, and its request is the first that is ready; or computed, and its request goes on with the result of its own operands
 abbrev pub TakesBack : Parts → Parts → Option Stage → Type 0
 TakesBack p r None = ⊥
 TakesBack p r (Some (Due work)) = Returns p r work
-TakesBack p r (Some (Computed done)) = (stepped : Stepped) × CommitSteps p r done stepped
+TakesBack p r (Some (Computed done)) = (stepped : Stepped) × CommitsOwn p r done.piece stepped

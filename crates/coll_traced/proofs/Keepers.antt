@@ -22,8 +22,8 @@ use Rattle.coll_core.specs.declared.config.Config.{Config}
 use Rattle.coll_core.specs.declared.outcome.Outcome.{Outcome}
 use Rattle.coll_core.specs.declared.stepped.Stepped.{Stepped}
 use Rattle.coll_core.specs.declared.stepped.Stepped.TheVariants.{Quiet, Moved, Finished, Out}
-use Rattle.coll_core.specs.Steps.{Steps, CommitSteps, HandsOut, Returns}
-use Rattle.coll_core.specs.Works.{Made, Piece}
+use Rattle.coll_core.specs.Steps.{Steps, CommitSteps, CommitsOwn, HandsOut, Returns}
+use Rattle.coll_core.specs.Works.{Made, Piece, result_of}
 use Rattle.coll_core.specs.declared.about.About.{About}
 use Rattle.coll_core.specs.Phases.{about_in, about_of}
 use Rattle.coll_core.specs.Cores.{Parts, seen, setting}
@@ -263,6 +263,10 @@ step_ended {g} config p r es n (Err why) k ok err = subst (λ q. IsKept g config
 pub commit_ended : {g : Setting} (config : Config) (p r : Parts) (es : List Entry) (n : ℕ) (d : Made) (o : Result Stepped Refusal) → IsKept g config p es n → IfOk o (CommitSteps p r d) → OnErr o (r ≡ p) → IsKept g config r es n
 commit_ended {g} config p r es n d (Ok stepped) k ok err = commit_kept config p r es n d stepped k ok
 commit_ended {g} config p r es n d (Err why) k ok err = subst (λ q. IsKept g config q es n) (sym err) k
+
+pub commit_own_ended : {g : Setting} (config : Config) (p r : Parts) (es : List Entry) (n : ℕ) (w : Piece) (o : Result Stepped Refusal) → IsKept g config p es n → IfOk o (CommitsOwn p r w) → OnErr o (r ≡ p) → IsKept g config r es n
+commit_own_ended {g} config p r es n w (Ok stepped) k ok err = commit_kept config p r es n (record { piece = ok.own; bytes = result_of ok.own }) stepped k ok.steps
+commit_own_ended {g} config p r es n w (Err why) k ok err = subst (λ q. IsKept g config q es n) (sym err) k
 
 pub abandon_ended : {g : Setting} (config : Config) (p r : Parts) (es : List Entry) (n : ℕ) (w : Piece) (o : Result (Unit {0}) Refusal) → IsKept g config p es n → OnOk o (Returns p r w) → OnErr o (r ≡ p) → IsKept g config r es n
 abandon_ended {g} config p r es n w (Ok x) k ok err = kept_stays config p r es n k ok.stays.set (ap (λ (m : Machine). m.state) ok.stays.same)

@@ -1,10 +1,11 @@
 //! Combinations that were handed out.
 
-ghost use Rattle.std.specs.Prelude.{◌≡◌, ◌↔◌, IfErr, IfOk, IsTrue, OnErr, OnOk, is_ok};
+ghost use Rattle.std.specs.Prelude.{◌≡◌, ◌↔◌, IfErr, IfOk, IfSome, IsTrue, OnErr, OnOk, is_ok, is_some};
 ghost use Rattle.coll_lists.specs.Layouts.{sequence};
 ghost use Rattle.coll_arena.specs.declared.list_name.ListName.TheVariants.{Ready, Running};
 ghost use Rattle.coll_arena.specs.ListNames.{number_of};
-ghost use Rattle.coll_core.specs.Steps.{CommitSteps, IsOut, Returns};
+ghost use Rattle.coll_core.specs.Steps.{CommitSteps, CommitsOwn, HasOwnResult, IsOut, Returns};
+ghost use Rattle.coll_core.specs.Works.{result_of};
 
 use crate::engine::Core;
 use crate::engine::stepping::advance;
@@ -13,31 +14,50 @@ use crate::stepped::Stepped;
 use crate::work::{DoneWork, Work};
 use coll_arena::ListName;
 use coll_arena::laws::is_sound;
+use coll_bytes::Bytes;
 use coll_kinds::Refusal;
 
 impl Core {
-    /// Writes the result of a combination that was handed out, and its request goes on.
+    /// Writes the result of a combination that was handed out, and its request goes on. What is written is the combination of the request's
+    /// own operands: where the result of a long one was put into the core's own record, nothing is compared.
     ///
     /// # Errors
     ///
     /// Stale, with nothing changed, unless the work is out: its request runs, and stands at that action with these
-    /// operands.
+    /// operands. Work of another core that names the same action as work of this one that is out and computed is taken for that.
     pub fn commit(&mut self, done: DoneWork) -> Result<Stepped, Refusal>
-        ensures out { IsTrue (is_ok result) ↔ IsOut self.old done.piece }
-        ensures steps { IfOk result (CommitSteps self.old self.new done) }
+        ensures out { IsOut self.old done.piece → IsTrue (is_ok result) }
+        ensures own { IfOk result (CommitsOwn self.old self.new done.piece) }
+        ensures steps { IsOut self.old done.piece → IfOk result (CommitSteps self.old self.new done) }
         ensures err { OnErr result (self.new ≡ self.old) }
         ensures refused { IfErr result (λ why. why ≡ Refusal.Stale) }
     {
-        if !self.is_out(done.work()) {
-            return Err(Refusal::Stale);
-        }
-        is_sound(&self.arena);
         let ticket = done.work().ticket();
+        let Some(bytes) = self.result_by(done) else {
+            return Err(Refusal::Stale);
+        };
+        is_sound(&self.arena);
         let Ok(request) = self.arena.get_mut(ticket) else {
             unreachable!()
         };
-        request.write(done);
+        request.write(bytes);
         Ok(Stepped::by(advance(&mut self.arena, &self.matches, ticket)))
+    }
+
+    /// The result of the combination at which a work's request stands, if it runs and the work is of it.
+    fn result_by(&self, done: DoneWork) -> Option<Bytes>
+        ensures own { IfSome result (HasOwnResult self.now done.piece) }
+        ensures combined { done.bytes ≡ result_of done.piece }
+        ensures out { IsOut self.now done.piece → IsTrue (is_some result) }
+    {
+        let ticket = done.work().ticket();
+        let Ok(request) = self.arena.get(ticket) else {
+            return None;
+        };
+        if !self.arena.is_on(ticket, ListName::Running) {
+            return None;
+        }
+        request.result_by(done)
     }
 
     /// `commit` of a combination that was handed out by value.

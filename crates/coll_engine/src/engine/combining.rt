@@ -4,8 +4,8 @@ ghost use Rattle.std.specs.Prelude.{◌≡◌, ◌↔◌, [], IfErr, IfNone, IfO
 ghost use Rattle.coll_core.specs.declared.stepped.Stepped.{Stepped as How};
 ghost use Rattle.coll_core.specs.declared.stepped.Stepped.TheVariants.{Quiet};
 ghost use Rattle.coll_core.specs.Cores.{seen, setting};
-ghost use Rattle.coll_core.specs.Steps.{CommitSteps, Finishings, IsOut, Steps, ready};
-ghost use Rattle.coll_engine.specs.Combinations.{IsHandedOut, IsOutside, TakesBack, is_computed, piece_of};
+ghost use Rattle.coll_core.specs.Steps.{CommitsOwn, Finishings, IsOut, Steps, ready};
+ghost use Rattle.coll_engine.specs.Combinations.{IsHandedOut, IsOutside, TakesBack, is_computed, is_due, piece_of};
 ghost use Rattle.coll_engine.specs.Progress.{Advances};
 
 use crate::combination::{Combination, Stage};
@@ -52,10 +52,12 @@ impl Engine {
     ///
     /// # Errors
     ///
-    /// Stale, with nothing changed, unless it is one that this engine handed out and didn't take back. The combination is
-    /// gone.
+    /// Stale, with nothing changed, unless it is one that this engine handed out and didn't take back, or another engine's that was computed and
+    /// names the same action as one of this engine's that is out and computed: what is written then is the result of this engine's own operands.
+    /// The combination is gone.
     pub fn take_back(&mut self, combination: Combination) -> Result<(), Refusal>
-        ensures out { IsTrue (is_ok result) ↔ IsOutside self.old (piece_of combination) }
+        ensures out { IsOutside self.old (piece_of combination) → IsTrue (is_ok result) }
+        ensures due { IsTrue (is_due combination) → IsTrue (is_ok result) → IsOutside self.old (piece_of combination) }
         ensures back { OnOk result (TakesBack self.old self.new combination) }
         ensures advances { OnOk result (Advances self.old self.new (if is_computed combination then 1 else 0)) }
         ensures err { OnErr result (self.new ≡ self.old) }
@@ -70,8 +72,8 @@ impl Engine {
 
     /// Takes back one that was computed.
     fn commit(&mut self, done: DoneWork) -> Result<(), Refusal>
-        ensures out { IsTrue (is_ok result) ↔ IsOut self.old done.piece }
-        ensures commits { OnOk result ((stepped : How) × CommitSteps self.old self.new done stepped) }
+        ensures out { IsOut self.old done.piece → IsTrue (is_ok result) }
+        ensures commits { OnOk result ((stepped : How) × CommitsOwn self.old self.new done.piece stepped) }
         ensures advances { OnOk result (Advances self.old self.new 1) }
         ensures err { OnErr result (self.new ≡ self.old) }
         ensures refused { IfErr result (λ why. why ≡ Refusal.Stale) }

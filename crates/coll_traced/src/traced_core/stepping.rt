@@ -2,7 +2,7 @@
 
 ghost use Rattle.std.specs.Prelude.{◌≡◌, ◌<◌, ◌↔◌, [], length, IfErr, IfOk, IfSome, IsOkUnless, IsTrue, None, Ok, OnErr, OnOk, is_ok, is_some};
 ghost use Rattle.coll_core.specs.declared.stepped.Stepped.TheVariants.{Quiet};
-ghost use Rattle.coll_core.specs.Steps.{AwaitsWork, CombinesFirst, CombinesShort, CommitSteps, HandsOut, IsOut, IsWork, Returns, Steps, ready};
+ghost use Rattle.coll_core.specs.Steps.{AwaitsWork, CombinesFirst, CombinesShort, CommitSteps, CommitsOwn, HandsOut, IsOut, IsWork, Returns, Steps, ready};
 
 use crate::tally::Entries;
 use crate::traced_core::TracedCore;
@@ -82,10 +82,11 @@ impl<L: Entries> TracedCore<L> {
     ///
     /// # Errors
     ///
-    /// Stale, with nothing changed, unless the work is out.
+    /// Stale, with nothing changed, as there.
     pub fn commit(&mut self, done: DoneWork) -> Result<Stepped, Refusal>
-        ensures out { IsTrue (is_ok result) ↔ IsOut self.old.core done.piece }
-        ensures steps { IfOk result (CommitSteps self.old.core self.new.core done) }
+        ensures out { IsOut self.old.core done.piece → IsTrue (is_ok result) }
+        ensures own { IfOk result (CommitsOwn self.old.core self.new.core done.piece) }
+        ensures steps { IsOut self.old.core done.piece → IfOk result (CommitSteps self.old.core self.new.core done) }
         ensures entries { self.new.entries ≡ self.old.entries }
         ensures waits { (self.new.waits ≡ self.old.waits) × (self.new.stalled ≡ self.old.stalled) }
         ensures err { OnErr result (self.new ≡ self.old) }

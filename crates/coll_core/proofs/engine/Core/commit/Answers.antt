@@ -1,46 +1,48 @@
-use Rattle.std.proofs.Common.{◌≡◌, ◌∙◌, ap, refl, subst}
-use Rattle.coll_core.specs.Cores.{Parts}
-use Rattle.coll_core.specs.Steps.{Commits, IsOut}
-use Rattle.coll_core.specs.Works.{Made, Piece, result_of}
+use Rattle.std.proofs.Common.{◌∙◌, ap, refl}
+use Rattle.coll_core.specs.Works.{Piece}
 use Rattle.coll_core.proofs.Acting.{parts}
-use Rattle.coll_core.proofs.Committing.{commit_can_go, commit_steps, committed, out_at}
+use Rattle.coll_core.proofs.Committing.{commit_can_go, commits_own, committed, own_at, steps_exactly}
 use Rattle.coll_core.proofs.Reading.{running_acting}
 use Rattle.coll_core.proofs.engine.Core.commit.Goals as goal
 
 pub write-requires-clause-sized : goal.write-requires-clause-sized
 write-requires-clause-sized c =
     let x = c.in-Ok.request.now in
-    let t_is = c.ticket-ticket.ensures ∙ ap (λ (w : Piece). w.ticket) c.work-2.ensures in
-    let out = out_at _ c.args.self.now c.self.view_is c.args.done.piece c.work.result.now c.work.ensures c.ticket-ticket.result t_is x (c.is_out.ensures.0 c.if-not-is_out.false) c.in-Ok.ensures.found in
-    (running_acting _ c.self.invariant c.ticket-ticket.result.slot x c.in-Ok.ensures.found out.runs).filled
+    let t_is = c.ticket-ticket.ensures ∙ ap (λ (w : Piece). w.ticket) c.work.ensures in
+    let o = own_at _ c.args.self.now c.self.view_is c.args.done.piece c.ticket-ticket.result t_is x c.in-Some.bytes c.in-Some.ensures.own c.in-Ok.ensures.found in
+    (running_acting _ c.self.invariant c.ticket-ticket.result.slot x c.in-Ok.ensures.found o.out.runs).filled
 
 pub advance-requires : goal.advance-requires
 advance-requires c =
     let x = c.in-Ok.request.now in
-    let t_is = c.ticket-ticket.ensures ∙ ap (λ (w : Piece). w.ticket) c.work-2.ensures in
-    let out = out_at _ c.args.self.now c.self.view_is c.args.done.piece c.work.result.now c.work.ensures c.ticket-ticket.result t_is x (c.is_out.ensures.0 c.if-not-is_out.false) c.in-Ok.ensures.found in
+    let t_is = c.ticket-ticket.ensures ∙ ap (λ (w : Piece). w.ticket) c.work.ensures in
+    let o = own_at _ c.args.self.now c.self.view_is c.args.done.piece c.ticket-ticket.result t_is x c.in-Some.bytes c.in-Some.ensures.own c.in-Ok.ensures.found in
     commit_can_go c.self.inside.ranks c.self.inside.starts c.self.inside.trace c.self.inside.arena c.self.inside.arena c.self.inside.queues c.self.inside.matches
-    c.ticket-ticket.result x c.write.new.self c.args.done c.is_sound.ensures c.self.invariant out c.write.ensures
+    c.ticket-ticket.result x c.write.new.self (record { piece = o.own; bytes = c.in-Some.bytes }) c.is_sound.ensures c.self.invariant o.out c.write.ensures
 
 pub invariant_of-self : goal.invariant_of-self
 invariant_of-self c =
     let x = c.in-Ok.request.now in
-    let t_is = c.ticket-ticket.ensures ∙ ap (λ (w : Piece). w.ticket) c.work-2.ensures in
-    let out = out_at _ c.args.self.now c.self.view_is c.args.done.piece c.work.result.now c.work.ensures c.ticket-ticket.result t_is x (c.is_out.ensures.0 c.if-not-is_out.false) c.in-Ok.ensures.found in
+    let t_is = c.ticket-ticket.ensures ∙ ap (λ (w : Piece). w.ticket) c.work.ensures in
+    let o = own_at _ c.args.self.now c.self.view_is c.args.done.piece c.ticket-ticket.result t_is x c.in-Some.bytes c.in-Some.ensures.own c.in-Ok.ensures.found in
     (committed c.self.inside.ranks c.self.inside.starts c.self.inside.trace c.self.inside.arena c.advance.new.arena c.self.inside.queues c.self.inside.matches
-    c.ticket-ticket.result x c.write.new.self c.args.done c.is_sound.ensures c.self.invariant out c.write.ensures c.advance.result
-    (subst (λ (d : Made). d.bytes ≡ result_of d.piece) c.done.view_is c.done.invariant) t_is c.advance.ensures).0
+    c.ticket-ticket.result x c.write.new.self (record { piece = o.own; bytes = c.in-Some.bytes }) c.is_sound.ensures c.self.invariant o.out c.write.ensures c.advance.result o.is o.t_is c.advance.ensures).0
 
-pub returns-clause-out : goal.returns-clause-out
-returns-clause-out c = (λ yes. subst (λ (w : Piece). IsOut c.args.self.now w) c.work.ensures (c.is_out.ensures.0 c.if-not-is_out.false), λ out. refl)
+pub returns-clause-own : goal.returns-clause-own
+returns-clause-own c =
+    let x = c.in-Ok.request.now in
+    let t_is = c.ticket-ticket.ensures ∙ ap (λ (w : Piece). w.ticket) c.work.ensures in
+    let o = own_at _ c.args.self.now c.self.view_is c.args.done.piece c.ticket-ticket.result t_is x c.in-Some.bytes c.in-Some.ensures.own c.in-Ok.ensures.found in
+    commits_own _ c.args.self.now (parts c.self.inside.ranks c.self.inside.starts c.self.inside.trace c.advance.new.arena c.self.inside.queues c.self.inside.matches) c.self.view_is x c.args.done.piece
+    c.ticket-ticket.result c.in-Some.bytes c.advance.result c.by.result c.by.ensures o (committed c.self.inside.ranks c.self.inside.starts c.self.inside.trace c.self.inside.arena c.advance.new.arena c.self.inside.queues c.self.inside.matches
+    c.ticket-ticket.result x c.write.new.self (record { piece = o.own; bytes = c.in-Some.bytes }) c.is_sound.ensures c.self.invariant o.out c.write.ensures c.advance.result o.is o.t_is c.advance.ensures).1
 
 pub returns-clause-steps : goal.returns-clause-steps
 returns-clause-steps c =
     let x = c.in-Ok.request.now in
-    let t_is = c.ticket-ticket.ensures ∙ ap (λ (w : Piece). w.ticket) c.work-2.ensures in
-    let out = out_at _ c.args.self.now c.self.view_is c.args.done.piece c.work.result.now c.work.ensures c.ticket-ticket.result t_is x (c.is_out.ensures.0 c.if-not-is_out.false) c.in-Ok.ensures.found in
-    commit_steps c.args.self.now (parts c.self.inside.ranks c.self.inside.starts c.self.inside.trace c.advance.new.arena c.self.inside.queues c.self.inside.matches) c.args.done c.advance.result c.by.result c.by.ensures
-    (subst (λ (p : Parts). Commits p (parts c.self.inside.ranks c.self.inside.starts c.self.inside.trace c.advance.new.arena c.self.inside.queues c.self.inside.matches) c.args.done c.advance.result) c.self.view_is
-    (committed c.self.inside.ranks c.self.inside.starts c.self.inside.trace c.self.inside.arena c.advance.new.arena c.self.inside.queues c.self.inside.matches
-    c.ticket-ticket.result x c.write.new.self c.args.done c.is_sound.ensures c.self.invariant out c.write.ensures c.advance.result
-    (subst (λ (d : Made). d.bytes ≡ result_of d.piece) c.done.view_is c.done.invariant) t_is c.advance.ensures).1)
+    let t_is = c.ticket-ticket.ensures ∙ ap (λ (w : Piece). w.ticket) c.work.ensures in
+    let o = own_at _ c.args.self.now c.self.view_is c.args.done.piece c.ticket-ticket.result t_is x c.in-Some.bytes c.in-Some.ensures.own c.in-Ok.ensures.found in
+    steps_exactly _ c.args.self.now (parts c.self.inside.ranks c.self.inside.starts c.self.inside.trace c.advance.new.arena c.self.inside.queues c.self.inside.matches) c.self.view_is x c.args.done.piece
+    c.ticket-ticket.result t_is c.in-Some.bytes c.advance.result c.by.result c.by.ensures o (committed c.self.inside.ranks c.self.inside.starts c.self.inside.trace c.self.inside.arena c.advance.new.arena c.self.inside.queues c.self.inside.matches
+    c.ticket-ticket.result x c.write.new.self (record { piece = o.own; bytes = c.in-Some.bytes }) c.is_sound.ensures c.self.invariant o.out c.write.ensures c.advance.result o.is o.t_is c.advance.ensures).1
+    c.args.done refl c.result_by.ensures.combined

@@ -1,0 +1,13 @@
+//! What may lie in a cell for a result.
+
+ghost use Rattle.std.specs.Prelude.{◌≡◌};
+
+use boxcar::slot::SlotRule;
+use coll_bytes::Bytes;
+
+/// The bytes in a slot are those of its tag, which is fixed when the slot is made.
+pub(crate) struct IsTag;
+
+impl SlotRule<Bytes> for IsTag {
+    ghost holds = { λ tag bytes. bytes ≡ tag };
+}

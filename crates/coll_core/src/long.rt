@@ -1,0 +1,93 @@
+//! A long buffer's bytes, and the combination of them whose result is awaited.
+
+ghost use Rattle.std.specs.Prelude.{◌≡◌, ◌<◌, ◌≤◌, ◌↔◌, length, IfOk, IfSome, IsOk, IsTrue};
+ghost use Rattle.std.specs.Option.{ForSome};
+ghost use Rattle.coll_bytes.specs.declared.bytes.TheConstants.{FEW};
+ghost use Rattle.coll_ops.specs.Combinations.{combined as combination_of};
+ghost use Rattle.coll_sched.specs.Regions.{Inside, read_of, written};
+
+use crate::result_cell::ResultCell;
+use coll_bytes::{Bytes, Segments, Shell};
+use coll_kinds::{Datatype, Op};
+use coll_sched::Region;
+use std::alloc::{AllocError, Global};
+
+/// A combination of two regions, and where its result is put.
+#[derive(Debug, Drop)]
+pub(crate) struct Awaited {
+    pub(crate) op: Op,
+    pub(crate) ty: Datatype,
+    pub(crate) left: Region,
+    pub(crate) right: Region,
+    pub(crate) cell: ResultCell,
+}
+
+impl Awaited {
+    /// Whether it is that combination of these regions.
+    pub(crate) fn is_of(&self, op: Op, ty: Datatype, left: Region, right: Region) -> bool
+        ensures { IsTrue result ↔ ((self.now.op ≡ op) × (self.now.ty ≡ ty) × (self.now.left ≡ left) × (self.now.right ≡ right)) }
+    {
+        self.op == op && self.ty == ty && self.left == left && self.right == right
+    }
+}
+
+/// What a long buffer has until its bytes lie together.
+#[derive(Debug, Drop)]
+pub(crate) struct Long {
+    pub(crate) segments: Segments,
+    /// In which an outcome that is put together counts its owners.
+    pub(crate) shell: Shell,
+    /// The combination that was handed out last, until something is written.
+    awaited: Option<Awaited>,
+    ghost awaits: { ForSome awaited (λ a. a.cell ≡ combination_of a.op a.ty (read_of segments.bytes a.left) (read_of segments.bytes a.right)) },
+}
+
+impl Long {
+    pub(crate) fn new(segments: Segments, shell: Shell) -> Long
+        ensures { result.segments ≡ segments }
+    {
+        Long {
+            segments,
+            shell,
+            awaited: None,
+        }
+    }
+
+    /// Puts bytes in place of a region's. Nothing is awaited then.
+    #[inline(always)]
+    pub(crate) fn put(&mut self, into: Region, bytes: Bytes)
+        requires inside { Inside (length self.old.segments.bytes) into }
+        requires same { length bytes ≡ into.len }
+        requires room { 0 < self.old.segments.room }
+        ensures { self.new.segments.bytes ≡ written self.old.segments.bytes into bytes }
+    {
+        self.awaited = None;
+        self.segments.put(into, bytes);
+    }
+
+    /// The bytes of a region, shared where one segment has them, else copied.
+    #[inline(always)]
+    pub(crate) fn part(&mut self, alloc: Global, from: Region) -> Result<Bytes, AllocError>
+        requires { Inside (length self.old.segments.bytes) from }
+        ensures ok { IfOk result (λ part. part ≡ read_of self.old.segments.bytes from) }
+        ensures few { from.len ≤ FEW → IsOk result }
+        ensures same { self.new.segments ≡ self.old.segments }
+    {
+        self.segments.part(alloc, from)
+    }
+
+    /// Awaits the result of a combination, in place of another's.
+    pub(crate) fn set_awaited(&mut self, awaited: Option<Awaited>)
+        requires { ForSome awaited (λ a. a.cell ≡ combination_of a.op a.ty (read_of self.old.segments.bytes a.left) (read_of self.old.segments.bytes a.right)) }
+        ensures { self.new.segments ≡ self.old.segments }
+    {
+        self.awaited = awaited;
+    }
+
+    /// The combination whose result is awaited.
+    pub(crate) fn awaited(&self) -> Option<&Awaited>
+        ensures { IfSome result (λ a. a.now.cell ≡ combination_of a.now.op a.now.ty (read_of self.now.segments.bytes a.now.left) (read_of self.now.segments.bytes a.now.right)) }
+    {
+        self.awaited.as_ref()
+    }
+}
