@@ -88,6 +88,7 @@ impl<L: Entries> Combiner<L> {
     }
 
     /// Takes the lock.
+    #[inline(always)]
     pub(crate) fn enter<R: Wait>(&self, rt: &R) -> Held<'_, L> {
         if let Some(held) = self.try_enter() {
             return held;
@@ -169,6 +170,7 @@ impl<L: Entries> Combiner<L> {
     }
 
     /// Does what ports published.
+    #[inline(always)]
     fn serve(&self, held: &mut Held<'_, L>) {
         for (rank, record) in (0..=u8::MAX).zip(self.records.iter()) {
             if record.is_published() && record.serve(&mut held.locked.traced, rank) {
@@ -190,6 +192,7 @@ impl<L: Entries> Combiner<L> {
     }
 
     /// Answers the registered ports that wait for what is finished now.
+    #[inline(always)]
     pub(crate) fn answer_met(&self, held: &mut Held<'_, L>) {
         if held.locked.finished {
             held.locked.finished = false;
@@ -220,6 +223,7 @@ impl<L: Entries> Combiner<L> {
     }
 
     /// What the combiner does for all: what was published, the steps that need no combination, and answers.
+    #[inline(always)]
     pub(crate) fn combine(&self, held: &mut Held<'_, L>) {
         self.end_departed(held);
         self.serve(held);
@@ -259,6 +263,7 @@ impl<L: Entries> Combiner<L> {
     }
 
     /// Does what is to be done for all, unlocks, and wakes the ports that were answered and the thread that goes on.
+    #[inline(always)]
     fn let_go(&self, mut held: Held<'_, L>) {
         self.combine(&mut held);
         self.tell_stall(&mut held);

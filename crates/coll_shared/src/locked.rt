@@ -59,6 +59,7 @@ impl<L: Entries> Locked<L> {
 
     /// Makes the steps that need no combination, up to `STEPS` of them. A step that memory is refused for is left to who makes the
     /// next one.
+    #[inline(always)]
     pub(crate) fn advance(&mut self) {
         if !self.traced.is_ready() {
             return;
@@ -74,6 +75,7 @@ impl<L: Entries> Locked<L> {
     }
 
     /// The next step.
+    #[inline(always)]
     pub(crate) fn step(&mut self) -> Result<Stepped, Refusal>
         ensures { IfErr result (λ why. why ≡ Refusal.NoMemory) }
     {

@@ -71,7 +71,7 @@ const CROWDED_HOLDS: u32 = 50;
 /// processor of the one that wakes it, and the two share that processor for many time slices.
 const TURNS: u32 = 16;
 
-/// The microseconds of looks after which a thread gives a turn where turns are long. After so many in vain it has its time slices while those it
+/// The microseconds of looks after which a thread gives a turn where turns are long. If they were in vain, it has its time slices while those it
 /// waits for don't have theirs: it gives the rest of this one away, and has the next one together with them.
 const OUT_OF_STEP: u64 = 500;
 
@@ -138,7 +138,7 @@ impl Patience {
         look & self.tries == self.tries
     }
 
-    /// Whether it gives a turn after this look: each time, or where turns are long, once it has looked for so long in vain.
+    /// Whether it gives a turn after this look: each time, or where turns are long, once it has looked for `OUT_OF_STEP` in vain.
     fn is_turn_due<C: Clock>(&mut self, clock: &C, look: u32) -> bool {
         if self.gives_turns || look & READINGS != READINGS {
             return self.gives_turns;

@@ -89,6 +89,7 @@ impl<L: Entries> Port<L> {
     /// # Errors
     ///
     /// In this order: BadComm; NotMember; BadSignature; NoMemory.
+    #[inline(always)]
     pub fn ready_plan(&mut self, comm: u32, sig: &Signature) -> Result<Plan, Refusal>
         ensures same { self.new ≡ self.old }
         ensures sig { IfOk result (λ plan. plan.sig ≡ sig.now) }

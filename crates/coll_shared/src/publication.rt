@@ -76,6 +76,7 @@ fn is_one_more<L: Entries>(tally: &Tally<L>, before: u64) -> bool
 
 impl<L: Entries> Publication<L> {
     /// Does what was published, or registers the port's wait. Returns whether an answer is in it; then the port is awake.
+    #[inline(always)]
     pub(crate) fn served(self, traced: &mut TracedCore<L>, rank: u8) -> (Publication<L>, bool)
         ensures served { IsServed L.setting rank self.content self.tally traced.old.entries result.0.content result.0.tally traced.new.entries }
         ensures awake { OnTrue result.1 (IsAwake rank traced.new.waits) }
@@ -107,6 +108,7 @@ impl<L: Entries> Publication<L> {
 
     /// Answers a registered port, which is awake then: it completes the request that the port waits for, where that is Done; else the
     /// port is to look itself.
+    #[inline(always)]
     pub(crate) fn answered(self, traced: &mut TracedCore<L>, rank: u8) -> Publication<L>
         ensures answered { IsAnswered rank self.content self.tally traced.old.entries result.content result.tally traced.new.entries }
         ensures awake { IsAwake rank traced.new.waits }

@@ -67,6 +67,7 @@ impl<L: Entries> PublicationRecord<L> {
     }
 
     /// The port publishes what it wants, with its tally.
+    #[inline(always)]
     pub(crate) fn publish<R: Wait>(&self, rt: &R, content: Content<L>, tally: Tally<L>) {
         *self.slot.lock(rt) = Some(Publication { content, tally });
         self.word.store(PUBLISHED, Ordering::SeqCst);
@@ -90,6 +91,7 @@ impl<L: Entries> PublicationRecord<L> {
     }
 
     /// The combiner does what was published here, or registers the port. Returns whether there is an answer now; then the port is awake.
+    #[inline(always)]
     pub(crate) fn serve(&self, traced: &mut TracedCore<L>, rank: u8) -> bool
         ensures awake { OnTrue result (IsAwake rank traced.new.waits) }
         ensures pending { OnFalse result (IsUnanswered traced.new.core rank traced.old.waits traced.new.waits) }
