@@ -5,21 +5,21 @@ ghost use Rattle.coll_kinds.specs.Lengths.{given_len, got_len};
 
 use coll_kinds::{Refusal, Signature};
 use coll_sched::Schedule;
+use std::alloc::Global;
 use std::marker::Model;
 use std::sync::Arc;
 
-/// One member's part of one collective: its schedule in the family that the signature and the number of
-/// members fix. So the plans of one signature for all members of a communicator fit together. Only
-/// [`plan`](crate::plan) makes one. Its copies share the signature and the schedule, and may go to other threads.
+/// What a plan and its copies share: one count of owners serves the signature and the schedule.
 #[derive(Debug, Drop)]
-pub struct Plan {
-    sig: Arc<Signature>,
-    n: u8,
-    member: u8,
-    schedule: Arc<Schedule>,
+pub(crate) struct SharedPlan {
+    /// It may outlive the plan.
+    pub(crate) sig: Arc<Signature>,
+    pub(crate) n: u8,
+    pub(crate) member: u8,
+    pub(crate) schedule: Schedule,
 }
 
-impl Model for Plan {
+impl Model for SharedPlan {
     ghost use Rattle.std.specs.Arc.{arc_value};
     ghost use Rattle.coll_plans.specs.Plans.{Planned, IsPlan};
 
@@ -27,23 +27,69 @@ impl Model for Plan {
 
     ghost view = { λ p. record { sig = arc_value p.sig; n = p.n; member = p.member } };
 
-    ghost invariant = { λ p. IsPlan (arc_value p.sig) p.n p.member (arc_value p.schedule) };
+    ghost invariant = { λ p. IsPlan (arc_value p.sig) p.n p.member p.schedule };
+}
+
+/// One member's part of one collective: its schedule in the family that the signature and the number of
+/// members fix. So the plans of one signature for all members of a communicator fit together. Only
+/// [`plan`](crate::plan) makes one. Its copies share the signature and the schedule, and may go to other threads.
+#[derive(Debug, Drop)]
+pub struct Plan {
+    shared: Arc<SharedPlan>,
+}
+
+impl Model for Plan {
+    ghost use Rattle.std.specs.Arc.{arc_value};
+    ghost use Rattle.coll_plans.specs.Plans.{Planned};
+
+    ghost Value = { Planned };
+
+    ghost view = { λ p. arc_value p.shared };
+}
+
+impl SharedPlan {
+    ghost use Rattle.coll_plans.specs.Plans.{family, IsPlanned};
+
+    fn sig(&self) -> &Signature
+        ensures sig { result.now ≡ self.now.sig }
+        ensures checked { broken self.now.sig self.now.n ≡ None }
+    {
+        &self.sig
+    }
+
+    fn n(&self) -> u8
+        ensures n { result ≡ self.now.n }
+        ensures few { result ≤ 64 }
+    {
+        self.n
+    }
+
+    fn member(&self) -> u8
+        ensures member { result ≡ self.now.member }
+        ensures low { result < self.now.n }
+    {
+        self.member
+    }
+
+    fn schedule(&self) -> &Schedule
+        ensures schedule { result.now ≡ family self.now.sig self.now.n self.now.member }
+        ensures family { IsPlanned self.now.sig self.now.n (family self.now.sig self.now.n) }
+    {
+        &self.schedule
+    }
 }
 
 impl Plan {
-    ghost use Rattle.coll_plans.specs.Plans.{family, IsPlan, IsPlanned};
+    ghost use Rattle.coll_plans.specs.Plans.{family, IsPlanned};
 
-    // The plan of these parts.
-    pub(crate) fn of_parts(sig: Arc<Signature>, n: u8, member: u8, schedule: Arc<Schedule>) -> Self
-        requires { IsPlan (arc_value sig) n member (arc_value schedule) }
-        ensures { result ≡ record { sig = arc_value sig; n = n; member = member } }
+    // The plan that this is of.
+    pub(crate) fn of_shared(alloc: Global, shared: SharedPlan) -> Result<Self, Refusal>
+        ensures plan { IfOk result (λ plan. plan ≡ shared) }
+        ensures refused { IsOkUnless result Refusal.NoMemory }
     {
-        Plan {
-            sig,
-            n,
-            member,
-            schedule,
-        }
+        Ok(Plan {
+            shared: Arc::new(alloc, shared)?,
+        })
     }
 
     /// Another plan of the same member's part. It takes no memory.
@@ -56,10 +102,7 @@ impl Plan {
         ensures refused { IsOkUnless result Refusal.NoMemory }
     {
         Ok(Plan {
-            sig: self.sig.clone()?,
-            n: self.n,
-            member: self.member,
-            schedule: self.schedule.clone()?,
+            shared: self.shared.clone()?,
         })
     }
 
@@ -68,7 +111,7 @@ impl Plan {
         ensures sig { result.now ≡ self.now.sig }
         ensures checked { broken self.now.sig self.now.n ≡ None }
     {
-        &self.sig
+        self.shared.sig()
     }
 
     /// The signature, with the plan as one more owner, for what outlives the plan. It takes no memory.
@@ -80,7 +123,7 @@ impl Plan {
         ensures same { IfOk result (λ sig. arc_value sig ≡ self.now.sig) }
         ensures refused { IsOkUnless result Refusal.NoMemory }
     {
-        Ok(self.sig.clone()?)
+        Ok(self.shared.sig.clone()?)
     }
 
     /// How many members there are.
@@ -88,7 +131,7 @@ impl Plan {
         ensures n { result ≡ self.now.n }
         ensures few { result ≤ 64 }
     {
-        self.n
+        self.shared.n()
     }
 
     /// The member's number.
@@ -96,21 +139,21 @@ impl Plan {
         ensures member { result ≡ self.now.member }
         ensures low { result < self.now.n }
     {
-        self.member
+        self.shared.member()
     }
 
     /// The bytes that the member gives.
     pub fn given_len(&self) -> usize
         ensures { result ≡ given_len self.now.sig self.now.n self.now.member }
     {
-        self.sig.given_len(self.n, self.member)
+        self.sig().given_len(self.n(), self.member())
     }
 
     /// The bytes that the member gets, which is the length of its schedule's output.
     pub fn got_len(&self) -> usize
         ensures { result ≡ got_len self.now.sig self.now.n self.now.member }
     {
-        self.sig.got_len(self.n, self.member)
+        self.sig().got_len(self.n(), self.member())
     }
 
     /// The member's schedule in the family of the signature, which serves it.
@@ -118,6 +161,6 @@ impl Plan {
         ensures schedule { result.now ≡ family self.now.sig self.now.n self.now.member }
         ensures family { IsPlanned self.now.sig self.now.n (family self.now.sig self.now.n) }
     {
-        &self.schedule
+        self.shared.schedule()
     }
 }

@@ -1,12 +1,11 @@
 ghost use Rattle.std.specs.Prelude.{◌≡◌, ◌<◌, ◌≤◌, None, IfOk, IsOkUnless, IsErrOf, MatchOption};
-ghost use Rattle.std.specs.Arc.{arc_value};
 ghost use Rattle.coll_kinds.specs.Checks.{broken};
 ghost use Rattle.coll_kinds.specs.declared.kind.Kind.TheVariants.{Bcast};
 ghost use Rattle.coll_plans.specs.Plans.{family, family_by, IsPlanned};
 
 use crate::chain_pipelined_bcast::is_long;
 use crate::layout::block_bytes;
-use crate::planned::Plan;
+use crate::planned::{Plan, SharedPlan};
 use crate::{
     allgather, allgatherv, allreduce, alltoall, barrier, chain_bcast, exscan, gather, rsblock,
     scan, scatter,
@@ -30,21 +29,17 @@ pub fn plan(alloc: Global, sig: Signature, n: u8, r: u8) -> Result<Plan, Refusal
         (λ cause. IsErrOf result (Refusal.BadSignature cause)) }
 {
     sig.check(n)?;
-    let schedule = owned_schedule_of(alloc, sig, n, r)?;
-    let sig = Arc::new(alloc, sig)?;
-    Ok(Plan::of_parts(sig, n, r, schedule))
-}
-
-// The same with an owner, which can be copied.
-fn owned_schedule_of(alloc: Global, sig: Signature, n: u8, r: u8) -> Result<Arc<Schedule>, Refusal>
-    requires checked { broken sig n ≡ None }
-    requires member { r < n }
-    requires few { n ≤ 64 }
-    ensures schedule { IfOk result (λ s. arc_value s ≡ family sig n r) }
-    ensures refusal { IsOkUnless result Refusal.NoMemory }
-{
     let schedule = schedule_of(alloc, sig, n, r)?;
-    Ok(Arc::new(alloc, schedule)?)
+    let sig = Arc::new(alloc, sig)?;
+    Plan::of_shared(
+        alloc,
+        SharedPlan {
+            sig,
+            n,
+            member: r,
+            schedule,
+        },
+    )
 }
 
 // By the builder of the signature's kind.

@@ -13,8 +13,8 @@ returns-in_err-check-clause-refusal c =
     let p = err_from_is_err_and c.from_residual.result c.from_residual.ensures.1 in
     rw (p.1, p.2) (refused (broken c.args.sig c.args.n) c.in_err-check.field-0.0 c.in_err-check.ensures)
 
-pub owned_schedule_of-requires-clause-checked : goal.owned_schedule_of-requires-clause-checked
-owned_schedule_of-requires-clause-checked c = unbroken (broken c.args.sig c.args.n) c.in_ok-check.field-0 c.in_ok-check.ensures
+pub schedule_of-requires-clause-checked : goal.schedule_of-requires-clause-checked
+schedule_of-requires-clause-checked c = unbroken (broken c.args.sig c.args.n) c.in_ok-check.field-0 c.in_ok-check.ensures
 
 pub returns-in_err-schedule-clause-family : goal.returns-in_err-schedule-clause-family
 returns-in_err-schedule-clause-family c = λ checked. all_served c.args.sig c.args.n checked (omega arith) c.requires.few
@@ -32,10 +32,10 @@ pub returns-in_err-sig-clause-refusal : goal.returns-in_err-sig-clause-refusal
 returns-in_err-sig-clause-refusal c =
     accepted (broken c.args.sig c.args.n) c.from_residual-in_err-sig.result (unbroken (broken c.args.sig c.args.n) c.in_ok-check.field-0 c.in_ok-check.ensures) (search rules)
 
-pub of_parts-requires : goal.of_parts-requires
-of_parts-requires c =
+pub invariant_of-of_shared : goal.invariant_of-of_shared
+invariant_of-of_shared c =
     let same : arc_value c.in_ok-sig.sig ≡ c.args.sig = search rules in
-    subst (λ (s : Signature). IsPlan s c.args.n c.args.r (arc_value c.in_ok-schedule.schedule)) (sym same)
+    subst (λ (s : Signature). IsPlan s c.args.n c.args.r c.in_ok-schedule.schedule) (sym same)
     (record {
       checked = unbroken (broken c.args.sig c.args.n) c.in_ok-check.field-0 c.in_ok-check.ensures;
       low = c.requires.member;
@@ -45,3 +45,7 @@ of_parts-requires c =
 
 pub returns-clause-family : goal.returns-clause-family
 returns-clause-family c = λ checked. all_served c.args.sig c.args.n checked (omega arith) c.requires.few
+
+pub returns-clause-refusal : goal.returns-clause-refusal
+returns-clause-refusal c =
+    accepted (broken c.args.sig c.args.n) c.of_shared.result (unbroken (broken c.args.sig c.args.n) c.in_ok-check.field-0 c.in_ok-check.ensures) c.of_shared.ensures.refused

@@ -3,7 +3,7 @@ use Rattle.std.proofs.Common.{arith, subst}
 use Rattle.std.specs.Arc.{arc_value}
 use Rattle.coll_plans.specs.Plans.{family, IsPlanned, Planned}
 use Rattle.coll_plans.proofs.Plans.{all_served}
-use Rattle.coll_plans.proofs.planned.Plan.schedule.Goals as goal
+use Rattle.coll_plans.proofs.planned.SharedPlan.schedule.Goals as goal
 
 pub returns-clause-family : goal.returns-clause-family
 returns-clause-family c =
