@@ -1,5 +1,5 @@
 ghost use Rattle.std.specs.Prelude.{◌≡◌, ◌≤◌, ◌↔◌, ◌%◌, [], length, IfOk, IfSome, IsOkUnless, IsTrue, OnErr, OnOk};
-ghost use Rattle.coll_core.specs.Buffers.{HasRoom};
+ghost use Rattle.coll_core.specs.Buffers.{HasRoom, HasRooms, IsRoom, bytes_of};
 ghost use Rattle.coll_kinds.specs.Checks.{allowed};
 ghost use Rattle.coll_kinds.specs.Elements.{width};
 ghost use Rattle.coll_ops.specs.Combinations.{combined as combination_of};
@@ -10,6 +10,7 @@ ghost use Rattle.coll_sched.specs.Regions.{Inside, read_of, written};
 use crate::combined::{combined, combined_few};
 use crate::contribution::Contribution;
 use crate::long::{Awaited, Long};
+use crate::row::Row;
 use crate::word::{WORD, Word};
 use crate::work::Work;
 use coll_bytes::{Bytes, FEW, Segments, Shell};
@@ -22,28 +23,48 @@ use std::marker::Model;
 /// Buffers of up to this many bytes lie in one piece from the beginning: sharing them costs more than copying them.
 pub(crate) const SHORT: u32 = 1_024;
 
-/// A schedule's buffer. What was written to a long one lies in segments, which messages, operands, contributions and outcomes share with
-/// it, as long as there is room for one more of them. Then the bytes are put together, and from then on a write copies. So no write takes
-/// memory, and neither does a completion.
+/// What a long buffer has until its bytes lie together.
 #[derive(Debug, Drop)]
-pub struct Buffer {
-    /// The segments, unless the bytes lie together. They lie apart, since a record that is small moves fast.
-    long: Option<Box<Long>>,
-    /// The bytes, once they lie together; before that, memory for them and for the outcome.
+struct Segmented {
+    long: Long,
+    /// Memory for the bytes, and for the outcome.
     own: Vec<u8>,
-    /// Memory for a copy of the outcome, where it can't have a second owner.
+    /// As of bytes that lie together.
     spare: Vec<u8>,
 }
 
+/// Where a buffer's bytes lie.
+#[derive(Debug, Drop)]
+enum Memory {
+    /// Up to `FEW` bytes, in place.
+    InPlace(Row),
+    /// Bytes in one piece.
+    Together {
+        own: Vec<u8>,
+        /// Memory for a copy of the outcome, where it can't have a second owner.
+        spare: Vec<u8>,
+    },
+    /// Segments. They lie apart, since a record that is small moves fast.
+    InSegments(Box<Segmented>),
+}
+
+/// A schedule's buffer. Few bytes lie in it, and take no memory. What was written to a long one lies in segments, which messages, operands,
+/// contributions and outcomes share with it, as long as there is room for one more of them. Then the bytes are put together, and from then
+/// on a write copies. So no write takes memory, and neither does a completion.
+#[derive(Debug, Drop)]
+pub struct Buffer {
+    memory: Memory,
+}
+
 impl Model for Buffer {
-    ghost use Rattle.std.specs.Prelude.{List, ℕ, length};
-    ghost use Rattle.coll_core.specs.Buffers.{HasRoom, HasSpare, bytes_of};
+    ghost use Rattle.std.specs.Prelude.{List, ℕ};
+    ghost use Rattle.coll_core.specs.Buffers.{HasRooms, bytes_of};
 
     ghost Value = { List ℕ };
 
-    ghost view = { λ b. bytes_of b.long b.own.items };
+    ghost view = { λ b. bytes_of b.memory };
 
-    ghost invariant = { λ b. HasSpare b.long b.own × HasRoom b.spare (length (bytes_of b.long b.own.items)) };
+    ghost invariant = { λ b. HasRooms b.memory };
 }
 
 /// The bytes of a region, in the memory of the buffer. They are moved at most once, all at one time where they don't overlap the
@@ -60,15 +81,52 @@ fn cut(buffer: Vec<u8>, region: Region) -> Vec<u8>
     bytes
 }
 
-/// Memory for a copy of up to this many bytes, unless they are few.
-fn spare(alloc: Global, len: usize) -> Result<Vec<u8>, Refusal>
-    ensures room { IfOk result (λ spare. HasRoom spare len) }
-    ensures refusal { IsOkUnless result Refusal.NoMemory }
+/// Writes bytes into a region of bytes in one piece.
+fn write_long(into: Region, bytes: &Bytes, own: &mut Vec<u8>)
+    requires inside { Inside (length own.old.items) into }
+    requires same { length bytes.now ≡ into.len }
+    ensures { own.new.items ≡ written own.old.items into bytes.now }
 {
-    if len <= FEW {
-        return Ok(Vec::new(alloc));
+    // A barrier's messages have no bytes.
+    if into.len > 0 {
+        into.write(bytes.as_slice(), own);
     }
-    Ok(Vec::with_capacity(alloc, len)?)
+}
+
+/// The bytes of segments in one piece, with others in place of a region's.
+fn put_together(segmented: Segmented, into: Region, bytes: &Bytes) -> Memory
+    requires own { IsRoom segmented.own (length segmented.long.segments.bytes) }
+    requires spare { HasRoom segmented.spare (length segmented.long.segments.bytes) }
+    requires inside { Inside (length segmented.long.segments.bytes) into }
+    requires same { length bytes.now ≡ into.len }
+    ensures bytes { bytes_of result ≡ written segmented.long.segments.bytes into bytes.now }
+    ensures rooms { HasRooms result }
+{
+    let Segmented { long, own, spare } = segmented;
+    let mut whole = own;
+    long.segments.copy_to(&mut whole);
+    write_long(into, bytes, &mut whole);
+    Memory::Together { own: whole, spare }
+}
+
+/// Awaits the result of a combination of two regions that is handed out, where there is memory for that.
+fn await_combination(long: &mut Long, alloc: Global, work: &mut Work, left: Region, right: Region)
+    requires left { work.old.left ≡ read_of long.old.segments.bytes left }
+    requires right { work.old.right ≡ read_of long.old.segments.bytes right }
+    ensures same { long.new.segments ≡ long.old.segments }
+    ensures work { work.new ≡ work.old }
+{
+    let awaited = match work.make_cell(alloc) {
+        Some(cell) => Some(Awaited {
+            op: work.op(),
+            ty: work.ty(),
+            left,
+            right,
+            cell,
+        }),
+        None => None,
+    };
+    long.set_awaited(awaited);
 }
 
 /// How many actions there are: no more writes than that.
@@ -85,10 +143,16 @@ impl Buffer {
     pub fn empty(alloc: Global) -> Buffer
         ensures { result ≡ [] }
     {
+        let _alloc = alloc;
+        Buffer::few(Row::empty())
+    }
+
+    // A buffer of few bytes.
+    fn few(row: Row) -> Buffer
+        ensures { result ≡ row }
+    {
         Buffer {
-            long: None,
-            own: Vec::new(alloc),
-            spare: Vec::new(alloc),
+            memory: Memory::InPlace(row),
         }
     }
 
@@ -105,7 +169,11 @@ impl Buffer {
         ensures refusal { IsOkUnless result Refusal.NoMemory }
         ensures same { given.new ≡ given.old }
     {
-        if schedule.size() <= SHORT {
+        let size = schedule.size();
+        if size as usize <= FEW {
+            return Ok(Buffer::few(Row::lay_in(schedule, given.as_slice())));
+        }
+        if size <= SHORT {
             return Buffer::lay_short(alloc, schedule, given.as_slice());
         }
         let input = schedule.input();
@@ -120,11 +188,9 @@ impl Buffer {
         ensures refusal { IsOkUnless result Refusal.NoMemory }
     {
         let own = schedule.lay_in(alloc, bytes)?;
-        let spare = spare(alloc, own.len())?;
+        let spare = Vec::with_capacity(alloc, own.len())?;
         Ok(Buffer {
-            long: None,
-            own,
-            spare,
+            memory: Memory::Together { own, spare },
         })
     }
 
@@ -147,17 +213,19 @@ impl Buffer {
         let mut segments = Segments::lay_in(alloc, size, input, first);
         segments.reserve(writes)?;
         let own = Vec::with_capacity(alloc, size as usize)?;
-        let spare = spare(alloc, size as usize)?;
+        let spare = Vec::with_capacity(alloc, size as usize)?;
         let shell = Shell::new(alloc);
-        let long = match Box::new(alloc, Long::new(segments, shell)) {
-            Ok(long) => long,
-            Err(_) => return Err(Refusal::NoMemory),
-        };
-        Ok(Buffer {
-            long: Some(long),
+        let segmented = Segmented {
+            long: Long::new(segments, shell),
             own,
             spare,
-        })
+        };
+        match Box::new(alloc, segmented) {
+            Ok(segmented) => Ok(Buffer {
+                memory: Memory::InSegments(segmented),
+            }),
+            Err(_) => Err(Refusal::NoMemory),
+        }
     }
 
     /// Puts bytes in place of a region's.
@@ -167,18 +235,27 @@ impl Buffer {
         requires same { length bytes ≡ into.len }
         ensures { self.new ≡ written self.old into bytes }
     {
-        if let Some(long) = &mut self.long {
-            if long.segments.has_room() {
-                long.put(into, bytes);
+        match &mut self.memory {
+            Memory::InPlace(row) => {
+                row.write(into, bytes.as_slice());
                 return;
             }
-            long.segments.copy_to(&mut self.own);
-            self.long = None;
+            Memory::Together { own, .. } => {
+                write_long(into, &bytes, own);
+                return;
+            }
+            Memory::InSegments(segmented) => {
+                if segmented.long.segments.has_room() {
+                    segmented.long.put(into, bytes);
+                    return;
+                }
+            }
         }
-        // A barrier's messages have no bytes.
-        if into.len > 0 {
-            into.write(bytes.as_slice(), &mut self.own);
-        }
+        let before = std::mem::replace(&mut self.memory, Memory::InPlace(Row::empty()));
+        let Memory::InSegments(segmented) = before else {
+            unreachable!()
+        };
+        self.memory = put_together(Box::into_inner(segmented), into, &bytes);
     }
 
     /// The bytes of a region, shared where one segment has them, else copied. Only NoMemory is refused.
@@ -189,9 +266,10 @@ impl Buffer {
         ensures same { self.new ≡ self.old }
         ensures refusal { IsOkUnless result Refusal.NoMemory }
     {
-        match &mut self.long {
-            Some(long) => Ok(long.part(alloc, from)?),
-            None => Ok(Bytes::copy(alloc, from.read(&self.own))?),
+        match &mut self.memory {
+            Memory::InPlace(row) => Ok(Bytes::few(from.read(row.as_slice()))),
+            Memory::Together { own, .. } => Ok(Bytes::copy(alloc, from.read(own))?),
+            Memory::InSegments(segmented) => Ok(segmented.long.part(alloc, from)?),
         }
     }
 
@@ -203,14 +281,15 @@ impl Buffer {
         ensures word { result ≡ read_of self.old from }
         ensures same { self.new ≡ self.old }
     {
-        match &mut self.long {
-            Some(long) => {
-                let Ok(part) = long.part(alloc, from) else {
+        match &mut self.memory {
+            Memory::InPlace(row) => Word::of(from.read(row.as_slice())),
+            Memory::Together { own, .. } => Word::of(from.read(own)),
+            Memory::InSegments(segmented) => {
+                let Ok(part) = segmented.long.part(alloc, from) else {
                     unreachable!()
                 };
                 Word::of(part.as_slice())
             }
-            None => Word::of(from.read(&self.own)),
         }
     }
 
@@ -227,20 +306,9 @@ impl Buffer {
         ensures same { self.new ≡ self.old }
         ensures work { work.new ≡ work.old }
     {
-        let Some(long) = &mut self.long else {
-            return;
-        };
-        let awaited = match work.make_cell(alloc) {
-            Some(cell) => Some(Awaited {
-                op: work.op(),
-                ty: work.ty(),
-                left,
-                right,
-                cell,
-            }),
-            None => None,
-        };
-        long.set_awaited(awaited);
+        if let Memory::InSegments(segmented) = &mut self.memory {
+            await_combination(&mut segmented.long, alloc, work, left, right);
+        }
     }
 
     /// The combination of its bytes whose result is awaited.
@@ -248,9 +316,9 @@ impl Buffer {
     pub(crate) fn awaited(&self) -> Option<&Awaited>
         ensures { IfSome result (λ a. a.now.cell ≡ combination_of a.now.op a.now.ty (read_of self.now a.now.left) (read_of self.now a.now.right)) }
     {
-        match &self.long {
-            Some(long) => long.awaited(),
-            None => None,
+        match &self.memory {
+            Memory::InSegments(segmented) => segmented.long.awaited(),
+            _ => None,
         }
     }
 
@@ -260,9 +328,22 @@ impl Buffer {
         requires { Inside (length self.now) from }
         ensures { IsTrue result ↔ (read_of self.now from ≡ bytes.now) }
     {
-        match &self.long {
-            Some(long) => long.segments.has(from, bytes),
-            None => are_same(from.read(&self.own), bytes),
+        match &self.memory {
+            Memory::InPlace(row) => are_same(from.read(row.as_slice()), bytes),
+            Memory::Together { own, .. } => are_same(from.read(own), bytes),
+            Memory::InSegments(segmented) => segmented.long.segments.has(from, bytes),
+        }
+    }
+
+    // The bytes, where they lie in one piece.
+    #[inline(always)]
+    fn whole(&self) -> Option<&[u8]>
+        ensures { IfSome result (λ bytes. bytes.now ≡ self.now) }
+    {
+        match &self.memory {
+            Memory::InPlace(row) => Some(row.as_slice()),
+            Memory::Together { own, .. } => Some(own),
+            Memory::InSegments(_) => None,
         }
     }
 
@@ -285,10 +366,12 @@ impl Buffer {
         ensures same { self.new ≡ self.old }
         ensures refusal { IsOkUnless result Refusal.NoMemory }
     {
-        if self.long.is_none() && left.len as usize <= FEW {
-            let first = left.read(&self.own);
-            let second = right.read(&self.own);
-            return Ok(combined_few(op, ty, first, second));
+        if left.len as usize <= FEW {
+            if let Some(whole) = self.whole() {
+                let first = left.read(whole);
+                let second = right.read(whole);
+                return Ok(combined_few(op, ty, first, second));
+            }
         }
         let first = self.part(alloc, left)?;
         let second = self.part(alloc, right)?;
@@ -332,15 +415,20 @@ impl Buffer {
         ensures room { HasRoom result.1 (length result.0) }
         ensures none { self.new ≡ [] }
     {
-        let Buffer { long, own, spare } = std::mem::replace(self, Buffer::empty(alloc));
-        match long {
-            None => (Bytes::from_vec(cut(own, region)), spare),
-            Some(long) => {
+        let Buffer { memory } = std::mem::replace(self, Buffer::empty(alloc));
+        match memory {
+            Memory::InPlace(row) => {
+                let part = Bytes::few(region.read(row.as_slice()));
+                (part, Vec::new(alloc))
+            }
+            Memory::Together { own, spare } => (Bytes::from_vec(cut(own, region)), spare),
+            Memory::InSegments(segmented) => {
+                let Segmented { long, own, spare } = Box::into_inner(segmented);
                 let Long {
                     segments,
                     shell,
                     ..
-                } = Box::into_inner(long);
+                } = long;
                 (segments.into_part(region, own, shell), spare)
             }
         }

@@ -10,6 +10,7 @@
 //! | `about` | `About`, what a ticket names |
 //! | `outcome` | `Outcome`, what a completion hands out |
 //! | `buffer` | `Buffer`, the bytes that a schedule's actions read and write |
+//! | `row` | `Row`, a short buffer's bytes, in place |
 //! | `long` | `Long`, a long buffer's bytes, and the combination of them whose result is awaited |
 //! | `request` | `Request`, what the engine keeps of a live request |
 //! | `sent` | `Sent`, the way of a message |
@@ -48,6 +49,7 @@ mod outcome;
 mod phase;
 mod request;
 mod result_cell;
+mod row;
 mod sent;
 mod shared_result;
 mod short_work;
