@@ -9,13 +9,14 @@ use crate::trace::Appended;
 use crate::traced_core::TracedCore;
 use coll_core::{Contribution, Offer};
 use coll_kinds::Ticket;
+use coll_plans::Plan;
 use coll_report::Entry;
 use std::alloc::Global;
 
 /// How many bytes an operation gives at most: its port compares those of the answer with its own, and with more it waits for the engine.
 const SHORT: usize = 64;
 
-/// A post or a start that one thread leaves to another, with all memory that it takes.
+/// A post or a start that one thread leaves to another. What a post keeps is made by who makes it.
 #[derive(Drop)]
 pub enum Operation {
     Post(PostOperation),
@@ -23,14 +24,16 @@ pub enum Operation {
 }
 
 impl Operation {
-    /// A post of the offer; none where it gives many bytes, or memory is short.
-    pub fn post(alloc: Global, comm: u32, offer: &mut Offer) -> Option<Operation>
+    /// A post of the offer by `plan`, which is the same as the offer's; none where it gives many bytes, or memory is short. The thread that
+    /// makes the post counts that plan's owners.
+    pub fn post(alloc: Global, comm: u32, plan: Plan, offer: &mut Offer) -> Option<Operation>
+        requires { plan ≡ offer.old.plan }
         ensures { offer.new ≡ offer.old }
     {
         if offer.bytes.len() > SHORT {
             return None;
         }
-        let operation = PostOperation::of(alloc, comm, offer)?;
+        let operation = PostOperation::of(alloc, comm, plan, offer)?;
         Some(Operation::Post(operation))
     }
 

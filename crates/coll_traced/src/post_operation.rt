@@ -6,7 +6,6 @@ ghost use Rattle.coll_core.specs.Posts.{post_of};
 ghost use Rattle.coll_report.specs.Views.{seen};
 ghost use Rattle.coll_traced.specs.Denials.{IsDenied};
 ghost use Rattle.coll_traced.specs.Calls.{IsPosted};
-ghost use Rattle.coll_traced.specs.Prepared.{IsPreparedFor};
 
 use crate::prepared::Prepared;
 use crate::tally::{Entries, Tally};
@@ -20,55 +19,42 @@ use coll_report::Entry;
 use std::alloc::Global;
 use std::sync::Arc;
 
-/// A post that one thread leaves to another, with what it keeps.
+/// A post that one thread leaves to another.
 #[derive(Drop)]
 pub struct PostOperation {
     comm: u32,
     offer: Offer,
-    prepared: Prepared,
     /// A second owner of what is given, for the entry that comes back.
     bytes: Bytes,
     /// The plan's signature, for that entry.
     sig: Arc<Signature>,
-    ghost keeps: { IsPreparedFor offer prepared },
     ghost shared: { bytes ≡ offer.bytes },
     ghost signed: { arc_value sig ≡ offer.plan.sig },
 }
 
-/// A copy of a plan, with its signature.
-fn shared(plan: &Plan) -> Option<(Plan, Arc<Signature>)>
-    ensures plan { IfSome result (λ r. r.0 ≡ plan.now) }
-    ensures sig { IfSome result (λ r. arc_value r.1 ≡ plan.now.sig) }
-{
-    let sig = plan.shared_sig().ok()?;
-    let plan = plan.share().ok()?;
-    Some((plan, sig))
-}
-
 impl PostOperation {
-    /// Of an offer, which it shares; none where memory is short.
-    pub(crate) fn of(alloc: Global, comm: u32, own: &mut Offer) -> Option<PostOperation>
-        requires { length own.old.bytes < 2 ^ 32 }
+    /// Of an offer, whose bytes and signature it shares, and another plan of the same; none where memory is short.
+    pub(crate) fn of(alloc: Global, comm: u32, plan: Plan, own: &mut Offer) -> Option<PostOperation>
+        requires few { length own.old.bytes < 2 ^ 32 }
+        requires same { plan ≡ own.old.plan }
         ensures { own.new ≡ own.old }
     {
-        let (plan, sig) = shared(&own.plan)?;
+        let sig = own.plan.shared_sig().ok()?;
         let bytes = own.bytes.share(alloc).ok()?;
         let given = own.bytes.share(alloc).ok()?;
-        let mut offer = Offer {
+        let offer = Offer {
             plan,
             bytes: Contribution::of_bytes(given),
         };
-        let prepared = Prepared::of(alloc, &mut offer).ok()?;
         Some(PostOperation {
             comm,
             offer,
-            prepared,
             bytes,
             sig,
         })
     }
 
-    /// Makes the post, unless that is refused. Returns its ticket and its entry.
+    /// Makes the post with what it keeps, unless that is refused. Returns its ticket and its entry.
     pub(crate) fn make<L: Entries>(
         self,
         traced: &mut TracedCore<L>,
@@ -83,13 +69,13 @@ impl PostOperation {
     {
         let PostOperation {
             comm,
-            offer,
-            prepared,
+            mut offer,
             bytes,
             sig,
         } = self;
         traced.audit(mine);
-        match traced.post(mine, rank, comm, offer, Ok(prepared)) {
+        let prepared = Prepared::of(traced.alloc(), &mut offer);
+        match traced.post(mine, rank, comm, offer, prepared) {
             Ok((ticket, _receipt)) => {
                 let place = traced.last_place();
                 let entry = Entry::Posted {

@@ -101,6 +101,11 @@ impl<L: Entries> TracedCore<L> {
         })
     }
 
+    /// Where its memory comes from.
+    pub(crate) fn alloc(&self) -> Global {
+        self.alloc
+    }
+
     /// Its setting is that of its ledger's type, and its trace is legal, for proofs of callers. It does nothing at run time.
     pub fn keeps_legal(&self)
         ensures setting { setting self.now.core ≡ L.setting }
