@@ -532,7 +532,7 @@ Posts:
     d_step { operation[me] = A_POST; operand[me] = on; word[me] = PUBLISHED; posting = posting | BIT(me) };
 TakesEntry:
     if
-    :: d_step { word[me] == ANSWERED -> word[me] = EMPTY; reply[me] = NONE; posting = posting & ~BIT(me) }; goto Next
+    :: d_step { word[me] == ANSWERED -> reply[me] = NONE; posting = posting & ~BIT(me) }; goto Next    /* its word stays Answered */
     :: atomic { word[me] != ANSWERED && lock == FREE -> lock = HELD; next = TO_TAKE_ENTRY }; goto Release
     :: word[me] != ANSWERED -> ENTER; next = TO_TAKE_ENTRY; goto Release
     fi;
@@ -554,7 +554,7 @@ Spins:
     :: word[me] != ANSWERED -> ENTER; goto Turn
     fi;
 Takes: true;
-    d_step { who = reply[me]; reply[me] = NONE; word[me] = EMPTY };
+    d_step { who = reply[me]; reply[me] = NONE; word[me] = (what == WAIT_ANY -> EMPTY : ANSWERED) };
     if
     :: who == FINISHED -> who = 0; goto Next
     :: who == LOOK -> who = 0

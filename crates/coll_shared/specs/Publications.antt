@@ -36,9 +36,9 @@ IsAnswered rank old made es new now fs = (new ≡ old) × AddsNone made now es f
 
 -- what an operation became: it was made, with just its entry, or it was denied; and of a wait what `IsAnswered` says
 abbrev pub IsServed : {L : Type 0} → Setting → ℕ → Content L → ℕ → List Entry → Content L → ℕ → List Entry → Type 0
-IsServed g rank (content.Operation boxed) made es (content.Made t e) now fs = IsMade boxed.value rank t e × Adds e made now es fs
-IsServed g rank (content.Operation boxed) made es content.Look now fs = IsRefused g made boxed.value rank × AddsNone made now es fs
-IsServed g rank (content.Operation boxed) made es new now fs = ⊥
+IsServed g rank (content.Operation operation) made es (content.Made t e) now fs = IsMade operation rank t e × Adds e made now es fs
+IsServed g rank (content.Operation operation) made es content.Look now fs = IsRefused g made operation rank × AddsNone made now es fs
+IsServed g rank (content.Operation operation) made es new now fs = ⊥
 IsServed g rank old made es new now fs = IsAnswered rank old made es new now fs
 
 -- the rank's port waits for nothing

@@ -15,6 +15,7 @@
 //! | `combiner` | `Combiner`, the lock and the records, and what the thread that has the lock does for all |
 //! | `combiner::held` | `Held`, a hold of the lock, which can't be dropped |
 //! | `locked` | `Locked`, what the lock guards |
+//! | `made_plan` | `MadePlan`, a plan for the port and for the combiner |
 //! | `looking` | the calls of a port on it, in words that outlast the hold of the lock |
 //! | `publishing` | posts and starts, which the combiner makes where the lock isn't free |
 //! | `waiter` | waits: to look at the record, to take the lock, and to park |
@@ -41,6 +42,7 @@ mod gate;
 mod inspect;
 mod locked;
 mod looking;
+mod made_plan;
 mod patience;
 mod plans;
 mod port;

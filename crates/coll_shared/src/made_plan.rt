@@ -1,6 +1,6 @@
 //! A plan that a port made, and another one of the same for what it leaves to the combiner.
 
-ghost use Rattle.std.specs.Prelude.{◌≡◌, IfOk, IfSome, IsOkUnless};
+ghost use Rattle.std.specs.Prelude.{◌≡◌, All, IfOk, IfSome};
 
 use coll_kinds::Refusal;
 use coll_plans::{Plan, plan};
@@ -30,7 +30,19 @@ impl Model for MadePlan {
 
     ghost view = { λ m. m.own };
 
-    ghost invariant = { λ m. (m.lent ≡ m.own) × All (λ p. p ≡ m.own) m.ready.items };
+    ghost invariant = { λ m. (m.lent ≡ m.own) × All (λ p. p ≡ m.lent) m.ready.items };
+}
+
+/// Counts more owners of a plan.
+fn count_owners(plan: &Plan, owners: &mut Vec<Plan>)
+    requires { All (λ owner. owner ≡ plan.now) owners.old.items }
+    ensures { All (λ owner. owner ≡ plan.now) owners.new.items }
+{
+    for _owner in 0..READY {
+        if let Ok(owner) = plan.share() {
+            let _ = owners.push(owner);
+        }
+    }
 }
 
 impl MadePlan {
@@ -61,19 +73,8 @@ impl MadePlan {
         ensures same { self.new ≡ self.old }
     {
         if self.ready.is_empty() {
-            self.count_owners();
+            count_owners(&self.lent, &mut self.ready);
         }
         self.ready.pop()
-    }
-
-    /// Counts more owners of the second.
-    fn count_owners(&mut self)
-        ensures { self.new ≡ self.old }
-    {
-        for _owner in 0..READY {
-            if let Ok(owner) = self.lent.share() {
-                let _ = self.ready.push(owner);
-            }
-        }
     }
 }

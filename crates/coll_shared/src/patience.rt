@@ -9,6 +9,8 @@ use std::thread::yield_now;
 /// How a thread waits, before it sleeps.
 #[derive(Clone, Copy, Debug)]
 pub(crate) struct Patience {
+    /// The first looks, between which it only pauses.
+    close: u32,
     /// Looks in all.
     looks: u32,
     /// Looks made so far.
@@ -30,6 +32,7 @@ pub(crate) struct Patience {
 /// Where each thread has a processor of its own. It seldom tries for the lock, since each try takes the lock's word out of the cache of the
 /// thread that has the lock; a port that nobody serves waits for the first try.
 const OWN_PROCESSOR: Patience = Patience {
+    close: 1_000,
     looks: 2_000,
     made: 0,
     tries: 1_023,
@@ -42,6 +45,7 @@ const OWN_PROCESSOR: Patience = Patience {
 
 /// Where threads share processors.
 const SHARED_PROCESSOR: Patience = Patience {
+    close: 20,
     looks: 2_000,
     made: 0,
     tries: 63,
@@ -54,6 +58,7 @@ const SHARED_PROCESSOR: Patience = Patience {
 
 /// Where threads share one processor, and turns are long: nothing changes while it looks.
 const ONE_PROCESSOR_CROWDED: Patience = Patience {
+    close: 0,
     looks: 0,
     made: 0,
     tries: 0,
@@ -94,10 +99,10 @@ const OWN_PROCESSOR_ASKS: u32 = 160;
 /// The same where threads share processors.
 const SHARED_PROCESSOR_ASKS: u32 = 8;
 
-/// The first looks, which follow one another with short pauses alone.
+/// The first looks with the lock, which follow one another with one pause.
 const CLOSE: u32 = 20;
 
-/// Pauses between the later ones with the lock, which take about as long as a short turn.
+/// Pauses between the later ones, which take about as long as a short turn.
 const PAUSES: u32 = 8;
 
 /// A turn of over this many microseconds went to a thread that computes, for a time slice. Another one takes some microseconds.
@@ -341,7 +346,7 @@ impl Processors {
         patience: &mut Patience,
         look: u32,
     ) {
-        if look < CLOSE || !patience.is_turn_due(clock, look) {
+        if look < patience.close || !patience.is_turn_due(clock, look) {
             spin_loop();
         } else if !waits.give(clock) {
             *patience = self.crowded(*patience);

@@ -3,6 +3,7 @@
 ghost use Rattle.std.specs.Prelude.{◌≡◌, ◌<◌, ◌≤◌, None, IfOk, IfSome, IsErrOf, IsOkUnless, IsSome, IsTrue, MatchOption};
 ghost use Rattle.coll_kinds.specs.Checks.{broken};
 
+use crate::made_plan::MadePlan;
 use coll_kinds::{Refusal, Signature};
 use coll_plans::{Plan, plan};
 use std::alloc::Global;
@@ -15,7 +16,7 @@ const MOST: usize = 8;
 #[derive(Drop)]
 pub(crate) struct Plans {
     alloc: Global,
-    plans: Vec<Plan>,
+    plans: Vec<MadePlan>,
 }
 
 /// Whether a plan is that member's of such a collective.
@@ -49,21 +50,40 @@ impl Plans {
             (λ cause. IsErrOf result (Refusal.BadSignature cause)) }
     {
         if let Some(known) = self.known(sig, n, member) {
-            return known.share();
+            return known.own().share();
         }
         let made = plan(self.alloc, *sig, n, member)?;
         self.add(&made);
         Ok(made)
     }
 
+    /// Another plan of the same, by which the combiner makes a post; where the port made none like it, a copy of this one.
+    ///
+    /// # Errors
+    ///
+    /// NoMemory where the plan has as many owners as can be counted.
+    pub(crate) fn lent(&mut self, plan: &Plan) -> Result<Plan, Refusal>
+        ensures plan { IfOk result (λ p. p ≡ plan.now) }
+        ensures refused { IsOkUnless result Refusal.NoMemory }
+    {
+        for made in &mut self.plans {
+            if is_of(made.own(), plan.sig(), plan.n(), plan.member()) {
+                if let Some(lent) = made.lend() {
+                    return Ok(lent);
+                }
+            }
+        }
+        plan.share()
+    }
+
     /// The plan of such a collective, if there is one.
-    fn known(&self, sig: &Signature, n: u8, member: u8) -> Option<&Plan>
-        ensures is { IfSome result (λ plan. plan.now ≡ record { sig = sig.now; n = n; member = member }) }
+    fn known(&self, sig: &Signature, n: u8, member: u8) -> Option<&MadePlan>
+        ensures is { IfSome result (λ made. made.now ≡ record { sig = sig.now; n = n; member = member }) }
         ensures checked { IsSome result → broken sig.now n ≡ None }
     {
-        for plan in &self.plans {
-            if is_of(plan, sig, n, member) {
-                return Some(plan);
+        for made in &self.plans {
+            if is_of(made.own(), sig, n, member) {
+                return Some(made);
             }
         }
         None
@@ -74,8 +94,8 @@ impl Plans {
         if self.plans.len() >= MOST {
             self.plans.clear();
         }
-        if let Ok(copy) = made.share() {
-            let _ = self.plans.push(copy);
+        if let Ok(twice) = MadePlan::of(self.alloc, made) {
+            let _ = self.plans.push(twice);
         }
     }
 }

@@ -17,8 +17,8 @@ use coll_traced::{
 /// What was published, or the answer to it.
 #[derive(Drop)]
 pub(crate) enum Content<L: Entries> {
-    /// A post or a start is to be made. It is boxed, so that a record takes two lines of a cache.
-    Operation(Box<Operation>),
+    /// A post or a start is to be made.
+    Operation(Operation),
     /// The port waits for the request.
     Wait(Ticket),
     /// The post or start was made: its request, and its entry.
@@ -85,12 +85,10 @@ impl<L: Entries> Publication<L> {
     {
         let Publication { content, mut tally } = self;
         let content = match content {
-            Content::Operation(boxed) => {
-                match Box::into_inner(boxed).make(traced, &mut tally, rank) {
-                    Some((ticket, appended)) => Content::Made(ticket, appended),
-                    None => Content::Look,
-                }
-            }
+            Content::Operation(operation) => match operation.make(traced, &mut tally, rank) {
+                Some((ticket, appended)) => Content::Made(ticket, appended),
+                None => Content::Look,
+            },
             Content::Wait(ticket) => {
                 let request = Request::of(ticket);
                 let content = Content::Wait(ticket);

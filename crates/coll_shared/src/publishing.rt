@@ -9,6 +9,7 @@ ghost use Rattle.coll_traced.specs.Prepared.{IsPreparedFor};
 ghost use Rattle.coll_shared.specs.Publications.{IsExpected};
 
 use crate::combiner::{Combiner, Held};
+use crate::plans::Plans;
 use crate::publication::{Content, Expected};
 use crate::record::PublicationRecord;
 use coll_core::{Contribution, Offer};
@@ -32,7 +33,6 @@ impl<L: Entries> Combiner<L> {
     fn have_made<R: Wait + Clock>(
         &self,
         rt: &R,
-        alloc: Global,
         rank: u8,
         operation: Option<Operation>,
         expected: Expected<'_>,
@@ -45,11 +45,8 @@ impl<L: Entries> Combiner<L> {
         let (Some(record), Some(operation)) = (self.record(rank), operation) else {
             return (tally, None);
         };
-        let Ok(boxed) = Box::new(alloc, operation) else {
-            return (tally, None);
-        };
         let before = tally.made();
-        record.publish(rt, Content::Operation(boxed), tally);
+        record.publish(rt, Content::Operation(operation), tally);
         for _ in rt.forever() {
             self.await_made(rt, record);
             if let Some(answer) = record.take_made(rt, rank, expected, before) {
@@ -85,6 +82,7 @@ impl<L: Entries> Combiner<L> {
         alloc: Global,
         rank: u8,
         comm: u32,
+        plans: &mut Plans,
         mut offer: Offer,
         mut tally: Tally<L>,
     ) -> (Tally<L>, Result<(Ticket, Receipt), Refused<Offer>>)
@@ -97,13 +95,16 @@ impl<L: Entries> Combiner<L> {
         let (mut held, prepared) = match self.lead_post(alloc, rank, &mut offer) {
             Some(lead) => lead,
             None => {
-                let operation = Operation::post(alloc, comm, &mut offer);
+                let operation = match plans.lent(&offer.plan) {
+                    Ok(plan) => Operation::post(alloc, comm, plan, &mut offer),
+                    Err(_) => None,
+                };
                 let expected = Expected::Post {
                     comm,
                     sig: offer.plan.sig(),
                     bytes: offer.bytes.as_slice(),
                 };
-                let (back, made) = self.have_made(rt, alloc, rank, operation, expected, tally);
+                let (back, made) = self.have_made(rt, rank, operation, expected, tally);
                 if let Some(made) = made {
                     return (back, Ok(made));
                 }
@@ -142,7 +143,7 @@ impl<L: Entries> Combiner<L> {
                     ticket,
                     bytes: bytes.as_slice(),
                 };
-                let (back, made) = self.have_made(rt, alloc, rank, operation, expected, tally);
+                let (back, made) = self.have_made(rt, rank, operation, expected, tally);
                 if let Some((_ticket, receipt)) = made {
                     return (back, Ok(receipt));
                 }

@@ -8,6 +8,7 @@ use crate::patience::Waits;
 use crate::publication::{Content, Expected, Publication};
 use coll_kinds::Ticket;
 use coll_traced::{Completed, Entries, Receipt, Tally, TracedCore};
+use crossbeam_utils::CachePadded;
 use std::sync::atomic::{AtomicBool, AtomicU64, Ordering};
 use std::sync::{Mutex, MutexGuard, Wait};
 
@@ -26,17 +27,34 @@ const CALLED: u64 = 4;
 /// parked port sleeps on the word.
 #[derive(Drop)]
 pub(crate) struct PublicationRecord<L: Entries> {
-    word: AtomicU64,
+    /// A port that waits looks at it, on lines of its own, while the combiner works on the slot.
+    word: CachePadded<AtomicU64>,
     /// Whether the port served its last call itself. Only the port uses it.
     leads: AtomicBool,
     waits: Waits,
     slot: Mutex<Option<Publication<L>>>,
 }
 
+/// The port has found what it wants in what it took out of the slot, or puts that back.
+fn concluded<L: Entries, T>(
+    mut slot: MutexGuard<'_, Option<Publication<L>>>,
+    found: Result<T, Publication<L>>,
+) -> Option<T>
+    ensures { IfSome result (λ wanted. found ≡ Ok wanted) }
+{
+    match found {
+        Ok(wanted) => Some(wanted),
+        Err(other) => {
+            *slot = Some(other);
+            None
+        }
+    }
+}
+
 impl<L: Entries> PublicationRecord<L> {
     pub(crate) fn new() -> Self {
         PublicationRecord {
-            word: AtomicU64::new(EMPTY),
+            word: CachePadded::new(AtomicU64::new(EMPTY)),
             leads: AtomicBool::new(true),
             waits: Waits::new(),
             slot: Mutex::new(None),
@@ -54,8 +72,11 @@ impl<L: Entries> PublicationRecord<L> {
         &self.waits
     }
 
+    /// Nothing is written where all is as before: each store of an atomic waits until all stores before it are done.
     pub(crate) fn set_leads(&self, leads: bool) {
-        self.leads.store(leads, Ordering::Relaxed);
+        if self.leads() != leads {
+            self.leads.store(leads, Ordering::Relaxed);
+        }
     }
 
     pub(crate) fn is_published(&self) -> bool {
@@ -145,7 +166,7 @@ impl<L: Entries> PublicationRecord<L> {
         }
         let mut slot = self.slot.lock(rt);
         let found = slot.take()?.made(rank, expected, before);
-        self.concluded(slot, found)
+        concluded(slot, found)
     }
 
     /// The same of a wait for one request.
@@ -165,7 +186,7 @@ impl<L: Entries> PublicationRecord<L> {
         }
         let mut slot = self.slot.lock(rt);
         let found = slot.take()?.completed(rank, request, before);
-        self.concluded(slot, found)
+        concluded(slot, found)
     }
 
     /// The port gives its wait up, and takes its tally back.
@@ -174,28 +195,9 @@ impl<L: Entries> PublicationRecord<L> {
     {
         let mut slot = self.slot.try_lock()?;
         let found = slot.take()?.taken_back(before);
-        self.concluded(slot, found)
-    }
-
-    /// The port has found what it wants in what it took out of the slot, or puts that back.
-    fn concluded<T>(
-        &self,
-        mut slot: MutexGuard<'_, Option<Publication<L>>>,
-        found: Result<T, Publication<L>>,
-    ) -> Option<T>
-        ensures { IfSome result (λ wanted. found ≡ Ok wanted) }
-    {
-        match found {
-            Ok(wanted) => {
-                drop(slot);
-                self.word.store(EMPTY, Ordering::SeqCst);
-                Some(wanted)
-            }
-            Err(other) => {
-                *slot = Some(other);
-                None
-            }
-        }
+        let tally = concluded(slot, found)?;
+        self.word.store(EMPTY, Ordering::SeqCst);
+        Some(tally)
     }
 
     /// The port, which waited for a list, goes on.

@@ -42,9 +42,15 @@ impl<L: Entries> Port<L> {
         let Some(tally) = self.tally.take() else {
             unreachable!()
         };
-        let (tally, posted) = self
-            .combiner
-            .post(rt, self.alloc, self.rank, comm, offer, tally);
+        let (tally, posted) = self.combiner.post(
+            rt,
+            self.alloc,
+            self.rank,
+            comm,
+            &mut self.plans,
+            offer,
+            tally,
+        );
         self.tally = Some(tally);
         match posted {
             Ok((ticket, receipt)) => Ok((Request::of(ticket), receipt)),
