@@ -16,7 +16,7 @@ use std::alloc::Global;
 /// How many bytes an operation gives at most: its port compares those of the answer with its own, and with more it waits for the engine.
 const SHORT: usize = 64;
 
-/// A post or a start that one thread leaves to another. What a post keeps is made by who makes it.
+/// A post or a start that one thread leaves to another. What a post keeps is made by the thread that makes it.
 #[derive(Drop)]
 pub enum Operation {
     Post(PostOperation),
