@@ -150,19 +150,28 @@ fn copied(bytes: &[u8], room: Vec<u8>) -> Vec<u8>
     copy
 }
 
-// A row that begins with a few bytes. Those of one number are copied as one word.
+/// Copies bytes over others, of which there are as many. Those of one number are copied as one word.
+#[inline(always)]
+pub fn copy_few(from: &[u8], into: &mut [u8])
+    requires same { length from.now ≡ length into.old }
+    ensures { into.new ≡ from.now }
+{
+    match from.len() {
+        0 => {}
+        4 => into[..4].copy_from_slice(from),
+        8 => into[..8].copy_from_slice(from),
+        _ => into.copy_from_slice(from),
+    }
+}
+
+// A row that begins with a few bytes.
 #[inline(always)]
 fn row_of(bytes: &[u8]) -> [u8; FEW]
     requires { length bytes.now ≤ FEW }
     ensures { take (length bytes.now) result ≡ bytes.now }
 {
     let mut row = [0; FEW];
-    match bytes.len() {
-        0 => {}
-        4 => row[..4].copy_from_slice(bytes),
-        8 => row[..8].copy_from_slice(bytes),
-        len => row[..len].copy_from_slice(bytes),
-    }
+    copy_few(bytes, &mut row[..bytes.len()]);
     row
 }
 

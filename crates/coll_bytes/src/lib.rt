@@ -16,6 +16,6 @@ mod segment;
 mod segments;
 mod shell;
 
-pub use bytes::{Bytes, FEW};
+pub use bytes::{Bytes, FEW, copy_few};
 pub use segments::{Segments, WRITES_IN_PLACE};
 pub use shell::Shell;

@@ -2,7 +2,7 @@ ghost use Rattle.std.specs.Prelude.{◌≡◌, ◌≤◌, [], length};
 ghost use Rattle.coll_sched.specs.Families.{laid_in};
 ghost use Rattle.coll_sched.specs.Regions.{Inside, written};
 
-use coll_bytes::FEW;
+use coll_bytes::{FEW, copy_few};
 use coll_sched::{Region, Schedule};
 use std::marker::Model;
 
@@ -26,7 +26,7 @@ impl Model for Row {
     ghost invariant = { λ r. (r.len ≤ FEW) × (r.len ≤ length r.row) };
 }
 
-/// Writes bytes into a region. Those of one number are copied at one time.
+/// Writes a few bytes into a region.
 #[inline(always)]
 fn write_few(into: Region, bytes: &[u8], buf: &mut [u8])
     requires inside { Inside (length buf.old) into }
@@ -34,12 +34,7 @@ fn write_few(into: Region, bytes: &[u8], buf: &mut [u8])
     ensures { buf.new ≡ written buf.old into bytes.now }
 {
     let at = into.at as usize;
-    match bytes.len() {
-        0 => {}
-        4 => buf[at..at + 4].copy_from_slice(bytes),
-        8 => buf[at..at + 8].copy_from_slice(bytes),
-        len => buf[at..at + len].copy_from_slice(bytes),
-    }
+    copy_few(bytes, &mut buf[at..at + bytes.len()]);
 }
 
 impl Row {

@@ -3,6 +3,7 @@ ghost use Rattle.coll_kinds.specs.Checks.{allowed};
 ghost use Rattle.coll_kinds.specs.Elements.{width};
 ghost use Rattle.coll_ops.specs.Combinations.{combined as combination};
 
+use coll_bytes::copy_few;
 use coll_kinds::{Datatype, Op};
 use coll_ops::combine_into;
 use std::marker::Model;
@@ -28,21 +29,6 @@ impl Model for Word {
     ghost invariant = { λ w. (w.len ≤ WORD) × (w.len ≤ length w.row) };
 }
 
-/// A row that begins with these bytes. Those of one number are copied at one time.
-#[inline(always)]
-fn row_of(bytes: &[u8]) -> [u8; WORD]
-    requires { length bytes.now ≤ WORD }
-    ensures { take (length bytes.now) result ≡ bytes.now }
-{
-    let mut row = [0; WORD];
-    match bytes.len() {
-        4 => row[..4].copy_from_slice(bytes),
-        8 => row[..8].copy_from_slice(bytes),
-        len => row[..len].copy_from_slice(bytes),
-    }
-    row
-}
-
 /// The combination of two operands, `left` being the first.
 #[inline(always)]
 pub(crate) fn combined_words(op: Op, ty: Datatype, left: &Word, right: &Word) -> Word
@@ -62,9 +48,11 @@ impl Word {
         requires { length bytes.now ≤ WORD }
         ensures { result ≡ bytes.now }
     {
+        let mut row = [0; WORD];
+        copy_few(bytes, &mut row[..bytes.len()]);
         Word {
             len: bytes.len() as u8,
-            row: row_of(bytes),
+            row,
         }
     }
 
