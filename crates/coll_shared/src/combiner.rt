@@ -25,7 +25,7 @@ const ROUNDS: u32 = 4;
 #[derive(Drop)]
 pub(crate) struct Combiner<L: Entries> {
     locked: Mutex<Locked<L>>,
-    records: Vec<CachePadded<PublicationRecord<L>>>,
+    records: Vec<PublicationRecord<L>>,
     /// How many threads ask for the lock itself.
     wanted: CachePadded<AtomicU64>,
     /// Where progress threads sleep.
@@ -48,7 +48,7 @@ impl<L: Entries> Combiner<L> {
     {
         let mut records = Vec::with_capacity(alloc, usize::from(ranks))?;
         for _rank in 0..ranks {
-            records.push(CachePadded::new(PublicationRecord::new()))?;
+            records.push(PublicationRecord::new())?;
         }
         Ok(Combiner {
             locked: Mutex::new(Locked::new(traced)),
@@ -63,8 +63,7 @@ impl<L: Entries> Combiner<L> {
 
     /// The record of a rank.
     pub(crate) fn record(&self, rank: u8) -> Option<&PublicationRecord<L>> {
-        let record = self.records.get(usize::from(rank))?;
-        Some(&**record)
+        self.records.get(usize::from(rank))
     }
 
     /// Takes the lock, unless a thread has it. Neither this nor `release` waits.

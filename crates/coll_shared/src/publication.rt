@@ -1,9 +1,10 @@
 //! What lies in a publication record.
 
-ghost use Rattle.std.specs.Prelude.{◌≡◌, ◌↔◌, ◌+◌, IfErr, IfNone, IfOk, IfSome, IsTrue};
+ghost use Rattle.std.specs.Prelude.{◌≡◌, ◌↔◌, ◌+◌, IfErr, IfNone, IfOk, IfSome, IsTrue, slice_set};
 ghost use Rattle.std.specs.Bool.{OnFalse, OnTrue};
 ghost use Rattle.coll_report.specs.Views.{seen};
-ghost use Rattle.coll_shared.specs.Publications.{IsAnswered, IsAwake, IsExpected, IsRegistered, IsServed, IsWait};
+ghost use Rattle.coll_traced.specs.Waits.{ForOne};
+ghost use Rattle.coll_shared.specs.Publications.{IsAnswered, IsAwake, IsExpected, IsPending, IsRegistered, IsServed, IsWait};
 
 use coll_complete::{Request, Requests};
 use coll_core::Phase;
@@ -13,6 +14,7 @@ use coll_traced::{
     Appended, Awaited, Completed, Entries, Operation, Receipt, Tally, TracedCore, posted_in,
     started_in,
 };
+use std::mem;
 
 /// What was published, or the answer to it.
 #[derive(Drop)]
@@ -32,8 +34,8 @@ pub(crate) enum Content<L: Entries> {
 /// It lies in a record, with its port's tally.
 #[derive(Drop)]
 pub(crate) struct Publication<L: Entries> {
-    pub(crate) content: Content<L>,
     pub(crate) tally: Tally<L>,
+    pub(crate) content: Content<L>,
 }
 
 /// The post or start that a port published, by which the port recognises its answer.
@@ -74,53 +76,72 @@ fn is_one_more<L: Entries>(tally: &Tally<L>, before: u64) -> bool
     made > 0 && made - 1 == before
 }
 
+/// Registers the rank's port, which waits for the request. Returns whether it has to wait.
+#[inline(always)]
+fn has_to_wait<L: Entries>(traced: &mut TracedCore<L>, rank: u8, ticket: Ticket) -> bool
+    ensures entries { traced.new.entries ≡ traced.old.entries }
+    ensures registered { IsTrue result → traced.new.waits ≡ slice_set traced.old.waits rank (ForOne rank ticket) }
+    ensures pending { IsTrue result → IsPending traced.new.core rank ticket }
+{
+    let request = Request::of(ticket);
+    match traced.register(rank, Awaited::One(&request)) {
+        Ok(true) => matches!(Requests::phase(traced, rank, ticket), Ok(Phase::Pending)),
+        _ => false,
+    }
+}
+
 impl<L: Entries> Publication<L> {
+    /// Makes the operation that was published; the port is to look itself where that is refused.
+    #[inline(always)]
+    fn make(&mut self, traced: &mut TracedCore<L>, rank: u8)
+        ensures { IsServed L.setting rank self.old.content self.old.tally traced.old.entries self.new.content self.new.tally traced.new.entries }
+    {
+        match mem::replace(&mut self.content, Content::Look) {
+            Content::Operation(operation) => {
+                if let Some((ticket, appended)) = operation.make(traced, &mut self.tally, rank) {
+                    self.content = Content::Made(ticket, appended);
+                }
+            }
+            content => self.content = content,
+        }
+    }
+
     /// Does what was published, or registers the port's wait. Returns whether an answer is in it; then the port is awake.
     #[inline(always)]
-    pub(crate) fn served(self, traced: &mut TracedCore<L>, rank: u8) -> (Publication<L>, bool)
-        ensures served { IsServed L.setting rank self.content self.tally traced.old.entries result.0.content result.0.tally traced.new.entries }
-        ensures awake { OnTrue result.1 (IsAwake rank traced.new.waits) }
-        ensures registered { OnFalse result.1 (IsRegistered rank self.content traced.old.waits traced.new.waits) }
-        ensures pending { OnFalse result.1 (IsWait traced.new.core rank self.content) }
+    pub(crate) fn serve(&mut self, traced: &mut TracedCore<L>, rank: u8) -> bool
+        ensures served { IsServed L.setting rank self.old.content self.old.tally traced.old.entries self.new.content self.new.tally traced.new.entries }
+        ensures awake { OnTrue result (IsAwake rank traced.new.waits) }
+        ensures registered { OnFalse result (IsRegistered rank self.old.content traced.old.waits traced.new.waits) }
+        ensures pending { OnFalse result (IsWait traced.new.core rank self.old.content) }
     {
-        let Publication { content, mut tally } = self;
-        let content = match content {
-            Content::Operation(operation) => match operation.make(traced, &mut tally, rank) {
-                Some((ticket, appended)) => Content::Made(ticket, appended),
-                None => Content::Look,
-            },
+        match &self.content {
+            Content::Operation(_) => self.make(traced, rank),
             Content::Wait(ticket) => {
-                let request = Request::of(ticket);
-                let content = Content::Wait(ticket);
-                if let Ok(true) = traced.register(rank, Awaited::One(&request)) {
-                    if let Ok(Phase::Pending) = Requests::phase(traced, rank, ticket) {
-                        return (Publication { content, tally }, false);
-                    }
+                let ticket = *ticket;
+                if has_to_wait(traced, rank, ticket) {
+                    return false;
                 }
-                content
             }
-            content => content,
-        };
-        (Publication { content, tally }.answered(traced, rank), true)
+            _ => {}
+        }
+        self.answer(traced, rank);
+        true
     }
 
     /// Answers a registered port, which is awake then: it completes the request that the port waits for, where that is Done; else the
     /// port is to look itself.
     #[inline(always)]
-    pub(crate) fn answered(self, traced: &mut TracedCore<L>, rank: u8) -> Publication<L>
-        ensures answered { IsAnswered rank self.content self.tally traced.old.entries result.content result.tally traced.new.entries }
+    pub(crate) fn answer(&mut self, traced: &mut TracedCore<L>, rank: u8)
+        ensures answered { IsAnswered rank self.old.content self.old.tally traced.old.entries self.new.content self.new.tally traced.new.entries }
         ensures awake { IsAwake rank traced.new.waits }
     {
-        let Publication { content, mut tally } = self;
-        let content = match content {
-            Content::Wait(_ticket) => match traced.complete_for(&mut tally, rank) {
+        if let Content::Wait(_) = &self.content {
+            self.content = match traced.complete_for(&mut self.tally, rank) {
                 Some(completed) => Content::Completed(completed),
                 None => Content::Look,
-            },
-            content => content,
-        };
+            };
+        }
         traced.wake(rank);
-        Publication { content, tally }
     }
 
     /// The answer to a post or start that a port published which had made `before` entries: its tally, with the request and what

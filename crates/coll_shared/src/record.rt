@@ -32,7 +32,8 @@ pub(crate) struct PublicationRecord<L: Entries> {
     /// Whether the port served its last call itself. Only the port uses it.
     leads: AtomicBool,
     waits: Waits,
-    slot: Mutex<Option<Publication<L>>>,
+    /// On lines of its own too, so that the port keeps those before it while the combiner writes here.
+    slot: CachePadded<Mutex<Option<Publication<L>>>>,
 }
 
 /// The port has found what it wants in what it took out of the slot, or puts that back.
@@ -57,7 +58,7 @@ impl<L: Entries> PublicationRecord<L> {
             word: CachePadded::new(AtomicU64::new(EMPTY)),
             leads: AtomicBool::new(true),
             waits: Waits::new(),
-            slot: Mutex::new(None),
+            slot: CachePadded::new(Mutex::new(None)),
         }
     }
 
@@ -120,11 +121,10 @@ impl<L: Entries> PublicationRecord<L> {
         let Some(mut slot) = self.slot.try_lock() else {
             return false;
         };
-        let Some(publication) = slot.take() else {
+        let Some(publication) = &mut *slot else {
             return false;
         };
-        let (publication, is_over) = publication.served(traced, rank);
-        *slot = Some(publication);
+        let is_over = publication.serve(traced, rank);
         drop(slot);
         let word = if is_over { ANSWERED } else { REGISTERED };
         self.word.store(word, Ordering::SeqCst);
@@ -140,8 +140,8 @@ impl<L: Entries> PublicationRecord<L> {
         let Some(mut slot) = self.slot.try_lock() else {
             return false;
         };
-        if let Some(publication) = slot.take() {
-            *slot = Some(publication.answered(traced, rank));
+        if let Some(publication) = &mut *slot {
+            publication.answer(traced, rank);
         }
         drop(slot);
         traced.wake(rank);
