@@ -1,6 +1,6 @@
 //! Times what the engine is made of. A word on the command line names a part: `reductions` of rows of bytes, `calls` of the
-//! core, or `operations` over ports in threads; with a second word it is timed. Without a word each part is run once, and
-//! prints what it did.
+//! core, or `operations` over ports in threads; with a second word it is timed. `operations times MEASURE RANKS` times one
+//! measure alone, by its number from 1. Without a word each part is run once, and prints what it did.
 #![tactic(auto)]
 
 mod bench;
@@ -26,6 +26,9 @@ fn main(rt: HostRuntime) -> anyhow::Result<()> {
     let mut words = env::args(&rt)?.skip(1);
     let named = words.next();
     let is_timed = words.next().is_some();
+    if let (Some(measure), Some(ranks)) = (words.next(), words.next()) {
+        return operations::time_one(&rt, rt.alloc(), measure.parse()?, ranks.parse()?);
+    }
     if is_wanted(&named, "reductions") {
         reductions::run(&rt, is_timed)?;
     }

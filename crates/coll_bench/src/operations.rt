@@ -9,6 +9,24 @@ use std::rt::Clock;
 use std::sync::Wait;
 use std::thread::Threads;
 
+/// The median of a measure's samples, in nanoseconds a collective.
+fn median<R: Threads + Wait + Clock + Sync>(
+    rt: &R,
+    alloc: Global,
+    measure: Measure,
+    threads: ThreadCounts,
+) -> anyhow::Result<u128> {
+    let task = Measurement {
+        measure,
+        samples: measure.samples(),
+        turns: measure.turns(threads.ranks),
+    };
+    let mut times = run_task(rt, alloc, threads, task)?;
+    times.sort_unstable();
+    let median = times.get(times.len() / 2).copied().unwrap_or(0);
+    Ok(median.checked_div(u128::from(task.turns)).unwrap_or(0))
+}
+
 /// Prints a row: the median of a measure for each number of ranks and of progress threads.
 fn row<R: Threads + Wait + Clock + Print + Sync>(
     rt: &R,
@@ -18,16 +36,8 @@ fn row<R: Threads + Wait + Clock + Print + Sync>(
     print!(rt; "{measure}:")?;
     for workers in [0u8, 2] {
         for ranks in [2u8, 4, 8] {
-            let task = Measurement {
-                measure,
-                samples: measure.samples(),
-                turns: measure.turns(ranks),
-            };
-            let mut times = run_task(rt, alloc, ThreadCounts { ranks, workers }, task)?;
-            times.sort_unstable();
-            let median = times.get(times.len() / 2).copied().unwrap_or(0);
-            let turns = u128::from(task.turns);
-            print!(rt; " {}", median.checked_div(turns).unwrap_or(0))?;
+            let median = median(rt, alloc, measure, ThreadCounts { ranks, workers })?;
+            print!(rt; " {median}")?;
         }
     }
     println!(rt;)?;
@@ -51,6 +61,26 @@ fn once<R: Threads + Wait + Clock + Print + Sync>(
     };
     let times = run_task(rt, alloc, threads, task)?;
     println!(rt; "{measure}: {} sample", times.len())?;
+    Ok(())
+}
+
+/// Prints the median of one measure, by its number from 1, without progress threads.
+///
+/// # Errors
+///
+/// Where no measure has the number, or there are no such ranks.
+pub fn time_one<R: Threads + Wait + Clock + Print + Sync>(
+    rt: &R,
+    alloc: Global,
+    number: usize,
+    ranks: u8,
+) -> anyhow::Result<()> {
+    let Some(measure) = number.checked_sub(1).and_then(|at| Measure::ALL.get(at)) else {
+        anyhow::bail!("measures are 1 to {}", Measure::ALL.len());
+    };
+    anyhow::ensure!((1..=64).contains(&ranks), "ranks are 1 to 64");
+    let median = median(rt, alloc, *measure, ThreadCounts { ranks, workers: 0 })?;
+    println!(rt; "{median}")?;
     Ok(())
 }
 
