@@ -26,9 +26,6 @@ fn main(rt: HostRuntime) -> anyhow::Result<()> {
     let mut words = env::args(&rt)?.skip(1);
     let named = words.next();
     let is_timed = words.next().is_some();
-    if let (Some(measure), Some(ranks)) = (words.next(), words.next()) {
-        return operations::time_one(&rt, rt.alloc(), measure.parse()?, ranks.parse()?);
-    }
     if is_wanted(&named, "reductions") {
         reductions::run(&rt, is_timed)?;
     }
@@ -36,7 +33,13 @@ fn main(rt: HostRuntime) -> anyhow::Result<()> {
         calls::run(&rt, is_timed)?;
     }
     if is_wanted(&named, "operations") {
-        operations::run(&rt, rt.alloc(), is_timed)?;
+        match (words.next(), words.next()) {
+            (None, _) => operations::run(&rt, rt.alloc(), is_timed)?,
+            (Some(measure), Some(ranks)) => {
+                operations::time_one(&rt, rt.alloc(), measure.parse()?, ranks.parse()?)?;
+            }
+            (Some(_), None) => anyhow::bail!("after times stand a measure and the ranks"),
+        }
     }
     Ok(())
 }
