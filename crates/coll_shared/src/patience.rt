@@ -17,6 +17,8 @@ pub(crate) struct Patience {
     made: u32,
     /// It tries to take the lock at the looks whose number has all of these bits.
     tries: u32,
+    /// The same after it has had the lock and given it up with nothing ready, as long as it gives turns: nobody else may take the lock soon.
+    tries_again: u32,
     /// Looks in a row while it holds the lock, before it gives the lock up.
     holds: u32,
     /// Whether it gives turns to other threads between its looks.
@@ -36,6 +38,7 @@ const OWN_PROCESSOR: Patience = Patience {
     looks: 2_000,
     made: 0,
     tries: 1_023,
+    tries_again: 1_023,
     holds: 1_250,
     gives_turns: true,
     turns: TURNS,
@@ -43,13 +46,15 @@ const OWN_PROCESSOR: Patience = Patience {
     is_short: false,
 };
 
-/// Where threads share processors.
+/// Where threads share processors. A port looks only shortly while it holds the lock, since ranks that it waits for may need its processor. It tries
+/// again soon: the others give a turn between their looks, so they would take the lock late.
 const SHARED_PROCESSOR: Patience = Patience {
     close: 20,
     looks: 2_000,
     made: 0,
-    tries: 63,
-    holds: 200,
+    tries: SHARED_PROCESSOR_TRIES,
+    tries_again: 1,
+    holds: 10,
     gives_turns: true,
     turns: TURNS,
     since: 0,
@@ -62,6 +67,7 @@ const ONE_PROCESSOR_CROWDED: Patience = Patience {
     looks: 0,
     made: 0,
     tries: 0,
+    tries_again: 0,
     holds: 0,
     gives_turns: false,
     turns: TURNS,
@@ -69,8 +75,8 @@ const ONE_PROCESSOR_CROWDED: Patience = Patience {
     is_short: true,
 };
 
-/// Looks in a row with the lock where turns are long and threads share processors.
-const CROWDED_HOLDS: u32 = 50;
+/// The looks at which a thread tries to take the lock where threads share processors, as `Patience` has them.
+const SHARED_PROCESSOR_TRIES: u32 = 63;
 
 /// The turns that a thread with a processor of its own gives before it sleeps, where turns are long. A thread that sleeps may be woken on the
 /// processor of the one that wakes it, and the two share that processor for many time slices.
@@ -158,6 +164,13 @@ impl Patience {
             self.turns = self.turns.saturating_sub(1);
         }
         is_due
+    }
+
+    /// It has had the lock, and given it up with nothing ready.
+    pub(crate) fn has_held(&mut self) {
+        if self.gives_turns {
+            self.tries = self.tries_again;
+        }
     }
 
     /// The same with few looks.
@@ -313,7 +326,7 @@ impl Processors {
             return ONE_PROCESSOR_CROWDED;
         }
         if !self.has_each_its_own() {
-            patience.holds = CROWDED_HOLDS;
+            patience.tries = SHARED_PROCESSOR_TRIES;
         } else if !patience.is_short {
             patience.looks = u32::MAX;
         }

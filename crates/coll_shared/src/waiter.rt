@@ -72,7 +72,11 @@ impl<L: Entries> Combiner<L> {
         let mut slept = false;
         for _ in rt.forever() {
             let turn = match held {
-                Some(held) => self.turn(rt, gate, held, rank, record, patience)?,
+                Some(held) => {
+                    let turn = self.turn(rt, gate, held, rank, record, patience)?;
+                    patience.has_held();
+                    turn
+                }
                 None => Turn::Spin,
             };
             let found = match turn {
