@@ -10,7 +10,7 @@ import sys
 
 CRATES = pathlib.Path(__file__).resolve().parent.parent / "crates"
 # Those whose functions a program calls; of the others that library_example uses, it names types alone.
-CALLED = ["coll_kinds", "coll_plans", "coll_core", "coll_complete", "coll_engine", "coll_shared"]
+CALLED = ["coll_kinds", "coll_plans", "coll_core", "coll_complete", "coll_serial", "coll_shared"]
 
 
 def words(text):

@@ -9,9 +9,9 @@ use Rattle.coll_kinds.specs.declared.ticket.Ticket.{Ticket}
 use Rattle.coll_machine.specs.Common.{AreGroups, Machine, Request, Setting, found, refusal}
 use Rattle.coll_machine.specs.Calls.{Retire}
 use Rattle.coll_plans.specs.Hearings.{hears_here}
-use Rattle.coll_tables.specs.FreeLocks.{FreeLock}
-use Rattle.coll_history.specs.declared.command.Command.{Command}
-use Rattle.coll_history.specs.declared.command.Command.TheVariants.{Init}
+use Rattle.coll_refinement.specs.FreeLocks.{FreeLock}
+use Rattle.coll_parser.specs.declared.command.Command.{Command}
+use Rattle.coll_parser.specs.declared.command.Command.TheVariants.{Init}
 use Rattle.coll_verdict.specs.Standings.{NoneDone, Standing, active_in, is_active, is_done, is_pending}
 use Rattle.coll_verdict.specs.Stalls.{Waits, lines_of}
 use Rattle.coll_verdict.specs.Stalls as stalls

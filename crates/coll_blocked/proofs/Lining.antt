@@ -3,7 +3,7 @@ use Rattle.std.proofs.Common.{◌≡◌, ℕ, zero, suc, ◌<◌, ◌≤◌, ◌
 use Rattle.std.proofs.lemmas.Bool.{cases_eq, cases_lt}
 use Rattle.std.proofs.lemmas.Option.{none-some}
 use Rattle.std.specs.Prelude.{replicate, slice_get, slice_set}
-use Rattle.coll_history.specs.declared.command.Command.{Command}
+use Rattle.coll_parser.specs.declared.command.Command.{Command}
 use Rattle.coll_verdict.specs.Standings.{beginning}
 use Rattle.coll_traced.specs.Waits.{Awake}
 use Rattle.coll_blocked.specs.Lines.{IsAtLine, awake}

@@ -6,7 +6,7 @@ use Rattle.coll_kinds.specs.Common.{put}
 use Rattle.coll_kinds.proofs.Puts.{put_other}
 use Rattle.coll_machine.specs.Common.{Machine, MayFinish, Setting}
 use Rattle.coll_plans.specs.Hearings.{hears_here}
-use Rattle.coll_history.specs.declared.command.Command.{Command}
+use Rattle.coll_parser.specs.declared.command.Command.{Command}
 use Rattle.coll_verdict.specs.Standings.{Carries, Holding, Standing, beginning, carried_out}
 use Rattle.coll_verdict.specs.Stalls.{lines_of}
 use Rattle.coll_verdict.specs.Waiting.{ReachesBy, StepsBy}

@@ -13,7 +13,7 @@ use Rattle.coll_machine.specs.Common.{Setting, State, Machine, Request, found, n
 use Rattle.coll_machine.specs.Calls as calls
 use Rattle.coll_machine.specs.Machines as machines
 use Rattle.coll_machine.proofs.Accepted.{found_is}
-use Rattle.coll_history.specs.declared.command.Command.{Command}
+use Rattle.coll_parser.specs.declared.command.Command.{Command}
 use Rattle.coll_verdict.specs.Standings.{Holding, Standing, Completes, Carries, holding_at, kept, one_more}
 use Rattle.coll_verdict.specs.Standings as standings
 use Rattle.coll_verdict.specs.Waiting.{Hearing, ReachesBy, StepsBy}

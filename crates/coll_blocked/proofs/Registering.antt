@@ -5,7 +5,7 @@ use Rattle.std.specs.List.{cons_option, list_any}
 use Rattle.coll_kinds.specs.declared.ticket.Ticket.{Ticket}
 use Rattle.coll_kinds.specs.Common.{is_among}
 use Rattle.coll_machine.specs.Common.{Machine, Request, found}
-use Rattle.coll_history.specs.declared.command.Command.TheVariants.{Wait, WaitAll, WaitAny, WaitSome}
+use Rattle.coll_parser.specs.declared.command.Command.TheVariants.{Wait, WaitAll, WaitAny, WaitSome}
 use Rattle.coll_verdict.specs.Standings.{Holding, active_in, is_active}
 use Rattle.coll_core.specs.Phases.{phase_by, phase_of}
 use Rattle.coll_core.specs.declared.phase.Phase.{Phase}

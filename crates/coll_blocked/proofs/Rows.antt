@@ -3,8 +3,8 @@ use Rattle.std.proofs.Common.{◌≡◌, ℕ, ◌⊎◌, inl, inr, false, ltb, L
 use Rattle.std.proofs.lemmas.Bool.{cases_eq}
 use Rattle.std.proofs.lemmas.Option.{none-some, same_Some}
 use Rattle.std.specs.Prelude.{slice_get}
-use Rattle.coll_history.specs.declared.command.Command.{Command}
-use Rattle.coll_history.specs.declared.command.Command.TheVariants.{WaitAll}
+use Rattle.coll_parser.specs.declared.command.Command.{Command}
+use Rattle.coll_parser.specs.declared.command.Command.TheVariants.{WaitAll}
 use Rattle.coll_verdict.specs.Standings.{Holding}
 use Rattle.coll_verdict.specs.Stalls.{lines_of}
 use Rattle.coll_verdict.specs.Rows.{lone, only_ticket}

@@ -11,7 +11,7 @@ use Rattle.coll_machine.specs.Common.{Setting, State, Machine, Request, found, n
 use Rattle.coll_machine.specs.Calls as calls
 use Rattle.coll_machine.specs.Machines as machines
 use Rattle.coll_machine.proofs.Accepted.{found_is, started_mine, retired_mine, freed_mine}
-use Rattle.coll_history.specs.declared.command.Command.{Command}
+use Rattle.coll_parser.specs.declared.command.Command.{Command}
 use Rattle.coll_verdict.specs.Standings.{Holding, Standing, Completes, Carries, active_in, holding_at, is_active, kept}
 use Rattle.coll_verdict.specs.Standings as standings
 use Rattle.coll_verdict.specs.Waiting.{Hearing, ReachesBy, StepsBy}

@@ -2,8 +2,8 @@
 use Rattle.std.specs.Prelude.{◌≡◌, true, map}
 use Rattle.std.specs.List.{list_any}
 use Rattle.coll_machine.specs.Common.{Machine}
-use Rattle.coll_history.specs.declared.command.Command.{Command}
-use Rattle.coll_history.specs.declared.command.Command.TheVariants.{Wait, WaitAll, WaitSome, WaitAny}
+use Rattle.coll_parser.specs.declared.command.Command.{Command}
+use Rattle.coll_parser.specs.declared.command.Command.TheVariants.{Wait, WaitAll, WaitSome, WaitAny}
 use Rattle.coll_complete.specs.Requests.{is_active, is_pending}
 use Rattle.coll_traced.specs.declared.awaited.Awaited.{Awaited}
 use Rattle.coll_traced.specs.declared.awaited.Awaited.TheVariants as awaited

@@ -2,8 +2,8 @@
 use Rattle.std.specs.Prelude.{◌≡◌, ◌≤◌, ◌⊎◌, ℕ, List, [], Some, replicate, slice_get, slice_set}
 use Rattle.coll_machine.specs.Common.{Machine, MayFinish, Setting}
 use Rattle.coll_plans.specs.Hearings.{hears_here}
-use Rattle.coll_history.specs.declared.command.Command.{Command}
-use Rattle.coll_history.specs.Histories.{History}
+use Rattle.coll_parser.specs.declared.command.Command.{Command}
+use Rattle.coll_parser.specs.Histories.{History}
 use Rattle.coll_verdict.specs.Standings.{Holding, Standing, AtEnd, beginning}
 use Rattle.coll_verdict.specs.Stalls.{lines_of}
 use Rattle.coll_verdict.specs.Waiting.{Hearing, ReachesBy, StepsBy, IsStalledBy, StallsAlwaysBy, StallsNeverBy}

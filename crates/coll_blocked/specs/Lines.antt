@@ -3,8 +3,8 @@ use Rattle.std.specs.Prelude.{◌≡◌, ℕ, true, List, Contains, slice_get, S
 use Rattle.coll_kinds.specs.declared.ticket.Ticket.{Ticket}
 use Rattle.coll_kinds.specs.Common.{is_among}
 use Rattle.coll_machine.specs.Common.{Machine}
-use Rattle.coll_history.specs.declared.command.Command.{Command}
-use Rattle.coll_history.specs.declared.command.Command.TheVariants.{Wait, WaitAll, WaitSome, WaitAny}
+use Rattle.coll_parser.specs.declared.command.Command.{Command}
+use Rattle.coll_parser.specs.declared.command.Command.TheVariants.{Wait, WaitAll, WaitSome, WaitAny}
 use Rattle.coll_verdict.specs.Standings.{Holding, Standing, is_active}
 use Rattle.coll_traced.specs.Waits.{WaitFor, Awake, ForOne, ForAny}
 

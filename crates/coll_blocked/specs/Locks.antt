@@ -1,8 +1,8 @@
 -- What lies under an engine's lock, from one call to the next, where the ranks of a job carry their lines out, each by calls on its own port.
 use Rattle.std.specs.Prelude.{◌≡◌, ◌≤◌, ℕ, List, [], Some, replicate, slice_get, slice_set}
 use Rattle.coll_machine.specs.Common.{AreGroups, Machine, MayFinish}
-use Rattle.coll_tables.specs.FreeLocks.{FreeLock}
-use Rattle.coll_history.specs.declared.command.Command.{Command}
+use Rattle.coll_refinement.specs.FreeLocks.{FreeLock}
+use Rattle.coll_parser.specs.declared.command.Command.{Command}
 use Rattle.coll_verdict.specs.Standings.{Holding, Standing, beginning, carried_out, Carries}
 use Rattle.coll_core.specs.BetweenCalls.{BetweenCalls}
 use Rattle.coll_core.specs.Configs.{idle}

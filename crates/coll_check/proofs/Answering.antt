@@ -1,7 +1,7 @@
 -- What is read decides how it is checked.
 use Rattle.std.proofs.Common.{◌≡◌, ℕ, List, take, Option, Some, None, sym, ap, subst, ◌∙◌}
 use Rattle.std.specs.Prelude.{IfOk, IfSome, IsOk, MatchResult, Result, Ok, Err, true, false, is_ok}
-use Rattle.coll_history.specs.declared.fault.Fault.{Fault}
+use Rattle.coll_parser.specs.declared.fault.Fault.{Fault}
 use Rattle.coll_script.specs.declared.fault.JobFault.{JobFault}
 use Rattle.coll_script.specs.declared.fault.JobFault.TheVariants.{Read, Write, Text, Stalled, Refused, Memory, NoThread, Torn}
 use Rattle.coll_script.specs.Meaning.{meaning, HasMeaning}

@@ -1,7 +1,7 @@
 -- How reports follow one another.
 use Rattle.std.proofs.Common.{◌≡◌, ◌<◌, ◌+◌, ℕ, Bool, List, [], ◌∷◌, ◌++◌, length, map, take, get_or, refl, ap, sym, subst, ◌∙◌, append_assoc, arith}
 use Rattle.std.proofs.lemmas.List.{append-nil, length-map, map-append, take_more}
-use Rattle.coll_history.specs.declared.fault.Fault.{Fault}
+use Rattle.coll_parser.specs.declared.fault.Fault.{Fault}
 use Rattle.coll_check.specs.declared.checking.CheckForm.{CheckForm}
 use Rattle.coll_check.specs.Reports.{AreReports, IsReport, ReportsAll, report_end}
 

@@ -1,8 +1,8 @@
 -- Worked rows, computed: how faults are reported.
 use Rattle.std.specs.Prelude.{◌≡◌, ◌++◌, ◌∷◌, true, false, codes, refl}
 use Rattle.std.specs.Fmt.{digits}
-use Rattle.coll_history.specs.declared.cause.Cause.TheVariants.{BadValue, PlaceMissing}
-use Rattle.coll_history.specs.declared.fault.Fault.{Fault}
+use Rattle.coll_parser.specs.declared.cause.Cause.TheVariants.{BadValue, PlaceMissing}
+use Rattle.coll_parser.specs.declared.fault.Fault.{Fault}
 use Rattle.coll_check.specs.declared.checking.CheckForm.TheVariants.{Text, Json}
 use Rattle.coll_check.specs.Reports.{count_line, fault_line, object_head, report_end, report_head}
 

@@ -1,7 +1,7 @@
 -- How the faults of a text are reported: each by its line and the words of its cause, and their number at the end.
 use Rattle.std.specs.Prelude.{◌≡◌, ◌++◌, ◌==◌, ℕ, [], ◌∷◌, Bool, true, false, List, codes, length, map, if◌then◌else◌}
 use Rattle.std.specs.Fmt.{decimal}
-use Rattle.coll_history.specs.declared.fault.Fault.{Fault}
+use Rattle.coll_parser.specs.declared.fault.Fault.{Fault}
 use Rattle.coll_faults.specs.declared.faults.Faults.{Faults}
 use Rattle.coll_faults.specs.declared.finding.Finding.{Finding}
 use Rattle.coll_diagnosis.specs.Verdicts.{truth_word}

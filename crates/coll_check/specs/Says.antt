@@ -1,6 +1,6 @@
 -- What is reported of a text that is checked.
 use Rattle.std.specs.Prelude.{◌≡◌, ◌++◌, ℕ, ◌∷◌, Bool, false, List, codes, MatchResult}
-use Rattle.coll_history.specs.declared.fault.Fault.{Fault}
+use Rattle.coll_parser.specs.declared.fault.Fault.{Fault}
 use Rattle.coll_script.specs.Meaning.{meaning}
 use Rattle.coll_diagnosis.specs.declared.explaining.ExplainOptions.{ExplainOptions}
 use Rattle.coll_diagnosis.specs.declared.explaining.Form.TheVariants as explain_form

@@ -8,8 +8,8 @@ use coll_faults::{
     Detail, Finding, Marked, Mismatch, MissingPlace, MissingStart, PlaceFault, PlacedRequest,
     Suggestion, shown,
 };
-use coll_page::Source;
 use coll_script::shown_as;
+use coll_snippet::Source;
 use serde::Serialize;
 use std::alloc::{AllocError, Global};
 

@@ -9,9 +9,9 @@ use crate::checking::{CheckForm, FAULTY};
 use crate::json_form::known_fields;
 use crate::text_form::known_lines;
 use coll_faults::{Faults, Finding};
-use coll_history::line_count;
-use coll_page::Source;
+use coll_parser::line_count;
 use coll_script::Fault;
+use coll_snippet::Source;
 use std::alloc::{AllocError, Global};
 
 /// What is written of the faults of the text that has this name. The only error is refused memory.

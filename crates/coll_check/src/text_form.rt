@@ -5,8 +5,8 @@ use coll_faults::{
     Suggestion,
 };
 use coll_kinds::MAX_TEXT;
-use coll_page::{Excerpt, Page, Paint, Source};
 use coll_script::Cause;
+use coll_snippet::{Excerpt, Page, Paint, Source};
 use std::alloc::{AllocError, Global};
 
 /// The most ranks that are listed in one line.

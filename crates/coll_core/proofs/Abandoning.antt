@@ -10,7 +10,7 @@ use Rattle.coll_arena.specs.Lookups.{PutsSlot}
 use Rattle.coll_arena.specs.Slots.{Slots, home, names, record_in, weight_of}
 use Rattle.coll_arena.specs.Sound.{IsSound}
 use Rattle.coll_queues.specs.Postings.{Postings}
-use Rattle.coll_tables.specs.Shown.{Instances}
+use Rattle.coll_refinement.specs.Shown.{Instances}
 use Rattle.coll_core.specs.declared.request.Request.{Request}
 use Rattle.coll_core.specs.Cores.{IsCore, Parts}
 use Rattle.coll_core.specs.Steps.{IsOut, Returns, Stays}

@@ -18,16 +18,16 @@ use Rattle.coll_arena.proofs.Sounds.{Named-names}
 use Rattle.coll_queues.specs.Postings.{Postings}
 use Rattle.coll_match.specs.Instances.{mail}
 use Rattle.coll_machine.specs.Common.{Setting, Machine, Finish, Nothing, MachineStep, finish, MayFinish}
-use Rattle.coll_tables.specs.Requests.{Live, advanced, key}
-use Rattle.coll_tables.specs.Tables.{is_done, machine}
-use Rattle.coll_tables.specs.Shown.{Instances, tables}
-use Rattle.coll_tables.specs.Shown as tabled
-use Rattle.coll_tables.specs.Sound.{Stands}
-use Rattle.coll_tables.specs.Remaining.{actions_left}
-use Rattle.coll_tables.specs.Cores as tabled_core
-use Rattle.coll_tables.proofs.EngineChanges.{Advances}
-use Rattle.coll_tables.proofs.EngineStatements.{ActsOnce}
-use Rattle.coll_tables.proofs.Slots.{one_slot}
+use Rattle.coll_refinement.specs.Requests.{Live, advanced, key}
+use Rattle.coll_refinement.specs.Tables.{is_done, machine}
+use Rattle.coll_refinement.specs.Shown.{Instances, tables}
+use Rattle.coll_refinement.specs.Shown as tabled
+use Rattle.coll_refinement.specs.Sound.{Stands}
+use Rattle.coll_refinement.specs.Remaining.{actions_left}
+use Rattle.coll_refinement.specs.Cores as tabled_core
+use Rattle.coll_refinement.proofs.EngineChanges.{Advances}
+use Rattle.coll_refinement.proofs.EngineStatements.{ActsOnce}
+use Rattle.coll_refinement.proofs.Slots.{one_slot}
 use Rattle.coll_core.specs.declared.request.Request.{Request}
 use Rattle.coll_core.specs.Cores.{IsCore, Parts, setting}
 use Rattle.coll_core.specs.Requests.{IsListOf, next_of, schedule, shown}

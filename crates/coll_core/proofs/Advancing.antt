@@ -14,9 +14,9 @@ use Rattle.coll_arena.specs.Sound.{IsSound}
 use Rattle.coll_arena.proofs.Lookups.{PutsSlot-rewritten, put-own, still-out}
 use Rattle.coll_arena.proofs.Sounds.{Named-names}
 use Rattle.coll_match.specs.Instances.{mail}
-use Rattle.coll_tables.specs.Requests.{Live, key}
-use Rattle.coll_tables.specs.Shown.{Instances}
-use Rattle.coll_tables.specs.Sound.{Stands}
+use Rattle.coll_refinement.specs.Requests.{Live, key}
+use Rattle.coll_refinement.specs.Shown.{Instances}
+use Rattle.coll_refinement.specs.Sound.{Stands}
 use Rattle.coll_core.specs.declared.request.Request.{Request}
 use Rattle.coll_core.specs.Requests.{PassesEnds, IsListOf, shown}
 use Rattle.coll_core.specs.Advancing.{HasAdvanced, is_end}

@@ -13,10 +13,10 @@ use Rattle.coll_arena.specs.ListNames.{number_of}
 use Rattle.coll_arena.specs.Slots.{Slots, home, record_in}
 use Rattle.coll_match.specs.Instances.{seats}
 use Rattle.coll_machine.specs.declared.key.Key.{Key}
-use Rattle.coll_tables.specs.Requests.{Live, key}
-use Rattle.coll_tables.specs.Shown.{Instances, listed}
-use Rattle.coll_tables.specs.Shown as tabled
-use Rattle.coll_tables.specs.Sound.{Owned}
+use Rattle.coll_refinement.specs.Requests.{Live, key}
+use Rattle.coll_refinement.specs.Shown.{Instances, listed}
+use Rattle.coll_refinement.specs.Shown as tabled
+use Rattle.coll_refinement.specs.Sound.{Owned}
 use Rattle.coll_core.specs.declared.request.Request.{Request}
 use Rattle.coll_core.specs.Cores.{IsCore, Parts, tables}
 use Rattle.coll_core.specs.Requests.{shown}

@@ -14,12 +14,12 @@ use Rattle.coll_arena.proofs.Sounds.{Named-names}
 use Rattle.coll_machine.specs.declared.key.Key.{Key}
 use Rattle.coll_machine.specs.Changes.{put_key}
 use Rattle.coll_match.specs.Instances.{given, mail, members, seats}
-use Rattle.coll_tables.specs.Engines.{IsJoined}
-use Rattle.coll_tables.specs.OneSlots.{OneSlot}
-use Rattle.coll_tables.specs.Requests.{Live, key}
-use Rattle.coll_tables.specs.Shown.{Instances}
-use Rattle.coll_tables.specs.Sound.{Stands}
-use Rattle.coll_tables.proofs.Slots.{one_written, then_reweighed, then_shifted}
+use Rattle.coll_refinement.specs.Engines.{IsJoined}
+use Rattle.coll_refinement.specs.OneSlots.{OneSlot}
+use Rattle.coll_refinement.specs.Requests.{Live, key}
+use Rattle.coll_refinement.specs.Shown.{Instances}
+use Rattle.coll_refinement.specs.Sound.{Stands}
+use Rattle.coll_refinement.proofs.Slots.{one_written, then_reweighed, then_shifted}
 use Rattle.coll_core.specs.declared.request.Request.{Request}
 use Rattle.coll_core.specs.Requests.{IsListOf, shown}
 use Rattle.coll_core.specs.Starts.{Begins, Begun, next_instance}

@@ -13,16 +13,16 @@ use Rattle.coll_arena.specs.Sound.{IsSound as IsArena}
 use Rattle.coll_arena.proofs.Homes.{StandsAtHome-sound}
 use Rattle.coll_machine.specs.Settings.{size}
 use Rattle.coll_machine.specs.States.{Request as Asked}
-use Rattle.coll_tables.specs.FreeLocks.{FreeLock, Holding, LiesBy}
-use Rattle.coll_tables.specs.Requests.{Live, as_request, before, key}
-use Rattle.coll_tables.specs.Shown.{listed}
-use Rattle.coll_tables.specs.Shown as tabled
-use Rattle.coll_tables.specs.Sound.{Stands, ready, running, idle, queued, done, next}
-use Rattle.coll_tables.specs.Tables.{Mail, Tables, asked, machine}
-use Rattle.coll_tables.proofs.EngineReads.{lent_core, ready_core}
-use Rattle.coll_tables.proofs.Holding.{counted}
-use Rattle.coll_tables.proofs.Standing.{finished_there}
-use Rattle.coll_tables.proofs.Whole.{lock_is_free}
+use Rattle.coll_refinement.specs.FreeLocks.{FreeLock, Holding, LiesBy}
+use Rattle.coll_refinement.specs.Requests.{Live, as_request, before, key}
+use Rattle.coll_refinement.specs.Shown.{listed}
+use Rattle.coll_refinement.specs.Shown as tabled
+use Rattle.coll_refinement.specs.Sound.{Stands, ready, running, idle, queued, done, next}
+use Rattle.coll_refinement.specs.Tables.{Mail, Tables, asked, machine}
+use Rattle.coll_refinement.proofs.EngineReads.{lent_core, ready_core}
+use Rattle.coll_refinement.proofs.Holding.{counted}
+use Rattle.coll_refinement.proofs.Standing.{finished_there}
+use Rattle.coll_refinement.proofs.Whole.{lock_is_free}
 use Rattle.coll_core.specs.declared.request.Request.{Request}
 use Rattle.coll_core.specs.BetweenCalls.{BetweenCalls, HoldsValue, Waits}
 use Rattle.coll_core.specs.Cores.{IsCore, Parts, seen, setting, tables}

@@ -18,10 +18,10 @@ use Rattle.coll_arena.specs.Slots.{Slots, home, names, record_in}
 use Rattle.coll_arena.specs.Sound.{IsSound}
 use Rattle.coll_arena.proofs.Sounds.{Named-names}
 use Rattle.coll_queues.specs.Postings.{Postings}
-use Rattle.coll_tables.specs.Requests.{Live, advanced}
-use Rattle.coll_tables.proofs.EngineStatements.{ActsOnce}
-use Rattle.coll_tables.specs.Shown.{Instances}
-use Rattle.coll_tables.proofs.EngineActions.{compute_core}
+use Rattle.coll_refinement.specs.Requests.{Live, advanced}
+use Rattle.coll_refinement.proofs.EngineStatements.{ActsOnce}
+use Rattle.coll_refinement.specs.Shown.{Instances}
+use Rattle.coll_refinement.proofs.EngineActions.{compute_core}
 use Rattle.coll_core.specs.declared.request.Request.{Request}
 use Rattle.coll_core.specs.declared.stepped.Stepped.{Stepped}
 use Rattle.coll_core.specs.Cores.{IsCore, Parts, setting}

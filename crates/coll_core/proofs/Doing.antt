@@ -18,13 +18,13 @@ use Rattle.coll_queues.specs.Postings.{Postings}
 use Rattle.coll_machine.specs.declared.key.Key.{Key}
 use Rattle.coll_machine.specs.Changes.{put_key}
 use Rattle.coll_match.specs.Instances.{mail}
-use Rattle.coll_tables.specs.Shown.{Instances}
-use Rattle.coll_tables.proofs.EngineChanges.{KeepsContributions}
-use Rattle.coll_tables.proofs.EngineStatements.{ActsOnce}
-use Rattle.coll_tables.proofs.EngineActions.{compute_core, receive_core}
+use Rattle.coll_refinement.specs.Shown.{Instances}
+use Rattle.coll_refinement.proofs.EngineChanges.{KeepsContributions}
+use Rattle.coll_refinement.proofs.EngineStatements.{ActsOnce}
+use Rattle.coll_refinement.proofs.EngineActions.{compute_core, receive_core}
 use Rattle.coll_core.specs.declared.request.Request.{Request}
 use Rattle.coll_core.specs.Cores.{IsCore, Parts, setting}
-use Rattle.coll_tables.specs.Requests.{key}
+use Rattle.coll_refinement.specs.Requests.{key}
 use Rattle.coll_core.specs.Requests.{shown}
 use Rattle.coll_core.specs.Advancing.{HasAdvanced}
 use Rattle.coll_core.specs.Steps.{Acts, IsActingAt}

@@ -15,9 +15,9 @@ use Rattle.coll_kinds.specs.Lengths.{given_len}
 use Rattle.coll_machine.specs.Common.{Planned, Post, Init, first_of, unless, wrong_length, plan_refusals}
 use Rattle.coll_queues.specs.Postings.{Postings, member_of, number_of, size}
 use Rattle.coll_queues.specs.Refusing.{judge_refusal, member_refusal}
-use Rattle.coll_tables.specs.Engines.{entry_refusals}
-use Rattle.coll_tables.proofs.EngineStatements.{full_refusal}
-use Rattle.coll_tables.proofs.EngineTests.{init_refused, post_refused}
+use Rattle.coll_refinement.specs.Engines.{entry_refusals}
+use Rattle.coll_refinement.proofs.EngineStatements.{full_refusal}
+use Rattle.coll_refinement.proofs.EngineTests.{init_refused, post_refused}
 use Rattle.coll_core.specs.declared.request.Request.{Request}
 use Rattle.coll_core.specs.Requests.{shown}
 use Rattle.coll_core.specs.Cores.{Parts, IsCore, setting}

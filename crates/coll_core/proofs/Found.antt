@@ -7,9 +7,9 @@ use Rattle.coll_kinds.specs.declared.ticket.Ticket.{Ticket}
 use Rattle.coll_arena.specs.Slots.{Slots, count, home, is_live, names, record_in}
 use Rattle.coll_arena.specs.Sound.{IsSound as IsArena}
 use Rattle.coll_machine.specs.States.{found}
-use Rattle.coll_tables.specs.Requests.{as_request}
-use Rattle.coll_tables.specs.Tables.{asked}
-use Rattle.coll_tables.specs.Shown.{listed, seen as seen_on}
+use Rattle.coll_refinement.specs.Requests.{as_request}
+use Rattle.coll_refinement.specs.Tables.{asked}
+use Rattle.coll_refinement.specs.Shown.{listed, seen as seen_on}
 use Rattle.coll_core.specs.declared.request.Request.{Request}
 use Rattle.coll_core.specs.Requests.{shown}
 use Rattle.coll_core.specs.Cores.{Parts, seen}

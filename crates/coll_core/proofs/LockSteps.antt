@@ -4,8 +4,8 @@ use Rattle.coll_sched.specs.declared.region.Region.{Region}
 use Rattle.coll_sched.specs.Common.{Family, lock_step, read_of, filled}
 use Rattle.coll_plans.specs.Plans.{family}
 use Rattle.coll_match.specs.Instances.{given}
-use Rattle.coll_tables.proofs.EngineStatements.{AreOperands}
-use Rattle.coll_tables.specs.Requests.{key}
+use Rattle.coll_refinement.proofs.EngineStatements.{AreOperands}
+use Rattle.coll_refinement.specs.Requests.{key}
 use Rattle.coll_core.specs.Cores.{IsCore, Parts}
 use Rattle.coll_core.specs.LockSteps.{OfLockStep}
 use Rattle.coll_core.specs.Requests.{shown}

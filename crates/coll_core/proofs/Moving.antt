@@ -7,14 +7,14 @@ use Rattle.coll_arena.specs.Lookups.{IsFirst, PutsSlot}
 use Rattle.coll_arena.specs.Slots.{Slots, generation_of, home, names, record_in, weight_of}
 use Rattle.coll_arena.proofs.Sounds.{Named, Named-names, names_all}
 use Rattle.coll_queues.specs.Postings.{Postings}
-use Rattle.coll_tables.specs.Shown.{Instances}
-use Rattle.coll_tables.specs.Shown as tabled
-use Rattle.coll_tables.specs.Cores as tabled_core
-use Rattle.coll_tables.specs.Remaining.{actions_left}
-use Rattle.coll_tables.specs.Tables.{machine}
-use Rattle.coll_tables.proofs.EngineChanges.{Moves}
-use Rattle.coll_tables.proofs.EngineActions.{move_core}
-use Rattle.coll_tables.proofs.Slots.{one_shifted}
+use Rattle.coll_refinement.specs.Shown.{Instances}
+use Rattle.coll_refinement.specs.Shown as tabled
+use Rattle.coll_refinement.specs.Cores as tabled_core
+use Rattle.coll_refinement.specs.Remaining.{actions_left}
+use Rattle.coll_refinement.specs.Tables.{machine}
+use Rattle.coll_refinement.proofs.EngineChanges.{Moves}
+use Rattle.coll_refinement.proofs.EngineActions.{move_core}
+use Rattle.coll_refinement.proofs.Slots.{one_shifted}
 use Rattle.coll_core.specs.declared.request.Request.{Request}
 use Rattle.coll_core.specs.Cores.{IsCore, Parts, setting}
 use Rattle.coll_core.specs.Requests.{schedule, shown}

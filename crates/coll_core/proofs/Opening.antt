@@ -9,10 +9,10 @@ use Rattle.coll_match.specs.Instances.{members, given, seats, mail}
 use Rattle.coll_queues.specs.Postings.{groups_of, posts}
 use Rattle.coll_machine.specs.Runs.{opened as machine_opened}
 use Rattle.coll_machine.specs.Settings.{AreGroups}
-use Rattle.coll_tables.specs.Cores as tabled
-use Rattle.coll_tables.specs.Shown.{tables}
-use Rattle.coll_tables.specs.Tables.{machine}
-use Rattle.coll_tables.proofs.EngineOpening.{open_core}
+use Rattle.coll_refinement.specs.Cores as tabled
+use Rattle.coll_refinement.specs.Shown.{tables}
+use Rattle.coll_refinement.specs.Tables.{machine}
+use Rattle.coll_refinement.proofs.EngineOpening.{open_core}
 use Rattle.coll_core.specs.declared.request.Request.{Request}
 use Rattle.coll_core.specs.Configs.{IsFullGroup}
 use Rattle.coll_core.proofs.Groups.{are_groups}

@@ -17,15 +17,15 @@ use Rattle.coll_match.specs.Instances.{given, mail, members, seats}
 use Rattle.coll_plans.specs.Plans.{family}
 use Rattle.coll_queues.specs.Postings.{Postings, place_of}
 use Rattle.coll_sched.specs.Common.{laid_in, Over, Progress}
-use Rattle.coll_tables.specs.Cores as tabled
-use Rattle.coll_tables.specs.Shown as tabled_parts
-use Rattle.coll_tables.proofs.EngineChanges.{Initialises, IsFree, IsOffered, Posts, made}
-use Rattle.coll_tables.specs.Engines.{IsJoined}
-use Rattle.coll_tables.specs.OneSlots.{OneSlot}
-use Rattle.coll_tables.specs.Requests.{Live, advanced, key}
-use Rattle.coll_tables.specs.Shown.{Instances}
-use Rattle.coll_tables.specs.Sound.{Stands}
-use Rattle.coll_tables.specs.Tables.{Mail, Tables, machine, state}
+use Rattle.coll_refinement.specs.Cores as tabled
+use Rattle.coll_refinement.specs.Shown as tabled_parts
+use Rattle.coll_refinement.proofs.EngineChanges.{Initialises, IsFree, IsOffered, Posts, made}
+use Rattle.coll_refinement.specs.Engines.{IsJoined}
+use Rattle.coll_refinement.specs.OneSlots.{OneSlot}
+use Rattle.coll_refinement.specs.Requests.{Live, advanced, key}
+use Rattle.coll_refinement.specs.Shown.{Instances}
+use Rattle.coll_refinement.specs.Sound.{Stands}
+use Rattle.coll_refinement.specs.Tables.{Mail, Tables, machine, state}
 use Rattle.coll_core.specs.declared.request.Request.{Request}
 use Rattle.coll_core.specs.Cores.{Parts, IsCore, seen, setting, Unchanged}
 use Rattle.coll_core.specs.Progress.{BeginsSchedule, KeepsProgress}
@@ -34,8 +34,8 @@ use Rattle.coll_core.specs.Posts.{next_instance, refused_in}
 use Rattle.coll_core.specs.Calls.{Refuses}
 use Rattle.coll_kinds.specs.declared.refusal.Refusal.{Refusal}
 use Rattle.coll_kinds.specs.declared.refusal.Refusal.TheVariants.{NoMemory}
-use Rattle.coll_tables.proofs.EngineCalls.{free_low, free_spare, init_core, post_core}
-use Rattle.coll_tables.proofs.Lefts.{left_idle}
+use Rattle.coll_refinement.proofs.EngineCalls.{free_low, free_spare, init_core, post_core}
+use Rattle.coll_refinement.proofs.Lefts.{left_idle}
 use Rattle.coll_core.proofs.Progressing.{begins_schedule, keeps_progress, left_without, three_free, three_idle}
 use Rattle.coll_core.proofs.Rooming.{at_own_key}
 

@@ -13,14 +13,14 @@ use Rattle.coll_plans.specs.Plans.{family}
 use Rattle.coll_arena.specs.Slots.{Slots, count, home, record_in}
 use Rattle.coll_arena.specs.Sound.{IsSound}
 use Rattle.coll_arena.proofs.Lookups.{still-out}
-use Rattle.coll_tables.specs.OneSlots.{OneSlot}
-use Rattle.coll_tables.specs.Remaining.{actions_left, left_by}
-use Rattle.coll_tables.specs.Requests.{Live}
-use Rattle.coll_tables.specs.Shown as tabled
-use Rattle.coll_tables.specs.Sound.{Stands}
-use Rattle.coll_tables.specs.Tables.{Mail, Tables, machine}
-use Rattle.coll_tables.proofs.Lefts.{done_away, done_entered, done_here, left_changes, left_entered}
-use Rattle.coll_tables.proofs.Slots.{home_here}
+use Rattle.coll_refinement.specs.OneSlots.{OneSlot}
+use Rattle.coll_refinement.specs.Remaining.{actions_left, left_by}
+use Rattle.coll_refinement.specs.Requests.{Live}
+use Rattle.coll_refinement.specs.Shown as tabled
+use Rattle.coll_refinement.specs.Sound.{Stands}
+use Rattle.coll_refinement.specs.Tables.{Mail, Tables, machine}
+use Rattle.coll_refinement.proofs.Lefts.{done_away, done_entered, done_here, left_changes, left_entered}
+use Rattle.coll_refinement.proofs.Slots.{home_here}
 use Rattle.coll_core.specs.declared.request.Request.{Request}
 use Rattle.coll_core.specs.Cores.{Parts, setting, Unchanged}
 use Rattle.coll_core.specs.Progress.{BeginsSchedule, KeepsProgress}

@@ -7,16 +7,16 @@ use Rattle.coll_sched.specs.Actions.{Fits}
 use Rattle.coll_arena.specs.Lookups.{IsFirst}
 use Rattle.coll_arena.specs.Slots.{home, record_in}
 use Rattle.coll_match.specs.Instances.{mail}
-use Rattle.coll_tables.proofs.EngineStatements as statements
-use Rattle.coll_tables.specs.Shown.{listed}
-use Rattle.coll_tables.specs.Shown as tabled
-use Rattle.coll_tables.specs.Sound.{Doable}
-use Rattle.coll_tables.proofs.EngineReads.{active_core, ready_core}
+use Rattle.coll_refinement.proofs.EngineStatements as statements
+use Rattle.coll_refinement.specs.Shown.{listed}
+use Rattle.coll_refinement.specs.Shown as tabled
+use Rattle.coll_refinement.specs.Sound.{Doable}
+use Rattle.coll_refinement.proofs.EngineReads.{active_core, ready_core}
 use Rattle.std.specs.Prelude.{option_map}
 use Rattle.coll_core.specs.declared.request.Request.{Request}
 use Rattle.coll_core.specs.Cores.{IsCore, Parts, setting}
 use Rattle.coll_core.specs.Advancing.{HaveLists}
-use Rattle.coll_tables.specs.Requests.{key}
+use Rattle.coll_refinement.specs.Requests.{key}
 use Rattle.coll_core.specs.Requests.{next_of, schedule, shown}
 use Rattle.coll_core.specs.Steps.{IsActing, IsActingAt}
 

@@ -10,12 +10,12 @@ use Rattle.coll_arena.specs.Slots.{Slots, home, is_live, names, record_in, ticke
 use Rattle.coll_arena.proofs.Sounds.{Named-names}
 use Rattle.coll_machine.specs.declared.key.Key.{Key}
 use Rattle.coll_match.specs.Instances.{mail, seats}
-use Rattle.coll_tables.specs.Engines.{Delivers}
-use Rattle.coll_tables.specs.Shown.{Instances}
-use Rattle.coll_tables.specs.Sound.{ready}
-use Rattle.coll_tables.proofs.Slots.{one_shifted}
+use Rattle.coll_refinement.specs.Engines.{Delivers}
+use Rattle.coll_refinement.specs.Shown.{Instances}
+use Rattle.coll_refinement.specs.Sound.{ready}
+use Rattle.coll_refinement.proofs.Slots.{one_shifted}
 use Rattle.coll_core.specs.declared.request.Request.{Request}
-use Rattle.coll_tables.specs.Requests.{key}
+use Rattle.coll_refinement.specs.Requests.{key}
 use Rattle.coll_core.specs.Requests.{CanReceive, shown}
 use Rattle.coll_core.specs.Advancing.{Brings, IsReceiver}
 

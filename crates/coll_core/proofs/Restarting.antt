@@ -13,14 +13,14 @@ use Rattle.coll_arena.specs.Sound.{IsSound as IsArena}
 use Rattle.coll_arena.proofs.Sounds.{Named-names}
 use Rattle.coll_match.specs.Instances.{mail, size}
 use Rattle.coll_machine.specs.Common.{Nothing, Start, refuse, short, StepsTo, refusal}
-use Rattle.coll_tables.specs.Cores as tabled
-use Rattle.coll_tables.specs.Requests.{Live, begun as begun_at}
-use Rattle.coll_tables.specs.Shown.{Instances, listed}
-use Rattle.coll_tables.specs.Sound.{Stands}
-use Rattle.coll_tables.proofs.Accepting.{start_passed}
-use Rattle.coll_tables.specs.Tables.{Tables, machine}
-use Rattle.coll_tables.proofs.EngineCalls.{start_core}
-use Rattle.coll_tables.proofs.EngineReads.{new_core}
+use Rattle.coll_refinement.specs.Cores as tabled
+use Rattle.coll_refinement.specs.Requests.{Live, begun as begun_at}
+use Rattle.coll_refinement.specs.Shown.{Instances, listed}
+use Rattle.coll_refinement.specs.Sound.{Stands}
+use Rattle.coll_refinement.proofs.Accepting.{start_passed}
+use Rattle.coll_refinement.specs.Tables.{Tables, machine}
+use Rattle.coll_refinement.proofs.EngineCalls.{start_core}
+use Rattle.coll_refinement.proofs.EngineReads.{new_core}
 use Rattle.coll_core.specs.declared.request.Request.{Request}
 use Rattle.coll_core.specs.Calls.{Refuses}
 use Rattle.coll_core.specs.Cores.{IsCore, Parts, seen, setting, tables, Unchanged}

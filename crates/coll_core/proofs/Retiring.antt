@@ -19,21 +19,21 @@ use Rattle.coll_queues.specs.Postings.{groups_of}
 use Rattle.coll_machine.specs.declared.key.Key.{Key}
 use Rattle.coll_match.specs.Instances.{mail, seats}
 use Rattle.coll_machine.specs.Common.{size, Nothing, Outcome, Retire, MachineStep, wait, refusal}
-use Rattle.coll_tables.specs.Cores as tabled
-use Rattle.coll_tables.proofs.EngineChanges.{IsLeft}
-use Rattle.coll_tables.specs.Engines.{Rests, given_up}
-use Rattle.coll_tables.proofs.EngineStatements.{IsActive}
-use Rattle.coll_tables.specs.Requests.{Live, before, advanced, key}
-use Rattle.coll_tables.specs.Remaining.{left_by}
-use Rattle.coll_tables.specs.Shown.{Instances, listed}
-use Rattle.coll_tables.specs.Shown as tabled_parts
-use Rattle.coll_tables.specs.Tables.{is_done}
-use Rattle.coll_tables.specs.OneSlots.{OneSlot}
-use Rattle.coll_tables.proofs.Lefts.{left_done, left_idle}
-use Rattle.coll_tables.proofs.Slots.{home_here, one_written, then_reweighed, then_shifted}
-use Rattle.coll_tables.proofs.Standing.{finished_there}
-use Rattle.coll_tables.proofs.EngineEnds.{retire_core}
-use Rattle.coll_tables.proofs.EngineReads.{active_core}
+use Rattle.coll_refinement.specs.Cores as tabled
+use Rattle.coll_refinement.proofs.EngineChanges.{IsLeft}
+use Rattle.coll_refinement.specs.Engines.{Rests, given_up}
+use Rattle.coll_refinement.proofs.EngineStatements.{IsActive}
+use Rattle.coll_refinement.specs.Requests.{Live, before, advanced, key}
+use Rattle.coll_refinement.specs.Remaining.{left_by}
+use Rattle.coll_refinement.specs.Shown.{Instances, listed}
+use Rattle.coll_refinement.specs.Shown as tabled_parts
+use Rattle.coll_refinement.specs.Tables.{is_done}
+use Rattle.coll_refinement.specs.OneSlots.{OneSlot}
+use Rattle.coll_refinement.proofs.Lefts.{left_done, left_idle}
+use Rattle.coll_refinement.proofs.Slots.{home_here, one_written, then_reweighed, then_shifted}
+use Rattle.coll_refinement.proofs.Standing.{finished_there}
+use Rattle.coll_refinement.proofs.EngineEnds.{retire_core}
+use Rattle.coll_refinement.proofs.EngineReads.{active_core}
 use Rattle.coll_core.specs.Progress.{KeepsProgress}
 use Rattle.coll_core.proofs.Progressing.{has_left, keeps_progress, three_done, three_given_up, three_idle}
 use Rattle.coll_core.specs.declared.request.Request.{Request}

@@ -9,11 +9,11 @@ use Rattle.coll_machine.specs.declared.key.Key.{Key}
 use Rattle.coll_match.specs.Instances.{LookUps, given, look_ups, mail, members, roomed, seats}
 use Rattle.coll_match.specs.Instances as instances
 use Rattle.coll_queues.specs.Postings.{Postings}
-use Rattle.coll_tables.specs.Cores as tabled
-use Rattle.coll_tables.proofs.EngineChanges.{HasMade}
-use Rattle.coll_tables.specs.Shown.{Instances}
-use Rattle.coll_tables.specs.Shown as tabled_parts
-use Rattle.coll_tables.proofs.EngineEnds.{room_core}
+use Rattle.coll_refinement.specs.Cores as tabled
+use Rattle.coll_refinement.proofs.EngineChanges.{HasMade}
+use Rattle.coll_refinement.specs.Shown.{Instances}
+use Rattle.coll_refinement.specs.Shown as tabled_parts
+use Rattle.coll_refinement.proofs.EngineEnds.{room_core}
 use Rattle.coll_core.specs.Requests.{shown}
 use Rattle.coll_core.specs.Cores.{Parts, IsCore, setting, tables, Unchanged}
 

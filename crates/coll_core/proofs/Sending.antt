@@ -17,16 +17,16 @@ use Rattle.coll_machine.specs.declared.key.Key.{Key}
 use Rattle.coll_machine.specs.Changes.{put_key}
 use Rattle.coll_match.specs.Instances.{given, mail}
 use Rattle.coll_match.proofs.Standing.{put_key_at}
-use Rattle.coll_tables.specs.Tables.{is_done}
-use Rattle.coll_tables.specs.Engines.{Delivers, Wakes}
-use Rattle.coll_tables.proofs.EngineChanges.{KeepsContributions}
-use Rattle.coll_tables.proofs.EngineStatements.{ActsOnce}
-use Rattle.coll_tables.specs.Shown.{Instances}
-use Rattle.coll_tables.specs.Shown as tabled
-use Rattle.coll_tables.proofs.EngineSends.{send_core}
+use Rattle.coll_refinement.specs.Tables.{is_done}
+use Rattle.coll_refinement.specs.Engines.{Delivers, Wakes}
+use Rattle.coll_refinement.proofs.EngineChanges.{KeepsContributions}
+use Rattle.coll_refinement.proofs.EngineStatements.{ActsOnce}
+use Rattle.coll_refinement.specs.Shown.{Instances}
+use Rattle.coll_refinement.specs.Shown as tabled
+use Rattle.coll_refinement.proofs.EngineSends.{send_core}
 use Rattle.coll_core.specs.declared.request.Request.{Request}
 use Rattle.coll_core.specs.Cores.{IsCore, Parts, setting}
-use Rattle.coll_tables.specs.Requests.{key}
+use Rattle.coll_refinement.specs.Requests.{key}
 use Rattle.coll_core.specs.Requests.{shown}
 use Rattle.coll_core.specs.Advancing.{Brings, CanAdvance, HasAdvanced}
 use Rattle.coll_core.specs.Steps.{Acts, IsActingAt}

@@ -3,7 +3,7 @@ use Rattle.std.proofs.Common.{◌≡◌, ◌∙◌, ◌+◌, ◌*◌, ◌<◌, �
 use Rattle.coll_arena.specs.Slots.{count}
 use Rattle.coll_arena.specs.Sound.{IsSound}
 use Rattle.coll_machine.specs.Common.{Setting, Machine}
-use Rattle.coll_tables.proofs.Remainders.{little_left}
+use Rattle.coll_refinement.proofs.Remainders.{little_left}
 use Rattle.coll_core.specs.Cores.{IsCore, Parts, seen, setting, tables}
 use Rattle.coll_core.specs.Steps.{Acts, Finishings, none, more, Makes, no_step, one_more, Ran, StepsBy, left}
 

@@ -6,7 +6,7 @@ use Rattle.coll_sched.specs.Regions.{Inside}
 use Rattle.coll_plans.specs.Plans.{IsPlanned, family}
 use Rattle.coll_arena.specs.ListNames.{list_count}
 use Rattle.coll_arena.specs.Slots.{Slots, home, record_in}
-use Rattle.coll_tables.specs.Shown.{listed, seen as seen_on}
+use Rattle.coll_refinement.specs.Shown.{listed, seen as seen_on}
 use Rattle.coll_core.specs.declared.request.Request.{Request}
 use Rattle.coll_core.specs.Requests.{schedule, shown}
 use Rattle.coll_core.specs.Cores.{IsCore, Parts, tables}

@@ -6,7 +6,7 @@ use Rattle.coll_match.specs.Instances.{size as room_of}
 use Rattle.coll_sched.specs.Schedules.{Parts as Schedule}
 use Rattle.coll_arena.specs.Slots.{home, record_in}
 use Rattle.coll_machine.specs.Settings.{size}
-use Rattle.coll_tables.specs.Shown.{Instances, listed}
+use Rattle.coll_refinement.specs.Shown.{Instances, listed}
 use Rattle.coll_core.specs.declared.request.Request.{Request}
 use Rattle.coll_core.specs.Cores.{IsCore, Parts, setting}
 use Rattle.coll_core.specs.Requests.{schedule, shown}

@@ -19,14 +19,14 @@ use Rattle.coll_machine.specs.Common.{size, Free, Nothing, Start, MachineStep, f
 use Rattle.coll_machine.specs.States.{Request as Asked}
 use Rattle.coll_kinds.specs.Common.{given_len, mode_number}
 use Rattle.coll_kinds.specs.declared.kind.Mode.TheVariants.{Persistent}
-use Rattle.coll_tables.specs.Shown.{listed}
+use Rattle.coll_refinement.specs.Shown.{listed}
 use Rattle.coll_core.proofs.Found.{found_some}
 use Rattle.coll_core.proofs.Standings.{live}
-use Rattle.coll_tables.specs.Cores as tabled
-use Rattle.coll_tables.specs.Engines.{given_up}
-use Rattle.coll_tables.proofs.Accepting.{free_passed}
-use Rattle.coll_tables.proofs.Slots.{one_slot}
-use Rattle.coll_tables.proofs.EngineCalls.{free_core}
+use Rattle.coll_refinement.specs.Cores as tabled
+use Rattle.coll_refinement.specs.Engines.{given_up}
+use Rattle.coll_refinement.proofs.Accepting.{free_passed}
+use Rattle.coll_refinement.proofs.Slots.{one_slot}
+use Rattle.coll_refinement.proofs.EngineCalls.{free_core}
 use Rattle.coll_core.specs.declared.request.Request.{Request}
 use Rattle.coll_core.specs.Cores.{IsCore, Parts, seen, setting, tables}
 use Rattle.coll_core.specs.Requests.{shown}

@@ -8,7 +8,7 @@ use Rattle.coll_sched.specs.declared.action.Action.{Action}
 use Rattle.coll_sched.specs.declared.action.Action.TheVariants.{Send, Copy, Combine, Recv}
 use Rattle.coll_sched.specs.declared.region.Region.{Region}
 use Rattle.coll_sched.specs.Common.{read_of, Inside, Fits}
-use Rattle.coll_tables.specs.Requests.{Live}
+use Rattle.coll_refinement.specs.Requests.{Live}
 use Rattle.coll_core.specs.Requests.{next_of}
 use Rattle.coll_core.specs.Works.{IsOwnResult, Made, Piece, StandsAt, result_of}
 use Rattle.coll_ops.specs.Combinations.{combined}

@@ -10,10 +10,10 @@ use Rattle.coll_arena.specs.Lookups.{PutsSlot}
 use Rattle.coll_arena.specs.Slots.{Slots, home, names, record_in, weight_of}
 use Rattle.coll_machine.specs.declared.key.Key.{Key}
 use Rattle.coll_match.specs.Instances.{mail, seats}
-use Rattle.coll_tables.specs.Engines.{IsCalled}
-use Rattle.coll_tables.specs.Requests.{advanced, key}
-use Rattle.coll_tables.specs.Shown.{Instances}
-use Rattle.coll_tables.specs.Sound.{Stands}
+use Rattle.coll_refinement.specs.Engines.{IsCalled}
+use Rattle.coll_refinement.specs.Requests.{advanced, key}
+use Rattle.coll_refinement.specs.Shown.{Instances}
+use Rattle.coll_refinement.specs.Sound.{Stands}
 use Rattle.coll_core.specs.declared.request.Request.{Request}
 use Rattle.coll_core.specs.declared.sent.Sent.{Sent}
 use Rattle.coll_core.specs.Steps.{placed}

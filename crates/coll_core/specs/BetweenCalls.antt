@@ -15,9 +15,9 @@ use Rattle.coll_arena.specs.Slots.{home, lent, record_in}
 use Rattle.coll_match.specs.Instances.{mail}
 use Rattle.coll_machine.specs.Common.{lent_bytes, size, key_of, signature_of, IsReady, filled}
 use Rattle.coll_machine.specs.States.{Request as Asked}
-use Rattle.coll_tables.specs.FreeLocks.{LiesBy}
-use Rattle.coll_tables.specs.Requests.{key}
-use Rattle.coll_tables.specs.Sound.{Doable, Lies}
+use Rattle.coll_refinement.specs.FreeLocks.{LiesBy}
+use Rattle.coll_refinement.specs.Requests.{key}
+use Rattle.coll_refinement.specs.Sound.{Doable, Lies}
 use Rattle.coll_core.specs.declared.request.Request.{Request}
 use Rattle.coll_core.specs.Cores.{Parts, seen, setting}
 use Rattle.coll_core.specs.Requests.{next_of, schedule, shown}

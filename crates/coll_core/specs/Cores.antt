@@ -3,9 +3,9 @@ use Rattle.std.specs.Prelude.{◌≡◌, ℕ}
 use Rattle.coll_arena.specs.Slots.{Slots}
 use Rattle.coll_queues.specs.Postings.{Postings}
 use Rattle.coll_machine.specs.Common.{Setting, Machine}
-use Rattle.coll_tables.specs.Cores as tabled
-use Rattle.coll_tables.specs.Shown as tabled_parts
-use Rattle.coll_tables.specs.Tables.{Tables, machine}
+use Rattle.coll_refinement.specs.Cores as tabled
+use Rattle.coll_refinement.specs.Shown as tabled_parts
+use Rattle.coll_refinement.specs.Tables.{Tables, machine}
 use Rattle.coll_core.specs.declared.request.Request.{Request}
 use Rattle.coll_core.specs.Requests.{shown}
 

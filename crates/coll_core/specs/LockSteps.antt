@@ -6,7 +6,7 @@ use Rattle.coll_sched.specs.Common.{lock_step, read_of, filled}
 use Rattle.coll_plans.specs.Plans.{family}
 use Rattle.coll_arena.specs.Slots.{record_in}
 use Rattle.coll_match.specs.Instances.{given}
-use Rattle.coll_tables.specs.Requests.{key}
+use Rattle.coll_refinement.specs.Requests.{key}
 use Rattle.coll_core.specs.declared.request.Request.{Request}
 use Rattle.coll_core.specs.Cores.{Parts}
 use Rattle.coll_core.specs.Requests.{next_of, shown}

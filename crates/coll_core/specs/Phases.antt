@@ -8,8 +8,8 @@ use Rattle.coll_kinds.specs.declared.ticket.Ticket.{Ticket}
 use Rattle.coll_core.specs.declared.phase.Phase.{Phase}
 use Rattle.coll_core.specs.declared.phase.Phase.TheVariants.{Idle, Pending, Done}
 use Rattle.coll_core.specs.declared.about.About.{About}
-use Rattle.coll_tables.specs.FreeLocks.{HasHeard}
-use Rattle.coll_tables.specs.Requests.{Live, key}
+use Rattle.coll_refinement.specs.FreeLocks.{HasHeard}
+use Rattle.coll_refinement.specs.Requests.{Live, key}
 use Rattle.coll_core.specs.Cores.{Parts, setting, tables}
 
 -- by whether the request is active, and Done

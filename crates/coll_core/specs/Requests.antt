@@ -8,9 +8,9 @@ use Rattle.coll_sched.specs.declared.region.Region.{Region}
 use Rattle.coll_sched.specs.Points.{Over, IsPoint}
 use Rattle.coll_sched.specs.Schedules.{Parts as Schedule}
 use Rattle.coll_plans.specs.Plans.{family}
-use Rattle.coll_tables.specs.Requests.{Live, advanced}
-use Rattle.coll_tables.specs.Sound.{next}
-use Rattle.coll_tables.specs.Tables.{Mail}
+use Rattle.coll_refinement.specs.Requests.{Live, advanced}
+use Rattle.coll_refinement.specs.Sound.{next}
+use Rattle.coll_refinement.specs.Tables.{Mail}
 use Rattle.coll_core.specs.declared.request.Request.{Request}
 
 -- the record as an active request; where it lies on its communicator's Idle list it isn't active

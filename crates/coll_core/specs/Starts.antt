@@ -9,11 +9,11 @@ use Rattle.coll_arena.specs.ListNames.{number_of}
 use Rattle.coll_arena.specs.Slots.{Slots}
 use Rattle.coll_machine.specs.declared.key.Key.{Key}
 use Rattle.coll_match.specs.Instances.{given, mail, size}
-use Rattle.coll_tables.specs.Engines.{IsJoined}
-use Rattle.coll_tables.specs.OneSlots.{OneSlot}
-use Rattle.coll_tables.specs.Requests.{Live, at, begun}
-use Rattle.coll_tables.specs.Shown.{Instances}
-use Rattle.coll_tables.specs.Sound.{Stands}
+use Rattle.coll_refinement.specs.Engines.{IsJoined}
+use Rattle.coll_refinement.specs.OneSlots.{OneSlot}
+use Rattle.coll_refinement.specs.Requests.{Live, at, begun}
+use Rattle.coll_refinement.specs.Shown.{Instances}
+use Rattle.coll_refinement.specs.Sound.{Stands}
 use Rattle.coll_core.specs.declared.request.Request.{Request}
 use Rattle.coll_core.specs.Requests.{IsListOf, schedule, shown}
 

@@ -14,13 +14,13 @@ use Rattle.coll_arena.specs.ListNames.{number_of}
 use Rattle.coll_arena.specs.Slots.{home, names, record_in}
 use Rattle.coll_match.specs.Instances.{mail}
 use Rattle.coll_machine.specs.Common.{Setting, Machine, Finish, Nothing, MachineStep}
-use Rattle.coll_tables.specs.Remaining.{actions_left}
-use Rattle.coll_tables.specs.Sound.{Doable}
+use Rattle.coll_refinement.specs.Remaining.{actions_left}
+use Rattle.coll_refinement.specs.Sound.{Doable}
 use Rattle.coll_core.specs.declared.request.Request.{Request}
 use Rattle.coll_core.specs.declared.stepped.Stepped.{Stepped}
 use Rattle.coll_core.specs.declared.stepped.Stepped.TheVariants.{Quiet, Moved, Finished, Out}
 use Rattle.coll_core.specs.Cores.{Parts, seen, setting, tables}
-use Rattle.coll_tables.specs.Requests.{advanced, key}
+use Rattle.coll_refinement.specs.Requests.{advanced, key}
 use Rattle.coll_core.specs.Requests.{next_of, schedule, shown}
 use Rattle.coll_core.specs.Works.{IsOwnResult, IsShort, Made, NamesSame, Piece, StandsAt, result_of}
 

@@ -9,7 +9,7 @@ use Rattle.coll_sched.specs.declared.action.Action.{Action}
 use Rattle.coll_sched.specs.declared.action.Action.TheVariants.{Send, Copy, Combine, Recv}
 use Rattle.coll_sched.specs.declared.region.Region.{Region}
 use Rattle.coll_sched.specs.Regions.{read_of, written}
-use Rattle.coll_tables.specs.Requests.{Live, advanced}
+use Rattle.coll_refinement.specs.Requests.{Live, advanced}
 use Rattle.coll_core.specs.Requests.{next_of}
 use Rattle.coll_core.specs.declared.word.TheConstants.{WORD}
 

@@ -1,7 +1,7 @@
 //! Laws of the engine. A call does nothing; its contract is the law.
 
 ghost use Rattle.std.specs.Prelude.{◌<◌};
-ghost use Rattle.coll_tables.specs.FreeLocks.{FreeLock};
+ghost use Rattle.coll_refinement.specs.FreeLocks.{FreeLock};
 ghost use Rattle.coll_lists.specs.WellLinked.{IsWellLinked};
 ghost use Rattle.coll_arena.specs.ListNames.{list_count, number_of};
 ghost use Rattle.coll_core.specs.BetweenCalls.{BetweenCalls};

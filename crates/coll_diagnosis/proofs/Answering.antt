@@ -1,15 +1,15 @@
 -- What is read decides how it is explained.
 use Rattle.std.proofs.Common.{◌≡◌, ℕ, List, ap, refl}
 use Rattle.std.specs.Prelude.{Result, Ok, Err}
-use Rattle.coll_history.specs.declared.fault.Fault.{Fault}
-use Rattle.coll_history.specs.Reading.{and_then}
-use Rattle.coll_history.specs.Histories.{History}
+use Rattle.coll_parser.specs.declared.fault.Fault.{Fault}
+use Rattle.coll_parser.specs.Reading.{and_then}
+use Rattle.coll_parser.specs.Histories.{History}
 use Rattle.coll_script.specs.Jobs.{script_of, job_of}
 use Rattle.coll_script.specs.Meaning.{meaning, job_lines}
 use Rattle.coll_script.specs.Plain.{IsReadFault}
 use Rattle.coll_script.specs.Faults.{fault_of_script}
-use Rattle.coll_history.specs.declared.fault.ScriptFault.{ScriptFault}
-use Rattle.coll_history.specs.declared.fault.ScriptFault.TheVariants as script
+use Rattle.coll_parser.specs.declared.fault.ScriptFault.{ScriptFault}
+use Rattle.coll_parser.specs.declared.fault.ScriptFault.TheVariants as script
 use Rattle.coll_script.specs.declared.fault.JobFault.{JobFault}
 use Rattle.coll_script.specs.declared.fault.JobFault.TheVariants.{Read, Write, Text, Stalled, Refused, Memory, NoThread, Torn}
 use Rattle.coll_diagnosis.specs.Unstalled.{IsNoStall}

@@ -1,7 +1,7 @@
 -- How many bytes the first lines of a text have, as far as they were passed; and what a line is that was moved.
 use Rattle.std.proofs.Common.{◌≡◌, ℕ, zero, suc, ◌+◌, ◌<◌, ◌≤◌, Bool, List, [], ◌∷◌, length, drop, Result, Ok, Err, refl, ap, ◌∙◌, subst, arith}
 use Rattle.std.specs.Prelude.{slice_index, IfOk, IsTrue}
-use Rattle.coll_history.proofs.Lists.{drop-past}
+use Rattle.coll_parser.proofs.Lists.{drop-past}
 use Rattle.coll_script.proofs.Loops.{drop-at}
 use Rattle.coll_diagnosis.specs.declared.cure.Move.{Move}
 use Rattle.coll_diagnosis.specs.Cures.{IsCured, IsTried, left_after, lines_len, moved_text}

@@ -3,7 +3,7 @@ use Rattle.std.proofs.Common.{◌≡◌, ℕ, List, length, take, Option, Some, 
 use Rattle.std.specs.Prelude.{IfSome}
 use Rattle.std.proofs.lemmas.Bool.{cases_lt}
 use Rattle.std.proofs.lemmas.List.{take_all, length-take}
-use Rattle.coll_history.specs.Histories.{History}
+use Rattle.coll_parser.specs.Histories.{History}
 use Rattle.coll_script.specs.Jobs.{script_of}
 use Rattle.coll_script.proofs.Reading.{script_of-long}
 use Rattle.coll_diagnosis.specs.declared.explaining.ExplainOptions.{ExplainOptions}

@@ -1,6 +1,6 @@
 -- A text with one line moved, and what is promised of a move.
 use Rattle.std.specs.Prelude.{ℕ, zero, suc, ◌-◌, ◌<◌, List, [], ◌∷◌, ◌++◌, take, drop, if◌then◌else◌}
-use Rattle.coll_history.specs.Cutting.{is_line_feed}
+use Rattle.coll_parser.specs.Cutting.{is_line_feed}
 use Rattle.coll_script.specs.Meaning.{HasMeaning}
 use Rattle.coll_diagnosis.specs.declared.cure.Move.{Move}
 use Rattle.coll_diagnosis.specs.declared.verdict.Verdict.TheVariants.{Never}

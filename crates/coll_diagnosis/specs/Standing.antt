@@ -5,15 +5,15 @@ use Rattle.std.specs.Global.{Global}
 use Rattle.std.specs.Str.{bytes_eq}
 use Rattle.coll_kinds.specs.Common.{is_among, needs, kind_word}
 use Rattle.coll_kinds.specs.declared.kind.Mode.{Mode}
-use Rattle.coll_history.specs.declared.command.Command.{Command}
-use Rattle.coll_history.specs.declared.command.Command.TheVariants.{Post, Init, Start, Wait, Test, Free}
-use Rattle.coll_history.specs.declared.command.Command.TheVariants.{WaitAny, WaitSome, WaitAll}
-use Rattle.coll_history.specs.declared.issued_command.IssuedCommand.{IssuedCommand}
-use Rattle.coll_history.specs.declared.request.Request.{Request}
-use Rattle.coll_history.specs.declared.request.Start as rust_start
-use Rattle.coll_history.specs.Code.{requests_view, rows_view}
-use Rattle.coll_history.specs.Histories.{History, is_persistent, starts}
-use Rattle.coll_history.specs.Requests.{requests}
+use Rattle.coll_parser.specs.declared.command.Command.{Command}
+use Rattle.coll_parser.specs.declared.command.Command.TheVariants.{Post, Init, Start, Wait, Test, Free}
+use Rattle.coll_parser.specs.declared.command.Command.TheVariants.{WaitAny, WaitSome, WaitAll}
+use Rattle.coll_parser.specs.declared.issued_command.IssuedCommand.{IssuedCommand}
+use Rattle.coll_parser.specs.declared.request.Request.{Request}
+use Rattle.coll_parser.specs.declared.request.Start as rust_start
+use Rattle.coll_parser.specs.Code.{requests_view, rows_view}
+use Rattle.coll_parser.specs.Histories.{History, is_persistent, starts}
+use Rattle.coll_parser.specs.Requests.{requests}
 use Rattle.coll_diagnosis.specs.declared.explanation.ShownStall.{ShownStall}
 use Rattle.coll_diagnosis.specs.declared.lack.Lack.{Lack}
 use Rattle.coll_diagnosis.specs.declared.pending.Pending.{Pending}

@@ -9,10 +9,10 @@ use Rattle.coll_kinds.specs.declared.datatype.Datatype.TheVariants.{Byte}
 use Rattle.coll_kinds.specs.declared.kind.Kind.TheVariants.{Barrier}
 use Rattle.coll_kinds.specs.declared.kind.Mode.TheVariants.{Once}
 use Rattle.coll_kinds.specs.declared.signature.Signature.{Signature}
-use Rattle.coll_history.specs.declared.command.Command.TheVariants.{Post, Wait}
-use Rattle.coll_history.specs.declared.issued_command.IssuedCommand.{IssuedCommand}
-use Rattle.coll_history.specs.declared.request.Request.{Request}
-use Rattle.coll_history.specs.declared.request.Start.{Start}
+use Rattle.coll_parser.specs.declared.command.Command.TheVariants.{Post, Wait}
+use Rattle.coll_parser.specs.declared.issued_command.IssuedCommand.{IssuedCommand}
+use Rattle.coll_parser.specs.declared.request.Request.{Request}
+use Rattle.coll_parser.specs.declared.request.Start.{Start}
 use Rattle.coll_diagnosis.specs.declared.lack.Lack.{Lack}
 use Rattle.coll_diagnosis.specs.declared.pending.Pending.{Pending}
 use Rattle.coll_diagnosis.specs.declared.stuck.Stuck.{Stuck}

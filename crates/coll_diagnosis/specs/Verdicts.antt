@@ -2,8 +2,8 @@
 use Rattle.std.specs.Prelude.{◌≡◌, ◌++◌, ℕ, ◌⊎◌, Bool, true, false, List, Ok, codes, if◌then◌else◌}
 use Rattle.std.specs.Fmt.{decimal}
 use Rattle.std.specs.List.{list_any}
-use Rattle.coll_history.specs.Cutting.{is_line_feed}
-use Rattle.coll_history.specs.Histories.{History}
+use Rattle.coll_parser.specs.Cutting.{is_line_feed}
+use Rattle.coll_parser.specs.Histories.{History}
 use Rattle.coll_script.specs.Jobs.{script_of}
 use Rattle.coll_verdict.specs.Stalls.{StallsAlways, StallsNever}
 use Rattle.coll_verdict.specs.Waiting.{StallsAlwaysBy, StallsNeverBy}

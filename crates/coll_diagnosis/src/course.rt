@@ -2,8 +2,8 @@ use crate::job::Job;
 use crate::place::{Peer, Place};
 use crate::step::{Act, Completes, Step};
 use crate::waiting::{Reading, hears};
-use coll_history::Request;
 use coll_kinds::MAX_RANKS;
+use coll_parser::Request;
 use coll_script::Named;
 use std::alloc::{AllocError, Global};
 

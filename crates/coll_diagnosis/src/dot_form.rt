@@ -6,7 +6,7 @@ use crate::members::Members;
 use crate::pending::Pending;
 use crate::standstill::Standstill;
 use crate::stuck::Stuck;
-use coll_page::Source;
+use coll_snippet::Source;
 use std::alloc::{AllocError, Global};
 
 /// A graph with an arrow from each rank of a shortest circle to each rank of the circle that it lacks; if the whole is wanted,

@@ -3,11 +3,11 @@
 ghost use Rattle.std.specs.Prelude.{◌≡◌, slice_get};
 ghost use Rattle.std.specs.List.{list_any};
 ghost use Rattle.coll_kinds.specs.Groups.{is_among};
-ghost use Rattle.coll_history.specs.Histories.{starts};
+ghost use Rattle.coll_parser.specs.Histories.{starts};
 ghost use Rattle.coll_diagnosis.specs.Standing.{awaits, completes, ends_after, is_start_in, size_of, waits};
 
-use coll_history::{Command, IssuedCommand, Named, Request};
 use coll_kinds::MAX_RANKS;
+use coll_parser::{Command, IssuedCommand, Named, Request};
 
 /// What a standstill is compared with: the script's commands, requests and groups.
 #[derive(Drop)]

@@ -1,8 +1,8 @@
 use crate::collectives::{Collective, Collectives};
 use crate::place::{Peer, Place};
 use crate::section::RankSection;
-use coll_history::{History, Request};
 use coll_kinds::MAX_COMMUNICATORS;
+use coll_parser::{History, Request};
 use coll_script::Script;
 use std::alloc::{AllocError, Global};
 

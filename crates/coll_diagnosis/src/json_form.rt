@@ -3,7 +3,7 @@
 ghost use Rattle.std.specs.Prelude.{◌≡◌, IfOk};
 ghost use Rattle.std.specs.List.{list_any};
 ghost use Rattle.std.specs.String.{string_bytes};
-ghost use Rattle.coll_history.specs.Cutting.{is_line_feed};
+ghost use Rattle.coll_parser.specs.Cutting.{is_line_feed};
 ghost use Rattle.coll_diagnosis.specs.Verdicts.{EndsExplained, IsExplained, explained_object, word};
 
 use crate::explanation::Explanation;
@@ -11,7 +11,7 @@ use crate::pending::Pending;
 use crate::standstill::Standstill;
 use crate::text_form::headline;
 use crate::verdict::Verdict;
-use coll_page::{Source, push_object};
+use coll_snippet::{Source, push_object};
 use serde::Serialize;
 use serde_json::Error;
 use std::alloc::{AllocError, Global};

@@ -2,8 +2,8 @@ use crate::course::Course;
 use crate::facts::{Facts, is_start_in, waits};
 use crate::pending::Pending;
 use crate::place::{Peer, Place};
-use coll_history::{IssuedCommand, Request};
 use coll_kinds::MAX_RANKS;
+use coll_parser::{IssuedCommand, Request};
 use serde::Serialize;
 use std::alloc::{AllocError, Global};
 

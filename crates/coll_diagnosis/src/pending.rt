@@ -3,8 +3,8 @@ use crate::facts::{Facts, awaits, ends_after, is_start_in, size_of};
 use crate::lack::{Lack, lacks};
 use crate::step::Act;
 use crate::stuck::Stuck;
-use coll_history::{IssuedCommand, Request};
 use coll_kinds::Mode;
+use coll_parser::{IssuedCommand, Request};
 use serde::Serialize;
 use std::alloc::{AllocError, Global};
 

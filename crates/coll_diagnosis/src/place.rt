@@ -1,5 +1,5 @@
-use coll_history::Request;
 use coll_kinds::{MAX_RANKS, Signature};
+use coll_parser::Request;
 use std::alloc::Global;
 
 /// A request of a job: the rank that made it, and its number there.

@@ -1,5 +1,5 @@
 use crate::step::{Act, Completes, Step};
-use coll_history::Request;
+use coll_parser::Request;
 use coll_script::{Command, Named};
 use std::alloc::{AllocError, Global};
 

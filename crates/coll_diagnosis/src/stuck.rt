@@ -1,6 +1,6 @@
 use crate::facts::{Facts, is_among};
 use crate::pending::Pending;
-use coll_history::Request;
+use coll_parser::Request;
 
 /// A rank that waits.
 #[derive(Debug, Drop)]

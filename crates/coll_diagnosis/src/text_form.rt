@@ -14,7 +14,7 @@ use crate::standstill::Standstill;
 use crate::stuck::Stuck;
 use crate::verdict::Verdict;
 use crate::waiting::WaitsFor;
-use coll_page::{Page, Paint, Source, push_ranks};
+use coll_snippet::{Page, Paint, Source, push_ranks};
 use std::alloc::{AllocError, Global};
 
 /// The lines of an explanation of the text that has this name: with a shortest circle in full, or with all ranks that wait for themselves.

@@ -3,8 +3,8 @@
 ghost use Rattle.std.specs.Prelude.{◌≡◌, true, IfOk, OnSome};
 ghost use Rattle.coll_faults.specs.Accepting.{is_accepted};
 
-use coll_history::{History, ScriptFault};
 use coll_kinds::MAX_TEXT;
+use coll_parser::{History, ScriptFault};
 use std::alloc::{AllocError, Global};
 
 /// The history of a text, if none of its lines has a fault. Linear in the text.

@@ -1,6 +1,6 @@
 //! The requests at the places of a communicator.
 
-use coll_history::Request;
+use coll_parser::Request;
 use std::alloc::{AllocError, Global};
 
 /// A request that a member of a communicator makes, with the member's rank in the job.

@@ -3,7 +3,7 @@
 use crate::difference::{Difference, differences};
 use crate::draft::Written;
 use crate::member_requests::{MemberRequest, earliest, requests_by_place};
-use coll_history::{History, Start};
+use coll_parser::{History, Start};
 use coll_script::Cause;
 use std::alloc::{AllocError, Global};
 

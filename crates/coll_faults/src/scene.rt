@@ -1,8 +1,8 @@
 use crate::accepting::accepted;
 use crate::draft::MendedText;
 use crate::words::{first_word, words_of};
-use coll_history::{Command, History, Request};
 use coll_kinds::read_number;
+use coll_parser::{Command, History, Request};
 use std::alloc::{AllocError, Global};
 
 /// What the lines before a faulty one have said.

@@ -4,8 +4,8 @@ use crate::patch::Patch;
 use crate::remark::Remark;
 use crate::scene::Scene;
 use crate::words::{Word, push_word, shown, spliced, words_of};
-use coll_history::{Command, History, Request};
 use coll_kinds::{Signature, member_of, read_number};
+use coll_parser::{Command, History, Request};
 use std::alloc::{AllocError, Global};
 
 /// A faulty line, and what the lines before it have said.

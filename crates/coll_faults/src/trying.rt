@@ -7,8 +7,8 @@ use crate::remark::{Proposal, Remark};
 use crate::scene::Scene;
 use crate::site::Site;
 use crate::suggestion::Suggestion;
-use coll_history::{History, ScriptFault};
 use coll_kinds::MAX_TEXT;
+use coll_parser::{History, ScriptFault};
 use coll_script::Cause;
 use std::alloc::{AllocError, Global};
 

@@ -3,8 +3,8 @@
 use crate::remark::Remark;
 use crate::site::{Due, Site, last_signed};
 use crate::words::shown;
-use coll_history::History;
 use coll_kinds::{Datatype, read_element, read_number};
+use coll_parser::History;
 use std::alloc::{AllocError, Global};
 
 /// Where the values of a line begin, and what is due there.

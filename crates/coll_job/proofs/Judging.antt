@@ -2,7 +2,7 @@
 use Rattle.std.proofs.Common.{◌≡◌, ◌≢◌, ◌⊎◌, ℕ, List, take, Option, Some, None, Result, Ok, Err, true, false, refl, sym, ap, subst, ◌∙◌, arith, inl, inr}
 use Rattle.std.specs.Prelude.{◌==◌, ◌≤◌, ◌||◌, Bool, IfErr, IfNone, IfOk, IfSome, IsOk, MatchResult, OnOk}
 use Rattle.std.specs.Io.KnownBytes.{Appends}
-use Rattle.coll_history.specs.declared.fault.Fault.{Fault}
+use Rattle.coll_parser.specs.declared.fault.Fault.{Fault}
 use Rattle.coll_script.specs.declared.fault.JobFault.{JobFault}
 use Rattle.coll_script.specs.declared.fault.JobFault.TheVariants.{Read, Write, Text, Stalled, Refused, Memory, NoThread, Torn}
 use Rattle.coll_script.specs.Faults.{status_of}

@@ -6,15 +6,15 @@ use Rattle.std.specs.Global.{Global}
 use Rattle.std.proofs.lemmas.Bool.{cases_lt, lt-ltb, le-ltb}
 use Rattle.std.proofs.lemmas.List.{length-map, map-append}
 use Rattle.std.proofs.lemmas.Option.{slice_get_within}
-use Rattle.coll_history.specs.Histories.{History, commands_of, issued_by, postings}
-use Rattle.coll_history.specs.Requests as history
-use Rattle.coll_history.specs.Requests.{Request, place_on, request, requests, requests_after, started}
-use Rattle.coll_history.specs.Code.{request_view, requests_view}
-use Rattle.coll_history.specs.Sound.{IsRequest, IsSound}
-use Rattle.coll_history.specs.declared.request.Request as rust
-use Rattle.coll_history.specs.declared.command.Command as text
-use Rattle.coll_history.specs.declared.command.Command.TheVariants as line
-use Rattle.coll_history.specs.declared.issued_command.IssuedCommand.{IssuedCommand}
+use Rattle.coll_parser.specs.Histories.{History, commands_of, issued_by, postings}
+use Rattle.coll_parser.specs.Requests as history
+use Rattle.coll_parser.specs.Requests.{Request, place_on, request, requests, requests_after, started}
+use Rattle.coll_parser.specs.Code.{request_view, requests_view}
+use Rattle.coll_parser.specs.Sound.{IsRequest, IsSound}
+use Rattle.coll_parser.specs.declared.request.Request as rust
+use Rattle.coll_parser.specs.declared.command.Command as text
+use Rattle.coll_parser.specs.declared.command.Command.TheVariants as line
+use Rattle.coll_parser.specs.declared.issued_command.IssuedCommand.{IssuedCommand}
 use Rattle.coll_script.specs.Postings.{requests_of}
 use Rattle.coll_script.proofs.Sections.{each_of, requests_of-past, requests_of-rank, requests_of-view}
 use Rattle.coll_report.specs.Scripts as script

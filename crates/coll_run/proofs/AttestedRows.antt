@@ -1,6 +1,6 @@
 -- The trace of the worked row is that of a run.
 use Rattle.std.proofs.Common.{◌<◌, ℕ, zero, suc, [], refl, arith}
-use Rattle.coll_history.specs.Histories.{commands_of}
+use Rattle.coll_parser.specs.Histories.{commands_of}
 use Rattle.coll_machine.specs.Common.{posts_of, late_bcast}
 use Rattle.coll_report.specs.Scripts.{Says}
 use Rattle.coll_run.specs.Commands.{all_traced}

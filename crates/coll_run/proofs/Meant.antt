@@ -8,10 +8,10 @@ use Rattle.std.proofs.lemmas.List.{length-map, take-map}
 use Rattle.std.proofs.lemmas.List.Concat.{flat_map-cons}
 use Rattle.coll_kinds.specs.Groups.{member_of}
 use Rattle.coll_ops.specs.Values.{value}
-use Rattle.coll_history.proofs.Lists.{AllByRecursion-at}
-use Rattle.coll_history.specs.Histories.{History}
-use Rattle.coll_history.specs.Requests.{Request, requests}
-use Rattle.coll_history.specs.Sound.{IsRequest, IsSound}
+use Rattle.coll_parser.proofs.Lists.{AllByRecursion-at}
+use Rattle.coll_parser.specs.Histories.{History}
+use Rattle.coll_parser.specs.Requests.{Request, requests}
+use Rattle.coll_parser.specs.Sound.{IsRequest, IsSound}
 use Rattle.coll_script.specs.Postings.{posted_on, requests_of}
 use Rattle.coll_script.specs.Jobs.{Job, job_of}
 use Rattle.coll_script.specs.Meaning as script

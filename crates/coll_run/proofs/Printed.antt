@@ -2,10 +2,10 @@
 use Rattle.std.proofs.Common.{◌≡◌, ℕ, ◌+◌, ◌-◌, ◌<◌, List, [], ◌∷◌, ◌++◌, map, take, drop, length, get_or, ap, subst, sym, ◌∙◌, append_assoc, arith}
 use Rattle.std.specs.List.{AllByRecursion}
 use Rattle.std.proofs.lemmas.List.{length-take, take-append-drop}
-use Rattle.coll_history.proofs.Lists.{AllByRecursion-at, slice_get-view}
-use Rattle.coll_history.specs.Code.{request_view}
-use Rattle.coll_history.specs.declared.request.Request as rust
-use Rattle.coll_history.specs.Requests.{Request}
+use Rattle.coll_parser.proofs.Lists.{AllByRecursion-at, slice_get-view}
+use Rattle.coll_parser.specs.Code.{request_view}
+use Rattle.coll_parser.specs.declared.request.Request as rust
+use Rattle.coll_parser.specs.Requests.{Request}
 use Rattle.coll_script.specs.Postings.{posted_on}
 use Rattle.coll_script.proofs.Loops.{take-next}
 use Rattle.coll_run.specs.Index.{IsFew}

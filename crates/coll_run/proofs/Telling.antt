@@ -1,7 +1,7 @@
 -- What a run of a job reports.
 use Rattle.std.proofs.Common.{◌≤◌, ◌<◌, List, [], sym, subst}
 use Rattle.std.specs.Prelude.{unwrap_or}
-use Rattle.coll_history.specs.Histories.{History}
+use Rattle.coll_parser.specs.Histories.{History}
 use Rattle.coll_machine.specs.Reports.{posts_of}
 use Rattle.coll_report.specs.Scripts.{Command, Says}
 use Rattle.coll_report.specs.Reports.{Closed}

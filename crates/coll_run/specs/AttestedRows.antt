@@ -2,8 +2,8 @@
 use Rattle.std.specs.Prelude.{◌≡◌, ℕ, List, [], ◌∷◌, ◌++◌, codes, flat_map, Some, None, refl}
 use Rattle.std.specs.Fmt.{digits}
 use Rattle.std.specs.Int.{int_wrap}
-use Rattle.coll_history.specs.declared.command.Command.TheVariants as line
-use Rattle.coll_history.specs.Histories.{History}
+use Rattle.coll_parser.specs.declared.command.Command.TheVariants as line
+use Rattle.coll_parser.specs.Histories.{History}
 use Rattle.coll_script.specs.Jobs.{job_of}
 use Rattle.coll_script.specs.Meaning.{job_lines}
 use Rattle.coll_machine.specs.Rows.{bcast, i32, late_bcast}

@@ -1,9 +1,9 @@
 -- The commands of a job text, as those that a trace shows.
 use Rattle.std.specs.Prelude.{ℕ, nat_lt, List, [], map, unwrap_or, if◌then◌else◌}
-use Rattle.coll_history.specs.Histories.{History, commands_of}
-use Rattle.coll_history.specs.Requests.{Request}
-use Rattle.coll_history.specs.declared.command.Command as text
-use Rattle.coll_history.specs.declared.command.Command.TheVariants as line
+use Rattle.coll_parser.specs.Histories.{History, commands_of}
+use Rattle.coll_parser.specs.Requests.{Request}
+use Rattle.coll_parser.specs.declared.command.Command as text
+use Rattle.coll_parser.specs.declared.command.Command.TheVariants as line
 use Rattle.coll_report.specs.Scripts.{Command, Post, Init, Start, Other, Asked}
 
 -- a command, as a trace shows it; of a wait, a test or a free it shows nothing that is posted or given

@@ -1,8 +1,8 @@
 -- What holds of every run of a job.
 use Rattle.std.specs.Prelude.{◌≡◌, ℕ, map}
-use Rattle.coll_history.specs.Histories.{History}
-use Rattle.coll_history.specs.Requests.{requests}
-use Rattle.coll_history.specs.Sound.{IsSound}
+use Rattle.coll_parser.specs.Histories.{History}
+use Rattle.coll_parser.specs.Requests.{requests}
+use Rattle.coll_parser.specs.Sound.{IsSound}
 use Rattle.coll_script.specs.Postings.{requests_of}
 use Rattle.coll_script.specs.Jobs.{job_of}
 use Rattle.coll_script.specs.Meaning.{job_lines}

@@ -1,7 +1,7 @@
 -- The output lines of a job, with the bytes that an engine's completions handed out.
 use Rattle.std.specs.Prelude.{ℕ, List, [], ◌∷◌, ◌++◌, length, flat_map, unwrap_or, Option, Some, None, if◌then◌else◌}
 use Rattle.std.specs.List.{range_with_len}
-use Rattle.coll_history.specs.Requests.{Request}
+use Rattle.coll_parser.specs.Requests.{Request}
 use Rattle.coll_script.specs.Postings.{posted_on, requests_of}
 use Rattle.coll_script.specs.Jobs.{Job}
 use Rattle.coll_script.specs.Meaning.{outcome_line}

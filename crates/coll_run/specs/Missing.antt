@@ -1,6 +1,6 @@
 -- What a reading of completions may lack.
 use Rattle.std.specs.Prelude.{◌≡◌, ◌<◌, ℕ, List, ◌∷◌, ◌++◌, length, None}
-use Rattle.coll_history.specs.Requests.{Request}
+use Rattle.coll_parser.specs.Requests.{Request}
 use Rattle.coll_script.specs.Postings.{posted_on, requests_of}
 use Rattle.coll_script.specs.Jobs.{Job}
 use Rattle.coll_run.specs.Lines.{Handed}

@@ -1,6 +1,6 @@
 -- What an engine is opened with for a job.
 use Rattle.std.specs.Prelude.{ℕ, unwrap_or}
-use Rattle.coll_history.specs.Histories.{History}
+use Rattle.coll_parser.specs.Histories.{History}
 use Rattle.coll_script.specs.Configs.{sizes_of}
 use Rattle.coll_machine.specs.Settings.{Setting}
 

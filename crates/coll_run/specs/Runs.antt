@@ -1,6 +1,6 @@
 -- When the report of a closed engine is that of a job's run.
 use Rattle.std.specs.Prelude.{◌≡◌, ◌<◌, ℕ, [], unwrap_or}
-use Rattle.coll_history.specs.Histories.{History, commands_of}
+use Rattle.coll_parser.specs.Histories.{History, commands_of}
 use Rattle.coll_machine.specs.Reports.{posts_of}
 use Rattle.coll_report.specs.Scripts.{Says}
 use Rattle.coll_report.specs.Reports.{Closed}

@@ -1,5 +1,5 @@
 ghost use Rattle.std.specs.Prelude.{◌≡◌, IfErr, IfOk, OnOk};
-ghost use Rattle.coll_history.specs.Sound.{IsSound};
+ghost use Rattle.coll_parser.specs.Sound.{IsSound};
 ghost use Rattle.coll_script.specs.Jobs.{job_of};
 ghost use Rattle.coll_script.specs.Meaning.{job_lines};
 ghost use Rattle.coll_report.specs.Scripts.{asked};

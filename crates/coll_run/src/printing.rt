@@ -2,15 +2,15 @@
 
 ghost use Rattle.std.specs.Prelude.{◌≡◌, ◌≤◌, ◌++◌, [], length, map, unwrap_or, None, IfErr, OnOk};
 ghost use Rattle.std.specs.List.{AllByRecursion};
-ghost use Rattle.coll_history.specs.Code.{request_view};
+ghost use Rattle.coll_parser.specs.Code.{request_view};
 ghost use Rattle.coll_script.specs.Meaning.{outcome_line};
 ghost use Rattle.coll_run.specs.Index.{IsFew, handed_at, handed_in};
 ghost use Rattle.coll_run.specs.Lines.{told_behind, told_request};
 ghost use Rattle.coll_run.specs.Missing.{Lacks, LacksStart};
 
 use crate::index::{Completion, find};
-use coll_history::Request;
 use coll_kinds::{MAX_COMMUNICATORS, Signature};
+use coll_parser::Request;
 use coll_script::{ReportFault, print_outcome};
 use std::alloc::Global;
 use std::collections::HashMap;

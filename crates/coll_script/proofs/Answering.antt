@@ -4,9 +4,9 @@ use Rattle.std.specs.Prelude.{IfSome, is_ok}
 use Rattle.std.specs.Io.KnownBytes.{Appends}
 use Rattle.std.proofs.lemmas.Bool.{cases_lt}
 use Rattle.std.proofs.lemmas.List.{take_all, length-take}
-use Rattle.coll_history.specs.declared.fault.Fault.{Fault}
-use Rattle.coll_history.specs.Reading.{and_then}
-use Rattle.coll_history.specs.Histories.{History}
+use Rattle.coll_parser.specs.declared.fault.Fault.{Fault}
+use Rattle.coll_parser.specs.Reading.{and_then}
+use Rattle.coll_parser.specs.Histories.{History}
 use Rattle.coll_script.specs.Jobs.{script_of, job_of}
 use Rattle.coll_script.specs.Meaning.{meaning, HasMeaning, job_lines}
 use Rattle.coll_script.proofs.Reading.{script_of-long}

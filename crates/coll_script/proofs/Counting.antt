@@ -4,7 +4,7 @@ use Rattle.std.specs.Prelude.{slice_index}
 use Rattle.std.proofs.lemmas.Bool.{cases_eq, eq-eqb, ne_eqb}
 use Rattle.std.proofs.lemmas.List.{length-append, get_or-set_same, get_or-set_other}
 use Rattle.std.proofs.lemmas.List.Elements.{filter-append}
-use Rattle.coll_history.specs.Requests.{Request}
+use Rattle.coll_parser.specs.Requests.{Request}
 use Rattle.coll_script.specs.Postings.{is_on, posted_on}
 use Rattle.coll_script.proofs.Loops.{take-next}
 

@@ -5,7 +5,7 @@ use Rattle.std.proofs.lemmas.Bool.Decides.{nat_tests}
 use Rattle.std.proofs.lemmas.List.Concat.{flat_map-cons}
 use Rattle.std.proofs.lemmas.Option.{none-some, same_Some}
 use Rattle.coll_kinds.proofs.Sameness.{same_signature-Decides}
-use Rattle.coll_history.specs.Requests.{Request}
+use Rattle.coll_parser.specs.Requests.{Request}
 use Rattle.coll_script.specs.declared.first.Earliest.{Earliest}
 use Rattle.coll_script.specs.Matching.{earliest, agrees, differing_from, differing, lower, least, mismatch}
 use Rattle.coll_script.specs.Belonging.{StandsAt, Differs, IsFirstToDiffer, NoneDiffers}

@@ -4,7 +4,7 @@ use Rattle.std.specs.Prelude.{slice_get}
 use Rattle.std.specs.Option.{option_map}
 use Rattle.std.proofs.lemmas.Bool.Decides.{nat_tests}
 use Rattle.std.proofs.lemmas.Option.{none-some, same_Some}
-use Rattle.coll_history.specs.Requests.{Request}
+use Rattle.coll_parser.specs.Requests.{Request}
 use Rattle.coll_script.specs.declared.first.Earliest.{Earliest}
 use Rattle.coll_script.specs.Matching.{first_of, first_at, earlier, earliest}
 use Rattle.coll_script.specs.Belonging.{StandsAt}

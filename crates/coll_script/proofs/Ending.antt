@@ -3,16 +3,16 @@ use Rattle.std.proofs.Common.{◌≡◌, ℕ, ◌+◌, ◌≤◌, ◌<◌, Bool,
 use Rattle.std.specs.Prelude.{slice_get, slice_index, unwrap_or, is_some, IfSome, Vec}
 use Rattle.std.specs.List.{list_all, AllByRecursion}
 use Rattle.std.proofs.lemmas.Option.{slice_get_within}
-use Rattle.coll_history.specs.declared.cause.Cause.TheVariants.{PlaceMismatch, PlaceMissing, StartMissing}
-use Rattle.coll_history.specs.Histories.{History}
-use Rattle.coll_history.specs.Requests.{Request, requests}
-use Rattle.coll_history.specs.declared.request.Request as rust
-use Rattle.coll_history.specs.Code.{request_view, requests_view, rows_view}
-use Rattle.coll_history.proofs.Lists.{AllByRecursion-weaker}
+use Rattle.coll_parser.specs.declared.cause.Cause.TheVariants.{PlaceMismatch, PlaceMissing, StartMissing}
+use Rattle.coll_parser.specs.Histories.{History}
+use Rattle.coll_parser.specs.Requests.{Request, requests}
+use Rattle.coll_parser.specs.declared.request.Request as rust
+use Rattle.coll_parser.specs.Code.{request_view, requests_view, rows_view}
+use Rattle.coll_parser.proofs.Lists.{AllByRecursion-weaker}
 use Rattle.std.specs.Global.{Global}
 use Rattle.std.proofs.lemmas.List.{length-map}
 use Rattle.coll_kinds.specs.Groups.{member_of, IsGroup}
-use Rattle.coll_history.specs.Sound.{IsRequest, IsSound}
+use Rattle.coll_parser.specs.Sound.{IsRequest, IsSound}
 use Rattle.coll_script.specs.Postings.{requests_of, postings_from}
 use Rattle.coll_script.specs.Matching.{mismatch, have_places, have_starts}
 use Rattle.coll_script.specs.Jobs.{job_of, all_postings, matched, belonging, completed_by, completed}

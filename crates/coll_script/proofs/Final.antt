@@ -5,12 +5,12 @@ use Rattle.std.specs.Option.{option_map}
 use Rattle.std.proofs.lemmas.Bool.{cases_lt}
 use Rattle.std.proofs.lemmas.List.Elements.{filter-append}
 use Rattle.std.proofs.lemmas.Option.{none-some, same_Some, slice_get-map}
-use Rattle.coll_history.specs.declared.cause.Cause.TheVariants.{PlaceMismatch}
-use Rattle.coll_history.specs.Histories.{History, Posting, beginning}
-use Rattle.coll_history.specs.Judging.{judged, fault_at}
-use Rattle.coll_history.specs.Requests.{Request, requests}
-use Rattle.coll_history.specs.Requests as history
-use Rattle.coll_history.proofs.Growing.{Grows, IsSettled, AddsTo, posting_of, judged-grows, requests-add}
+use Rattle.coll_parser.specs.declared.cause.Cause.TheVariants.{PlaceMismatch}
+use Rattle.coll_parser.specs.Histories.{History, Posting, beginning}
+use Rattle.coll_parser.specs.Judging.{judged, fault_at}
+use Rattle.coll_parser.specs.Requests.{Request, requests}
+use Rattle.coll_parser.specs.Requests as history
+use Rattle.coll_parser.proofs.Growing.{Grows, IsSettled, AddsTo, posting_of, judged-grows, requests-add}
 use Rattle.coll_script.specs.Postings.{posted_on, requests_of, postings}
 use Rattle.coll_script.specs.Matching.{mismatch, differing, earliest}
 use Rattle.coll_script.specs.Jobs.{job_of, all_postings, matched, belonging}

@@ -3,10 +3,10 @@ use Rattle.std.proofs.Common.{◌≡◌, ◌<◌, ℕ, [], List, Vec, length, ma
 use Rattle.std.specs.Prelude.{slice_get, unwrap_or, Option}
 use Rattle.std.specs.Global.{Global}
 use Rattle.std.proofs.lemmas.List.{length-map}
-use Rattle.coll_history.specs.Code.{request_view}
-use Rattle.coll_history.specs.Requests.{Request}
-use Rattle.coll_history.specs.declared.request.Request as rust
-use Rattle.coll_history.proofs.Lists.{slice_get-view}
+use Rattle.coll_parser.specs.Code.{request_view}
+use Rattle.coll_parser.specs.Requests.{Request}
+use Rattle.coll_parser.specs.declared.request.Request as rust
+use Rattle.coll_parser.proofs.Lists.{slice_get-view}
 use Rattle.coll_script.specs.Postings.{posted_on}
 use Rattle.coll_script.specs.declared.values.MemberValues.{MemberValues}
 use Rattle.coll_script.specs.Outcomes.{place_view, group_view, values_view}

@@ -4,12 +4,12 @@ use Rattle.std.specs.Prelude.{slice_get}
 use Rattle.std.specs.List.{list_all}
 use Rattle.std.proofs.lemmas.Bool.{cases_lt, eqb-true, eq-eqb}
 use Rattle.std.proofs.lemmas.Option.{none-some, slice_get-get_or, slice_get_within}
-use Rattle.coll_history.specs.declared.cause.Cause.{Cause}
-use Rattle.coll_history.specs.Judging.{fault_at}
-use Rattle.coll_history.specs.declared.cause.Cause.TheVariants.{PlaceMismatch, PlaceMissing, StartMissing}
-use Rattle.coll_history.specs.declared.fault.Fault.{Fault}
-use Rattle.coll_history.specs.Histories.{History}
-use Rattle.coll_history.specs.Requests.{Request}
+use Rattle.coll_parser.specs.declared.cause.Cause.{Cause}
+use Rattle.coll_parser.specs.Judging.{fault_at}
+use Rattle.coll_parser.specs.declared.cause.Cause.TheVariants.{PlaceMismatch, PlaceMissing, StartMissing}
+use Rattle.coll_parser.specs.declared.fault.Fault.{Fault}
+use Rattle.coll_parser.specs.Histories.{History}
+use Rattle.coll_parser.specs.Requests.{Request}
 use Rattle.coll_script.specs.Matching.{mismatch, first_list, have_places, started_alike, have_starts}
 use Rattle.coll_script.specs.Jobs.{job_of, all_postings, matched, belonging}
 use Rattle.coll_script.specs.Belonging.{LacksPlace, LacksStart, SaysOf, Belong}

@@ -5,7 +5,7 @@ use Rattle.std.specs.List.{list_all, range_with_len, enumerate_from}
 use Rattle.std.proofs.Math.Seq.{drop-cons}
 use Rattle.std.proofs.lemmas.List.{append-nil, length-map, get_or-map}
 use Rattle.std.proofs.lemmas.List.Concat.{flat_map-cons}
-use Rattle.coll_history.proofs.Lists.{drop-more}
+use Rattle.coll_parser.proofs.Lists.{drop-more}
 
 pub drop-at : {X : Type 0} (xs : List X) (k : ℕ) (d : X) → k < length xs → drop k xs ≡ get_or xs k d ∷ drop (k + 1) xs
 drop-at xs k d lt = rw (add-one, drop-cons xs k d lt) refl

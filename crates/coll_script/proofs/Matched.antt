@@ -4,15 +4,15 @@ use Rattle.std.specs.Prelude.{slice_get, unwrap_or, flat_map, Vec, vec_len}
 use Rattle.std.specs.Global.{Global}
 use Rattle.std.specs.Option.{option_map}
 use Rattle.std.proofs.lemmas.Bool.Decides.{nat_tests}
-use Rattle.coll_history.specs.declared.request.Request as rust
-use Rattle.coll_history.specs.Code.{request_view}
-use Rattle.coll_history.proofs.Lists.{slice_get-view, slice_get-push_other}
+use Rattle.coll_parser.specs.declared.request.Request as rust
+use Rattle.coll_parser.specs.Code.{request_view}
+use Rattle.coll_parser.proofs.Lists.{slice_get-view, slice_get-push_other}
 use Rattle.coll_script.specs.PostingViews.{list_view, lists_view}
 use Rattle.std.proofs.lemmas.Bool.{cases_eq, cases_lt}
 use Rattle.std.proofs.lemmas.List.{length-map, length-set, length-append, length-drop, drop_all}
 use Rattle.std.proofs.lemmas.List.Concat.{flat_map-cons}
 use Rattle.std.proofs.lemmas.Option.{slice_get_past}
-use Rattle.coll_history.specs.Requests.{Request}
+use Rattle.coll_parser.specs.Requests.{Request}
 use Rattle.coll_script.specs.declared.first.Earliest.{Earliest}
 use Rattle.coll_script.specs.Matching.{first_of, first_at, earlier, earliest, agrees, differing_from, lower, least, started_alike, first_list}
 use Rattle.coll_script.specs.Keeping.{IsKept}

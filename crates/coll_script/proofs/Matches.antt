@@ -9,13 +9,13 @@ use Rattle.std.proofs.lemmas.List.Concat.{flat_map-cons}
 use Rattle.std.proofs.lemmas.Option.{slice_get-map, slice_get-get_or, unwrap_or-slice_get, slice_get_within, same_Some}
 use Rattle.coll_kinds.specs.declared.signature.Signature.{Signature}
 use Rattle.coll_kinds.specs.Common.{given_len, broken, IsGroup, member_of}
-use Rattle.coll_history.specs.declared.fault.Fault.{Fault}
-use Rattle.coll_history.specs.Requests.{Request}
-use Rattle.coll_history.specs.Sound.{IsRequest}
-use Rattle.coll_history.proofs.Lists.{AllByRecursion-at}
+use Rattle.coll_parser.specs.declared.fault.Fault.{Fault}
+use Rattle.coll_parser.specs.Requests.{Request}
+use Rattle.coll_parser.specs.Sound.{IsRequest}
+use Rattle.coll_parser.proofs.Lists.{AllByRecursion-at}
 use Rattle.coll_script.specs.Postings.{is_on, posted_on, requests_of, postings, postings_from}
 use Rattle.coll_script.specs.Matching.{earliest, agrees, differing_from, differing, lower, least, mismatch, first_list, have_places, started_alike, have_starts}
-use Rattle.coll_history.specs.Histories.{History}
+use Rattle.coll_parser.specs.Histories.{History}
 use Rattle.coll_script.specs.declared.first.Earliest.{Earliest}
 use Rattle.coll_script.specs.Jobs.{job_of, all_postings, matched, belonging}
 use Rattle.coll_script.specs.Outcomes.{list_at, AreMatched}

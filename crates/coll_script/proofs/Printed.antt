@@ -11,9 +11,9 @@ use Rattle.std.proofs.lemmas.List.FromFn.{get_or-map-range_with_len, length-map-
 use Rattle.std.proofs.lemmas.Option.{slice_get-map, slice_get-get_or, unwrap_or-slice_get, slice_get_within, same_Some}
 use Rattle.coll_kinds.specs.declared.signature.Signature.{Signature}
 use Rattle.coll_ops.specs.Values.{row_of, value}
-use Rattle.coll_history.specs.Requests.{Request}
+use Rattle.coll_parser.specs.Requests.{Request}
 use Rattle.coll_kinds.specs.Groups.{member_of}
-use Rattle.coll_history.proofs.Lists.{AllByRecursion-at}
+use Rattle.coll_parser.proofs.Lists.{AllByRecursion-at}
 use Rattle.coll_kinds.proofs.Members.{member_of-place}
 use Rattle.coll_script.specs.Postings.{is_on, posted_on, requests_of, postings, postings_from}
 use Rattle.coll_script.specs.Matching.{first_list}

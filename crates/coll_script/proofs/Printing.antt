@@ -7,7 +7,7 @@ use Rattle.std.proofs.Math.Nat.{mul-le-mul_right}
 use Rattle.coll_kinds.specs.declared.datatype.Datatype.{Datatype}
 use Rattle.coll_kinds.specs.Common.{Element, width, element_at, text_of}
 use Rattle.coll_ops.specs.Combinations.{elements}
-use Rattle.coll_history.proofs.Contributions.{width-positive}
+use Rattle.coll_parser.proofs.Contributions.{width-positive}
 use Rattle.coll_script.specs.Meaning.{element_text}
 use Rattle.coll_script.specs.Growing.{Extends}
 

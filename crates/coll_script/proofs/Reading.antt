@@ -1,15 +1,15 @@
 -- A text's script is what its lines tell, and what is judged after them.
 use Rattle.std.proofs.Common.{◌≡◌, ℕ, ◌<◌, ◌≤◌, true, false, ltb, List, length, Result, Err, refl, arith}
 use Rattle.std.proofs.lemmas.Bool.Decides.{nat_tests}
-use Rattle.coll_history.specs.declared.cause.Cause.TheVariants.{TooLong}
-use Rattle.coll_history.specs.declared.fault.Fault.{Fault}
-use Rattle.coll_history.specs.declared.fault.ScriptFault.{ScriptFault}
-use Rattle.coll_history.specs.declared.fault.ScriptFault.TheVariants as script
-use Rattle.coll_history.specs.Code.{FailsText}
-use Rattle.coll_history.specs.Reading.{and_then}
-use Rattle.coll_history.specs.Cutting.{lines_of}
-use Rattle.coll_history.specs.Histories.{History, beginning}
-use Rattle.coll_history.specs.Judging.{judged}
+use Rattle.coll_parser.specs.declared.cause.Cause.TheVariants.{TooLong}
+use Rattle.coll_parser.specs.declared.fault.Fault.{Fault}
+use Rattle.coll_parser.specs.declared.fault.ScriptFault.{ScriptFault}
+use Rattle.coll_parser.specs.declared.fault.ScriptFault.TheVariants as script
+use Rattle.coll_parser.specs.Code.{FailsText}
+use Rattle.coll_parser.specs.Reading.{and_then}
+use Rattle.coll_parser.specs.Cutting.{lines_of}
+use Rattle.coll_parser.specs.Histories.{History, beginning}
+use Rattle.coll_parser.specs.Judging.{judged}
 use Rattle.coll_script.specs.Jobs.{completed, script_of}
 
 pub script_of-long : (text : List ℕ) → 1048576 < length text → script_of text ≡ Err (record { line = 1; cause = TooLong })

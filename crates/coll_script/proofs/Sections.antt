@@ -5,12 +5,12 @@ use Rattle.std.specs.Global.{Global}
 use Rattle.std.proofs.lemmas.Bool.{cases_lt}
 use Rattle.std.proofs.lemmas.List.FromFn.{get_or-map-range_with_len, length-map-range_with_len}
 use Rattle.std.proofs.lemmas.Option.{slice_get_past, unwrap_or-slice_get}
-use Rattle.coll_history.specs.Histories.{History}
-use Rattle.coll_history.specs.Requests as history
-use Rattle.coll_history.specs.Requests.{Request, requests}
-use Rattle.coll_history.specs.Code.{request_view, requests_view}
-use Rattle.coll_history.specs.declared.request.Request as rust
-use Rattle.coll_history.proofs.Lists.{slice_get-view}
+use Rattle.coll_parser.specs.Histories.{History}
+use Rattle.coll_parser.specs.Requests as history
+use Rattle.coll_parser.specs.Requests.{Request, requests}
+use Rattle.coll_parser.specs.Code.{request_view, requests_view}
+use Rattle.coll_parser.specs.declared.request.Request as rust
+use Rattle.coll_parser.proofs.Lists.{slice_get-view}
 use Rattle.coll_script.specs.Postings.{requests_of}
 
 pub length-requests : (h : History) → length (requests h) ≡ unwrap_or h.ranks 0

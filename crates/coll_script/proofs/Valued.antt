@@ -10,11 +10,11 @@ use Rattle.coll_kinds.specs.declared.signature.Signature.{Signature}
 use Rattle.coll_kinds.specs.Common.{given_len, broken}
 use Rattle.coll_ops.specs.Contributions.{AreGiven}
 use Rattle.coll_ops.specs.Values.{row_of}
-use Rattle.coll_history.specs.declared.request.Request as rust
-use Rattle.coll_history.specs.declared.request.Start as rust_start
-use Rattle.coll_history.specs.Requests.{Request}
-use Rattle.coll_history.specs.Code.{request_view, rows_view, givens}
-use Rattle.coll_history.proofs.Lists.{slice_get-view, AllByRecursion-read}
+use Rattle.coll_parser.specs.declared.request.Request as rust
+use Rattle.coll_parser.specs.declared.request.Start as rust_start
+use Rattle.coll_parser.specs.Requests.{Request}
+use Rattle.coll_parser.specs.Code.{request_view, rows_view, givens}
+use Rattle.coll_parser.proofs.Lists.{slice_get-view, AllByRecursion-read}
 use Rattle.coll_script.specs.Matching.{first_list}
 use Rattle.coll_script.specs.Meaning.{given_by, given_at}
 use Rattle.coll_script.specs.Outcomes.{place_values, values_from, list_at, HaveStart, AreMatched}

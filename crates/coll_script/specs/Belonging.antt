@@ -1,8 +1,8 @@
 -- What is judged after the last line, as relations: what a fault of the whole text says of its requests.
 use Rattle.std.specs.Prelude.{◌≡◌, ◌≢◌, ℕ, ◌<◌, ◌≤◌, List, length, Some, slice_get}
-use Rattle.coll_history.specs.declared.cause.Cause.{Cause}
-use Rattle.coll_history.specs.declared.cause.Cause.TheVariants.{PlaceMismatch, PlaceMissing, StartMissing}
-use Rattle.coll_history.specs.Requests.{Request}
+use Rattle.coll_parser.specs.declared.cause.Cause.{Cause}
+use Rattle.coll_parser.specs.declared.cause.Cause.TheVariants.{PlaceMismatch, PlaceMissing, StartMissing}
+use Rattle.coll_parser.specs.Requests.{Request}
 
 -- a request stands at a place in the posting list of a member
 pub record StandsAt (lists : List (List Request)) (place : ℕ) (p : Request) : Type 0 where

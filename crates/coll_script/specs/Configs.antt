@@ -1,8 +1,8 @@
 -- How large an engine is opened to run a job: one place in each table for each request, and room for all entries of the
 -- trace.
 use Rattle.std.specs.Prelude.{ℕ, ◌+◌, ◌*◌, List, count_by, is_some, max}
-use Rattle.coll_history.specs.declared.issued_command.IssuedCommand.{IssuedCommand}
-use Rattle.coll_history.specs.Histories.{posting, is_start}
+use Rattle.coll_parser.specs.declared.issued_command.IssuedCommand.{IssuedCommand}
+use Rattle.coll_parser.specs.Histories.{posting, is_start}
 use Rattle.coll_script.specs.declared.sizes.Sizes.{Sizes}
 
 -- how many lines make a request

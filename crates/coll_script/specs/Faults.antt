@@ -2,8 +2,8 @@
 use Rattle.std.specs.Prelude.{ℕ}
 use Rattle.coll_kinds.specs.declared.refusal.Refusal.{Refusal}
 use Rattle.coll_kinds.specs.declared.refusal.Refusal.TheVariants as refusal
-use Rattle.coll_history.specs.declared.fault.ScriptFault.{ScriptFault}
-use Rattle.coll_history.specs.declared.fault.ScriptFault.TheVariants as script
+use Rattle.coll_parser.specs.declared.fault.ScriptFault.{ScriptFault}
+use Rattle.coll_parser.specs.declared.fault.ScriptFault.TheVariants as script
 use Rattle.coll_script.specs.declared.fault.JobFault.{JobFault}
 use Rattle.coll_script.specs.declared.fault.JobFault.TheVariants.{Read, Write, Text, Stalled, Refused, Memory}
 use Rattle.coll_script.specs.declared.fault.JobFault.TheVariants.{NoThread, Torn}

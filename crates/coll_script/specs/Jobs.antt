@@ -1,14 +1,14 @@
 -- The script of a text: the history of its lines, in which the requests of all ranks belong together.
 use Rattle.std.specs.Prelude.{ℕ, nat_lt, List, length, Option, Some, None, Result, Ok, if◌then◌else◌}
 use Rattle.std.specs.List.{list_all}
-use Rattle.coll_history.specs.declared.cause.Cause.TheVariants.{TooLong, MissingRanks}
-use Rattle.coll_history.specs.declared.cause.Cause.TheVariants.{PlaceMismatch, PlaceMissing, StartMissing}
-use Rattle.coll_history.specs.declared.fault.Fault.{Fault}
-use Rattle.coll_history.specs.Reading.{and_then}
-use Rattle.coll_history.specs.Cutting.{lines_of}
-use Rattle.coll_history.specs.Histories.{History, beginning}
-use Rattle.coll_history.specs.Requests.{Request, requests}
-use Rattle.coll_history.specs.Judging.{fault_at, judged}
+use Rattle.coll_parser.specs.declared.cause.Cause.TheVariants.{TooLong, MissingRanks}
+use Rattle.coll_parser.specs.declared.cause.Cause.TheVariants.{PlaceMismatch, PlaceMissing, StartMissing}
+use Rattle.coll_parser.specs.declared.fault.Fault.{Fault}
+use Rattle.coll_parser.specs.Reading.{and_then}
+use Rattle.coll_parser.specs.Cutting.{lines_of}
+use Rattle.coll_parser.specs.Histories.{History, beginning}
+use Rattle.coll_parser.specs.Requests.{Request, requests}
+use Rattle.coll_parser.specs.Judging.{fault_at, judged}
 use Rattle.coll_script.specs.Postings.{postings_from}
 use Rattle.coll_script.specs.Matching.{mismatch, have_places, have_starts}
 

@@ -5,7 +5,7 @@ use Rattle.std.specs.List.{list_all}
 use Rattle.std.specs.Option.{option_map}
 use Rattle.coll_kinds.specs.declared.signature.Signature.{Signature}
 use Rattle.coll_kinds.specs.Sameness.{same_signature}
-use Rattle.coll_history.specs.Requests.{Request}
+use Rattle.coll_parser.specs.Requests.{Request}
 use Rattle.coll_script.specs.declared.first.Earliest.{Earliest}
 
 -- what the requests at a place are compared with

@@ -7,8 +7,8 @@ use Rattle.coll_kinds.specs.declared.kind.Kind.{Kind}
 use Rattle.coll_kinds.specs.declared.kind.Kind.TheVariants.{Barrier, Bcast, Allgather, Allgatherv, Allreduce}
 use Rattle.coll_kinds.specs.Common.{given_len, broken}
 use Rattle.coll_ops.specs.Values.{value}
-use Rattle.coll_history.specs.Requests.{Request}
-use Rattle.coll_history.specs.Code.{rows_view}
+use Rattle.coll_parser.specs.Requests.{Request}
+use Rattle.coll_parser.specs.Code.{rows_view}
 use Rattle.coll_script.specs.declared.values.MemberValues.{MemberValues}
 use Rattle.coll_script.specs.declared.values.MemberValues.TheVariants.{Same, Each}
 use Rattle.coll_script.specs.Matching.{first_list}

@@ -1,9 +1,9 @@
 -- Posting lists, without where they lie in memory.
 use Rattle.std.specs.Prelude.{List, map, Vec}
 use Rattle.std.specs.Global.{Global}
-use Rattle.coll_history.specs.declared.request.Request as rust
-use Rattle.coll_history.specs.Requests.{Request}
-use Rattle.coll_history.specs.Code.{request_view}
+use Rattle.coll_parser.specs.declared.request.Request as rust
+use Rattle.coll_parser.specs.Requests.{Request}
+use Rattle.coll_parser.specs.Code.{request_view}
 
 -- a member's posting list
 abbrev pub list_view : List rust.Request → List Request

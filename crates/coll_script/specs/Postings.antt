@@ -1,7 +1,7 @@
 -- The posting lists of a communicator: for each member, in member order, its requests there, in the order of their
 -- places.
 use Rattle.std.specs.Prelude.{ℕ, ◌+◌, ◌==◌, Bool, List, [], ◌∷◌, map, filter, slice_get, unwrap_or}
-use Rattle.coll_history.specs.Requests.{Request}
+use Rattle.coll_parser.specs.Requests.{Request}
 
 -- the request was posted or initialised on the communicator
 abbrev pub is_on : ℕ → Request → Bool

@@ -2,7 +2,7 @@
 use Rattle.std.specs.Prelude.{◌≡◌, ℕ, ◌<◌, ◌≤◌, List, [], ◌∷◌, ◌++◌, length, take, flat_map, slice_get, unwrap_or, Some}
 use Rattle.std.specs.List.{enumerate_from, AllByRecursion}
 use Rattle.coll_ops.specs.Values.{row_of}
-use Rattle.coll_history.specs.Requests.{Request}
+use Rattle.coll_parser.specs.Requests.{Request}
 use Rattle.coll_script.specs.Postings.{posted_on}
 use Rattle.coll_script.specs.Meaning.{outcome_line}
 

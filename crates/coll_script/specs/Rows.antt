@@ -2,11 +2,11 @@
 use Rattle.std.specs.Prelude.{◌≡◌, ℕ, List, [], ◌∷◌, ◌++◌, Result, Ok, Err, codes, map, flat_map, refl}
 use Rattle.std.specs.Fmt.{digits}
 use Rattle.std.specs.Int.{int_wrap}
-use Rattle.coll_history.specs.declared.cause.Cause.{Cause}
-use Rattle.coll_history.specs.declared.cause.Cause.TheVariants.{MissingRanks, PlaceMismatch, PlaceMissing, StartMissing}
-use Rattle.coll_history.specs.declared.fault.Fault.{Fault}
-use Rattle.coll_history.specs.Lines.{line, ranks, comm, section, command}
-use Rattle.coll_history.specs.Lines.{post, init, start, startable, signature, fields, values}
+use Rattle.coll_parser.specs.declared.cause.Cause.{Cause}
+use Rattle.coll_parser.specs.declared.cause.Cause.TheVariants.{MissingRanks, PlaceMismatch, PlaceMissing, StartMissing}
+use Rattle.coll_parser.specs.declared.fault.Fault.{Fault}
+use Rattle.coll_parser.specs.Lines.{line, ranks, comm, section, command}
+use Rattle.coll_parser.specs.Lines.{post, init, start, startable, signature, fields, values}
 use Rattle.coll_script.specs.Jobs.{script_of}
 use Rattle.coll_script.specs.Meaning.{meaning}
 

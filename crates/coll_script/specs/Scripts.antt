@@ -1,7 +1,7 @@
 -- What holds of every job that was read.
 use Rattle.std.specs.Prelude.{◌≡◌, ℕ, ◌<◌, ◌≤◌, List, length, Some, slice_get, IfSome}
 use Rattle.std.specs.List.{AllByRecursion}
-use Rattle.coll_history.specs.Requests.{Request}
+use Rattle.coll_parser.specs.Requests.{Request}
 use Rattle.coll_kinds.specs.Groups.{member_of, IsGroup}
 use Rattle.coll_script.specs.Postings.{requests_of, postings_from}
 use Rattle.coll_script.specs.Outcomes.{AreMatched}

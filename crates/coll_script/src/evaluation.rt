@@ -5,7 +5,7 @@ ghost use Rattle.std.specs.List.{AllByRecursion, range_with_len};
 ghost use Rattle.coll_kinds.specs.Checks.{broken};
 ghost use Rattle.coll_ops.specs.Contributions.{AreGiven};
 ghost use Rattle.coll_ops.specs.Values.{value};
-ghost use Rattle.coll_history.specs.Code.{request_view, rows_view};
+ghost use Rattle.coll_parser.specs.Code.{request_view, rows_view};
 ghost use Rattle.coll_script.specs.Matching.{first_list};
 ghost use Rattle.coll_script.specs.Meaning.{given_at};
 ghost use Rattle.coll_script.specs.PostingViews.{lists_view, all_lists_view};
@@ -13,8 +13,8 @@ ghost use Rattle.coll_script.specs.Outcomes.{place_values, group_values, members
 
 use crate::postings::Postings;
 use crate::values::MemberValues;
-use coll_history::Request;
 use coll_kinds::{Refusal, Signature};
+use coll_parser::Request;
 use std::alloc::Global;
 
 /// A row of bytes for each member of a communicator.

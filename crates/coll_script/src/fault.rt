@@ -1,7 +1,7 @@
 ghost use Rattle.std.specs.Prelude.{◌≡◌};
 
-use coll_history::{Fault, ScriptFault};
 use coll_kinds::Refusal;
+use coll_parser::{Fault, ScriptFault};
 use std::io;
 use std::io::Write;
 use thiserror::Error;

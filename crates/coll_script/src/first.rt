@@ -1,9 +1,9 @@
 ghost use Rattle.std.specs.Prelude.{◌≡◌};
-ghost use Rattle.coll_history.specs.Code.{request_view};
+ghost use Rattle.coll_parser.specs.Code.{request_view};
 ghost use Rattle.coll_script.specs.Matching.{first_of};
 
-use coll_history::Request;
 use coll_kinds::Signature;
+use coll_parser::Request;
 
 /// The line and the signature of the earliest request at a place, with which the others are compared.
 #[derive(Clone, Copy, Debug)]

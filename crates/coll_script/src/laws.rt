@@ -1,10 +1,10 @@
 //! Laws of all texts: each is the contract of a function without a body.
 
 ghost use Rattle.std.specs.Prelude.{◌≡◌, ℕ, List, Ok, Err, Some};
-ghost use Rattle.coll_history.specs.declared.fault.Fault.{Fault};
-ghost use Rattle.coll_history.specs.declared.cause.Cause.TheVariants.{PlaceMismatch};
-ghost use Rattle.coll_history.specs.Histories.{History, beginning};
-ghost use Rattle.coll_history.specs.Judging.{judged, fault_at};
+ghost use Rattle.coll_parser.specs.declared.fault.Fault.{Fault};
+ghost use Rattle.coll_parser.specs.declared.cause.Cause.TheVariants.{PlaceMismatch};
+ghost use Rattle.coll_parser.specs.Histories.{History, beginning};
+ghost use Rattle.coll_parser.specs.Judging.{judged, fault_at};
 ghost use Rattle.coll_script.specs.Matching.{mismatch};
 ghost use Rattle.coll_script.specs.Jobs.{job_of, all_postings, belonging};
 ghost use Rattle.coll_script.specs.Belonging.{SaysOf, Belong};

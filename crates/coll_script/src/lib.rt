@@ -2,7 +2,7 @@
 //!
 //! A text has either a fault, the first rule that it breaks, or a meaning, its output lines. Both are defined in
 //! `specs/Meaning.antt` as functions of the bytes. [`Script::read`] returns the fault, or the script of a text without one, and
-//! [`Script::plain_lines`] returns its lines. `coll_history` reads the lines of a text; this crate has what is judged after the
+//! [`Script::plain_lines`] returns its lines. `coll_parser` reads the lines of a text; this crate has what is judged after the
 //! last line, and the values of the job.
 //!
 //! | Module | Has |
@@ -39,7 +39,7 @@ mod sizes;
 mod values;
 mod witnessed;
 
-pub use coll_history::{Cause, Command, Fault, GivenBytes, History, Named, ScriptFault};
+pub use coll_parser::{Cause, Command, Fault, GivenBytes, History, Named, ScriptFault};
 pub use counted::CountedReader;
 pub use fault::JobFault;
 pub use outcome::print_outcome;

@@ -8,8 +8,8 @@ ghost use Rattle.coll_script.specs.PostingViews.{list_view, lists_view, all_list
 
 use crate::first::{Earliest, first_of};
 use crate::postings::Postings;
-use coll_history::Request;
 use coll_kinds::Signature;
+use coll_parser::Request;
 use std::alloc::{AllocError, Global};
 
 /// The first line whose signature or mode differs from that of the earliest line at its communicator and place. Linear in the requests.

@@ -2,11 +2,11 @@
 
 ghost use Rattle.std.specs.Prelude.{◌≡◌, ◌<◌, ◌≤◌, ℕ, length, map, slice_index, IfOk};
 ghost use Rattle.std.specs.List.{AllByRecursion};
-ghost use Rattle.coll_history.specs.Code.{request_view, requests_view, rows_view};
+ghost use Rattle.coll_parser.specs.Code.{request_view, requests_view, rows_view};
 ghost use Rattle.coll_script.specs.Postings.{posted_on, postings, postings_from};
 ghost use Rattle.coll_script.specs.PostingViews.{list_view, lists_view, all_lists_view};
 
-use coll_history::Request;
+use coll_parser::Request;
 use std::alloc::{AllocError, Global};
 
 /// For each member of a communicator, in member order, its requests there in the order of their places.

@@ -3,14 +3,14 @@
 ghost use Rattle.coll_kinds.specs.Limits.{max_communicators};
 ghost use Rattle.std.specs.Prelude.{◌≡◌, ◌<◌, ◌≤◌, ◌++◌, length, [], map, OnOk, IsOkUnless};
 ghost use Rattle.std.specs.List.{AllByRecursion};
-ghost use Rattle.coll_history.specs.Code.{request_view};
+ghost use Rattle.coll_parser.specs.Code.{request_view};
 ghost use Rattle.coll_script.specs.Outcomes.{place_view, values_view};
 ghost use Rattle.coll_script.specs.Prints.{printed_request, printed_behind, HaveValues};
 
 use crate::outcome::print_outcome;
 use crate::values::MemberValues;
-use coll_history::Request;
 use coll_kinds::{MAX_COMMUNICATORS, Refusal};
+use coll_parser::Request;
 use std::alloc::Global;
 
 /// Appends the lines of a rank. The values are by communicator, place, start and member. A request's place is the number of the

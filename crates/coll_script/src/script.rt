@@ -1,9 +1,9 @@
 ghost use Rattle.std.specs.Prelude.{◌≡◌, ◌<◌, ◌≤◌, length, Err, IfOk, OnOk, IsOkUnless};
 ghost use Rattle.coll_kinds.specs.Limits.{max_text};
-ghost use Rattle.coll_history.specs.Code.{FailsText, GivesText};
-ghost use Rattle.coll_history.specs.Cutting.{lines_of};
-ghost use Rattle.coll_history.specs.Histories.{History, commands_of};
-ghost use Rattle.coll_history.specs.Judging.{fault_at};
+ghost use Rattle.coll_parser.specs.Code.{FailsText, GivesText};
+ghost use Rattle.coll_parser.specs.Cutting.{lines_of};
+ghost use Rattle.coll_parser.specs.Histories.{History, commands_of};
+ghost use Rattle.coll_parser.specs.Judging.{fault_at};
 ghost use Rattle.coll_script.specs.Configs.{sizes_of};
 ghost use Rattle.coll_script.specs.Jobs.{job_of, script_of, belonging, completed};
 ghost use Rattle.coll_script.specs.Meaning.{job_lines};
@@ -14,8 +14,8 @@ use crate::matching::{all_have_places, all_have_starts, mismatch};
 use crate::postings::all_postings;
 use crate::rank_lines::print_rank;
 use crate::sizes::{Sizes, sizes_of};
-use coll_history::{Cause, Command, Fault, History, ScriptFault, line_count};
 use coll_kinds::{MAX_TEXT, Refusal};
+use coll_parser::{Cause, Command, Fault, History, ScriptFault, line_count};
 use std::alloc::{AllocError, Global};
 use std::marker::Model;
 
@@ -26,7 +26,7 @@ pub struct Script {
 }
 
 impl Model for Script {
-    ghost use Rattle.coll_history.specs.Histories.{History};
+    ghost use Rattle.coll_parser.specs.Histories.{History};
 
     ghost Value = { History };
 

@@ -1,8 +1,8 @@
 ghost use Rattle.std.specs.Prelude.{◌≡◌, ◌≤◌, ◌*◌, length, count_by, is_some};
-ghost use Rattle.coll_history.specs.Histories.{posting, is_start};
+ghost use Rattle.coll_parser.specs.Histories.{posting, is_start};
 ghost use Rattle.coll_script.specs.Configs.{sizes_of};
 
-use coll_history::IssuedCommand;
+use coll_parser::IssuedCommand;
 
 /// The size of an engine for a job, beside its ranks and its communicators.
 #[derive(Clone, Copy, Debug, PartialEq, Eq)]

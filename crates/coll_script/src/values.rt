@@ -3,7 +3,7 @@ ghost use Rattle.std.specs.List.{range_with_len};
 ghost use Rattle.coll_kinds.specs.Checks.{broken};
 ghost use Rattle.coll_ops.specs.Contributions.{AreGiven};
 ghost use Rattle.coll_ops.specs.Values.{row_of, value};
-ghost use Rattle.coll_history.specs.Code.{rows_view};
+ghost use Rattle.coll_parser.specs.Code.{rows_view};
 ghost use Rattle.coll_script.specs.Outcomes.{is_shared, members_view};
 
 use coll_kinds::{Kind, Refusal, Signature};

@@ -8,7 +8,7 @@ use Rattle.coll_kinds.proofs.Puts.{put_same}
 use Rattle.coll_machine.specs.Common.{Setting, Machine, MachineStep, Request, found}
 use Rattle.coll_machine.specs.Calls as calls
 use Rattle.coll_machine.specs.Machines as machines
-use Rattle.coll_history.specs.declared.command.Command.TheVariants.{Post, Init, Start, Wait, Test, Free, WaitAny}
+use Rattle.coll_parser.specs.declared.command.Command.TheVariants.{Post, Init, Start, Wait, Test, Free, WaitAny}
 use Rattle.coll_verdict.specs.Standings.{Holding, Standing, Completes, Carries, holding_at, is_active, is_done, is_pending, kept, one_more}
 use Rattle.coll_verdict.specs.Standings as standings
 use Rattle.coll_core.specs.Cores.{Parts, seen, setting}

@@ -15,10 +15,10 @@ use Rattle.coll_arena.specs.ListNames.{number_of}
 use Rattle.coll_machine.specs.Common.{size, Request, key_of, signature_of, IsReady, IsPosted, AreGroups, ArePosted}
 use Rattle.coll_machine.specs.declared.key.Key.{Key}
 use Rattle.coll_machine.proofs.Members.{member_at}
-use Rattle.coll_tables.specs.FreeLocks.{FreeLock}
-use Rattle.coll_tables.specs.FreeLocks as locks
-use Rattle.coll_tables.specs.Requests.{Live, as_request, before, key}
-use Rattle.coll_tables.specs.Tables.{Tables, asked, is_done, machine, state}
+use Rattle.coll_refinement.specs.FreeLocks.{FreeLock}
+use Rattle.coll_refinement.specs.FreeLocks as locks
+use Rattle.coll_refinement.specs.Requests.{Live, as_request, before, key}
+use Rattle.coll_refinement.specs.Tables.{Tables, asked, is_done, machine, state}
 use Rattle.coll_core.specs.BetweenCalls.{BetweenCalls}
 use Rattle.coll_core.specs.Cores.{Parts, seen, setting, tables}
 use Rattle.coll_core.specs.Phases.{AreDoneOnceHeard}

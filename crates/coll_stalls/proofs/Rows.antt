@@ -11,8 +11,8 @@ use Rattle.coll_machine.specs.Machines as machines
 use Rattle.coll_trees.specs.Depths.{depth}
 use Rattle.coll_plans.specs.Plans.{family}
 use Rattle.coll_plans.specs.Hearings.{hears_here}
-use Rattle.coll_history.specs.declared.command.Command.{Command}
-use Rattle.coll_history.specs.declared.command.Command.TheVariants.{Post, Init, WaitAll}
+use Rattle.coll_parser.specs.declared.command.Command.{Command}
+use Rattle.coll_parser.specs.declared.command.Command.TheVariants.{Post, Init, WaitAll}
 use Rattle.coll_verdict.specs.Standings.{Standing, beginning, carried_out, nothing_made, one_more}
 use Rattle.coll_verdict.specs.Standings as standings
 use Rattle.coll_verdict.specs.Stalls.{lines_of, Waits}

@@ -6,7 +6,7 @@ use Rattle.coll_machine.specs.Common.{Setting, Machine, MachineStep, MayFinish, 
 use Rattle.coll_machine.specs.Machines as machines
 use Rattle.coll_machine.specs.Steps.{Finishes}
 use Rattle.coll_plans.specs.Hearings.{hears_here}
-use Rattle.coll_history.specs.declared.command.Command.{Command}
+use Rattle.coll_parser.specs.declared.command.Command.{Command}
 use Rattle.coll_verdict.specs.Standings.{Standing, carried_out, Carries}
 use Rattle.coll_verdict.specs.Waiting.{HasHeard, StepsBy, ReachesBy, goes_on}
 use Rattle.coll_verdict.specs.Waiting as waiting

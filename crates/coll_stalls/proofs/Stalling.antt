@@ -6,7 +6,7 @@ use Rattle.coll_machine.specs.Calls as calls
 use Rattle.coll_machine.proofs.Posted.{are_led, are_nothing}
 use Rattle.coll_machine.proofs.Tracing.{step_of}
 use Rattle.coll_plans.specs.Hearings.{hears_here}
-use Rattle.coll_history.specs.declared.command.Command.{Command}
+use Rattle.coll_parser.specs.declared.command.Command.{Command}
 use Rattle.coll_verdict.specs.Standings.{Holding, Standing, Completes, Carries, AtEnd}
 use Rattle.coll_verdict.specs.Standings as standings
 use Rattle.coll_verdict.specs.Waiting.{Hearing, ReachesBy, StepsBy}

@@ -5,8 +5,8 @@ use Rattle.coll_kinds.specs.Common.{is_among}
 use Rattle.coll_machine.specs.Common.{MachineStep, StepsTo}
 use Rattle.coll_machine.specs.Calls as calls
 use Rattle.coll_plans.specs.Plans.{Planned}
-use Rattle.coll_history.specs.declared.command.Command.{Command}
-use Rattle.coll_history.specs.declared.command.Command.TheVariants.{Post, Init, Start, Wait, Test, Free, WaitAny}
+use Rattle.coll_parser.specs.declared.command.Command.{Command}
+use Rattle.coll_parser.specs.declared.command.Command.TheVariants.{Post, Init, Start, Wait, Test, Free, WaitAny}
 use Rattle.coll_verdict.specs.Standings.{Holding, Standing, carried_out, holding_at, is_active, is_done, kept, one_more}
 use Rattle.coll_core.specs.declared.offer.Offer.{Offer}
 use Rattle.coll_core.specs.Cores.{Parts, seen, setting}

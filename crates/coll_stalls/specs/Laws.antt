@@ -2,8 +2,8 @@
 use Rattle.std.specs.Prelude.{◌≡◌, ℕ, List, slice_get, Some}
 use Rattle.coll_machine.specs.Common.{Machine, MachineStep, MayFinish, Finish, Nothing, Setting, AreGroups, ArePosted}
 use Rattle.coll_plans.specs.Hearings.{hears_here}
-use Rattle.coll_history.specs.declared.command.Command.{Command}
-use Rattle.coll_history.specs.Histories.{History}
+use Rattle.coll_parser.specs.declared.command.Command.{Command}
+use Rattle.coll_parser.specs.Histories.{History}
 use Rattle.coll_verdict.specs.Standings.{Holding, Standing, beginning, carried_out, Carries, AtEnd}
 use Rattle.coll_verdict.specs.Stalls.{lines_of}
 use Rattle.coll_verdict.specs.Waiting.{StepsBy, IsStalledBy, StallsAlwaysBy, StallsNeverBy}

@@ -15,7 +15,7 @@ ghost use Rattle.std.specs.Prelude.{◌≡◌, ◌≤◌, [], Some, false, lengt
 ghost use Rattle.coll_machine.specs.Settings.{AreGroups};
 ghost use Rattle.coll_machine.specs.States.{found};
 ghost use Rattle.coll_machine.specs.Traces.{LegalTrace};
-ghost use Rattle.coll_tables.specs.FreeLocks.{FreeLock};
+ghost use Rattle.coll_refinement.specs.FreeLocks.{FreeLock};
 ghost use Rattle.coll_core.specs.BetweenCalls.{BetweenCalls};
 ghost use Rattle.coll_core.specs.Configs.{idle, setting_by, IsUnopened};
 ghost use Rattle.coll_core.specs.Cores.{seen, setting, tables};

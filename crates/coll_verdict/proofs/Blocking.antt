@@ -12,8 +12,8 @@ use Rattle.coll_machine.specs.Steps.{Finishes}
 use Rattle.coll_machine.specs.Calls as calls
 use Rattle.coll_machine.specs.Machines as machine
 use Rattle.coll_machine.proofs.Held.{runs_are_posted, done_is_held}
-use Rattle.coll_history.specs.declared.command.Command.{Command}
-use Rattle.coll_history.specs.declared.command.Command.TheVariants.{Wait, WaitAny, WaitSome, WaitAll}
+use Rattle.coll_parser.specs.declared.command.Command.{Command}
+use Rattle.coll_parser.specs.declared.command.Command.TheVariants.{Wait, WaitAny, WaitSome, WaitAll}
 use Rattle.coll_verdict.specs.Standings.{Holding, Standing, beginning, carried_out, nothing_made, active_in, is_active, is_done, is_pending, NoneActive, NonePending, SomeDone, Completes, Carries, Steps, Reaches, AtEnd, Each}
 use Rattle.coll_verdict.specs.Standings as standings
 use Rattle.coll_verdict.specs.Sketches.{Sketch, sketched, sketched_if, sketch_at}

@@ -11,7 +11,7 @@ use Rattle.coll_machine.specs.Common.{Setting, size, Request, State, Machine, ke
 use Rattle.coll_machine.specs.Calls as calls
 use Rattle.coll_machine.specs.Machines as steps
 use Rattle.coll_machine.proofs.Accepted.{found_is, started_mine, freed_mine}
-use Rattle.coll_history.specs.declared.command.Command.{Command}
+use Rattle.coll_parser.specs.declared.command.Command.{Command}
 use Rattle.coll_verdict.specs.Standings.{Holding, Completes, Carries}
 use Rattle.coll_verdict.specs.Standings as standings
 use Rattle.coll_verdict.specs.Sketches.{Sketch}

@@ -10,8 +10,8 @@ use Rattle.coll_machine.specs.Common.{Setting, group, group_in, size, Request, M
 use Rattle.coll_machine.specs.Calls as calls
 use Rattle.coll_machine.specs.Steps.{Finishes}
 use Rattle.coll_machine.specs.Machines as machine
-use Rattle.coll_history.specs.declared.command.Command.{Command}
-use Rattle.coll_history.specs.declared.command.Command.TheVariants.{Post, Wait, WaitAll}
+use Rattle.coll_parser.specs.declared.command.Command.{Command}
+use Rattle.coll_parser.specs.declared.command.Command.TheVariants.{Post, Wait, WaitAll}
 use Rattle.coll_verdict.specs.Standings.{Standing, Holding, Steps, Carries, NonePending, carries, finishes, is_pending}
 use Rattle.coll_verdict.specs.Standings as standings
 use Rattle.coll_verdict.specs.Stalls.{lines_of}

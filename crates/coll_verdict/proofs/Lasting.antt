@@ -16,9 +16,9 @@ use Rattle.coll_machine.specs.Machines as machine
 use Rattle.coll_machine.specs.Laws.{IsHeld}
 use Rattle.coll_machine.proofs.Accepted.{all_none, fits}
 use Rattle.coll_machine.proofs.Held.{done_is_held, runs_are_posted}
-use Rattle.coll_history.specs.declared.command.Command.{Command}
-use Rattle.coll_history.specs.declared.command.Command.TheVariants.{Post, Init, Start, Wait, Test, Free, WaitAny, WaitSome, WaitAll}
-use Rattle.coll_history.specs.Histories.{History}
+use Rattle.coll_parser.specs.declared.command.Command.{Command}
+use Rattle.coll_parser.specs.declared.command.Command.TheVariants.{Post, Init, Start, Wait, Test, Free, WaitAny, WaitSome, WaitAll}
+use Rattle.coll_parser.specs.Histories.{History}
 use Rattle.coll_verdict.specs.Standings.{Holding, Standing, holding_at, kept, is_active, is_done, is_pending, NoneActive, NonePending, NoneDone, Completes, Carries, Reaches, carried_out, Each}
 use Rattle.coll_verdict.specs.Standings as standings
 use Rattle.coll_verdict.specs.Stalls.{lines_of, Waits, HasAll}

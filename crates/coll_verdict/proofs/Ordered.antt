@@ -9,10 +9,10 @@ use Rattle.coll_kinds.specs.Common.{member_of, is_among, needs, put}
 use Rattle.coll_kinds.proofs.Puts.{put_cases}
 use Rattle.coll_machine.specs.Settings.{Setting, group}
 use Rattle.coll_machine.proofs.Members.{member_at}
-use Rattle.coll_history.specs.declared.command.Command.{Command}
-use Rattle.coll_history.specs.declared.command.Command.TheVariants.{Post, Init, Start, Wait, Test, Free, WaitAny, WaitSome, WaitAll}
-use Rattle.coll_history.specs.Code.{rows_view}
-use Rattle.coll_history.specs.Histories.{History, commands_of}
+use Rattle.coll_parser.specs.declared.command.Command.{Command}
+use Rattle.coll_parser.specs.declared.command.Command.TheVariants.{Post, Init, Start, Wait, Test, Free, WaitAny, WaitSome, WaitAll}
+use Rattle.coll_parser.specs.Code.{rows_view}
+use Rattle.coll_parser.specs.Histories.{History, commands_of}
 use Rattle.coll_verdict.specs.declared.known.KnownRequest.{KnownRequest}
 use Rattle.coll_verdict.specs.declared.stood.Stood.{Stood}
 use Rattle.coll_verdict.specs.declared.library.Library.{Library}

@@ -9,11 +9,11 @@ use Rattle.coll_kinds.specs.Common.{member_of, is_among, needs, needs_of, put}
 use Rattle.coll_kinds.proofs.Puts.{put_cases}
 use Rattle.coll_machine.specs.Common.{Setting, group, size, Request, State, Machine, key_of, phased}
 use Rattle.coll_machine.proofs.Held.{runs_are_posted}
-use Rattle.coll_history.specs.declared.command.Command.{Command}
-use Rattle.coll_history.specs.declared.command.Command.TheVariants.{Post, Init}
+use Rattle.coll_parser.specs.declared.command.Command.{Command}
+use Rattle.coll_parser.specs.declared.command.Command.TheVariants.{Post, Init}
 use Rattle.coll_verdict.specs.Standings.{Holding, Standing, beginning, carried_out, active_in, is_active, is_done, is_pending, NoneDone, Completes, Carries, Steps, Reaches, begins, goes_on, carries, finishes, AtEnd, Each}
 use Rattle.coll_verdict.specs.Standings as standings
-use Rattle.coll_history.specs.Histories.{History}
+use Rattle.coll_parser.specs.Histories.{History}
 use Rattle.coll_verdict.specs.Stalls.{lines_of, made_by, HasCome, Waits, HasAll, IsStalled, NeverStalls}
 use Rattle.coll_verdict.specs.Stalls as stalls
 use Rattle.coll_verdict.specs.Sketches.{Sketch, naming, resting, sketched, sketch_at}

@@ -11,8 +11,8 @@ use Rattle.coll_machine.specs.Common.{Setting, group, group_in, size, Request, M
 use Rattle.coll_machine.specs.Calls as calls
 use Rattle.coll_machine.specs.Machines as machine
 use Rattle.coll_machine.proofs.Members.{member_at}
-use Rattle.coll_history.specs.declared.command.Command.{Command}
-use Rattle.coll_history.specs.declared.command.Command.TheVariants.{Post, Init, Wait, WaitAll}
+use Rattle.coll_parser.specs.declared.command.Command.{Command}
+use Rattle.coll_parser.specs.declared.command.Command.TheVariants.{Post, Init, Wait, WaitAll}
 use Rattle.coll_verdict.specs.Standings as standings
 use Rattle.coll_verdict.specs.Standings.{Standing, Holding, beginning, nothing_made, one_more, holding_at, kept, carried_out, Reaches, Carries, Completes, AtEnd, is_pending, is_done}
 use Rattle.coll_verdict.specs.Stalls.{lines_of, Waits, HasAll, IsStalled}

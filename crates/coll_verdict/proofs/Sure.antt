@@ -10,7 +10,7 @@ use Rattle.coll_kinds.proofs.Puts.{put_same, put_other, put_at}
 use Rattle.coll_machine.specs.Common.{Setting, Request, State, Machine, found, once_more, started, rested, Starts, Retires, MachineStep}
 use Rattle.coll_machine.specs.Calls as calls
 use Rattle.coll_machine.proofs.Accepted.{found_is, freed_mine}
-use Rattle.coll_history.specs.declared.command.Command.{Command}
+use Rattle.coll_parser.specs.declared.command.Command.{Command}
 use Rattle.coll_verdict.specs.Standings.{Holding, holding_at, one_more, kept, active_in, is_active, Completes, Carries}
 use Rattle.coll_verdict.specs.Standings as standings
 use Rattle.coll_verdict.specs.Sketches.{Sketch, making, starting, naming, resting, sketched}

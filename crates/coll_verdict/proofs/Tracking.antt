@@ -18,7 +18,7 @@ use Rattle.coll_machine.specs.Runs.{Run}
 use Rattle.coll_machine.proofs.Accepted.{found_is, freed_mine}
 use Rattle.coll_machine.proofs.Held.{runs_are_posted}
 use Rattle.coll_machine.proofs.Members.{member_at}
-use Rattle.coll_history.specs.declared.command.Command.{Command}
+use Rattle.coll_parser.specs.declared.command.Command.{Command}
 use Rattle.coll_verdict.specs.Standings.{Holding, holding_at, one_more, kept, active_in, is_active, is_done, is_pending, NonePending, NoneDone, Completes, Carries}
 use Rattle.coll_verdict.specs.Standings as standings
 use Rattle.coll_verdict.specs.Sketches.{Sketch, making, starting, naming, resting, sketched}

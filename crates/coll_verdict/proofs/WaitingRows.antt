@@ -7,7 +7,7 @@ use Rattle.coll_kinds.specs.declared.signature.Signature.{Signature}
 use Rattle.coll_kinds.specs.Common.{is_among, put}
 use Rattle.coll_kinds.proofs.Puts.{put_other}
 use Rattle.coll_machine.specs.Common.{Setting, once_more, barrier}
-use Rattle.coll_history.specs.declared.command.Command.TheVariants.{Post, Init, Wait, WaitAll}
+use Rattle.coll_parser.specs.declared.command.Command.TheVariants.{Post, Init, Wait, WaitAll}
 use Rattle.coll_verdict.specs.Standings as standings
 use Rattle.coll_verdict.specs.Standings.{nothing_made, one_more, is_pending, is_done}
 use Rattle.coll_verdict.specs.Stalls.{lines_of}

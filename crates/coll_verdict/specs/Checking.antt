@@ -4,9 +4,9 @@ use Rattle.std.specs.List.{list_any, list_all, range_with_len}
 use Rattle.std.specs.Global.{Global}
 use Rattle.coll_kinds.specs.declared.signature.Signature.{Signature}
 use Rattle.coll_kinds.specs.Common.{member_of, needs, same_signature}
-use Rattle.coll_history.specs.declared.command.Command.{Command}
-use Rattle.coll_history.specs.declared.issued_command.IssuedCommand.{IssuedCommand}
-use Rattle.coll_history.specs.declared.command.Command.TheVariants.{Post, Init, Start, Wait, Test, Free, WaitAny, WaitSome, WaitAll}
+use Rattle.coll_parser.specs.declared.command.Command.{Command}
+use Rattle.coll_parser.specs.declared.issued_command.IssuedCommand.{IssuedCommand}
+use Rattle.coll_parser.specs.declared.command.Command.TheVariants.{Post, Init, Start, Wait, Test, Free, WaitAny, WaitSome, WaitAll}
 use Rattle.coll_verdict.specs.declared.known.KnownRequest.{KnownRequest}
 use Rattle.coll_verdict.specs.declared.stood.Stood.{Stood}
 use Rattle.coll_verdict.specs.declared.library.Library.{Library}

@@ -2,7 +2,7 @@
 use Rattle.std.specs.Prelude.{◌≡◌, ℕ, suc, ◌==◌, List, length, count_by, slice_get, Option, Some, None, Vec, IfSome, unwrap_or, ◌<◌, Bool, true, false}
 use Rattle.std.specs.Global.{Global}
 use Rattle.coll_machine.specs.Settings.{Setting}
-use Rattle.coll_history.specs.Histories.{History, commands_of}
+use Rattle.coll_parser.specs.Histories.{History, commands_of}
 use Rattle.coll_verdict.specs.declared.known.KnownRequest.{KnownRequest}
 use Rattle.coll_kinds.specs.Needs.{needs}
 use Rattle.coll_verdict.specs.declared.stood.Stood.{Stood}

@@ -3,9 +3,9 @@ use Rattle.std.specs.Prelude.{◌≡◌, ℕ, List, slice_get, Some, None}
 use Rattle.coll_kinds.specs.declared.ticket.Ticket.{Ticket}
 use Rattle.coll_machine.specs.Common.{Setting, State, Planned, refusal}
 use Rattle.coll_machine.specs.Calls as calls
-use Rattle.coll_history.specs.declared.command.Command.{Command}
-use Rattle.coll_history.specs.declared.command.Command.TheVariants.{Post, Init, Start, Wait, Test, Free, WaitAny, WaitSome, WaitAll}
-use Rattle.coll_history.specs.Histories.{History}
+use Rattle.coll_parser.specs.declared.command.Command.{Command}
+use Rattle.coll_parser.specs.declared.command.Command.TheVariants.{Post, Init, Start, Wait, Test, Free, WaitAny, WaitSome, WaitAll}
+use Rattle.coll_parser.specs.Histories.{History}
 use Rattle.coll_verdict.specs.Standings.{Holding, Standing, Steps, Reaches, AtEnd}
 use Rattle.coll_verdict.specs.Stalls.{lines_of, IsStalled, StallsAlways, StallsNever}
 

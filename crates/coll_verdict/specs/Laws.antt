@@ -2,8 +2,8 @@
 use Rattle.std.specs.Prelude.{◌≡◌, ℕ, List, length}
 use Rattle.coll_kinds.specs.Needs.{needs}
 use Rattle.coll_machine.specs.Settings.{Setting}
-use Rattle.coll_history.specs.declared.command.Command.{Command}
-use Rattle.coll_history.specs.Histories.{History, beginning}
+use Rattle.coll_parser.specs.declared.command.Command.{Command}
+use Rattle.coll_parser.specs.Histories.{History, beginning}
 use Rattle.coll_verdict.specs.Passes.{Passes, everyone, only}
 use Rattle.coll_verdict.specs.Stalls.{AlwaysStalls, NeverStalls, StallsAlways, StallsNever}
 use Rattle.coll_verdict.specs.Stands.{AreClosed, IsShort}

@@ -7,8 +7,8 @@ use Rattle.coll_kinds.specs.declared.operation.Op.TheVariants.{Sum}
 use Rattle.coll_kinds.specs.declared.signature.Signature.{Signature}
 use Rattle.coll_kinds.specs.Puts.{put}
 use Rattle.coll_machine.specs.Common.{Setting, Request, Machine, nothing, key_of, new_request, created, started, holding, forgotten, phased, barrier}
-use Rattle.coll_history.specs.declared.command.Command.TheVariants.{Post, Init, Wait, WaitAll}
-use Rattle.coll_history.specs.Histories.{History}
+use Rattle.coll_parser.specs.declared.command.Command.TheVariants.{Post, Init, Wait, WaitAll}
+use Rattle.coll_parser.specs.Histories.{History}
 use Rattle.coll_verdict.specs.Standings.{Standing, Reaches}
 use Rattle.coll_verdict.specs.Stalls.{lines_of, StallsAlways, StallsNever}
 use Rattle.coll_verdict.specs.Lasts.{IsLast, AreAccepted}

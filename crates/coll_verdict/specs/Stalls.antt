@@ -4,10 +4,10 @@ use Rattle.std.specs.List.{list_all, range_with_len}
 use Rattle.coll_kinds.specs.declared.signature.Signature.{Signature}
 use Rattle.coll_kinds.specs.Common.{is_barrier, has_counts, member_of, is_among, count_at}
 use Rattle.coll_machine.specs.Common.{Setting, group, group_in, size, Request, Machine, key_of}
-use Rattle.coll_history.specs.declared.command.Command.{Command}
-use Rattle.coll_history.specs.declared.command.Command.TheVariants.{Post, Init, Start, Wait, Test, Free, WaitAny, WaitSome, WaitAll}
-use Rattle.coll_history.specs.declared.issued_command.IssuedCommand.{IssuedCommand}
-use Rattle.coll_history.specs.Histories.{History, commands_of}
+use Rattle.coll_parser.specs.declared.command.Command.{Command}
+use Rattle.coll_parser.specs.declared.command.Command.TheVariants.{Post, Init, Start, Wait, Test, Free, WaitAny, WaitSome, WaitAll}
+use Rattle.coll_parser.specs.declared.issued_command.IssuedCommand.{IssuedCommand}
+use Rattle.coll_parser.specs.Histories.{History, commands_of}
 use Rattle.coll_verdict.specs.Standings.{is_active, is_pending, NoneDone, Standing, Reaches, AtEnd}
 
 -- the lines that each rank of a job text says, with the unwritten `waitall` after them; none of what is no rank

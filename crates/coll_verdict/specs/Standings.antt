@@ -6,8 +6,8 @@ use Rattle.coll_kinds.specs.declared.ticket.Ticket.{Ticket}
 use Rattle.coll_kinds.specs.Common.{is_among, put}
 use Rattle.coll_machine.specs.Common.{Setting, Machine, Request, State, found, Planned, MachineStep, opened}
 use Rattle.coll_machine.specs.Calls as calls
-use Rattle.coll_history.specs.declared.command.Command.{Command}
-use Rattle.coll_history.specs.declared.command.Command.TheVariants.{Post, Init, Start, Wait, Test, Free, WaitAny, WaitSome, WaitAll}
+use Rattle.coll_parser.specs.declared.command.Command.{Command}
+use Rattle.coll_parser.specs.declared.command.Command.TheVariants.{Post, Init, Start, Wait, Test, Free, WaitAny, WaitSome, WaitAll}
 
 -- ---- requests
 

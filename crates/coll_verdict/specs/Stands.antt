@@ -4,8 +4,8 @@ use Rattle.std.specs.Prelude.{◌≡◌, ◌⊎◌, ℕ, ◌<◌, true, List, le
 use Rattle.coll_kinds.specs.declared.signature.Signature.{Signature}
 use Rattle.coll_kinds.specs.Common.{member_of, is_among}
 use Rattle.coll_machine.specs.Settings.{Setting, group, size}
-use Rattle.coll_history.specs.declared.command.Command.{Command}
-use Rattle.coll_history.specs.declared.command.Command.TheVariants.{Wait, WaitAny, WaitSome, WaitAll}
+use Rattle.coll_parser.specs.declared.command.Command.{Command}
+use Rattle.coll_parser.specs.declared.command.Command.TheVariants.{Wait, WaitAny, WaitSome, WaitAll}
 use Rattle.coll_verdict.specs.Standings.{Each}
 use Rattle.coll_verdict.specs.Sketches.{Sketch, sketch_at}
 use Rattle.coll_verdict.specs.Waiting.{Hearing}

@@ -3,9 +3,9 @@ use Rattle.std.specs.Prelude.{◌≡◌, ◌≢◌, ℕ, ◌<◌, ◌||◌, Bool
 use Rattle.coll_kinds.specs.declared.signature.Signature.{Signature}
 use Rattle.coll_kinds.specs.Common.{needs, put}
 use Rattle.coll_machine.specs.Common.{Setting, size, Request, State, Machine, key_of, phased, IsReady}
-use Rattle.coll_history.specs.declared.command.Command.{Command}
-use Rattle.coll_history.specs.declared.command.Command.TheVariants.{Init}
-use Rattle.coll_history.specs.Histories.{History}
+use Rattle.coll_parser.specs.declared.command.Command.{Command}
+use Rattle.coll_parser.specs.declared.command.Command.TheVariants.{Init}
+use Rattle.coll_parser.specs.Histories.{History}
 use Rattle.coll_verdict.specs.Standings.{Holding, Standing, beginning, carried_out, Carries, AtEnd}
 use Rattle.coll_verdict.specs.Stalls.{lines_of, Waits}
 

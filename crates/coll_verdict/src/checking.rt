@@ -7,8 +7,8 @@ ghost use Rattle.coll_verdict.specs.Checking.{all_stay, awaited_at, cant_at, is_
 use crate::known::KnownRequest;
 use crate::library::{HeardRows, Library};
 use crate::stood::Stood;
-use coll_history::{Command, Named};
 use coll_kinds::{MAX_RANKS, member_of};
+use coll_parser::{Command, Named};
 
 /// Whether no rank can go on from its stand, while no other is beyond its own. For each request that a rank's next
 /// command names, the cost is linear in the requests of all ranks.

@@ -8,8 +8,8 @@ ghost use Rattle.coll_verdict.specs.Checking.{all_issue, gives_at, issues_at, si
 ghost use Rattle.coll_verdict.specs.Stalls.{has_elements};
 
 use crate::library::Library;
-use coll_history::{Command, IssuedCommand};
 use coll_kinds::{Kind, Signature};
+use coll_parser::{Command, IssuedCommand};
 
 /// Whether an empty contribution is waited for, or there is none.
 pub(crate) fn all_issue(library: &Library, groups: &[Vec<u8>], commands: &[IssuedCommand]) -> bool

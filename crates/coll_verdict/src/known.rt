@@ -3,8 +3,8 @@ ghost use Rattle.coll_verdict.specs.Checking.{late_at};
 ghost use Rattle.coll_verdict.specs.Code.{IsSketch};
 ghost use Rattle.coll_verdict.specs.Sketches.{Sketch, sketched, starting, naming, resting, sketch_at};
 
-use coll_history::{Command, Named};
 use coll_kinds::Signature;
+use coll_parser::{Command, Named};
 use std::alloc::{AllocError, Global};
 
 /// What the commands of a rank say of a request.

@@ -2,8 +2,8 @@
 
 ghost use Rattle.std.specs.Prelude.{◌≡◌, true, IsTrue, IfOk, Some, count_by, length, slice_get};
 ghost use Rattle.std.specs.List.{list_any, list_all, range_with_len};
-ghost use Rattle.coll_history.specs.Code.{rows_view};
-ghost use Rattle.coll_history.specs.Histories.{History};
+ghost use Rattle.coll_parser.specs.Code.{rows_view};
+ghost use Rattle.coll_parser.specs.Histories.{History};
 ghost use Rattle.coll_verdict.specs.Checking.{all_come, apart_at, are_apart, begun_as, can_pass, free_at, has_come, has_made, has_made_before, has_seat, init_returns, is_at_beginning, is_at_end, is_come, is_joined, is_seat, joined_by, joined_heard, joined_member, joined_told, made_as, member_has_begun, next_can_pass, peer_has_begun, peer_is_come, sure_at};
 ghost use Rattle.coll_verdict.specs.Stalls.{makes_in, makes_on};
 ghost use Rattle.coll_verdict.specs.Code.{Advances, AreStood, IsAhead};
@@ -11,8 +11,8 @@ ghost use Rattle.coll_verdict.specs.Code.{Advances, AreStood, IsAhead};
 use crate::known::{KnownRequest, note, place_on};
 use crate::library::{HeardRows, Library};
 use crate::stood::Stood;
-use coll_history::{Command, Named};
 use coll_kinds::member_of;
+use coll_parser::{Command, Named};
 use std::alloc::AllocError;
 
 /// Lets a rank carry its next command out. Returns whether it could.

@@ -2,7 +2,7 @@ ghost use Rattle.std.specs.Prelude.{IfOk, IfSome};
 ghost use Rattle.coll_verdict.specs.Code.{AreStood};
 
 use crate::known::{KnownRequest, known_requests};
-use coll_history::{Command, History};
+use coll_parser::{Command, History};
 use std::alloc::{AllocError, Global};
 
 /// A rank at its stand.

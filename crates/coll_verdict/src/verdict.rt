@@ -1,5 +1,5 @@
 ghost use Rattle.std.specs.Prelude.{◌≡◌, IsTrue, IfOk};
-ghost use Rattle.coll_history.specs.Code.{rows_view};
+ghost use Rattle.coll_parser.specs.Code.{rows_view};
 ghost use Rattle.coll_verdict.specs.Code.{AlwaysFor, AreStood, NeverFor};
 ghost use Rattle.coll_verdict.specs.Stalls.{StallsAlways, StallsNever};
 
@@ -8,7 +8,7 @@ use crate::giving::all_issue;
 use crate::library::Library;
 use crate::order::{are_apart, are_at_beginnings, are_at_ends, pass};
 use crate::stood::{Stood, stand_all};
-use coll_history::History;
+use coll_parser::History;
 use std::alloc::{AllocError, Global};
 
 /// Whether these stands, one for each rank, show that no run of the job comes to its end, with whatever library. A stand

@@ -1,7 +1,7 @@
 -- What each entry of a trace adds to the tables.
 use Rattle.std.specs.Prelude.{ℕ, ◌==◌, List, length, map, Option, Some, None, if◌then◌else◌}
 use Rattle.coll_kinds.specs.Lengths.{lent}
-use Rattle.coll_tables.specs.Tables.{no_signature}
+use Rattle.coll_refinement.specs.Tables.{no_signature}
 use Rattle.coll_machine.specs.Entries.{Entry, Posted, Inited, Started, Retired, Freed}
 use Rattle.coll_views.specs.declared.request.NumberedRequest.{NumberedRequest}
 use Rattle.coll_views.specs.declared.request.TracedRequest.{TracedRequest}

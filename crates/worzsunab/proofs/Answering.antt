@@ -7,8 +7,8 @@ use Rattle.coll_kinds.specs.declared.ticket.Ticket.{Ticket}
 use Rattle.coll_machine.specs.Common.{Runs, Machine}
 use Rattle.coll_core.specs.declared.phase.Phase.{Phase}
 use Rattle.coll_core.specs.declared.phase.Phase.TheVariants.{Done, Idle, Pending}
-use Rattle.coll_engine.specs.declared.combination.Stage.{Stage}
-use Rattle.coll_engine.specs.declared.test.Test.{Test}
+use Rattle.coll_serial.specs.declared.combination.Stage.{Stage}
+use Rattle.coll_serial.specs.declared.test.Test.{Test}
 use Rattle.coll_core.specs.Cores.{Parts, seen, setting}
 use Rattle.coll_arena.specs.Slots.{record_in}
 use Rattle.coll_core.specs.Progress.{BeginsSchedule}
@@ -17,13 +17,13 @@ use Rattle.coll_core.specs.Steps.{Finishings, none}
 use Rattle.coll_complete.specs.Completing.{freeing}
 use Rattle.coll_complete.specs.Requests.{active_by, done_by, free_refusal, is_active, is_done, is_pending, left_of, pending_by, phase_at}
 use Rattle.coll_complete.specs.Starting.{StartsAt}
-use Rattle.coll_engine.specs.Calls.{Completes, DeniesStart, DeniesTest, about_at, naming_refusal}
-use Rattle.coll_engine.specs.Lengths.{IsOutcomeLengthAt}
+use Rattle.coll_serial.specs.Calls.{Completes, DeniesStart, DeniesTest, about_at, naming_refusal}
+use Rattle.coll_serial.specs.Lengths.{IsOutcomeLengthAt}
 use Rattle.coll_core.specs.declared.about.About as told
 use Rattle.worzsunab.specs.declared.forms.About.{About}
 use Rattle.worzsunab.specs.Forms.{IsAbout, about_of}
 use Rattle.worzsunab.specs.declared.reason.Reason.{Reason}
-use Rattle.coll_engine.specs.Combinations.{TakesBack}
+use Rattle.coll_serial.specs.Combinations.{TakesBack}
 use Rattle.coll_kinds.specs.declared.refusal.Refusal.TheVariants.{Stale}
 use Rattle.worzsunab.specs.Beginnings.{StartsOne}
 use Rattle.worzsunab.specs.Answers.{Answers, IsPhase, IsSame, Tested, phase_number}

@@ -9,10 +9,10 @@ use Rattle.std_alloc.proofs.BoxSteps.Form.{Bx}
 use Rattle.std_heap.specs.contracts.Global as heap
 use Rattle.std_heap.specs.contracts.GlobalAllocator.TheImpl.{ghosts, dict}
 use Rattle.std_heap.proofs.Global.TheLaws as heap_laws
-use Rattle.coll_engine.specs.contracts.combination.Combination as combination
-use Rattle.coll_engine.specs.contracts.engine.Engine as engine
-use Rattle.coll_engine.proofs.combination.Combination.TheLaws as combination_laws
-use Rattle.coll_engine.proofs.engine.Engine.TheLaws as engine_laws
+use Rattle.coll_serial.specs.contracts.combination.Combination as combination
+use Rattle.coll_serial.specs.contracts.engine.Engine as engine
+use Rattle.coll_serial.proofs.combination.Combination.TheLaws as combination_laws
+use Rattle.coll_serial.proofs.engine.Engine.TheLaws as engine_laws
 use Rattle.worzsunab.specs.contracts.parts.Parts as parts
 use Rattle.worzsunab.specs.contracts.held.Held as held
 use Rattle.worzsunab.specs.contracts.held_work.HeldWork as held_work

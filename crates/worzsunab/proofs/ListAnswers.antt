@@ -6,12 +6,12 @@ use Rattle.std.specs.List.{list_any}
 use Rattle.std.proofs.lemmas.Bool.{false≢true}
 use Rattle.coll_core.specs.Cores.{Parts, seen, setting}
 use Rattle.coll_complete.specs.Requests.{is_active, is_done}
-use Rattle.coll_engine.specs.declared.first.First.{First}
-use Rattle.coll_engine.specs.declared.first.First.TheVariants.{At, Undefined, Unfinished}
-use Rattle.coll_engine.specs.declared.part.Part.{Part}
+use Rattle.coll_serial.specs.declared.first.First.{First}
+use Rattle.coll_serial.specs.declared.first.First.TheVariants.{At, Undefined, Unfinished}
+use Rattle.coll_serial.specs.declared.part.Part.{Part}
 use Rattle.coll_complete.specs.Completing.{done_positions}
-use Rattle.coll_engine.specs.Lists.{CompletesOne, CompletesParts, is_undefined, position_of}
-use Rattle.coll_engine.specs.Parts.{tickets_of}
+use Rattle.coll_serial.specs.Lists.{CompletesOne, CompletesParts, is_undefined, position_of}
+use Rattle.coll_serial.specs.Parts.{tickets_of}
 use Rattle.worzsunab.specs.Listing.{CompletesLowest, CompletesSome, NoneIsActive, NoneIsDone, told_of, undefined}
 
 pub not_of_true : (b : Bool) → true ≡ not b → b ≡ false

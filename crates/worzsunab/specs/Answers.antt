@@ -8,7 +8,7 @@ use Rattle.coll_core.specs.declared.phase.Phase.{Phase}
 use Rattle.coll_core.specs.declared.phase.Phase.TheVariants.{Done, Idle, Pending}
 use Rattle.coll_core.specs.Cores.{Parts, seen, setting}
 use Rattle.coll_complete.specs.Requests.{is_active, is_pending, left_of}
-use Rattle.coll_engine.specs.Calls.{Completes, DeniesTest}
+use Rattle.coll_serial.specs.Calls.{Completes, DeniesTest}
 use Rattle.worzsunab.specs.declared.forms.Request.{Request}
 use Rattle.worzsunab.specs.declared.reason.Reason.{Reason}
 use Rattle.worzsunab.specs.Forms.{named_by, request_of}

@@ -7,7 +7,7 @@ use Rattle.coll_core.specs.Cores.{Parts, seen, setting}
 use Rattle.coll_core.specs.Progress.{BeginsSchedule, KeepsProgress}
 use Rattle.coll_core.specs.Requests.{schedule, shown}
 use Rattle.coll_complete.specs.Starting.{StartsAt}
-use Rattle.coll_engine.specs.Calls.{InitsTo, PostsTo, init_by, post_by, schedule_for}
+use Rattle.coll_serial.specs.Calls.{InitsTo, PostsTo, init_by, post_by, schedule_for}
 
 -- the request is made, and no request makes progress but this one, which begins its schedule
 pub record Posts (p r : Parts) (rank comm : ℕ) (sig : Signature) (bytes : List ℕ) (made : Option Ticket) : Type 0 where

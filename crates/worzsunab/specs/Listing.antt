@@ -8,10 +8,10 @@ use Rattle.coll_core.specs.Cores.{Parts, seen, setting}
 use Rattle.coll_complete.specs.Completing.{done_positions}
 use Rattle.coll_complete.specs.Requests.{AreDistinct, is_active, is_done, is_pending}
 use Rattle.coll_complete.specs.Starting.{StartsAll}
-use Rattle.coll_engine.specs.declared.part.Part.{Part}
-use Rattle.coll_engine.specs.declared.stopped.Stopped.{Stopped}
-use Rattle.coll_engine.specs.Lists.{CompletesOne, CompletesParts, DeniesTests, IsStopped, begun_of}
-use Rattle.coll_engine.specs.Parts.{tickets_of}
+use Rattle.coll_serial.specs.declared.part.Part.{Part}
+use Rattle.coll_serial.specs.declared.stopped.Stopped.{Stopped}
+use Rattle.coll_serial.specs.Lists.{CompletesOne, CompletesParts, DeniesTests, IsStopped, begun_of}
+use Rattle.coll_serial.specs.Parts.{tickets_of}
 use Rattle.worzsunab.specs.declared.reason.Reason.{Reason}
 use Rattle.worzsunab.specs.Reasons.{reason_of}
 

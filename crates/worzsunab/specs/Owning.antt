@@ -6,7 +6,7 @@ use Rattle.std.specs.Global.{Global}
 use Rattle.std.specs.Box.Ownership.{box_owns}
 use Rattle.std_heap.specs.contracts.GlobalAllocator.TheImpl.{ghosts}
 use Rattle.coll_core.specs.Cores.{Parts}
-use Rattle.coll_engine.specs.contracts.engine.Engine.{the_row}
+use Rattle.coll_serial.specs.contracts.engine.Engine.{the_row}
 
 abbrev pub owned : Global → Ptr → Option Parts → Fml
 owned alloc at None = ftrue

@@ -5,8 +5,8 @@ use Rattle.std.specs.Prelude.{Option, Some, None}
 use Rattle.std.specs.Global.{Global}
 use Rattle.std.specs.Box.Ownership.{box_owns}
 use Rattle.std_heap.specs.contracts.GlobalAllocator.TheImpl.{ghosts}
-use Rattle.coll_engine.specs.declared.combination.Stage.{Stage}
-use Rattle.coll_engine.specs.contracts.combination.Combination.{the_row}
+use Rattle.coll_serial.specs.declared.combination.Stage.{Stage}
+use Rattle.coll_serial.specs.contracts.combination.Combination.{the_row}
 
 abbrev pub owned_work : Global → Ptr → Option (Option Stage) → Fml
 owned_work alloc at None = ftrue

@@ -1,7 +1,7 @@
 -- What the functions over combinations do.
 use Rattle.std.specs.Prelude.{◌≡◌, ℤ, pos, false, Option, Some, None}
-use Rattle.coll_engine.specs.declared.combination.Stage.{Stage}
-use Rattle.coll_engine.specs.Combinations.{is_due, piece_of}
+use Rattle.coll_serial.specs.declared.combination.Stage.{Stage}
+use Rattle.coll_serial.specs.Combinations.{is_due, piece_of}
 
 -- one of three: there is none; memory was refused, and it is as it was; or it has its result
 pub data Computes (old new : Option (Option Stage)) (code : ℤ) : Type 0 where

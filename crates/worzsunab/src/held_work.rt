@@ -1,6 +1,6 @@
 //! The pointer to a combination, and to none.
 ghost use Rattle.std.specs.Prelude.{Option};
-ghost use Rattle.coll_engine.specs.declared.combination.Stage.{Stage};
+ghost use Rattle.coll_serial.specs.declared.combination.Stage.{Stage};
 
 use std::alloc::Global;
 use std::marker::Model;

@@ -26,14 +26,14 @@ ghost use Rattle.coll_core.specs.Cores.{seen, setting};
 ghost use Rattle.coll_core.specs.Steps.{Finishings, ready};
 ghost use Rattle.coll_complete.specs.Completing.{freeing};
 ghost use Rattle.coll_complete.specs.Requests.{free_refusal, phase_at};
-ghost use Rattle.coll_engine.specs.Calls.{DeniesStart, about_at, naming_refusal};
-ghost use Rattle.coll_engine.specs.Lengths.{IsOutcomeLengthAt};
-ghost use Rattle.coll_engine.specs.Progress.{Advances};
+ghost use Rattle.coll_serial.specs.Calls.{DeniesStart, about_at, naming_refusal};
+ghost use Rattle.coll_serial.specs.Lengths.{IsOutcomeLengthAt};
+ghost use Rattle.coll_serial.specs.Progress.{Advances};
 ghost use Rattle.worzsunab.specs.Answers.{Answers, IsPhase, Tests, phase_number};
 ghost use Rattle.worzsunab.specs.Beginnings.{StartsOne};
 ghost use Rattle.worzsunab.specs.Forms.{IsAbout, named_by, request_of};
 ghost use Rattle.worzsunab.specs.Openings.{DeniesOpen, IsOpened, Opens};
-ghost use Rattle.coll_engine.specs.Signatures.{signature_at};
+ghost use Rattle.coll_serial.specs.Signatures.{signature_at};
 ghost use Rattle.worzsunab.specs.Posted.{Tells};
 ghost use Rattle.worzsunab.specs.Reasons.{no_reason, reason_of};
 
@@ -52,7 +52,7 @@ mod work_handle;
 mod working;
 
 use codes::{CLOSED, DONE, NO_PLACE, OPEN, PENDING};
-use coll_engine::{Engine, Phase, Refusal, Test};
+use coll_serial::{Engine, Phase, Refusal, Test};
 use forms::{About, Limits, Request, groups_of};
 use handle::Handle;
 use posted::Posted;

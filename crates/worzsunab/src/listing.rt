@@ -4,13 +4,13 @@ ghost use Rattle.std.specs.Prelude.{◌≡◌, ◌⊎◌, length};
 ghost use Rattle.worzsunab.specs.Listing.{CompletesAll, CompletesLowest, CompletesSome, ListTests, NoneIsActive, NoneIsDone, Starts, told_of};
 ghost use Rattle.coll_core.specs.Cores.{seen};
 ghost use Rattle.coll_complete.specs.Requests.{is_pending};
-ghost use Rattle.coll_engine.specs.Parts.{tickets_of};
+ghost use Rattle.coll_serial.specs.Parts.{tickets_of};
 ghost use Rattle.std.specs.List.{list_any};
 ghost use Rattle.std.specs.Prelude.{true};
 
 use crate::codes::{CLOSED, DONE, PENDING, TWICE};
 use crate::handle::Handle;
-use coll_engine::{First, Part, are_distinct};
+use coll_serial::{First, Part, are_distinct};
 use std::alloc::Global;
 
 /// No position, and no number: no request of the list is active.

@@ -4,7 +4,7 @@ ghost use Rattle.std.specs.Prelude.{◌≡◌, ◌⊎◌, pos};
 ghost use Rattle.coll_kinds.specs.declared.kind.Mode.TheVariants.{Once, Persistent};
 ghost use Rattle.coll_kinds.specs.declared.signature.Signature.{Signature};
 ghost use Rattle.coll_core.specs.Cores.{seen, setting};
-ghost use Rattle.coll_engine.specs.Calls.{Denies, init_by, post_by};
+ghost use Rattle.coll_serial.specs.Calls.{Denies, init_by, post_by};
 ghost use Rattle.worzsunab.specs.Answers.{Answers};
 ghost use Rattle.worzsunab.specs.Calls.{IsCall, IsCounted};
 ghost use Rattle.worzsunab.specs.Beginnings.{Inits, Posts};
@@ -14,7 +14,7 @@ use crate::call::{Call, counted_signature};
 use crate::codes::{BAD_NUMBER, CLOSED, DONE};
 use crate::forms::Request;
 use crate::handle::Handle;
-use coll_engine::{Mode, Signature};
+use coll_serial::{Mode, Signature};
 use std::alloc::Global;
 
 #[unsafe(no_mangle)]

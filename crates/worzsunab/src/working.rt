@@ -4,7 +4,7 @@ ghost use Rattle.std.specs.Prelude.{◌≡◌, ◌≢◌, ◌⊎◌, [], None, S
 ghost use Rattle.coll_kinds.specs.declared.refusal.Refusal.TheVariants.{NoMemory, Stale};
 ghost use Rattle.coll_core.specs.Cores.{seen, setting};
 ghost use Rattle.coll_core.specs.Steps.{Finishings, ready};
-ghost use Rattle.coll_engine.specs.Combinations.{IsHandedOut, TakesBack};
+ghost use Rattle.coll_serial.specs.Combinations.{IsHandedOut, TakesBack};
 ghost use Rattle.worzsunab.specs.Answers.{Answers};
 ghost use Rattle.worzsunab.specs.Reasons.{reason_of};
 ghost use Rattle.worzsunab.specs.Works.{Computes};
@@ -12,7 +12,7 @@ ghost use Rattle.worzsunab.specs.Works.{Computes};
 use crate::codes::{CLOSED, DONE, HAS_WORK, NO_MEMORY, NO_WORK};
 use crate::handle::Handle;
 use crate::work_handle::WorkHandle;
-use coll_engine::{Combination, Engine, Refusal};
+use coll_serial::{Combination, Engine, Refusal};
 use std::alloc::Global;
 
 #[unsafe(no_mangle)]

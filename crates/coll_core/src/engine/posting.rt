@@ -15,7 +15,7 @@ ghost use Rattle.coll_plans.specs.Plans.{family, IsPlanned};
 ghost use Rattle.coll_queues.specs.Postings.{HasRoom};
 ghost use Rattle.coll_queues.specs.Refusing.{member_refusal};
 ghost use Rattle.coll_sched.specs.Families.{laid_in};
-ghost use Rattle.coll_tables.specs.Engines.{entry_refusals};
+ghost use Rattle.coll_refinement.specs.Engines.{entry_refusals};
 ghost use Rattle.coll_core.specs.Calls.{Refuses};
 ghost use Rattle.coll_core.specs.Cores.{seen, setting, Unchanged};
 ghost use Rattle.coll_core.specs.Progress.{BeginsSchedule, KeepsProgress};

@@ -8,7 +8,7 @@ ghost use Rattle.coll_machine.specs.Calls.{Outcome as Completed, Nothing, Retire
 ghost use Rattle.coll_machine.specs.Machines.{MachineStep};
 ghost use Rattle.coll_machine.specs.Refusals.{refusal};
 ghost use Rattle.coll_sched.specs.Regions.{Inside, read_of};
-ghost use Rattle.coll_tables.specs.Engines.{Rests};
+ghost use Rattle.coll_refinement.specs.Engines.{Rests};
 ghost use Rattle.coll_core.specs.Buffers.{HasRoom};
 ghost use Rattle.coll_core.specs.Completions.{GivesUp};
 ghost use Rattle.coll_core.specs.Cores.{seen, setting};

@@ -9,7 +9,7 @@ ghost use Rattle.coll_arena.specs.declared.list_name.ListName.TheVariants.{Ready
 ghost use Rattle.coll_arena.specs.ListNames.{list_count, number_of};
 ghost use Rattle.coll_arena.specs.Lookups.{IsFirst, PutsSlot};
 ghost use Rattle.coll_arena.specs.Slots.{home, names, record_in, weight_of};
-ghost use Rattle.coll_tables.specs.Engines.{Delivers};
+ghost use Rattle.coll_refinement.specs.Engines.{Delivers};
 ghost use Rattle.coll_core.specs.declared.stepped.Stepped.TheVariants.{Quiet};
 ghost use Rattle.coll_core.specs.Cores.{seen, setting};
 ghost use Rattle.coll_core.specs.Advancing.{Brings, CanAdvance, IsReceiver, HasAdvanced, HaveLists, IsSent, NoReceiver, is_end};

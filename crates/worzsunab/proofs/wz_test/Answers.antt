@@ -1,8 +1,8 @@
 use Rattle.std.proofs.Common.{◌≡◌, ◌∙◌, false, length, ap, refl}
 use Rattle.std.specs.Prelude.{Some}
-use Rattle.coll_engine.specs.declared.test.Test.TheVariants.{Completed, Inactive, Pending}
-use Rattle.coll_engine.specs.Calls.{Completes}
-use Rattle.coll_engine.specs.Tests.{IfCompleted, is_completed, is_unfinished}
+use Rattle.coll_serial.specs.declared.test.Test.TheVariants.{Completed, Inactive, Pending}
+use Rattle.coll_serial.specs.Calls.{Completes}
+use Rattle.coll_serial.specs.Tests.{IfCompleted, is_completed, is_unfinished}
 use Rattle.coll_core.specs.Cores.{seen, setting}
 use Rattle.coll_complete.specs.Requests.{is_done, is_pending}
 use Rattle.worzsunab.specs.Answers.{done, inactive, pending, refused}

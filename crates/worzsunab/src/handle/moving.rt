@@ -8,7 +8,7 @@ use crate::handle::Handle;
 use crate::held::Held;
 use crate::parts::Parts;
 use crate::reason::Reason;
-use coll_engine::{Engine, Refusal};
+use coll_serial::{Engine, Refusal};
 use std::alloc::Global;
 use std::{mem, ptr};
 

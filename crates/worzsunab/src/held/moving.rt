@@ -4,7 +4,7 @@ ghost use Rattle.std.specs.Prelude.{◌≡◌, Some, None, true, is_some};
 
 use crate::held::Held;
 use crate::parts::Parts;
-use coll_engine::Engine;
+use coll_serial::Engine;
 use std::alloc::Global;
 
 impl Held {

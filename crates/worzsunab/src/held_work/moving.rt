@@ -4,7 +4,7 @@ ghost use Rattle.std.specs.Prelude.{◌≡◌, Some, None, true, is_some};
 
 use crate::held_work::HeldWork;
 use crate::parts::Parts;
-use coll_engine::Combination;
+use coll_serial::Combination;
 use std::alloc::Global;
 
 impl HeldWork {

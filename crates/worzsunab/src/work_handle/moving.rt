@@ -5,7 +5,7 @@ ghost use Rattle.std.specs.Prelude.{◌≡◌, None, Some, IfNone, IfSome, is_so
 use crate::held_work::HeldWork;
 use crate::parts::Parts;
 use crate::work_handle::WorkHandle;
-use coll_engine::Combination;
+use coll_serial::Combination;
 use std::alloc::Global;
 use std::{mem, ptr};
 

@@ -3,11 +3,11 @@ use Rattle.std.specs.Global.{Global}
 use Rattle.std.specs.List.{AllByRecursion}
 use Rattle.std.proofs.lemmas.List.{length-map}
 use Rattle.std.proofs.lemmas.Result.{err_from_is_err_and}
-use Rattle.coll_history.specs.declared.request.Request as rust
-use Rattle.coll_history.specs.Histories.{History}
-use Rattle.coll_history.specs.Requests.{Request, requests}
-use Rattle.coll_history.specs.Sound.{IsSound}
-use Rattle.coll_history.specs.Code.{request_view, requests_view}
+use Rattle.coll_parser.specs.declared.request.Request as rust
+use Rattle.coll_parser.specs.Histories.{History}
+use Rattle.coll_parser.specs.Requests.{Request, requests}
+use Rattle.coll_parser.specs.Sound.{IsSound}
+use Rattle.coll_parser.specs.Code.{request_view, requests_view}
 use Rattle.coll_script.specs.Postings.{requests_of}
 use Rattle.coll_script.specs.Jobs.{job_of}
 use Rattle.coll_machine.specs.Entries.{Entry}

@@ -1,6 +1,6 @@
 use Rattle.std.proofs.Common.{◌≡◌, ◌++◌, ◌-◌, length, flat_map}
 use Rattle.std.specs.List.{range_with_len}
-use Rattle.coll_history.specs.Requests.{requests}
+use Rattle.coll_parser.specs.Requests.{requests}
 use Rattle.coll_script.specs.Jobs.{job_of}
 use Rattle.coll_run.specs.Index.{handed_in}
 use Rattle.coll_run.specs.Lines.{told_lines, told_rank}

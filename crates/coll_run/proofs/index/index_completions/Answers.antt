@@ -1,4 +1,4 @@
-use Rattle.coll_history.proofs.Lists.{drop-more}
+use Rattle.coll_parser.proofs.Lists.{drop-more}
 use Rattle.coll_run.proofs.Indexing.{told-more}
 use Rattle.coll_run.proofs.index.index_completions.Goals as goal
 

@@ -1,6 +1,6 @@
 use Rattle.std.proofs.Common.{◌≡◌, ◌++◌, ◌-◌, length, flat_map}
 use Rattle.std.specs.List.{range_with_len}
-use Rattle.coll_history.specs.Code.{request_view}
+use Rattle.coll_parser.specs.Code.{request_view}
 use Rattle.coll_run.specs.Index.{handed_in}
 use Rattle.coll_run.specs.Lines.{told_request, told_start}
 use Rattle.coll_run.proofs.printing.print_request.Given as goal

@@ -1,8 +1,8 @@
 use Rattle.std.proofs.Common.{◌≡◌, List, Vec, length, ap, subst, sym, ◌∙◌, refl}
 use Rattle.std.specs.Global.{Global}
-use Rattle.coll_history.specs.declared.request.Request as rust
-use Rattle.coll_history.specs.Requests.{Request}
-use Rattle.coll_history.proofs.Lists.{AllByRecursion-read}
+use Rattle.coll_parser.specs.declared.request.Request as rust
+use Rattle.coll_parser.specs.Requests.{Request}
+use Rattle.coll_parser.proofs.Lists.{AllByRecursion-read}
 use Rattle.coll_script.specs.declared.values.MemberValues.{MemberValues}
 use Rattle.coll_script.specs.Outcomes.{AreMatched, group_values, group_view, values_view}
 use Rattle.coll_script.specs.PostingViews.{lists_view, all_lists_view}

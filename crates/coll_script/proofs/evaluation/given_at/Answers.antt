@@ -1,11 +1,11 @@
 use Rattle.std.proofs.Common.{◌≡◌, ◌<◌, List, Vec, length, Option, Some, [], ap, subst, sym, ◌∙◌, refl, arith}
 use Rattle.std.specs.Prelude.{slice_get, unwrap_or, ℕ}
 use Rattle.std.specs.Global.{Global}
-use Rattle.coll_history.specs.declared.request.Request as rust
-use Rattle.coll_history.specs.declared.request.Start as rust_start
-use Rattle.coll_history.specs.Requests.{Request}
-use Rattle.coll_history.specs.Code.{rows_view, givens}
-use Rattle.coll_history.proofs.Lists.{slice_get-view}
+use Rattle.coll_parser.specs.declared.request.Request as rust
+use Rattle.coll_parser.specs.declared.request.Start as rust_start
+use Rattle.coll_parser.specs.Requests.{Request}
+use Rattle.coll_parser.specs.Code.{rows_view, givens}
+use Rattle.coll_parser.proofs.Lists.{slice_get-view}
 use Rattle.coll_script.specs.Meaning.{given_by}
 use Rattle.coll_script.specs.PostingViews.{list_view, lists_view}
 use Rattle.coll_script.proofs.Loops.{map-more, drop-view}

@@ -1,7 +1,7 @@
 use Rattle.std.proofs.Common.{◌≡◌, ◌++◌, map, drop, List}
 use Rattle.std.specs.Prelude.{slice_get}
-use Rattle.coll_history.specs.Requests.{Request}
-use Rattle.coll_history.specs.Code.{rows_view}
+use Rattle.coll_parser.specs.Requests.{Request}
+use Rattle.coll_parser.specs.Code.{rows_view}
 use Rattle.coll_script.specs.Meaning.{given_by, given_at}
 use Rattle.coll_script.specs.PostingViews.{lists_view}
 use Rattle.coll_script.proofs.evaluation.given_at.Given as goal

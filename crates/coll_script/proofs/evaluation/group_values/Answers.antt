@@ -1,9 +1,9 @@
 use Rattle.std.proofs.Common.{◌≡◌, List, Vec, drop, ap, sym, ◌∙◌, refl}
 use Rattle.std.specs.Prelude.{◌+◌, ◌∷◌, slice_get}
 use Rattle.std.specs.Global.{Global}
-use Rattle.coll_history.specs.Requests.{Request}
-use Rattle.coll_history.specs.Code.{request_view}
-use Rattle.coll_history.proofs.Lists.{slice_get-view}
+use Rattle.coll_parser.specs.Requests.{Request}
+use Rattle.coll_parser.specs.Code.{request_view}
+use Rattle.coll_parser.proofs.Lists.{slice_get-view}
 use Rattle.coll_script.specs.Matching.{first_list}
 use Rattle.coll_script.specs.declared.values.MemberValues.{MemberValues}
 use Rattle.coll_script.specs.Outcomes.{place_view, group_view}

@@ -1,7 +1,7 @@
 use Rattle.std.proofs.Common.{◌≡◌, length, map, ap, sym, ◌∙◌, refl, arith}
 use Rattle.std.specs.List.{range_with_len}
 use Rattle.coll_ops.specs.Values.{value}
-use Rattle.coll_history.specs.Code.{request_view}
+use Rattle.coll_parser.specs.Code.{request_view}
 use Rattle.coll_script.specs.Meaning.{given_at}
 use Rattle.coll_script.specs.Outcomes.{start_values, members_view, place_view}
 use Rattle.coll_script.specs.PostingViews.{lists_view}

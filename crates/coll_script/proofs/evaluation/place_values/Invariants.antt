@@ -1,6 +1,6 @@
 use Rattle.std.proofs.Common.{◌≡◌, ◌++◌, ◌-◌, map, length}
 use Rattle.std.specs.List.{range_with_len}
-use Rattle.coll_history.specs.Code.{request_view}
+use Rattle.coll_parser.specs.Code.{request_view}
 use Rattle.coll_script.specs.Outcomes.{start_values, place_values, place_view}
 use Rattle.coll_script.specs.PostingViews.{lists_view}
 use Rattle.coll_script.proofs.evaluation.place_values.Given as goal

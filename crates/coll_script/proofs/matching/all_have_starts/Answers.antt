@@ -1,6 +1,6 @@
 use Rattle.std.proofs.Common.{List, Vec, ap, sym, ◌∙◌}
 use Rattle.std.specs.Global.{Global}
-use Rattle.coll_history.specs.declared.request.Request as rust
+use Rattle.coll_parser.specs.declared.request.Request as rust
 use Rattle.coll_script.specs.Matching.{have_starts}
 use Rattle.coll_script.specs.PostingViews.{lists_view, all_lists_view}
 use Rattle.coll_script.proofs.Loops.{list_all-more, list_all-stops, at-view}

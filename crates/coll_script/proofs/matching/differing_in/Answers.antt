@@ -1,6 +1,6 @@
 use Rattle.std.proofs.Common.{Bool, cond, ap, ◌∙◌}
 use Rattle.std.specs.Prelude.{slice_get}
-use Rattle.coll_history.specs.Code.{request_view}
+use Rattle.coll_parser.specs.Code.{request_view}
 use Rattle.coll_script.specs.Matching.{lower}
 use Rattle.coll_script.specs.PostingViews.{list_view}
 use Rattle.coll_script.proofs.Loops.{drop-view}

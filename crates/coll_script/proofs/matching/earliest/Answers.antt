@@ -1,7 +1,7 @@
 use Rattle.std.proofs.Common.{Vec, List, ap, ◌∙◌}
 use Rattle.std.specs.Prelude.{slice_get}
 use Rattle.std.specs.Global.{Global}
-use Rattle.coll_history.specs.declared.request.Request as rust
+use Rattle.coll_parser.specs.declared.request.Request as rust
 use Rattle.coll_script.specs.Matching.{first_at, earlier}
 use Rattle.coll_script.specs.PostingViews.{list_view, lists_view}
 use Rattle.coll_script.proofs.Loops.{drop-view}

@@ -1,8 +1,8 @@
 use Rattle.std.proofs.Common.{eqb, length, List, Vec, ◌∙◌, arith}
 use Rattle.std.specs.Global.{Global}
 use Rattle.std.proofs.lemmas.Bool.{eq-eqb}
-use Rattle.coll_history.specs.declared.request.Request as rust
-use Rattle.coll_history.specs.Requests.{Request}
+use Rattle.coll_parser.specs.declared.request.Request as rust
+use Rattle.coll_parser.specs.Requests.{Request}
 use Rattle.coll_script.specs.Matching.{first_list}
 use Rattle.coll_script.specs.PostingViews.{list_view, lists_view}
 use Rattle.coll_script.proofs.Loops.{list_all-more, list_all-stops, at-view}

@@ -1,8 +1,8 @@
 use Rattle.std.proofs.Common.{ap, arith, sym, ◌∙◌}
 use Rattle.std.specs.Prelude.{Some}
 use Rattle.std.specs.Option.{option_map}
-use Rattle.coll_history.specs.Code.{request_view}
-use Rattle.coll_history.proofs.Lists.{slice_get-view}
+use Rattle.coll_parser.specs.Code.{request_view}
+use Rattle.coll_parser.proofs.Lists.{slice_get-view}
 use Rattle.coll_script.specs.Matching.{first_of}
 use Rattle.coll_script.specs.PostingViews.{list_view}
 use Rattle.coll_script.proofs.Matched.{length-list_view, KeepsUpTo-more, KeepsUpTo-all}

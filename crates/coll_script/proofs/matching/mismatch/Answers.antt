@@ -1,7 +1,7 @@
 use Rattle.std.proofs.Common.{Vec, List, ℕ, Option, ap, ◌∙◌}
 use Rattle.std.specs.Prelude.{slice_get, None, flat_map}
 use Rattle.std.specs.Global.{Global}
-use Rattle.coll_history.specs.declared.request.Request as rust
+use Rattle.coll_parser.specs.declared.request.Request as rust
 use Rattle.coll_script.specs.declared.first.Earliest.{Earliest}
 use Rattle.coll_script.specs.Matching.{earliest, differing_from, differing, least}
 use Rattle.coll_script.specs.PostingViews.{lists_view, all_lists_view}

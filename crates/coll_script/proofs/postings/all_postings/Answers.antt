@@ -1,9 +1,9 @@
 use Rattle.std.proofs.Common.{◌≡◌, ℕ, ◌<◌, length, List, Vec, ap, sym, subst, ◌∙◌, refl}
 use Rattle.std.specs.Prelude.{slice_index}
 use Rattle.std.specs.Global.{Global}
-use Rattle.coll_history.specs.declared.request.Request as rust
-use Rattle.coll_history.specs.Code.{rows_view, requests_view}
-use Rattle.coll_history.proofs.Lists.{AllByRecursion-read}
+use Rattle.coll_parser.specs.declared.request.Request as rust
+use Rattle.coll_parser.specs.Code.{rows_view, requests_view}
+use Rattle.coll_parser.proofs.Lists.{AllByRecursion-read}
 use Rattle.coll_script.specs.Postings.{postings}
 use Rattle.coll_script.specs.PostingViews.{lists_view, all_lists_view}
 use Rattle.coll_script.proofs.Posted.{map-push, postings_from-more}

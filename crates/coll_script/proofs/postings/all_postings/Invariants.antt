@@ -1,5 +1,5 @@
 use Rattle.std.proofs.Common.{◌≡◌, ◌++◌, drop}
-use Rattle.coll_history.specs.Code.{rows_view, requests_view}
+use Rattle.coll_parser.specs.Code.{rows_view, requests_view}
 use Rattle.coll_script.specs.Postings.{postings_from}
 use Rattle.coll_script.specs.PostingViews.{all_lists_view}
 use Rattle.coll_script.proofs.postings.all_postings.Given as goal

@@ -1,5 +1,5 @@
 use Rattle.std.proofs.Common.{◌≡◌, ◌++◌, map, drop}
-use Rattle.coll_history.specs.Code.{request_view}
+use Rattle.coll_parser.specs.Code.{request_view}
 use Rattle.coll_script.specs.Postings.{posted_on}
 use Rattle.coll_script.specs.PostingViews.{list_view}
 use Rattle.coll_script.proofs.postings.posted_on.Given as goal

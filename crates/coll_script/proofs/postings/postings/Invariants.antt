@@ -1,5 +1,5 @@
 use Rattle.std.proofs.Common.{◌≡◌, ◌++◌, map, drop}
-use Rattle.coll_history.specs.Code.{requests_view}
+use Rattle.coll_parser.specs.Code.{requests_view}
 use Rattle.coll_script.specs.Postings.{posted_on, requests_of, postings}
 use Rattle.coll_script.specs.PostingViews.{lists_view}
 use Rattle.coll_script.proofs.postings.postings.Given as goal

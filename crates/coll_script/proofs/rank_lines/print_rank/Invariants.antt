@@ -1,5 +1,5 @@
 use Rattle.std.proofs.Common.{◌≡◌, ◌++◌, ◌<◌, ℕ, [], drop, take, length, map, slice_index}
-use Rattle.coll_history.specs.Code.{request_view}
+use Rattle.coll_parser.specs.Code.{request_view}
 use Rattle.coll_script.specs.Postings.{posted_on}
 use Rattle.coll_script.specs.Outcomes.{values_view}
 use Rattle.coll_script.specs.Prints.{printed_behind}

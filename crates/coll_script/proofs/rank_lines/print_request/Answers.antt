@@ -1,6 +1,6 @@
 use Rattle.std.proofs.Common.{◌≡◌, ◌<◌, ◌++◌, ℕ, List, length, ap, subst, sym, ◌∙◌}
 use Rattle.coll_ops.specs.Values.{row_of}
-use Rattle.coll_history.proofs.Lists.{AllByRecursion-read}
+use Rattle.coll_parser.proofs.Lists.{AllByRecursion-read}
 use Rattle.coll_script.specs.Meaning.{outcome_line}
 use Rattle.coll_script.specs.Outcomes.{members_view, place_view}
 use Rattle.coll_script.proofs.Loops.{text-more, at-view, drop-view}

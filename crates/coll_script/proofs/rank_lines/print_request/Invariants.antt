@@ -1,7 +1,7 @@
 use Rattle.std.proofs.Common.{◌≡◌, ◌++◌, drop, flat_map}
 use Rattle.std.specs.List.{enumerate_from}
 use Rattle.coll_ops.specs.Values.{row_of}
-use Rattle.coll_history.specs.Code.{request_view}
+use Rattle.coll_parser.specs.Code.{request_view}
 use Rattle.coll_script.specs.Meaning.{outcome_line}
 use Rattle.coll_script.specs.Outcomes.{place_view}
 use Rattle.coll_script.specs.Prints.{printed_request}

@@ -1,8 +1,8 @@
 use Rattle.std.proofs.Common.{◌≡◌, List, length, Vec, ap, ◌∙◌}
 use Rattle.std.specs.Global.{Global}
 use Rattle.std.specs.List.{list_all}
-use Rattle.coll_history.specs.Cutting.{lines_of}
-use Rattle.coll_history.specs.declared.request.Request as rust
+use Rattle.coll_parser.specs.Cutting.{lines_of}
+use Rattle.coll_parser.specs.declared.request.Request as rust
 use Rattle.coll_script.specs.PostingViews.{all_lists_view}
 use Rattle.coll_script.specs.Matching.{mismatch, have_places, have_starts}
 use Rattle.coll_script.specs.Jobs.{job_of, all_postings}

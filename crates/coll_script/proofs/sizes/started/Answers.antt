@@ -3,8 +3,8 @@ use Rattle.std.proofs.Common.{◌∙◌, rules, tests}
 use Rattle.std.proofs.lemmas.Iterator.{YieldsList-from_slice}
 use Rattle.std.proofs.lemmas.Iterator.Consumers.{YieldsList-at, YieldsList-from_filter, count_from_yields_List}
 use Rattle.std.proofs.lemmas.List.Sums.{length-filter}
-use Rattle.coll_history.specs.declared.issued_command.IssuedCommand.{IssuedCommand}
-use Rattle.coll_history.specs.Histories.{is_start}
+use Rattle.coll_parser.specs.declared.issued_command.IssuedCommand.{IssuedCommand}
+use Rattle.coll_parser.specs.Histories.{is_start}
 use Rattle.coll_script.proofs.sizes.started.Goals as goal
 
 pub returns-clause-count : goal.returns-clause-count

@@ -1,5 +1,5 @@
 use Rattle.std.specs.Prelude.{List}
-use Rattle.coll_history.proofs.Lists.{drop-more}
+use Rattle.coll_parser.proofs.Lists.{drop-more}
 use Rattle.coll_sched.specs.declared.action.Action.{Action}
 use Rattle.coll_views.proofs.Loops.{flat_map-more}
 use Rattle.coll_views.proofs.work.all_actions.Goals as goal

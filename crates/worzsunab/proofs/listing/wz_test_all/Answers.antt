@@ -1,6 +1,6 @@
 use Rattle.std.proofs.Common.{◌∙◌, Some, ap, refl, sym}
 use Rattle.coll_core.specs.Cores.{seen, setting}
-use Rattle.coll_engine.specs.Lists.{CompletesParts}
+use Rattle.coll_serial.specs.Lists.{CompletesParts}
 use Rattle.worzsunab.specs.Listing.{done, refused, waits}
 use Rattle.worzsunab.proofs.Answering.{was_open}
 use Rattle.worzsunab.proofs.Coding.{coded}

@@ -1,5 +1,5 @@
 use Rattle.std.proofs.Common.{◌∙◌, Some, ap, inl, inr, refl}
-use Rattle.coll_engine.specs.declared.first.First.TheVariants.{Unfinished}
+use Rattle.coll_serial.specs.declared.first.First.TheVariants.{Unfinished}
 use Rattle.worzsunab.specs.Listing.{done, refused, waits}
 use Rattle.worzsunab.proofs.Answering.{was_open}
 use Rattle.worzsunab.proofs.Coding.{coded}

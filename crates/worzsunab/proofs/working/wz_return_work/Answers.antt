@@ -1,6 +1,6 @@
 use Rattle.std.proofs.Common.{◌∙◌, Option, pos, refl, subst, w32, to_z, of_z}
-use Rattle.coll_engine.specs.declared.combination.Stage.{Stage}
-use Rattle.coll_engine.specs.Combinations.{TakesBack}
+use Rattle.coll_serial.specs.declared.combination.Stage.{Stage}
+use Rattle.coll_serial.specs.Combinations.{TakesBack}
 use Rattle.worzsunab.specs.Answers.{done, refused}
 use Rattle.worzsunab.proofs.Answering.{ReturnAnswers, of_combination, same_as, was_open}
 use Rattle.worzsunab.proofs.Coding.{coded}

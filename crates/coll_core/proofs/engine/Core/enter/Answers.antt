@@ -7,7 +7,7 @@ use Rattle.coll_kinds.specs.declared.signature.Signature.{Signature}
 use Rattle.coll_kinds.specs.Common.{AreBytes, given_len, max_len}
 use Rattle.coll_machine.specs.Common.{Post, Ticketed, StepsTo}
 use Rattle.coll_queues.specs.Refusing.{judge_refusal}
-use Rattle.coll_tables.proofs.EngineStatements.{MayEnter}
+use Rattle.coll_refinement.proofs.EngineStatements.{MayEnter}
 use Rattle.coll_core.specs.declared.request.Request.{Request}
 use Rattle.coll_plans.specs.Plans.{family}
 use Rattle.coll_arena.specs.Slots.{Slots}
@@ -19,9 +19,9 @@ use Rattle.coll_core.specs.Posts.{planned, refused_in, next_instance}
 use Rattle.coll_core.proofs.Posting.{Calls, accepted_from, emptied, given_now, lent_moved, not_given, parts_of, post_begins, post_kept, post_steps}
 use Rattle.coll_match.specs.Instances.{LookUps, joined, look_ups}
 use Rattle.coll_machine.specs.declared.key.Key.{Key}
-use Rattle.coll_tables.specs.Shown.{Instances}
-use Rattle.coll_tables.proofs.EngineTested.{entry_core}
-use Rattle.coll_tables.proofs.EngineReads.{new_core}
+use Rattle.coll_refinement.specs.Shown.{Instances}
+use Rattle.coll_refinement.proofs.EngineTested.{entry_core}
+use Rattle.coll_refinement.proofs.EngineReads.{new_core}
 use Rattle.coll_core.proofs.engine.Core.enter.Goals as goal
 
 short : (len given : ℕ) → len ≡ given → given ≤ max_len → len < 2 ^ 32

@@ -7,9 +7,9 @@ use Rattle.coll_kinds.specs.declared.kind.Mode.TheVariants.{Persistent}
 use Rattle.coll_kinds.specs.declared.signature.Signature.{Signature}
 use Rattle.coll_machine.specs.Common.{Init, Ticketed, MachineStep}
 use Rattle.coll_queues.specs.Refusing.{judge_refusal}
-use Rattle.coll_tables.proofs.EngineChanges.{Initialises}
-use Rattle.coll_tables.proofs.EngineStatements.{MayEnter}
-use Rattle.coll_tables.proofs.EngineTested.{entry_core}
+use Rattle.coll_refinement.proofs.EngineChanges.{Initialises}
+use Rattle.coll_refinement.proofs.EngineStatements.{MayEnter}
+use Rattle.coll_refinement.proofs.EngineTested.{entry_core}
 use Rattle.coll_core.specs.declared.request.Request.{Request}
 use Rattle.coll_arena.specs.Slots.{Slots}
 use Rattle.coll_core.specs.Progress.{KeepsProgress}

@@ -4,8 +4,8 @@ use Rattle.coll_kinds.specs.Lengths.{given_len}
 use Rattle.coll_machine.specs.Common.{Post, Setting, size}
 use Rattle.coll_match.specs.Instances as instances
 use Rattle.coll_queues.specs.Postings.{Postings, HasRoom, place_of}
-use Rattle.coll_tables.proofs.EngineStatements.{MayEnter}
-use Rattle.coll_tables.proofs.EngineTested.{entry_core}
+use Rattle.coll_refinement.proofs.EngineStatements.{MayEnter}
+use Rattle.coll_refinement.proofs.EngineTested.{entry_core}
 use Rattle.coll_core.specs.Requests.{shown}
 use Rattle.coll_core.specs.Cores.{Parts, setting}
 use Rattle.coll_core.specs.declared.offer.Offer.{Offer}

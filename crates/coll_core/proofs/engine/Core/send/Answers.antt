@@ -12,7 +12,7 @@ use Rattle.coll_core.proofs.Doing.{on_err, same_written}
 use Rattle.coll_core.proofs.Sending.{can_go_then, has_given, no_message, sent, stands_sent, stood}
 use Rattle.coll_core.proofs.Reading.{acts_at, have_lists}
 use Rattle.coll_match.specs.Instances.{LookUps}
-use Rattle.coll_tables.specs.Engines.{Delivers}
+use Rattle.coll_refinement.specs.Engines.{Delivers}
 use Rattle.coll_core.proofs.engine.Core.send.Goals as goal
 
 pub part-requires : goal.part-requires

@@ -1,5 +1,5 @@
 use Rattle.std.proofs.Common.{ap}
-use Rattle.coll_tables.specs.Requests.{Live}
+use Rattle.coll_refinement.specs.Requests.{Live}
 use Rattle.coll_core.proofs.Retiring.{rested, rested_lists}
 use Rattle.coll_core.proofs.engine.retiring.rest.Goals as goal
 

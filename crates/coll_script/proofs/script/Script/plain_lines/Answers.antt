@@ -1,10 +1,10 @@
 use Rattle.std.proofs.Common.{◌≡◌, ◌++◌, ℕ, [], List, Vec, length, map, ap, subst, sym, ◌∙◌, arith}
 use Rattle.std.specs.Global.{Global}
 use Rattle.std.proofs.lemmas.List.{length-map}
-use Rattle.coll_history.specs.declared.request.Request as rust
-use Rattle.coll_history.specs.Histories.{History}
-use Rattle.coll_history.specs.Requests.{Request, requests}
-use Rattle.coll_history.specs.Code.{request_view, requests_view}
+use Rattle.coll_parser.specs.declared.request.Request as rust
+use Rattle.coll_parser.specs.Histories.{History}
+use Rattle.coll_parser.specs.Requests.{Request, requests}
+use Rattle.coll_parser.specs.Code.{request_view, requests_view}
 use Rattle.coll_script.specs.Postings.{requests_of}
 use Rattle.coll_script.specs.PostingViews.{all_lists_view}
 use Rattle.coll_script.specs.Jobs.{job_of, all_postings}

@@ -1,9 +1,9 @@
 use Rattle.std.proofs.Common.{◌≡◌, Result, length, subst, sym}
 use Rattle.std.proofs.lemmas.Result.{err_from_is_err_and}
-use Rattle.coll_history.specs.declared.fault.Fault.{Fault}
-use Rattle.coll_history.specs.Code.{GivesText}
-use Rattle.coll_history.specs.Cutting.{lines_of}
-use Rattle.coll_history.specs.Histories.{History}
+use Rattle.coll_parser.specs.declared.fault.Fault.{Fault}
+use Rattle.coll_parser.specs.Code.{GivesText}
+use Rattle.coll_parser.specs.Cutting.{lines_of}
+use Rattle.coll_parser.specs.Histories.{History}
 use Rattle.coll_script.specs.Jobs.{script_of, completed}
 use Rattle.coll_script.proofs.Reading.{script_of-long, script_of-judged, FailsText-script_of}
 use Rattle.coll_script.proofs.script.Script.read.Goals as goal

@@ -1,5 +1,5 @@
 use Rattle.std.proofs.Common.{sym, ◌∙◌}
-use Rattle.coll_history.specs.Code.{rows_view}
+use Rattle.coll_parser.specs.Code.{rows_view}
 use Rattle.coll_script.proofs.Shared.{shared-values}
 use Rattle.coll_script.proofs.values.MemberValues.new.Goals as goal
 

@@ -4,7 +4,7 @@ use Rattle.std.specs.Global.{Global}
 use Rattle.std.proofs.lemmas.List.{length-map}
 use Rattle.std.proofs.lemmas.List.FromFn.{length-map-range_with_len}
 use Rattle.coll_ops.specs.Values.{row_of}
-use Rattle.coll_history.proofs.Lists.{slice_get-view}
+use Rattle.coll_parser.proofs.Lists.{slice_get-view}
 use Rattle.coll_script.specs.declared.values.MemberValues.{MemberValues}
 use Rattle.coll_script.specs.Outcomes.{members_view}
 use Rattle.coll_script.proofs.Printed.{row_of-range}

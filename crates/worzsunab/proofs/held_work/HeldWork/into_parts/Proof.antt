@@ -1,6 +1,6 @@
 -- What an open pointer owns are the parts of a box.
 use Rattle.worzsunab.proofs.Words.{◌≡◌, List, [], ◌∷◌, ◌++◌, Option, true, is_some, refl, sym, subst, Val, SProp, ent, id⊢, ftrue, fsep, WpFn, ‵, raw, ◌⊛◌, ◌$◌, ◌∵◌, !, qed, move, drop, split, join, fsplit, fjoin, suffices, use1, rewrite, done, stop, fld, of_opd, no_more, and_then, returns, enter, alloc_all, pass_all, free_all, look_at, get, get_in, sets, agg, sub, whole, fact, tables, yes, type_at, heard, nothing, says, Stays, stay_dropped, walk_of, ends_at, Goes-dropped, D, B, word, box_typed, box_out, box_in, proved_at}
-use Rattle.coll_engine.specs.declared.combination.Stage.{Stage}
+use Rattle.coll_serial.specs.declared.combination.Stage.{Stage}
 use Rattle.worzsunab.specs.OwningWork.{owned_work}
 use Rattle.worzsunab.proofs.Boxes.{BoxedWork, OfHeldWork, some_of}
 use Rattle.worzsunab.specs.contracts.held_work.HeldWork.{the_row}

@@ -1,5 +1,0 @@
-use Rattle.coll_engine.specs.Progress.{Advances}
-use Rattle.coll_engine.proofs.engine.Engine.step.Given as goal
-
-abbrev pub invariant-loop-actions : goal.invariant-loop-actions
-invariant-loop-actions l = Advances l.fn.self l.self l.actions

@@ -1,5 +1,0 @@
-use Rattle.coll_history.proofs.Accepted.{accepted-said}
-use Rattle.coll_history.proofs.laws.accepted_can_be_said.Goals as goal
-
-pub returns : goal.returns
-returns c = λ lines h e. accepted-said lines h e

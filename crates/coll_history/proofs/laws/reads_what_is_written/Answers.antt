@@ -1,5 +1,0 @@
-use Rattle.coll_history.proofs.Texts.{text-again}
-use Rattle.coll_history.proofs.laws.reads_what_is_written.Goals as goal
-
-pub returns : goal.returns
-returns c = λ first lines h tells. text-again first lines h tells

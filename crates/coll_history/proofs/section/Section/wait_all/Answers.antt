@@ -1,5 +1,0 @@
-use Rattle.coll_history.proofs.Keeping.{wait_all-kept}
-use Rattle.coll_history.proofs.section.Section.wait_all.Goals as goal
-
-pub returns : goal.returns
-returns c = λ commands is. wait_all-kept c.args.line commands c.args.self.now is

@@ -1,4 +1,0 @@
-use Rattle.coll_history.proofs.section.Section.wait_for.Goals as goal
-
-pub returns-else-is_first : goal.returns-else-is_first
-returns-else-is_first c = λ commands is. c.wait_each.ensures c.args.line commands is

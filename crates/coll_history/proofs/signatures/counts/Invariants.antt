@@ -1,5 +1,0 @@
-use Rattle.coll_history.proofs.Counted.{AreCounted}
-use Rattle.coll_history.proofs.signatures.counts.Given as goal
-
-abbrev pub invariant-loop-i : goal.invariant-loop-i
-invariant-loop-i l = AreCounted l.n l.i l.counts l.words l.fn.words

@@ -1,0 +1,10 @@
+use Rattle.std.proofs.Common.{refl, ap}
+use Rattle.coll_parser.specs.declared.section.SectionEntry.{SectionEntry}
+use Rattle.coll_parser.specs.Code.{posting_view}
+use Rattle.coll_parser.proofs.Keeping.{free-kept}
+use Rattle.coll_parser.proofs.section.Section.free.Goals as goal
+
+pub returns : goal.returns
+returns c = λ line commands is.
+    free-kept line c.args.q commands c.args.self.now _ _ c.index_mut.result.now c.requires is refl refl
+    (ap posting_view c.index_mut.ensures.value) (ap (λ (p : SectionEntry). p.since) c.index_mut.ensures.value) refl

@@ -1,0 +1,5 @@
+use Rattle.coll_refinement.proofs.Rows.{rows_are_sound}
+use Rattle.coll_refinement.proofs.laws.rows_are_sound.Goals as goal
+
+pub returns : goal.returns
+returns c = rows_are_sound

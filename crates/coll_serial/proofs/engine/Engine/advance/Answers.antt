@@ -1,0 +1,18 @@
+use Rattle.coll_serial.proofs.Advancing.{finished, moved, quiet}
+use Rattle.coll_serial.proofs.Keeping.{kept_advanced}
+use Rattle.std.proofs.Common.{refl}
+use Rattle.coll_serial.proofs.engine.Engine.advance.Goals as goal
+
+pub invariant_of-self-in-Finished : goal.invariant_of-self-in-Finished
+invariant_of-self-in-Finished c =
+    let p = c.self.inside.core in
+    kept_advanced p c.step.new.self c.self.inside.communicators c.self.inside.outcome_lengths.items 1 c.self.invariant (finished p p c.step.new.self refl c.in_ok-step.field-0 c.in-Finished.is c.in_ok-step.ensures.steps)
+
+pub returns-in-Quiet-clause-advances : goal.returns-in-Quiet-clause-advances
+returns-in-Quiet-clause-advances c = quiet c.self.inside.core c.args.self.now c.step.new.self c.self.view_is c.in_ok-step.field-0 c.in-Quiet.is c.in_ok-step.ensures.steps
+
+pub returns-in-Moved-clause-advances : goal.returns-in-Moved-clause-advances
+returns-in-Moved-clause-advances c = moved c.self.inside.core c.args.self.now c.step.new.self c.self.view_is c.in_ok-step.field-0 c.in-Moved.is c.in_ok-step.ensures.steps
+
+pub returns-in-Finished-clause-advances : goal.returns-in-Finished-clause-advances
+returns-in-Finished-clause-advances c = finished c.self.inside.core c.args.self.now c.step.new.self c.self.view_is c.in_ok-step.field-0 c.in-Finished.is c.in_ok-step.ensures.steps

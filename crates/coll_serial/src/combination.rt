@@ -1,0 +1,78 @@
+ghost use Rattle.std.specs.Prelude.{◌≡◌, Some, false, IsOkUnless, OnErr, OnOk};
+ghost use Rattle.coll_serial.specs.Combinations.{is_due, piece_of};
+
+use coll_core::{DoneWork, Work};
+use coll_kinds::Refusal;
+use std::marker::Model;
+
+/// How far a combination outside an engine is.
+#[derive(Debug, Drop)]
+pub enum Stage {
+    /// It is to be computed.
+    Due(Work),
+    /// It has its result.
+    Computed(DoneWork),
+}
+
+/// A combination that an engine handed out, so that it is computed outside the engine, and outside its lock. Contracts see its
+/// stage; one that has none is of no use.
+#[derive(Debug, Drop)]
+pub struct Combination {
+    stage: Option<Stage>,
+}
+
+impl Model for Combination {
+    ghost use Rattle.std.specs.Prelude.{Option};
+    ghost use Rattle.coll_serial.specs.declared.combination.Stage.{Stage as How};
+
+    ghost Value = { Option How };
+
+    ghost view = { λ c. c.stage };
+}
+
+impl Combination {
+    /// One that is to be computed.
+    pub(crate) fn due(work: Work) -> Combination
+        ensures { result ≡ Some (Stage.Due work) }
+    {
+        Combination {
+            stage: Some(Stage::Due(work)),
+        }
+    }
+
+    /// Computes it, unless that was done.
+    ///
+    /// # Errors
+    ///
+    /// NoMemory, and it is as it was; rows of up to 16 bytes take none.
+    pub fn compute(&mut self) -> Result<(), Refusal>
+        ensures piece { OnOk result (piece_of self.new ≡ piece_of self.old) }
+        ensures computed { OnOk result (is_due self.new ≡ false) }
+        ensures err { OnErr result (self.new ≡ self.old) }
+        ensures refusal { IsOkUnless result Refusal.NoMemory }
+    {
+        match self.stage.take() {
+            None => Ok(()),
+            Some(Stage::Computed(done)) => {
+                self.stage = Some(Stage::Computed(done));
+                Ok(())
+            }
+            Some(Stage::Due(work)) => match work.run() {
+                Ok(done) => {
+                    self.stage = Some(Stage::Computed(done));
+                    Ok(())
+                }
+                Err(refused) => {
+                    self.stage = Some(Stage::Due(refused.back));
+                    Err(refused.why)
+                }
+            },
+        }
+    }
+
+    pub(crate) fn into_stage(self) -> Option<Stage>
+        ensures { result ≡ self }
+    {
+        self.stage
+    }
+}

@@ -1,0 +1,126 @@
+//! The engine, its opening, and the questions on it.
+
+mod combining;
+mod listing;
+mod looking;
+mod posting;
+mod progress;
+mod signatures;
+mod starting;
+mod testing;
+
+ghost use Rattle.std.specs.Prelude.{◌≡◌, ◌↔◌, Some, IfErr, IfOk, IsTrue};
+ghost use Rattle.std.specs.Result.{result_err};
+ghost use Rattle.coll_machine.specs.Lents.{lent_bytes};
+ghost use Rattle.coll_core.specs.Configs.{IsUnopened, idle, setting_by};
+ghost use Rattle.coll_core.specs.Cores.{seen, setting};
+ghost use Rattle.coll_core.specs.Phases.{IsQuiet};
+ghost use Rattle.coll_complete.specs.Requests.{phase_at};
+ghost use Rattle.coll_serial.specs.Calls.{about_at, naming_refusal};
+ghost use Rattle.coll_serial.specs.Lengths.{IsOutcomeLengthAt};
+
+use coll_complete::Request;
+use coll_core::{About, Communicators, Config, Core, Phase};
+use coll_kinds::Refusal;
+use std::alloc::Global;
+use std::marker::Model;
+
+/// An engine for the ranks of one process. Contracts see its core: what stays the same (`setting`) and the machine's state
+/// (`seen`).
+#[derive(Drop)]
+pub struct Engine {
+    alloc: Global,
+    communicators: Communicators,
+    /// By slot, the bytes of the outcome of the slot's request.
+    outcome_lengths: Vec<u32>,
+    core: Core,
+}
+
+impl Model for Engine {
+    ghost use Rattle.coll_core.specs.Cores.{Parts};
+    ghost use Rattle.coll_serial.specs.Engines.{IsEngine};
+
+    ghost Value = { Parts };
+
+    ghost view = { λ e. e.core };
+
+    ghost invariant = { λ e. IsEngine e.core e.communicators e.outcome_lengths.items };
+}
+
+impl Engine {
+    /// An engine without requests. Takes time and memory for each slot, communicator and member.
+    ///
+    /// # Errors
+    ///
+    /// BadConfig with the first field that is out of its range, then NoMemory.
+    pub fn open(alloc: Global, config: Config) -> Result<Engine, Refusal>
+        ensures setting { IfOk result (λ engine. setting engine ≡ setting_by config) }
+        ensures idle { IfOk result (λ engine. seen engine ≡ idle) }
+        ensures refused { IfErr result (IsUnopened config) }
+    {
+        config.check()?;
+        let communicators = Communicators::of(alloc, &config)?;
+        let outcome_lengths = Vec::from_elem(alloc, 0, config.slots as usize)?;
+        let core = Core::open(alloc, config)?;
+        Ok(Engine {
+            alloc,
+            communicators,
+            outcome_lengths,
+            core,
+        })
+    }
+
+    /// How far a request is. It takes constant time.
+    ///
+    /// # Errors
+    ///
+    /// Stale where the request names none that is live, then NotYours where it is another rank's.
+    pub fn phase(&self, rank: u8, request: &Request) -> Result<Phase, Refusal>
+        ensures refused { result_err result ≡ naming_refusal (setting self.now) (seen self.now).state rank request.now }
+        ensures phase { IfOk result (λ phase. phase_at (seen self.now) request.now ≡ Some phase) }
+    {
+        match request.ticket() {
+            Some(ticket) => self.core.phase(rank, ticket),
+            None => Err(Refusal::Stale),
+        }
+    }
+
+    /// The bytes of the outcome that a request will have, or has. It takes constant time.
+    ///
+    /// # Errors
+    ///
+    /// Stale where the request names none that is live, then NotYours where it is another rank's.
+    pub fn outcome_len(&self, rank: u8, request: &Request) -> Result<usize, Refusal>
+        ensures refused { result_err result ≡ naming_refusal (setting self.now) (seen self.now).state rank request.now }
+        ensures len { IfOk result (IsOutcomeLengthAt (setting self.now) (seen self.now).state request.now) }
+    {
+        let Some(ticket) = request.ticket() else {
+            return Err(Refusal::Stale);
+        };
+        match self.core.phase(rank, ticket) {
+            Ok(_) => Ok(self.outcome_lengths[ticket.slot as usize] as usize),
+            Err(why) => Err(why),
+        }
+    }
+
+    /// What a request is; none where it names none that is live.
+    pub fn about(&self, request: &Request) -> Option<About>
+        ensures { result ≡ about_at (seen self.now) request.now }
+    {
+        self.core.about(request.ticket()?)
+    }
+
+    /// The bytes that active requests lend to the engine, given and got together.
+    pub fn lent(&self) -> u64
+        ensures { result ≡ lent_bytes (setting self.now) (seen self.now).state }
+    {
+        self.core.lent()
+    }
+
+    /// Whether no request is ready, so that no step changes anything.
+    pub fn is_quiet(&self) -> bool
+        ensures { IsTrue result ↔ IsQuiet self.now }
+    {
+        self.core.quiet()
+    }
+}

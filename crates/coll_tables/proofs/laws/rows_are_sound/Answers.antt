@@ -1,5 +1,0 @@
-use Rattle.coll_tables.proofs.Rows.{rows_are_sound}
-use Rattle.coll_tables.proofs.laws.rows_are_sound.Goals as goal
-
-pub returns : goal.returns
-returns c = rows_are_sound

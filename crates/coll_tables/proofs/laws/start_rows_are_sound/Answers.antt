@@ -1,5 +1,0 @@
-use Rattle.coll_tables.proofs.StartRows.{start_rows_are_sound}
-use Rattle.coll_tables.proofs.laws.start_rows_are_sound.Goals as goal
-
-pub returns : goal.returns
-returns c = start_rows_are_sound
