@@ -13,8 +13,8 @@ BIN = $(DESTDIR)$(PREFIX)/bin
 SHARE = $(DESTDIR)$(PREFIX)/share
 # The recorder's scripts look for colljob two folders above their own.
 RECORDER = $(DESTDIR)$(PREFIX)/lib/worzsunab
-MPI_CALLS = $(wildcard bindings/mpi/Makefile)
-SCRIPTS = $(wildcard mpi/record/*.py)
+MPI_CALLS = $(wildcard wzmpi/Makefile)
+SCRIPTS = $(wildcard recorder/record/*.py)
 PARTS = gate tests program c cpp rust mpi recorder recorded install
 
 all: program library
@@ -36,15 +36,15 @@ check:
 $(PARTS:%=check-%): check-%:
 	@tools/check $*
 
-# The recorder is for the MPI library whose mpicc is on the path, or the one that `make -C mpi MPICC=..` named.
+# The recorder is for the MPI library whose mpicc is on the path, or the one that `make -C recorder MPICC=..` named.
 recorder:
-	@if [ ! -e mpi/out/librecord.so ] && command -v mpicc > /dev/null; then $(MAKE) --no-print-directory -C mpi; fi
+	@if [ ! -e recorder/out/librecord.so ] && command -v mpicc > /dev/null; then $(MAKE) --no-print-directory -C recorder; fi
 
 install: all recorder install-program
 	@if command -v $(firstword $(CC)) > /dev/null; then $(MAKE) --no-print-directory -C bindings install; fi
-	@if [ -e mpi/out/librecord.so ]; then $(MAKE) --no-print-directory install-recorder; \
+	@if [ -e recorder/out/librecord.so ]; then $(MAKE) --no-print-directory install-recorder; \
 	else echo "make: there is no mpicc, so the recorder isn't installed"; fi
-	@if [ "$(MPI_CALLS)" ] && command -v $(firstword $(CC)) > /dev/null; then $(MAKE) --no-print-directory -C bindings/mpi install; fi
+	@if [ "$(MPI_CALLS)" ] && command -v $(firstword $(CC)) > /dev/null; then $(MAKE) --no-print-directory -C wzmpi install; fi
 
 install-program: program
 	mkdir -p $(BIN) $(SHARE)/man/man1 $(SHARE)/bash-completion/completions $(SHARE)/zsh/site-functions
@@ -54,20 +54,20 @@ install-program: program
 	cp completions/_colljob $(SHARE)/zsh/site-functions
 
 install-recorder:
-	mkdir -p $(RECORDER)/mpi/out $(RECORDER)/mpi/record
-	cp mpi/out/librecord.so $(RECORDER)/mpi/out
-	cp $(SCRIPTS) $(RECORDER)/mpi/record
+	mkdir -p $(RECORDER)/recorder/out $(RECORDER)/recorder/record
+	cp recorder/out/librecord.so $(RECORDER)/recorder/out
+	cp $(SCRIPTS) $(RECORDER)/recorder/record
 	ln -sf ../../bin/colljob $(RECORDER)/colljob
 
 uninstall:
 	rm -f $(BIN)/colljob $(SHARE)/man/man1/colljob.1 $(SHARE)/bash-completion/completions/colljob $(SHARE)/zsh/site-functions/_colljob
 	rm -rf $(RECORDER)
 	$(MAKE) --no-print-directory -C bindings uninstall
-	@if [ "$(MPI_CALLS)" ]; then $(MAKE) --no-print-directory -C bindings/mpi uninstall; fi
+	@if [ "$(MPI_CALLS)" ]; then $(MAKE) --no-print-directory -C wzmpi uninstall; fi
 
 clean:
 	rm -rf out crates/colljob/out/quick crates/worzsunab/out/quick
-	$(MAKE) --no-print-directory -C mpi clean
-	@if [ "$(MPI_CALLS)" ]; then $(MAKE) --no-print-directory -C bindings/mpi clean; fi
+	$(MAKE) --no-print-directory -C recorder clean
+	@if [ "$(MPI_CALLS)" ]; then $(MAKE) --no-print-directory -C wzmpi clean; fi
 
 .PHONY: all program library recorder prove check $(PARTS:%=check-%) install install-program install-recorder uninstall clean

@@ -5,7 +5,7 @@ it has processors. Prints the rows of two tables for bench/RESULTS.md.
 
     bench/mpi_programs.py [ROUNDS] [--bin BIN] [--seconds S] [--longest S] [--ranks N ..] [--only idle|busy]
 
-3 rounds where no number is said. BIN has wzcc and wzrun, bindings/mpi/out/bin where it isn't named. A measure takes S seconds in each
+3 rounds where no number is said. BIN has wzcc and wzrun, wzmpi/out/bin where it isn't named. A measure takes S seconds in each
 run, 0.3 where it isn't said. Each library is measured whose compiler is found, mpicc.openmpi or mpicc.mpich (Debian's libopenmpi-dev and
 libmpich-dev). `-` stands where a run was ended, after 40 seconds or those of --longest, before it came to the measure; (n) where n of the
 rounds came to it.
@@ -111,14 +111,14 @@ def print_table(made, state, times, options):
 def main():
     parser = argparse.ArgumentParser(description=__doc__, formatter_class=argparse.RawDescriptionHelpFormatter)
     parser.add_argument("rounds", type=int, nargs="?", default=3)
-    parser.add_argument("--bin", type=pathlib.Path, default=HERE.parent / "bindings/mpi/out/bin")
+    parser.add_argument("--bin", type=pathlib.Path, default=HERE.parent / "wzmpi/out/bin")
     parser.add_argument("--seconds", type=float, default=0.3)
     parser.add_argument("--longest", type=float, default=40)
     parser.add_argument("--ranks", type=int, nargs="+", default=[2, 4, 8])
     parser.add_argument("--only", choices=STATES)
     options = parser.parse_args()
     if not (options.bin / "wzcc").exists():
-        sys.exit(f"mpi_programs.py: {options.bin} has no wzcc: call `make -C bindings/mpi` first, or name its folder by --bin")
+        sys.exit(f"mpi_programs.py: {options.bin} has no wzcc: call `make -C wzmpi` first, or name its folder by --bin")
     with tempfile.TemporaryDirectory() as folder:
         made = commands(options.bin.resolve(), pathlib.Path(folder))
         for state in STATES:

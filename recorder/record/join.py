@@ -1,8 +1,8 @@
 #!/usr/bin/env python3
 """Makes a job text of what the recorder wrote, one file for each rank:
 
-    mpi/record/join.py FOLDER > job.text
-    mpi/record/join.py --from P FOLDER    only what stands at place P or after it on each communicator
+    recorder/record/join.py FOLDER > job.text
+    recorder/record/join.py --from P FOLDER    only what stands at place P or after it on each communicator
 
 Each command has a comment above it that says where the call stands in the program. What had to be left out stands on standard error and
 in the text's first lines; the status is then 3. Of a program that hung or was killed, what a rank never reached is added as it must be if

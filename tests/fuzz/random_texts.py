@@ -1,9 +1,9 @@
 #!/usr/bin/env python3
 """Writes random job texts without faults, whose ranks don't wait for one another in a circle:
 
-    mpi/random_texts.py FOLDER [COUNT [SEED]]    COUNT texts, 1000 where none is said, of numbers from SEED, 1 where none is said
-    mpi/random_texts.py FOLDER COUNT SEED pairs    some of them over the type 2int
-    mpi/random_texts.py FOLDER COUNT SEED counts   some of them allgathervs, with a count for each member
+    tests/fuzz/random_texts.py FOLDER [COUNT [SEED]]    COUNT texts, 1000 where none is said, of numbers from SEED, 1 where none is said
+    tests/fuzz/random_texts.py FOLDER COUNT SEED pairs    some of them over the type 2int
+    tests/fuzz/random_texts.py FOLDER COUNT SEED counts   some of them allgathervs, with a count for each member
 
 All ranks post and start in one common order, so each wait ends: of all requests that ranks wait for, the members of the first one have
 all come to it, or go on. Starts that follow one another without a wait between them change places now and then.

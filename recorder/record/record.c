@@ -1,5 +1,5 @@
 /* A profiling library that records the collectives of an MPI program, and where each rank stands: each rank writes what it calls to files
-   of its own, which where.py and join.py read. It stands before the MPI library, preloaded or linked in front of it. docs/MPI.md says what
+   of its own, which where.py and join.py read. It stands before the MPI library, preloaded or linked in front of it. docs/RECORDER.md says what
    is recorded how. This file has the begin and the end of a record, and what all entries share. */
 #define _GNU_SOURCE
 #include "entries.h"

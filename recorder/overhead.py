@@ -1,7 +1,7 @@
 #!/usr/bin/env python3
 """What the recorder costs: loops of small allreduces without it and with it, in turn, medians of ROUNDS rounds in nanoseconds a turn.
 
-    mpi/overhead.py [ROUNDS]    (3 where no number is said)
+    recorder/overhead.py [ROUNDS]    (3 where no number is said)
 
 Each library is measured whose compiler is found, mpicc.openmpi or mpicc.mpich, with one rank and with two. Beside the time by the clock
 stands that of the first rank's processor, which other work on the machine changes less.

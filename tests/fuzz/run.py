@@ -1,7 +1,7 @@
 #!/usr/bin/env python3
 """Runs texts by `colljob run` many times and holds each answer against that of `colljob plain`.
 
-    bench/run.py [RUNS]    (1,000 where no number is said)
+    tests/fuzz/run.py [RUNS]    (1,000 where no number is said)
 
 One text has 16 ranks and 500 collectives of all kinds on 16 communicators, some persistent, with waits and tests in
 between; it is run with 0 to 8 progress threads in turn. Then `plain` and `run` are timed on a text of 64 ranks and 4,096
@@ -16,7 +16,7 @@ import subprocess
 import sys
 import time
 
-PROGRAM = os.path.join(os.path.dirname(__file__), "..", "crates", "colljob", "out", "colljob")
+PROGRAM = os.path.join(os.path.dirname(__file__), "..", "..", "crates", "colljob", "out", "colljob")
 RANKS = 16
 COLLECTIVES = 500
 OPERATIONS = ["max", "min", "sum", "prod", "land", "lor", "lxor", "band", "bor", "bxor", "lastnz"]

@@ -1,7 +1,7 @@
 #!/usr/bin/env python3
 """Records three programs that others wrote, as they are and with planted faults, and judges them:
 
-    mpi/examples/real_programs.py FOLDER [PROGRAM ...]    sources and records go to FOLDER, some 200 MB
+    recorder/examples/real_programs.py FOLDER [PROGRAM ...]    sources and records go to FOLDER, some 200 MB
 
 Debian's source packages mpich and hpcc are fetched with apt-get, from the mirror that the system's own sources name. Of mpich come two
 tests of nonblocking collectives, nonblocking2.c and nonblocking3.c (its turns are fewer here); hpcc is the HPC Challenge benchmark, over
@@ -19,7 +19,7 @@ import subprocess
 import sys
 
 HERE = os.path.dirname(os.path.abspath(__file__))
-MPI = os.path.dirname(HERE)
+RECORDER = os.path.dirname(HERE)
 LIBRARIES = {"openmpi": ["--oversubscribe"], "mpich": []}
 SETTINGS = {"OMPI_ALLOW_RUN_AS_ROOT": "1", "OMPI_ALLOW_RUN_AS_ROOT_CONFIRM": "1", "OMPI_MCA_mpi_yield_when_idle": "1"}
 RANKS = 4
@@ -151,7 +151,7 @@ def build_hpcc(folder, library, fault):
 def record(program, library, folder, seconds):
     """How the run ended. A run that hangs is ended from outside, as its user would."""
     shutil.rmtree(folder, ignore_errors=True)
-    command = [f"mpirun.{library}", *LIBRARIES[library], "-n", str(RANKS), "env", f"LD_PRELOAD={MPI}/out/{library}/librecord.so", f"RECORD_DIR={folder}", program]
+    command = [f"mpirun.{library}", *LIBRARIES[library], "-n", str(RANKS), "env", f"LD_PRELOAD={RECORDER}/out/{library}/librecord.so", f"RECORD_DIR={folder}", program]
     run = subprocess.Popen(command, stdout=subprocess.DEVNULL, stderr=subprocess.DEVNULL, env=dict(os.environ, **SETTINGS), cwd=os.path.dirname(program), start_new_session=True)
     try:
         return f"status {run.wait(seconds)}"
@@ -163,7 +163,7 @@ def record(program, library, folder, seconds):
 
 def judge(folder):
     """What is reported of a record, and how many collective calls it has."""
-    run = subprocess.run([sys.executable, f"{MPI}/record/where.py", folder], capture_output=True, text=True)
+    run = subprocess.run([sys.executable, f"{RECORDER}/record/where.py", folder], capture_output=True, text=True)
     if run.returncode == 2:
         sys.exit(run.stderr)
     calls = re.search(r"(\d+) collective calls", run.stdout)
@@ -192,7 +192,7 @@ def main():
     for library in LIBRARIES:
         if not shutil.which(f"mpicc.{library}"):
             continue
-        call("make", "-s", "-C", MPI, f"MPICC=mpicc.{library}", f"OUT=out/{library}")
+        call("make", "-s", "-C", RECORDER, f"MPICC=mpicc.{library}", f"OUT=out/{library}")
         for name, faults in FAULTS.items():
             if sys.argv[2:] and name not in sys.argv[2:]:
                 continue

@@ -1,5 +1,5 @@
 #!/usr/bin/env python3
-"""Carries out random job texts over this library, by mpi/run/run_text.c, and compares what each request got with `colljob plain`:
+"""Carries out random job texts over this library, by recorder/run/run_text.c, and compares what each request got with `colljob plain`:
 
     tests/texts.py BIN [COUNT [SEED]]    COUNT texts of 1 to 64 ranks, 200 where none is said, of numbers from SEED, 1 where none is said
 
@@ -14,8 +14,8 @@ import sys
 import tempfile
 
 HERE = pathlib.Path(__file__).resolve().parent
-TOP = HERE.parent.parent.parent
-sys.path.insert(0, str(TOP / "mpi"))
+TOP = HERE.parent.parent
+sys.path.insert(0, str(TOP / "tests" / "fuzz"))
 import random_texts  # noqa: E402
 
 RANKS = [1, 2, 3, 4, 5, 6, 7, 8, 8, 12, 16]
@@ -25,7 +25,7 @@ LONGEST_TEXT = 1 << 20
 
 
 class Writer(random_texts.Writer):
-    """Texts of more ranks than that of mpi/random_texts.py."""
+    """Texts of more ranks than that of tests/fuzz/random_texts.py."""
 
     def __init__(self, draw, extras):
         super().__init__(draw, extras)
@@ -71,7 +71,7 @@ def main():
     with tempfile.TemporaryDirectory() as made:
         folder = pathlib.Path(made)
         program = folder / "run_text"
-        subprocess.run([str(binaries / "wzcc"), "-O2", str(TOP / "mpi/run/run_text.c"), "-o", str(program)], check=True)
+        subprocess.run([str(binaries / "wzcc"), "-O2", str(TOP / "recorder/run/run_text.c"), "-o", str(program)], check=True)
         by_ranks = {}
         for path, ranks in write_texts(folder, count, seed):
             by_ranks.setdefault(ranks, []).append(path)

@@ -1,8 +1,8 @@
 #!/usr/bin/env python3
 """Reports what is wrong with a recorded program, and where:
 
-    mpi/record/where.py FOLDER    of the records in a folder
-    mpi/record/where.py TEXT      of a text that join.py made of them, alone
+    recorder/record/where.py FOLDER    of the records in a folder
+    recorder/record/where.py TEXT      of a text that join.py made of them, alone
 
 Of a folder it reports first what isn't there: which ranks didn't come to MPI_Finalize, and where each of them stands. Then come the first
 place of each communicator, window and file at which the ranks' calls differ, over all calls, and ranks that wait for one another. Where

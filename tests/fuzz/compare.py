@@ -1,7 +1,7 @@
 #!/usr/bin/env python3
 """Compares what MPI libraries compute for job texts with what the texts mean by `colljob plain`:
 
-    mpi/compare.py TEXT ...
+    tests/fuzz/compare.py TEXT ...
 
 It reports the first difference of each text, and at the end how often each kind of collective differed, with the shortest such text. Each
 library is tried whose compiler is found, mpicc.openmpi or mpicc.mpich (Debian's libopenmpi-dev and libmpich-dev), and run_text is built
@@ -20,7 +20,8 @@ import signal
 import subprocess
 import sys
 
-HERE = os.path.dirname(os.path.abspath(__file__))
+TOP = os.path.dirname(os.path.dirname(os.path.dirname(os.path.abspath(__file__))))
+RECORDER = os.path.join(TOP, "recorder")
 LIBRARIES = {"openmpi": ["--oversubscribe"], "mpich": []}
 SETTINGS = {"OMPI_ALLOW_RUN_AS_ROOT": "1", "OMPI_ALLOW_RUN_AS_ROOT_CONFIRM": "1", "OMPI_MCA_mpi_yield_when_idle": "1"}
 
@@ -161,15 +162,15 @@ def compare(library, program, wanted, words):
 
 def build(library):
     out = f"out/{library}"
-    subprocess.run(["make", "-s", "-C", HERE, f"MPICC=mpicc.{library}", f"OUT={out}", f"{out}/run_text"], check=True)
-    return os.path.join(HERE, out, "run_text")
+    subprocess.run(["make", "-s", "-C", RECORDER, f"MPICC=mpicc.{library}", f"OUT={out}", f"{out}/run_text"], check=True)
+    return os.path.join(RECORDER, out, "run_text")
 
 
 def main():
     parser = argparse.ArgumentParser(description="Compares MPI libraries with `colljob plain`, text by text.")
     parser.add_argument("texts", nargs="+", metavar="TEXT")
     parser.add_argument("--library", choices=LIBRARIES, action="append", help="only this one")
-    parser.add_argument("--colljob", default=os.environ.get("COLLJOB", os.path.join(HERE, "..", "colljob")), metavar="PROGRAM")
+    parser.add_argument("--colljob", default=os.environ.get("COLLJOB", os.path.join(TOP, "colljob")), metavar="PROGRAM")
     parser.add_argument("--batch", type=int, default=50, help="texts in one run (50)")
     parser.add_argument("--seconds", type=float, default=10, help="how long one text may take (10)")
     parser.add_argument("--short", action="store_true", help="only the counts")

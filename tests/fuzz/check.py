@@ -12,7 +12,7 @@ import re
 import subprocess
 import sys
 
-EXAMPLES = pathlib.Path(__file__).resolve().parent.parent / "examples"
+EXAMPLES = pathlib.Path(__file__).resolve().parents[2] / "examples"
 
 WORDS = ["0", "1", "2", "7", "-1", "256", "65537", "x", ":", "#", "sum", "max", "i32", "u8", "int", "byte", "barrier", "bcast", "allreduce",
          "post", "init", "start", "wait", "test", "free", "waitall", "waitany", "rank", "ranks", "comm", "Sum", "0x1f", "+1", "2int", "7,2"]

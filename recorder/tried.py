@@ -1,14 +1,14 @@
 #!/usr/bin/env python3
 """Records small programs with planted faults and right ones, and compares what where.py reports of them with what is true of them:
 
-    mpi/tried.py               all of them with each MPI library whose compiler is found
-    mpi/tried.py --short       a part of them, with one library
-    mpi/tried.py NAME ..       those of these names
-    mpi/tried.py --table       also a table of what is reported first
-    mpi/tried.py --library L   with this library alone, openmpi or mpich
-    mpi/tried.py --jobs N      N programs at a time
-    mpi/tried.py --records F   the records stay in the folder F
-    mpi/tried.py --again F     the records in the folder F are judged again, and nothing runs
+    recorder/tried.py               all of them with each MPI library whose compiler is found
+    recorder/tried.py --short       a part of them, with one library
+    recorder/tried.py NAME ..       those of these names
+    recorder/tried.py --table       also a table of what is reported first
+    recorder/tried.py --library L   with this library alone, openmpi or mpich
+    recorder/tried.py --jobs N      N programs at a time
+    recorder/tried.py --records F   the records stay in the folder F
+    recorder/tried.py --again F     the records in the folder F are judged again, and nothing runs
 
 The programs stand in tried/. One with a fault is ended as soon as no rank has begun or ended a call for a second, and any after four
 minutes. A sentence is false where a right program is said to have a fault or to stall, and where a wrong one is said to have none, of the

@@ -4,7 +4,7 @@
     tests/check.py BIN [--write] [--only WORD ..]
 
 tests/wrong.c has programs with one planted mistake each, and tests/wrong.want what is said of them; tests/right.c and tests/right_edges.c
-have programs without, of which nothing is said; examples/*.c are those of docs/MPI_PROGRAMS.md. tests/explained.want has what wzrun adds to
+have programs without, of which nothing is said; examples/*.c are those of docs/WZRUN.md. tests/explained.want has what wzrun adds to
 colljob's words under --explain, where COLLJOB or PATH names colljob; else that isn't checked. --write writes both files anew: read what
 changed. Ends with 0 where all is as it should be.
 """

@@ -1,5 +1,5 @@
 /* MPI for programs whose ranks are threads of one process: the collectives of MPI 4.1 over Worzsunab's engine, and what programs use beside them.
-   docs/MPI_PROGRAMS.md says which calls are there. Compile and link with wzcc, run with wzrun. C11 and C++11.
+   docs/WZRUN.md says which calls are there. Compile and link with wzcc, run with wzrun. C11 and C++11.
 
    Each call notes its line in the program by a macro of its own name. A source that defines such calls itself, as profilers do, is compiled with
    -DWORZSUNAB_NO_LINES. */

@@ -1,7 +1,7 @@
 #!/usr/bin/env python3
 """Records programs of Debian's packages whole, as they are installed, and judges them:
 
-    mpi/examples/packages.py FOLDER [ROUNDS] [NAME ...]    inputs and records go to FOLDER; 3 rounds where no number is said
+    recorder/examples/packages.py FOLDER [ROUNDS] [NAME ...]    inputs and records go to FOLDER; 3 rounds where no number is said
 
 The packages are lammps, hpcc, phyml and netpipe-openmpi (apt-get install --no-install-recommends and their names), built for Debian's Open
 MPI. Each runs with four ranks, netpipe with two, without the recorder and with it in turn, ROUNDS times. A row has the collective
@@ -19,7 +19,7 @@ import sys
 import time
 
 HERE = os.path.dirname(os.path.abspath(__file__))
-MPI = os.path.dirname(HERE)
+RECORDER = os.path.dirname(HERE)
 SETTINGS = {"OMPI_ALLOW_RUN_AS_ROOT": "1", "OMPI_ALLOW_RUN_AS_ROOT_CONFIRM": "1", "OMPI_MCA_mpi_yield_when_idle": "1", "OMP_NUM_THREADS": "1"}
 RANKS, SECONDS = {"netpipe": 2}, 1200
 
@@ -97,7 +97,7 @@ def measure(name, folder, rounds):
     if not shutil.which(words[0]):
         sys.exit(f"{words[0]} isn't installed")
     records, ranks = f"{folder}/record", RANKS.get(name, 4)
-    recorded = [f"LD_PRELOAD={MPI}/out/openmpi/librecord.so", f"RECORD_DIR={records}"]
+    recorded = [f"LD_PRELOAD={RECORDER}/out/openmpi/librecord.so", f"RECORD_DIR={records}"]
     without, with_it = [], []
     for _ in range(rounds):
         without.append(run(words, ranks, folder, []))
@@ -105,7 +105,7 @@ def measure(name, folder, rounds):
         with_it.append(run(words, ranks, folder, recorded))
     size = sum(os.path.getsize(f"{records}/{it}") for it in os.listdir(records) if it.startswith("rank."))
     begin = time.monotonic()
-    judged = subprocess.run([sys.executable, f"{MPI}/record/where.py", records], capture_output=True, text=True)
+    judged = subprocess.run([sys.executable, f"{RECORDER}/record/where.py", records], capture_output=True, text=True)
     seconds = time.monotonic() - begin
     calls = re.search(r"(\d+) collective calls", judged.stdout)
     last = (judged.stdout + judged.stderr).strip().splitlines()
@@ -120,7 +120,7 @@ def main():
         sys.exit(__doc__)
     # Whoever ends this ends the run that is under way too.
     signal.signal(signal.SIGTERM, lambda *_: sys.exit(1))
-    subprocess.run(["make", "-s", "-C", MPI, "MPICC=mpicc.openmpi", "OUT=out/openmpi", "out/openmpi/librecord.so"], check=True)
+    subprocess.run(["make", "-s", "-C", RECORDER, "MPICC=mpicc.openmpi", "OUT=out/openmpi", "out/openmpi/librecord.so"], check=True)
     print("| Program | Calls | Seconds without, with | Bytes | where.py, seconds | Reported |\n|---|---|---|---|---|---|")
     right = [measure(name, os.path.abspath(f"{sys.argv[1]}/{name}"), rounds) for name in names]
     sys.exit(0 if all(right) else 1)
