@@ -20,7 +20,7 @@ PARTS = gate tests program c cpp rust mpi recorder recorded install
 all: program library
 
 program:
-	@tools/quick program out/colljob > /dev/null
+	@tools/unproved program out/colljob > /dev/null
 
 library:
 	@if command -v $(firstword $(CC)) > /dev/null; then $(MAKE) --no-print-directory -C bindings all; \
@@ -66,7 +66,7 @@ uninstall:
 	@if [ "$(MPI_CALLS)" ]; then $(MAKE) --no-print-directory -C wzmpi uninstall; fi
 
 clean:
-	rm -rf out crates/colljob/out/quick crates/worzsunab/out/quick
+	rm -rf out crates/colljob/out/unproved crates/worzsunab/out/unproved
 	$(MAKE) --no-print-directory -C recorder clean
 	@if [ "$(MPI_CALLS)" ]; then $(MAKE) --no-print-directory -C wzmpi clean; fi
 

@@ -5,7 +5,7 @@
 
     FOLDER/mpi_calls.h    the calls, also under their PMPI names
     FOLDER/mpi_lines.h    a macro for each call, which notes where it stands in the program
-    FOLDER/counted.h      the functions mpi_Name that calls with COUNT are carried out by
+    FOLDER/counted.h      the functions counted_Name that calls with COUNT are carried out by
     FOLDER/forms.c        the collectives in all their forms, and the calls with COUNT
     FOLDER/names.c        the names of the collectives' forms
     FOLDER/pmpi.ld        words for the linker: MPI_Name by its second name PMPI_Name
@@ -101,18 +101,18 @@ def collective(call):
             fields += [field(call, it, wide) for it in call.parameters if name_of(it) != "comm"]
             unused = "    (void)info;\n" if form == "PERSISTENT" else ""
             yield (f"int MPI_{name}{'_c' if wide else ''}({call.declared(wide, extra)}) {{\n{unused}"
-                   f"    return mpi_collective(comm, &(struct arguments){{ {', '.join(fields)} }}, {request});\n}}\n")
+                   f"    return carry_out(comm, &(struct arguments){{ {', '.join(fields)} }}, {request});\n}}\n")
 
 
 def counted(call):
     words = ", ".join(name_of(it) for it in call.parameters)
     for wide in (False, True):
-        yield f"int MPI_{call.name}{'_c' if wide else ''}({call.declared(wide)}) {{\n    return mpi_{call.name}({words});\n}}\n"
+        yield f"int MPI_{call.name}{'_c' if wide else ''}({call.declared(wide)}) {{\n    return counted_{call.name}({words});\n}}\n"
 
 
 def names(calls):
     lines = ["/* Written by make_calls.py: the names of the collectives. */", '#include "collectives.h"', "",
-             "const char *const mpi_collective_names[COLLECTIVES][FORMS] = {"]
+             "const char *const collective_names[COLLECTIVES][FORMS] = {"]
     for call in calls:
         forms = ", ".join(f'"MPI_{it[0]}"' for it in call.forms())
         lines.append(f"    [{call.name.upper()}] = {{ {forms} }},")
@@ -132,9 +132,9 @@ def main():
     lines = [head] + [f"{result}{prefix}MPI_{name}({words});\n" for result, name, words, _ in declared for prefix in ("", "P")]
     (folder / "mpi_calls.h").write_text("".join(lines))
     lines = [head, "#define WZ_WORD2_(line) #line\n#define WZ_WORD_(line) WZ_WORD2_(line)\n", '#define WZ_HERE_ __FILE__ ":" WZ_WORD_(__LINE__)\n']
-    lines += [f"#define MPI_{name}(...) (wz_note_line_(WZ_HERE_), MPI_{name}(__VA_ARGS__))\n" for _, name, _, section in declared if section != "quick"]
+    lines += [f"#define MPI_{name}(...) (wz_note_line_(WZ_HERE_), MPI_{name}(__VA_ARGS__))\n" for _, name, _, section in declared if section != "unproved"]
     (folder / "mpi_lines.h").write_text("".join(lines))
-    (folder / "counted.h").write_text(head + "#include <mpi.h>\n" + "".join(f"int mpi_{it.name}({it.declared(True)});\n" for it in plain))
+    (folder / "counted.h").write_text(head + "#include <mpi.h>\n" + "".join(f"int counted_{it.name}({it.declared(True)});\n" for it in plain))
     lines = [head, '#include "collectives.h"\n#include "counted.h"\n\n']
     lines += ["".join(collective(it)) for it in collectives] + ["".join(counted(it)) for it in plain]
     (folder / "forms.c").write_text("".join(lines))

@@ -1,5 +1,5 @@
 /* Attributes, error handlers and infos. */
-#include "tell.h"
+#include "diagnostics.h"
 
 /* ---- attributes: each member has its own */
 
@@ -19,47 +19,47 @@ int wz_comm_dup_fn_(MPI_Comm comm, int keyval, void *extra, void *value, void *c
 }
 
 static struct keyval *keyval_of(int number) {
-    return number >= FIRST_KEYVAL && number < FIRST_KEYVAL + mpi_me->many_keyvals ? &mpi_me->keyvals[number - FIRST_KEYVAL] : NULL;
+    return number >= FIRST_KEYVAL && number < FIRST_KEYVAL + current_rank->many_keyvals ? &current_rank->keyvals[number - FIRST_KEYVAL] : NULL;
 }
 
 static int create_keyval(MPI_Comm_copy_attr_function *copy, MPI_Comm_delete_attr_function *delete, int *number, void *extra, const char *call) {
-    struct rank *me = mpi_self(call);
-    me->keyvals = mpi_must(realloc(me->keyvals, sizeof *me->keyvals * (size_t)(me->many_keyvals + 1)));
+    struct rank *me = this_rank(call);
+    me->keyvals = must(realloc(me->keyvals, sizeof *me->keyvals * (size_t)(me->many_keyvals + 1)));
     me->keyvals[me->many_keyvals] = (struct keyval){ copy, delete, extra, false };
     *number = FIRST_KEYVAL + me->many_keyvals++;
     return MPI_SUCCESS;
 }
 
 static int free_keyval(int *number, const char *call) {
-    mpi_self(call);
+    this_rank(call);
     struct keyval *keyval = keyval_of(*number);
-    if (keyval == NULL || keyval->freed) return mpi_refuse(NULL, MPI_ERR_KEYVAL, call, "there is no key value %d", *number);
+    if (keyval == NULL || keyval->freed) return refuse(NULL, MPI_ERR_KEYVAL, call, "there is no key value %d", *number);
     keyval->freed = true; /* communicators may have values of it still */
     *number = MPI_KEYVAL_INVALID;
     return MPI_SUCCESS;
 }
 
 static struct attribute **find(struct comm *comm, int keyval) {
-    struct attribute **at = &mpi_member(comm)->attributes;
+    struct attribute **at = &this_member(comm)->attributes;
     while (*at != NULL && (*at)->keyval != keyval) at = &(*at)->next;
     return at;
 }
 
 static int known(MPI_Comm handle, int number, struct comm **comm, const char *call) {
-    mpi_self(call);
-    *comm = mpi_comm(handle);
-    if (*comm == NULL) return mpi_comm_error(handle, call);
-    if (keyval_of(number) == NULL) return mpi_refuse(*comm, MPI_ERR_KEYVAL, call, "there is no key value %d", number);
+    this_rank(call);
+    *comm = find_comm(handle);
+    if (*comm == NULL) return comm_error(handle, call);
+    if (keyval_of(number) == NULL) return refuse(*comm, MPI_ERR_KEYVAL, call, "there is no key value %d", number);
     return MPI_SUCCESS;
 }
 
 static int delete_one(MPI_Comm handle, struct attribute **at) {
-    struct attribute *it = *at;
-    struct keyval *keyval = keyval_of(it->keyval);
-    int code = keyval->delete != NULL ? keyval->delete(handle, it->keyval, it->value, keyval->extra) : MPI_SUCCESS;
+    struct attribute *attribute = *at;
+    struct keyval *keyval = keyval_of(attribute->keyval);
+    int code = keyval->delete != NULL ? keyval->delete(handle, attribute->keyval, attribute->value, keyval->extra) : MPI_SUCCESS;
     if (code != MPI_SUCCESS) return code;
-    *at = it->next;
-    free(it);
+    *at = attribute->next;
+    free(attribute);
     return code;
 }
 
@@ -70,15 +70,15 @@ static int set_attr(MPI_Comm handle, int number, void *value, const char *call) 
     struct attribute **at = find(comm, number);
     if (*at != NULL) code = delete_one(handle, at);
     if (code != MPI_SUCCESS) return code;
-    struct attribute *it = mpi_must(malloc(sizeof *it));
-    *it = (struct attribute){ number, value, mpi_member(comm)->attributes };
-    mpi_member(comm)->attributes = it;
+    struct attribute *attribute = must(malloc(sizeof *attribute));
+    *attribute = (struct attribute){ number, value, this_member(comm)->attributes };
+    this_member(comm)->attributes = attribute;
     return code;
 }
 
 static bool predefined(int number, void *value) {
     static int bound = INT32_MAX, none = MPI_PROC_NULL, yes = 1, zero = 0, last = MPI_ERR_LASTCODE;
-    int *values[] = { [MPI_TAG_UB] = &bound, [MPI_HOST] = &none, [MPI_IO] = &none, [MPI_WTIME_IS_GLOBAL] = &yes, [MPI_UNIVERSE_SIZE] = &mpi_run.size,
+    int *values[] = { [MPI_TAG_UB] = &bound, [MPI_HOST] = &none, [MPI_IO] = &none, [MPI_WTIME_IS_GLOBAL] = &yes, [MPI_UNIVERSE_SIZE] = &the_run.size,
                       [MPI_LASTUSEDCODE] = &last, [MPI_APPNUM] = &zero };
     if (number < MPI_TAG_UB || number > MPI_APPNUM) return false;
     *(int **)value = values[number];
@@ -86,16 +86,16 @@ static bool predefined(int number, void *value) {
 }
 
 static int get_attr(MPI_Comm handle, int number, void *value, int *flag, const char *call) {
-    mpi_self(call);
-    struct comm *comm = mpi_comm(handle);
-    if (comm == NULL) return mpi_comm_error(handle, call);
+    this_rank(call);
+    struct comm *comm = find_comm(handle);
+    if (comm == NULL) return comm_error(handle, call);
     *flag = predefined(number, value);
     if (*flag) return MPI_SUCCESS;
     int code = known(handle, number, &comm, call);
     if (code != MPI_SUCCESS) return code;
-    struct attribute *it = *find(comm, number);
-    *flag = it != NULL;
-    if (it != NULL) *(void **)value = it->value;
+    struct attribute *attribute = *find(comm, number);
+    *flag = attribute != NULL;
+    if (attribute != NULL) *(void **)value = attribute->value;
     return code;
 }
 
@@ -104,7 +104,7 @@ static int delete_attr(MPI_Comm handle, int number, const char *call) {
     int code = known(handle, number, &comm, call);
     if (code != MPI_SUCCESS) return code;
     struct attribute **at = find(comm, number);
-    if (*at == NULL) return mpi_refuse(comm, MPI_ERR_ARG, call, "the communicator has no value of this key");
+    if (*at == NULL) return refuse(comm, MPI_ERR_ARG, call, "the communicator has no value of this key");
     return delete_one(handle, at);
 }
 
@@ -134,35 +134,35 @@ int MPI_Comm_delete_attr(MPI_Comm handle, int number) { return delete_attr(handl
 
 int MPI_Attr_delete(MPI_Comm handle, int number) { return delete_attr(handle, number, "MPI_Attr_delete"); }
 
-int mpi_copy_attributes(struct comm *from, MPI_Comm from_handle, struct comm *to) {
-    for (struct attribute *it = mpi_member(from)->attributes; it != NULL; it = it->next) {
-        struct keyval *keyval = keyval_of(it->keyval);
+int copy_attributes(struct comm *from, MPI_Comm from_handle, struct comm *to) {
+    for (struct attribute *attribute = this_member(from)->attributes; attribute != NULL; attribute = attribute->next) {
+        struct keyval *keyval = keyval_of(attribute->keyval);
         void *copied = NULL;
-        int flag = 0, code = keyval->copy != NULL ? keyval->copy(from_handle, it->keyval, keyval->extra, it->value, &copied, &flag) : MPI_SUCCESS;
+        int flag = 0, code = keyval->copy != NULL ? keyval->copy(from_handle, attribute->keyval, keyval->extra, attribute->value, &copied, &flag) : MPI_SUCCESS;
         if (code != MPI_SUCCESS) return code;
         if (!flag) continue;
-        struct attribute *copy = mpi_must(malloc(sizeof *copy));
-        *copy = (struct attribute){ it->keyval, copied, mpi_member(to)->attributes };
-        mpi_member(to)->attributes = copy;
+        struct attribute *copy = must(malloc(sizeof *copy));
+        *copy = (struct attribute){ attribute->keyval, copied, this_member(to)->attributes };
+        this_member(to)->attributes = copy;
     }
     return MPI_SUCCESS;
 }
 
-int mpi_delete_attributes(struct comm *comm, MPI_Comm handle) {
+int delete_attributes(struct comm *comm, MPI_Comm handle) {
     int code = MPI_SUCCESS;
-    while (code == MPI_SUCCESS && mpi_member(comm)->attributes != NULL) code = delete_one(handle, &mpi_member(comm)->attributes);
+    while (code == MPI_SUCCESS && this_member(comm)->attributes != NULL) code = delete_one(handle, &this_member(comm)->attributes);
     return code;
 }
 
 /* ---- error handlers */
 
-struct errhandler mpi_fatal = { .handle = MPI_ERRORS_ARE_FATAL, .uses = 1 };
+struct errhandler errors_are_fatal = { .handle = MPI_ERRORS_ARE_FATAL, .uses = 1 };
 static struct errhandler aborting = { .handle = MPI_ERRORS_ABORT, .uses = 1 }, returning = { .handle = MPI_ERRORS_RETURN, .returns = true, .uses = 1 };
 
 static struct errhandler *handler_of(MPI_Errhandler handle) {
-    if (handle == MPI_ERRORS_ARE_FATAL) return &mpi_fatal;
+    if (handle == MPI_ERRORS_ARE_FATAL) return &errors_are_fatal;
     if (handle == MPI_ERRORS_ABORT) return &aborting;
-    return handle == MPI_ERRORS_RETURN ? &returning : mpi_find(ERRHANDLER, handle);
+    return handle == MPI_ERRORS_RETURN ? &returning : find_handle(ERRHANDLER, handle);
 }
 
 static void unuse_handler(struct errhandler *handler) {
@@ -170,60 +170,60 @@ static void unuse_handler(struct errhandler *handler) {
 }
 
 /* This rank's error handler of a communicator; NULL: it has none any longer. */
-void mpi_use_handler(struct comm *comm, struct errhandler *handler) {
-    struct member *member = mpi_member(comm);
+void use_handler(struct comm *comm, struct errhandler *handler) {
+    struct member *member = this_member(comm);
     if (handler != NULL && handler->function != NULL) handler->uses++;
     unuse_handler(member->handler);
     member->handler = handler;
 }
 
 int MPI_Comm_create_errhandler(MPI_Comm_errhandler_function *function, MPI_Errhandler *made) {
-    mpi_self("MPI_Comm_create_errhandler");
-    struct errhandler *handler = mpi_must(malloc(sizeof *handler));
+    this_rank("MPI_Comm_create_errhandler");
+    struct errhandler *handler = must(malloc(sizeof *handler));
     *handler = (struct errhandler){ function, NULL, true, 1 };
-    handler->handle = *made = (MPI_Errhandler)mpi_add(ERRHANDLER, handler);
+    handler->handle = *made = (MPI_Errhandler)add_handle(ERRHANDLER, handler);
     return MPI_SUCCESS;
 }
 
 int MPI_Comm_set_errhandler(MPI_Comm handle, MPI_Errhandler wanted) {
-    mpi_self("MPI_Comm_set_errhandler");
-    struct comm *comm = mpi_comm(handle);
+    this_rank("MPI_Comm_set_errhandler");
+    struct comm *comm = find_comm(handle);
     struct errhandler *handler = handler_of(wanted);
-    if (comm == NULL) return mpi_comm_error(handle, "MPI_Comm_set_errhandler");
-    if (handler == NULL) return mpi_refuse(comm, MPI_ERR_ARG, "MPI_Comm_set_errhandler", "there is no such error handler");
-    mpi_use_handler(comm, handler);
+    if (comm == NULL) return comm_error(handle, "MPI_Comm_set_errhandler");
+    if (handler == NULL) return refuse(comm, MPI_ERR_ARG, "MPI_Comm_set_errhandler", "there is no such error handler");
+    use_handler(comm, handler);
     return MPI_SUCCESS;
 }
 
 int MPI_Comm_get_errhandler(MPI_Comm handle, MPI_Errhandler *handler) {
-    mpi_self("MPI_Comm_get_errhandler");
-    struct comm *comm = mpi_comm(handle);
-    if (comm == NULL) return mpi_comm_error(handle, "MPI_Comm_get_errhandler");
-    struct errhandler *it = mpi_member(comm)->handler;
-    *handler = it->handle;
-    if (it->function == NULL) return MPI_SUCCESS;
-    it->uses++;
-    *handler = (MPI_Errhandler)mpi_add(ERRHANDLER, it);
+    this_rank("MPI_Comm_get_errhandler");
+    struct comm *comm = find_comm(handle);
+    if (comm == NULL) return comm_error(handle, "MPI_Comm_get_errhandler");
+    struct errhandler *errhandler = this_member(comm)->handler;
+    *handler = errhandler->handle;
+    if (errhandler->function == NULL) return MPI_SUCCESS;
+    errhandler->uses++;
+    *handler = (MPI_Errhandler)add_handle(ERRHANDLER, errhandler);
     return MPI_SUCCESS;
 }
 
 int MPI_Comm_call_errhandler(MPI_Comm handle, int code) {
-    mpi_self("MPI_Comm_call_errhandler");
-    struct comm *comm = mpi_comm(handle);
-    if (comm == NULL) return mpi_comm_error(handle, "MPI_Comm_call_errhandler");
-    struct errhandler *it = mpi_member(comm)->handler;
-    if (it->function != NULL) it->function(&handle, &code);
-    else if (!it->returns) return mpi_refuse(comm, code, "MPI_Comm_call_errhandler", "the program called it with %s", mpi_class_name(code));
+    this_rank("MPI_Comm_call_errhandler");
+    struct comm *comm = find_comm(handle);
+    if (comm == NULL) return comm_error(handle, "MPI_Comm_call_errhandler");
+    struct errhandler *errhandler = this_member(comm)->handler;
+    if (errhandler->function != NULL) errhandler->function(&handle, &code);
+    else if (!errhandler->returns) return refuse(comm, code, "MPI_Comm_call_errhandler", "the program called it with %s", class_name(code));
     return MPI_SUCCESS;
 }
 
 int MPI_Errhandler_free(MPI_Errhandler *handle) {
-    mpi_self("MPI_Errhandler_free");
-    struct errhandler *it = handler_of(*handle);
-    if (it == NULL) return mpi_refuse(NULL, MPI_ERR_ARG, "MPI_Errhandler_free", "there is no such error handler");
-    if (it->function != NULL) {
-        mpi_remove(ERRHANDLER, *handle);
-        unuse_handler(it);
+    this_rank("MPI_Errhandler_free");
+    struct errhandler *errhandler = handler_of(*handle);
+    if (errhandler == NULL) return refuse(NULL, MPI_ERR_ARG, "MPI_Errhandler_free", "there is no such error handler");
+    if (errhandler->function != NULL) {
+        remove_handle(ERRHANDLER, *handle);
+        unuse_handler(errhandler);
     }
     *handle = MPI_ERRHANDLER_NULL;
     return MPI_SUCCESS;

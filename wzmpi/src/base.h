@@ -85,23 +85,23 @@ struct run {
     const char *program;
 };
 
-extern struct run mpi_run;
-extern __thread struct rank *mpi_me __attribute__((tls_model("initial-exec")));
+extern struct run the_run;
+extern __thread struct rank *current_rank __attribute__((tls_model("initial-exec")));
 
 /* The rank of this thread. Where it has none, that is told, and the run ends. */
-struct rank *mpi_self(const char *call);
+struct rank *this_rank(const char *call);
 
-void *mpi_must(void *memory); /* ends the run where there is no memory */
+void *must(void *memory); /* ends the run where there is no memory */
 
 /* ---- handles (handles.c) */
-uintptr_t mpi_add(enum kind kind, void *object);                 /* of this thread's rank */
-void *mpi_find(enum kind kind, const void *handle);              /* NULL: there is no such object */
-uintptr_t mpi_handle_of(enum kind kind, const void *object);      /* the null handle where it has none */
-bool mpi_was_freed(enum kind kind, const void *handle);
-void mpi_remove(enum kind kind, const void *handle);
+uintptr_t add_handle(enum kind kind, void *object);                 /* of this thread's rank */
+void *find_handle(enum kind kind, const void *handle);              /* NULL: there is no such object */
+uintptr_t handle_of(enum kind kind, const void *object);      /* the null handle where it has none */
+bool was_freed(enum kind kind, const void *handle);
+void remove_handle(enum kind kind, const void *handle);
 
 /* ---- draws, under --seed (random.c) */
-uint32_t mpi_draw(uint32_t below); /* 0 where nothing is drawn */
-void mpi_pause(void);              /* now and then a rank is held up */
+uint32_t draw_number(uint32_t below); /* 0 where nothing is drawn */
+void hold_up(void);              /* now and then a rank is held up */
 
 #endif

@@ -11,7 +11,7 @@ enum function {
     COMM_DUP, COMM_SPLIT, COMM_CREATE, EXCHANGE, COLLECTIVES
 };
 enum form { BLOCKING, NONBLOCKING, PERSISTENT, FORMS };
-extern const char *const mpi_collective_names[COLLECTIVES][FORMS];
+extern const char *const collective_names[COLLECTIVES][FORMS];
 
 /* The engine's limits (worzsunab.h): what is longer is carried. */
 enum { MOST_COUNT = 65536, MOST_BYTES = 16777216 };
@@ -21,7 +21,7 @@ struct numbers {
     const void *at;
     bool wide;
 };
-static inline long long mpi_number(struct numbers numbers, int i) {
+static inline long long number_at(struct numbers numbers, int i) {
     return numbers.wide ? ((const long long *)numbers.at)[i] : ((const int *)numbers.at)[i];
 }
 
@@ -78,7 +78,7 @@ struct request {
     size_t scratch_room;
     size_t given, got; /* bytes, of this start */
 
-    /* ---- for notes (notes.h) */
+    /* ---- for notes (trace.h) */
     uint64_t order; /* of the last call of the engine, among all */
     int64_t begun;
     bool noted;
@@ -100,98 +100,98 @@ struct request {
 };
 
 /* ---- requests.c */
-struct request *mpi_new_request(enum sort sort, struct comm *comm, const char *name);
-void mpi_drop_request(struct request *request);
-MPI_Request mpi_publish(struct request *request); /* gives it a handle */
+struct request *new_request(enum sort sort, struct comm *comm, const char *name);
+void drop_request(struct request *request);
+MPI_Request publish(struct request *request); /* gives it a handle */
 /* The request of a handle, NULL where it is null. A code where it names none. */
-int mpi_request(MPI_Request handle, const char *call, struct request **request);
-void *mpi_scratch(struct request *request, size_t bytes);
+int find_request(MPI_Request handle, const char *call, struct request **request);
+void *scratch_of(struct request *request, size_t bytes);
 
-/* ---- pieces.c: what a member gives and gets, as pieces of the program's memory */
+/* ---- blocks.c: what a member gives and gets, as pieces of the program's memory */
 struct piece {
     char *at;
     long long many;
     const struct type *type; /* NULL: nothing has to be done there */
 };
-int mpi_given_many(const struct request *request);
-struct piece mpi_given_piece(const struct request *request, int i);
-int mpi_given_to(const struct request *request, int i); /* of a call that is carried as an alltoall: whom it goes to */
-int mpi_got_many(const struct request *request);
-struct piece mpi_got_piece(const struct request *request, int i);
-int mpi_got_from(const struct request *request, int i);
-bool mpi_is_rooted(enum function function);
-bool mpi_reduces(enum function function);
-bool mpi_is_neighbor(enum function function);
-bool mpi_is_root(const struct request *request);
-long long mpi_total_count(const struct request *request); /* elements that a member of a reduction gives */
+int given_many(const struct request *request);
+struct piece given_piece(const struct request *request, int i);
+int given_to(const struct request *request, int i); /* of a call that is carried as an alltoall: whom it goes to */
+int got_many(const struct request *request);
+struct piece got_piece(const struct request *request, int i);
+int got_from(const struct request *request, int i);
+bool is_rooted(enum function function);
+bool reduces(enum function function);
+bool is_neighbor(enum function function);
+bool is_root(const struct request *request);
+long long total_count(const struct request *request); /* elements that a member of a reduction gives */
 
-/* ---- collectives.c, judge.c */
-int mpi_collective(MPI_Comm comm, const struct arguments *arguments, MPI_Request *request);
-int mpi_post(struct comm *comm, const struct arguments *arguments, struct request **made);
-int mpi_begin(struct request *request, const char *call); /* posts or starts it */
-int mpi_judge(struct request *request, struct called *called);
-int mpi_engine_refused(struct request *request, int32_t code, const char *call);
+/* ---- collectives.c, validate.c */
+int carry_out(MPI_Comm comm, const struct arguments *arguments, MPI_Request *request);
+int post_call(struct comm *comm, const struct arguments *arguments, struct request **made);
+int begin_request(struct request *request, const char *call); /* posts or starts it */
+int validate(struct request *request, struct called *called);
+int engine_refused(struct request *request, int32_t code, const char *call);
 
-/* ---- asks.c: what the engine is asked for a request */
-int32_t mpi_ask_post(struct request *request, const void *bytes, size_t length);
-int32_t mpi_ask_init(struct request *request);
-int32_t mpi_ask_start(struct request *request, const void *bytes, size_t length);
-int32_t mpi_ask_test(struct request *request); /* into its `out` */
-int32_t mpi_ask_wait(struct request *request);
-int32_t mpi_ask_free(struct request *request);
+/* ---- engine_calls.c: what the engine is asked for a request */
+int32_t engine_post(struct request *request, const void *bytes, size_t length);
+int32_t engine_init(struct request *request);
+int32_t engine_start(struct request *request, const void *bytes, size_t length);
+int32_t engine_test(struct request *request); /* into its `out` */
+int32_t engine_wait(struct request *request);
+int32_t engine_free(struct request *request);
 
-/* ---- room.c: the same where the engine may have no room. WZ_FULL: none can be made */
+/* ---- backpressure.c: the same where the engine may have no room. WZ_FULL: none can be made */
 struct asking {
     int32_t (*ask)(struct request *request, const void *bytes, size_t length);
     const void *bytes;
     size_t length;
 };
-int32_t mpi_ask_with_room(struct request *request, const struct asking *asking, const char *call);
+int32_t engine_ask_with_room(struct request *request, const struct asking *asking, const char *call);
 
-/* ---- carried.c */
+/* ---- pointer_exchange.c */
 struct parcel;
-int mpi_parcels(struct request *request, uint64_t parcels[MOST_RANKS]); /* what is given as parcels' addresses; how many */
-void mpi_take_parcels(struct request *request);
-int mpi_open_parcels(struct request *request, const char *call);
+int list_parcels(struct request *request, uint64_t parcels[MOST_RANKS]); /* what is given as parcels' addresses; how many */
+void take_parcels(struct request *request);
+int open_parcels(struct request *request, const char *call);
 /* The parcels of a finished exchange, of each member, with their bytes. */
-const void *mpi_parcel_bytes(struct request *request, int member, size_t *length);
+const void *parcel_bytes(struct request *request, int member, size_t *length);
 
 /* ---- direct.c */
-size_t mpi_outcome_bytes(const struct request *request);
-const void *mpi_given_bytes(struct request *request, void **packed, size_t *length);
-void *mpi_outcome_place(struct request *request); /* NULL: scratch memory */
-void mpi_put_outcome(struct request *request);
+size_t outcome_bytes(const struct request *request);
+const void *given_bytes(struct request *request, void **packed, size_t *length);
+void *outcome_place(struct request *request); /* NULL: scratch memory */
+void put_outcome(struct request *request);
 
-/* ---- loans.c, under --check */
-void mpi_lend(struct request *request);            /* as it begins */
-const char *mpi_end_loan(struct request *request); /* before its outcome comes. NULL, or "sends", "receives into": of what the program has changed */
+/* ---- buffer_check.c, under --check */
+void lend(struct request *request);            /* as it begins */
+const char *end_loan(struct request *request); /* before its outcome comes. NULL, or "sends", "receives into": of what the program has changed */
 
 /* ---- completion.c, waiting.c, messages.c */
-int mpi_complete(struct request *request, MPI_Status *status, const char *call);
-int mpi_tell_changed(const struct request *request, const char *what, const char *call);
+int complete_request(struct request *request, MPI_Status *status, const char *call);
+int tell_changed(const struct request *request, const char *what, const char *call);
 enum progress { GOES_ON, IS_DONE, COMPUTES }; /* COMPUTES: something of it is computed just now */
-enum progress mpi_progress(struct request *request);
-bool mpi_is_at_rest(struct engine *engine); /* no request of it becomes done before somebody begins another */
-bool mpi_is_done(struct request *request);
+enum progress make_progress(struct request *request);
+bool is_at_rest(struct engine *engine); /* no request of it becomes done before somebody begins another */
+bool is_done(struct request *request);
 /* The members whose calls a collective lacks, as ranks; whom a message waits for. */
-uint64_t mpi_lacking(const struct request *request);
-void mpi_begin_wait(const char *call, struct request **list, int many, bool any);
-void mpi_begin_wait_for_room(const char *call, struct request *request);
-void mpi_end_wait(void);
-void mpi_wait_for(const char *call, struct request **list, int many, bool any); /* until all, or any, are done */
-void mpi_wake(struct comm *comm, int but);
-void mpi_wake_rank(struct rank *rank);
-void mpi_empty_status(MPI_Status *status);
-void mpi_clear_status(MPI_Status *status); /* all of it but the error */
-void mpi_show_status(const struct request *request, MPI_Status *status); /* of one that is done */
-int mpi_finish_message(struct request *request, MPI_Status *status, const char *call);
-int mpi_let_go(struct request *request, const char *call); /* an active message's request that is freed */
-void mpi_finish_let_go(void);                              /* those of this rank that are done by now */
-void mpi_open_mailboxes(int many);
-void mpi_warn_of_mail(void); /* once all ranks have ended: which messages nobody received */
-bool mpi_message_waits(const struct request *probe);
-int mpi_start_message(struct request *request);
-int mpi_post_and_wait(struct comm *comm, const struct arguments *arguments, struct request **kept);
-int mpi_split(MPI_Comm comm, int color, int key, MPI_Comm *made, const char *call);
+uint64_t lacking(const struct request *request);
+void begin_waiting(const char *call, struct request **list, int many, bool any);
+void begin_wait_for_room(const char *call, struct request *request);
+void end_waiting(void);
+void wait_for(const char *call, struct request **list, int many, bool any); /* until all, or any, are done */
+void wake_members(struct comm *comm, int but);
+void wake_rank(struct rank *rank);
+void empty_status(MPI_Status *status);
+void clear_status(MPI_Status *status); /* all of it but the error */
+void show_status(const struct request *request, MPI_Status *status); /* of one that is done */
+int finish_message(struct request *request, MPI_Status *status, const char *call);
+int free_active(struct request *request, const char *call); /* an active message's request that is freed */
+void finish_freed(void);                              /* those of this rank that are done by now */
+void open_mailboxes(int many);
+void warn_of_mail(void); /* once all ranks have ended: which messages nobody received */
+bool message_waits(const struct request *probe);
+int start_message(struct request *request);
+int post_and_wait(struct comm *comm, const struct arguments *arguments, struct request **kept);
+int split_comm(MPI_Comm comm, int color, int key, MPI_Comm *made, const char *call);
 
 #endif

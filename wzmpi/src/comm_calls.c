@@ -1,6 +1,6 @@
 /* The calls that make communicators. All members of the parent take part in a collective of it, and then those of the new one come to it. */
 #include "collectives.h"
-#include "tell.h"
+#include "diagnostics.h"
 
 /* Names what is made at a place of a communicator's calls. */
 static uint64_t key_at(uint64_t place, int color) { return place << 32 | (uint32_t)color; }
@@ -9,13 +9,13 @@ static const uint64_t GROUP_KEY = 1ull << 63, INTER_KEY = 1ull << 62;
 /* All members of a communicator give some bytes, and each gets those of all. */
 static int exchange(struct comm *comm, enum function function, const char *name, const void *bytes, size_t length, struct request **done) {
     struct arguments arguments = { .function = function, .form = BLOCKING, .give = bytes, .give_count = (long long)length, .give_type = MPI_BYTE, .name = name };
-    return mpi_post_and_wait(comm, &arguments, done);
+    return post_and_wait(comm, &arguments, done);
 }
 
 static struct comm *judged(MPI_Comm handle, const char *call, int *code) {
-    mpi_self(call);
-    struct comm *comm = mpi_comm(handle);
-    *code = comm != NULL ? MPI_SUCCESS : mpi_comm_error(handle, call);
+    this_rank(call);
+    struct comm *comm = find_comm(handle);
+    *code = comm != NULL ? MPI_SUCCESS : comm_error(handle, call);
     return comm;
 }
 
@@ -28,7 +28,7 @@ static void members_of(const struct comm *comm, int *ranks) {
 static MPI_Comm join_copy(struct comm *comm, uint64_t place, const char *call) {
     int ranks[MOST_RANKS];
     members_of(comm, ranks);
-    return mpi_join(comm, key_at(place, 0), call, ranks, comm->size, comm->first);
+    return join_comm(comm, key_at(place, 0), call, ranks, comm->size, comm->first);
 }
 
 static int duplicate(MPI_Comm handle, bool attributes, MPI_Comm *made, const char *call) {
@@ -36,12 +36,12 @@ static int duplicate(MPI_Comm handle, bool attributes, MPI_Comm *made, const cha
     struct comm *comm = judged(handle, call, &code);
     if (comm == NULL) return code;
     struct request *done;
-    code = mpi_post_and_wait(comm, &(struct arguments){ .function = COMM_DUP, .form = BLOCKING, .name = call }, &done);
+    code = post_and_wait(comm, &(struct arguments){ .function = COMM_DUP, .form = BLOCKING, .name = call }, &done);
     if (code != MPI_SUCCESS) return code;
     *made = join_copy(comm, done->place, call);
-    mpi_drop_request(done);
-    mpi_copy_topology(comm, *made);
-    code = attributes ? mpi_copy_attributes(comm, handle, mpi_comm(*made)) : MPI_SUCCESS;
+    drop_request(done);
+    copy_topology(comm, *made);
+    code = attributes ? copy_attributes(comm, handle, find_comm(*made)) : MPI_SUCCESS;
     if (code != MPI_SUCCESS) MPI_Comm_free(made);
     return code;
 }
@@ -59,12 +59,12 @@ int MPI_Comm_idup(MPI_Comm handle, MPI_Comm *made, MPI_Request *request) {
     struct comm *comm = judged(handle, "MPI_Comm_idup", &code);
     if (comm == NULL) return code;
     struct request *posted;
-    code = mpi_post(comm, &(struct arguments){ .function = COMM_DUP, .form = NONBLOCKING, .name = "MPI_Comm_idup" }, &posted);
+    code = post_call(comm, &(struct arguments){ .function = COMM_DUP, .form = NONBLOCKING, .name = "MPI_Comm_idup" }, &posted);
     if (code != MPI_SUCCESS) return code;
     *made = join_copy(comm, posted->place, "MPI_Comm_idup");
-    mpi_copy_topology(comm, *made);
-    *request = mpi_publish(posted);
-    return mpi_copy_attributes(comm, handle, mpi_comm(*made));
+    copy_topology(comm, *made);
+    *request = publish(posted);
+    return copy_attributes(comm, handle, find_comm(*made));
 }
 
 /* ---- MPI_Comm_split */
@@ -89,7 +89,7 @@ static int of_color(struct comm *comm, struct request *done, int from, int many,
     struct candidate found[MOST_RANKS];
     size_t length, size = 0;
     for (int i = from; i < from + many; i++) {
-        const struct split *split = mpi_parcel_bytes(done, i, &length);
+        const struct split *split = parcel_bytes(done, i, &length);
         if (split->color == color) found[size++] = (struct candidate){ split->key, i, comm->members[i].rank };
     }
     qsort(found, size, sizeof found[0], by_key);
@@ -97,11 +97,11 @@ static int of_color(struct comm *comm, struct request *done, int from, int many,
     return (int)size;
 }
 
-int mpi_split(MPI_Comm handle, int color, int key, MPI_Comm *made, const char *call) {
+int split_comm(MPI_Comm handle, int color, int key, MPI_Comm *made, const char *call) {
     int code;
     struct comm *comm = judged(handle, call, &code);
     if (comm == NULL) return code;
-    if (color < 0 && color != MPI_UNDEFINED) return mpi_refuse(comm, MPI_ERR_ARG, call, "the colour %d is negative", color);
+    if (color < 0 && color != MPI_UNDEFINED) return refuse(comm, MPI_ERR_ARG, call, "the colour %d is negative", color);
     struct split mine = { color, key };
     struct request *done;
     code = exchange(comm, COMM_SPLIT, call, &mine, sizeof mine, &done);
@@ -110,34 +110,34 @@ int mpi_split(MPI_Comm handle, int color, int key, MPI_Comm *made, const char *c
     int one = of_color(comm, done, 0, first, color, ranks), all = one + of_color(comm, done, first, comm->size - first, color, ranks + one);
     bool lacks = comm->first > 0 && (one == 0 || one == all);
     *made = MPI_COMM_NULL;
-    if (color != MPI_UNDEFINED && !lacks) *made = mpi_join(comm, key_at(done->place, color), call, ranks, all, comm->first > 0 ? one : 0);
-    mpi_drop_request(done);
+    if (color != MPI_UNDEFINED && !lacks) *made = join_comm(comm, key_at(done->place, color), call, ranks, all, comm->first > 0 ? one : 0);
+    drop_request(done);
     return code;
 }
 
-int MPI_Comm_split(MPI_Comm comm, int color, int key, MPI_Comm *made) { return mpi_split(comm, color, key, made, "MPI_Comm_split"); }
+int MPI_Comm_split(MPI_Comm comm, int color, int key, MPI_Comm *made) { return split_comm(comm, color, key, made, "MPI_Comm_split"); }
 
 /* All ranks share memory. */
 int MPI_Comm_split_type(MPI_Comm comm, int type, int key, MPI_Info info, MPI_Comm *made) {
     (void)info;
     int color = type == MPI_COMM_TYPE_SHARED ? 0 : MPI_UNDEFINED;
-    return mpi_split(comm, color, key, made, "MPI_Comm_split_type");
+    return split_comm(comm, color, key, made, "MPI_Comm_split_type");
 }
 
 /* ---- MPI_Comm_create */
 
 static bool is_in(const int *ranks, int size) {
     for (int i = 0; i < size; i++)
-        if (ranks[i] == mpi_me->number) return true;
+        if (ranks[i] == current_rank->number) return true;
     return false;
 }
 
 /* All ranks of the group are members, and on this rank's side. */
 static int judge_group(struct comm *comm, const struct group *group, const char *call) {
-    int own, near = mpi_near(comm, &own);
+    int own, near = near_group(comm, &own);
     for (int i = 0; i < group->size; i++) {
         int member = comm->member_of[group->ranks[i]];
-        if (member < own || member >= own + near) return mpi_refuse(comm, MPI_ERR_GROUP, call, "rank %d of the group isn't in the communicator", i);
+        if (member < own || member >= own + near) return refuse(comm, MPI_ERR_GROUP, call, "rank %d of the group isn't in the communicator", i);
     }
     return MPI_SUCCESS;
 }
@@ -146,7 +146,7 @@ static int judge_group(struct comm *comm, const struct group *group, const char 
 static int two_groups(struct comm *comm, struct request *done, int *ranks, int *first) {
     size_t length, all = 0;
     for (int side = 0; side < 2; side++) {
-        const void *bytes = mpi_parcel_bytes(done, side == 0 ? 0 : comm->first, &length);
+        const void *bytes = parcel_bytes(done, side == 0 ? 0 : comm->first, &length);
         memcpy((char *)ranks + all, bytes, length);
         all += length;
         if (side == 0) *first = (int)(length / sizeof *ranks);
@@ -159,8 +159,8 @@ int MPI_Comm_create(MPI_Comm handle, MPI_Group from, MPI_Comm *made) {
     int code;
     struct comm *comm = judged(handle, call, &code);
     if (comm == NULL) return code;
-    struct group *group = mpi_group(from);
-    if (group == NULL) return mpi_refuse(comm, MPI_ERR_GROUP, call, "there is no such group, or it was freed");
+    struct group *group = find_group(from);
+    if (group == NULL) return refuse(comm, MPI_ERR_GROUP, call, "there is no such group, or it was freed");
     code = judge_group(comm, group, call);
     if (code != MPI_SUCCESS) return code;
     struct request *done;
@@ -171,8 +171,8 @@ int MPI_Comm_create(MPI_Comm handle, MPI_Group from, MPI_Comm *made) {
     if (comm->first > 0) size = two_groups(comm, done, ranks, &first);
     bool lacks = comm->first > 0 && (first == 0 || first == size);
     *made = MPI_COMM_NULL;
-    if (is_in(ranks, size) && !lacks) *made = mpi_join(comm, key_at(done->place, ranks[0]), call, ranks, size, first);
-    mpi_drop_request(done);
+    if (is_in(ranks, size) && !lacks) *made = join_comm(comm, key_at(done->place, ranks[0]), call, ranks, size, first);
+    drop_request(done);
     return code;
 }
 
@@ -181,12 +181,12 @@ int MPI_Comm_create_group(MPI_Comm handle, MPI_Group from, int tag, MPI_Comm *ma
     int code;
     struct comm *comm = judged(handle, call, &code);
     if (comm == NULL) return code;
-    struct group *group = mpi_group(from);
-    if (group == NULL) return mpi_refuse(comm, MPI_ERR_GROUP, call, "there is no such group, or it was freed");
-    if (tag < 0) return mpi_refuse(comm, MPI_ERR_TAG, call, "the tag %d is negative", tag);
+    struct group *group = find_group(from);
+    if (group == NULL) return refuse(comm, MPI_ERR_GROUP, call, "there is no such group, or it was freed");
+    if (tag < 0) return refuse(comm, MPI_ERR_TAG, call, "the tag %d is negative", tag);
     code = judge_group(comm, group, call);
     *made = MPI_COMM_NULL;
-    if (code == MPI_SUCCESS && is_in(group->ranks, group->size)) *made = mpi_join(comm, GROUP_KEY | (uint32_t)tag, call, group->ranks, group->size, 0);
+    if (code == MPI_SUCCESS && is_in(group->ranks, group->size)) *made = join_comm(comm, GROUP_KEY | (uint32_t)tag, call, group->ranks, group->size, 0);
     return code;
 }
 
@@ -195,8 +195,8 @@ int MPI_Comm_create_group(MPI_Comm handle, MPI_Group from, int tag, MPI_Comm *ma
 /* The leaders tell each other their groups. */
 static int swap_groups(struct comm *peers, int other, int tag, const int *mine, int many, int *theirs, int *their_many) {
     static const char call[] = "MPI_Intercomm_create";
-    struct type *integers = mpi_type(MPI_INT);
-    struct request *receive = mpi_new_request(RECEIVING, peers, call), *send = mpi_new_request(SENDING, peers, call);
+    struct type *integers = find_type(MPI_INT);
+    struct request *receive = new_request(RECEIVING, peers, call), *send = new_request(SENDING, peers, call);
     receive->other = send->other = other;
     receive->tag = send->tag = -2 - tag; /* no program's tag is negative */
     receive->to = theirs;
@@ -205,12 +205,12 @@ static int swap_groups(struct comm *peers, int other, int tag, const int *mine, 
     send->many = many;
     receive->type = send->type = integers;
     MPI_Status status;
-    mpi_start_message(receive);
-    mpi_start_message(send);
-    int code = mpi_complete(receive, &status, call);
+    start_message(receive);
+    start_message(send);
+    int code = complete_request(receive, &status, call);
     if (code != MPI_SUCCESS) return code;
     *their_many = (int)((size_t)status.bytes_ / sizeof *theirs);
-    return mpi_complete(send, MPI_STATUS_IGNORE, call);
+    return complete_request(send, MPI_STATUS_IGNORE, call);
 }
 
 int MPI_Intercomm_create(MPI_Comm local, int leader, MPI_Comm peer, int remote, int tag, MPI_Comm *made) {
@@ -218,15 +218,15 @@ int MPI_Intercomm_create(MPI_Comm local, int leader, MPI_Comm peer, int remote, 
     int code, ranks[2 * MOST_RANKS], theirs[MOST_RANKS], many = 0;
     struct comm *comm = judged(local, call, &code);
     if (comm == NULL) return code;
-    if (comm->first > 0) return mpi_refuse(comm, MPI_ERR_COMM, call, "the local communicator is an intercommunicator");
-    if (leader < 0 || leader >= comm->size) return mpi_refuse(comm, MPI_ERR_RANK, call, "the leader %d is no rank of the local communicator, which has %d", leader, comm->size);
+    if (comm->first > 0) return refuse(comm, MPI_ERR_COMM, call, "the local communicator is an intercommunicator");
+    if (leader < 0 || leader >= comm->size) return refuse(comm, MPI_ERR_RANK, call, "the leader %d is no rank of the local communicator, which has %d", leader, comm->size);
     int mine[MOST_RANKS];
     members_of(comm, mine);
-    if (mpi_my_member(comm) == leader) {
+    if (my_member(comm) == leader) {
         struct comm *peers = judged(peer, call, &code);
         if (peers == NULL) return code;
-        int other, far = mpi_far(peers, &other);
-        if (remote < 0 || remote >= far) return mpi_refuse(peers, MPI_ERR_RANK, call, "the remote leader %d is no rank of the peer communicator, which has %d", remote, far);
+        int other, far = far_group(peers, &other);
+        if (remote < 0 || remote >= far) return refuse(peers, MPI_ERR_RANK, call, "the remote leader %d is no rank of the peer communicator, which has %d", remote, far);
         code = swap_groups(peers, remote, tag, mine, comm->size, theirs, &many);
         if (code != MPI_SUCCESS) return code;
     }
@@ -234,16 +234,16 @@ int MPI_Intercomm_create(MPI_Comm local, int leader, MPI_Comm peer, int remote, 
     code = exchange(comm, EXCHANGE, call, theirs, sizeof *theirs * (size_t)many, &done);
     if (code != MPI_SUCCESS) return code;
     size_t length;
-    const void *told = mpi_parcel_bytes(done, leader, &length);
+    const void *told = parcel_bytes(done, leader, &length);
     many = (int)(length / sizeof *theirs);
     memcpy(theirs, told, length);
-    mpi_drop_request(done);
+    drop_request(done);
     for (int i = 0; i < many; i++)
-        if (comm->member_of[theirs[i]] >= 0) return mpi_refuse(comm, MPI_ERR_COMM, call, "rank %d is in both groups", theirs[i]);
+        if (comm->member_of[theirs[i]] >= 0) return refuse(comm, MPI_ERR_COMM, call, "rank %d is in both groups", theirs[i]);
     bool before = mine[0] < theirs[0];
     memcpy(ranks, before ? mine : theirs, sizeof *ranks * (size_t)(before ? comm->size : many));
     memcpy(ranks + (before ? comm->size : many), before ? theirs : mine, sizeof *ranks * (size_t)(before ? many : comm->size));
-    *made = mpi_join(mpi_world(), INTER_KEY | (uint32_t)tag, call, ranks, comm->size + many, before ? comm->size : many);
+    *made = join_comm(world_comm(), INTER_KEY | (uint32_t)tag, call, ranks, comm->size + many, before ? comm->size : many);
     return code;
 }
 
@@ -252,16 +252,16 @@ int MPI_Intercomm_merge(MPI_Comm inter, int high, MPI_Comm *made) {
     int code, ranks[MOST_RANKS];
     struct comm *comm = judged(inter, call, &code);
     if (comm == NULL) return code;
-    if (comm->first == 0) return mpi_refuse(comm, MPI_ERR_COMM, call, "this is no intercommunicator");
+    if (comm->first == 0) return refuse(comm, MPI_ERR_COMM, call, "this is no intercommunicator");
     struct request *done;
     char mine = high != 0;
     code = exchange(comm, EXCHANGE, call, &mine, 1, &done);
     if (code != MPI_SUCCESS) return code;
     size_t length;
-    char one = *(const char *)mpi_parcel_bytes(done, 0, &length), two = *(const char *)mpi_parcel_bytes(done, comm->first, &length);
+    char one = *(const char *)parcel_bytes(done, 0, &length), two = *(const char *)parcel_bytes(done, comm->first, &length);
     int from = one > two ? comm->first : 0; /* the group that says `high` alone comes last */
     for (int i = 0; i < comm->size; i++) ranks[i] = comm->members[(from + i) % comm->size].rank;
-    *made = mpi_join(comm, key_at(done->place, 0), call, ranks, comm->size, 0);
-    mpi_drop_request(done);
+    *made = join_comm(comm, key_at(done->place, 0), call, ranks, comm->size, 0);
+    drop_request(done);
     return code;
 }

@@ -85,7 +85,7 @@ struct comm {
     pthread_mutex_t guard; /* for its engines, starts and name */
     atomic_int users;      /* its members until they free it, and its requests */
     struct topology **topologies; /* each member's own; NULL: none has one */
-    /* while its members come to it (mpi_join) */
+    /* while its members come to it (join_comm) */
     long parent;
     uint64_t key, joined;
     struct comm *next_coming;
@@ -93,56 +93,56 @@ struct comm {
 };
 
 /* ---- comms.c */
-struct comm *mpi_comm(MPI_Comm comm); /* of this rank; NULL: there is none */
-int mpi_comm_error(MPI_Comm comm, const char *call);
-MPI_Comm mpi_comm_handle(const struct comm *comm); /* this rank's handle of it */
-struct comm *mpi_world(void);
-struct member *mpi_member(struct comm *comm); /* this rank's */
-int mpi_my_member(const struct comm *comm);
-void mpi_use(struct comm *comm);
-void mpi_unuse(struct comm *comm);
-void mpi_open_world(int size);
+struct comm *find_comm(MPI_Comm comm); /* of this rank; NULL: there is none */
+int comm_error(MPI_Comm comm, const char *call);
+MPI_Comm comm_handle(const struct comm *comm); /* this rank's handle of it */
+struct comm *world_comm(void);
+struct member *this_member(struct comm *comm); /* this rank's */
+int my_member(const struct comm *comm);
+void use_comm(struct comm *comm);
+void unuse_comm(struct comm *comm);
+void open_world(int size);
 
 /* The communicator that some ranks make by one call, which KEY names among those on PARENT. Whoever comes first makes it. The first FIRST of the ranks are an
    intercommunicator's first group; 0: it is none. */
-MPI_Comm mpi_join(struct comm *parent, uint64_t key, const char *maker, const int *ranks, int size, int first);
+MPI_Comm join_comm(struct comm *parent, uint64_t key, const char *maker, const int *ranks, int size, int first);
 
-void mpi_give_topology(MPI_Comm comm, struct topology topology); /* topology.c: this member's own */
-void mpi_copy_topology(struct comm *comm, MPI_Comm copy);
+void give_topology(MPI_Comm comm, struct topology topology); /* topology.c: this member's own */
+void copy_topology(struct comm *comm, MPI_Comm copy);
 
 /* An intercommunicator's two groups, seen by this rank: its own begins at member *own, the other at *other. */
-int mpi_near(const struct comm *comm, int *own);
-int mpi_far(const struct comm *comm, int *other);
-int mpi_far_from(const struct comm *comm, int member, int *other); /* as that member sees it; the calling thread needn't be a rank */
+int near_group(const struct comm *comm, int *own);
+int far_group(const struct comm *comm, int *other);
+int far_group_from(const struct comm *comm, int member, int *other); /* as that member sees it; the calling thread needn't be a rank */
 
 /* ---- engines.c */
-struct engine *mpi_engine_at(struct comm *comm, uint64_t place); /* with one request more */
-void mpi_leave_engine(struct comm *comm, struct engine *engine);
-uint32_t mpi_slots_for(const struct comm *comm); /* the most requests at one time */
-struct starts *mpi_starts_at(struct comm *comm, uint64_t place);
-void mpi_leave_starts(struct comm *comm, struct starts *starts);
-void mpi_close_engines(struct comm *comm);
+struct engine *engine_at(struct comm *comm, uint64_t place); /* with one request more */
+void leave_engine(struct comm *comm, struct engine *engine);
+uint32_t slots_for(const struct comm *comm); /* the most requests at one time */
+struct starts *starts_at(struct comm *comm, uint64_t place);
+void leave_starts(struct comm *comm, struct starts *starts);
+void close_engines(struct comm *comm);
 
-/* ---- board.c */
-void mpi_write_called(struct comm *comm, int member, uint64_t place, const struct called *called);
-bool mpi_read_called(const struct comm *comm, int member, uint64_t place, struct called *called);
-bool mpi_agree(const struct called *one, const struct called *other);
-const char *mpi_difference(const struct called *one, const struct called *other);
+/* ---- call_log.c */
+void write_call(struct comm *comm, int member, uint64_t place, const struct called *called);
+bool read_called(const struct comm *comm, int member, uint64_t place, struct called *called);
+bool calls_agree(const struct called *one, const struct called *other);
+const char *what_differs(const struct called *one, const struct called *other);
 /* A member whose call at that place doesn't agree; -1: all that are known do. */
-int mpi_disagreeing(struct comm *comm, int member, uint64_t place, const struct called *called);
+int first_disagreeing(struct comm *comm, int member, uint64_t place, const struct called *called);
 
 /* ---- attributes.c */
-int mpi_copy_attributes(struct comm *from, MPI_Comm from_handle, struct comm *to);
-int mpi_delete_attributes(struct comm *comm, MPI_Comm handle);
-void mpi_use_handler(struct comm *comm, struct errhandler *handler);
-extern struct errhandler mpi_fatal;
+int copy_attributes(struct comm *from, MPI_Comm from_handle, struct comm *to);
+int delete_attributes(struct comm *comm, MPI_Comm handle);
+void use_handler(struct comm *comm, struct errhandler *handler);
+extern struct errhandler errors_are_fatal;
 
 /* ---- groups.c */
 struct group {
     int size;
     int ranks[MOST_RANKS];
 };
-struct group *mpi_group(MPI_Group group);
-MPI_Group mpi_new_group(const int *ranks, int size);
+struct group *find_group(MPI_Group group);
+MPI_Group new_group(const int *ranks, int size);
 
 #endif

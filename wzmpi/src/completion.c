@@ -1,125 +1,125 @@
 /* The calls that complete requests, start and free them. */
 #include "collectives.h"
-#include "notes.h"
+#include "trace.h"
 #include "record.h"
-#include "tell.h"
+#include "diagnostics.h"
 
 #include <sched.h>
 #include <time.h>
 
-void mpi_empty_status(MPI_Status *status) {
+void empty_status(MPI_Status *status) {
     if (status != MPI_STATUS_IGNORE) *status = (MPI_Status){ MPI_ANY_SOURCE, MPI_ANY_TAG, MPI_SUCCESS, 0, 0 };
 }
 
 /* The same but for the error, which only calls with several statuses write (MPI 4.1, 3.2.5). */
-void mpi_clear_status(MPI_Status *status) {
+void clear_status(MPI_Status *status) {
     if (status != MPI_STATUS_IGNORE) *status = (MPI_Status){ MPI_ANY_SOURCE, MPI_ANY_TAG, status->MPI_ERROR, 0, 0 };
 }
 
 /* ---- one request */
 
-int mpi_tell_changed(const struct request *it, const char *what, const char *call) {
-    return mpi_refuse(it->comm, MPI_ERR_BUFFER, call, "what %s at %s %s was changed before it was completed here", it->name, it->started_at, what);
+int tell_changed(const struct request *request, const char *what, const char *call) {
+    return refuse(request->comm, MPI_ERR_BUFFER, call, "what %s at %s %s was changed before it was completed here", request->name, request->started_at, what);
 }
 
 /* The outcome is in it->out: puts it where the program wants it. */
-static int end_collective(struct request *it, const char *call) {
+static int end_collective(struct request *request, const char *call) {
     int code = MPI_SUCCESS;
-    const char *changed = mpi_end_loan(it);
-    mpi_record_outcome(it);
-    if (changed != NULL) code = mpi_tell_changed(it, changed, call);
-    if (!it->direct) code = mpi_open_parcels(it, call);
-    else if (it->out == it->scratch) mpi_put_outcome(it);
-    if (it->direct) it->got = it->room;
-    mpi_note_completed(it, call);
-    it->active = it->collected = false;
-    if (!it->persistent && !it->kept) mpi_drop_request(it);
+    const char *changed = end_loan(request);
+    record_outcome(request);
+    if (changed != NULL) code = tell_changed(request, changed, call);
+    if (!request->direct) code = open_parcels(request, call);
+    else if (request->out == request->scratch) put_outcome(request);
+    if (request->direct) request->got = request->room;
+    note_completed(request, call);
+    request->active = request->collected = false;
+    if (!request->persistent && !request->kept) drop_request(request);
     return code;
 }
 
-static int32_t wait_in_engine(struct request *it, const char *call) {
-    struct request *only[1] = { it };
-    mpi_begin_wait(call, only, 1, false);
-    int32_t code = mpi_ask_wait(it);
-    while (code == WZ_STALLED) { /* all members wait, and nothing can end it: whoever watches tells it (watch.c) */
+static int32_t wait_in_engine(struct request *request, const char *call) {
+    struct request *only[1] = { request };
+    begin_waiting(call, only, 1, false);
+    int32_t code = engine_wait(request);
+    while (code == WZ_STALLED) { /* all members wait, and nothing can end it: whoever watches tells it (deadlock_watch.c) */
         nanosleep(&(struct timespec){ 0, 5000000 }, NULL);
-        code = mpi_ask_test(it);
+        code = engine_test(request);
         if (code == WZ_PENDING) code = WZ_STALLED;
     }
-    mpi_end_wait();
+    end_waiting();
     return code;
 }
 
-int mpi_complete(struct request *it, MPI_Status *status, const char *call) {
-    struct request *only[1] = { it };
-    if (!it->active) {
-        mpi_empty_status(status);
+int complete_request(struct request *request, MPI_Status *status, const char *call) {
+    struct request *only[1] = { request };
+    if (!request->active) {
+        empty_status(status);
         return MPI_SUCCESS;
     }
-    mpi_clear_status(status);
-    if (it->sort != COLLECTIVE) {
-        if (!mpi_is_done(it)) mpi_wait_for(call, only, 1, false);
-        mpi_finish_let_go();
-        return mpi_finish_message(it, status, call);
+    clear_status(status);
+    if (request->sort != COLLECTIVE) {
+        if (!is_done(request)) wait_for(call, only, 1, false);
+        finish_freed();
+        return finish_message(request, status, call);
     }
-    if (mpi_run.strict && mpi_lacking(it) != 0) mpi_wait_for(call, only, 1, false);
-    int32_t code = it->collected ? WZ_DONE : wait_in_engine(it, call);
-    mpi_finish_let_go();
-    return code == WZ_DONE ? end_collective(it, call) : mpi_engine_refused(it, code, call);
+    if (the_run.strict && lacking(request) != 0) wait_for(call, only, 1, false);
+    int32_t code = request->collected ? WZ_DONE : wait_in_engine(request, call);
+    finish_freed();
+    return code == WZ_DONE ? end_collective(request, call) : engine_refused(request, code, call);
 }
 
 /* A completion call that the text can't tell the outcome of completes a request. */
-static int complete_found(struct request *it, MPI_Status *status, const char *call) {
-    mpi_record_completed(it);
-    return mpi_complete(it, status, call);
+static int complete_found(struct request *request, MPI_Status *status, const char *call) {
+    record_completed(request);
+    return complete_request(request, status, call);
 }
 
 /* Under --seed a test now and then says that nothing is done yet, as it may. */
-static bool holds_back(void) { return mpi_draw(4) == 1; }
+static bool holds_back(void) { return draw_number(4) == 1; }
 
 int MPI_Wait(MPI_Request *handle, MPI_Status *status) {
-    mpi_self("MPI_Wait");
-    struct request *it;
-    int code = mpi_request(*handle, "MPI_Wait", &it);
-    if (code != MPI_SUCCESS || it == NULL) {
-        mpi_empty_status(status);
+    this_rank("MPI_Wait");
+    struct request *request;
+    int code = find_request(*handle, "MPI_Wait", &request);
+    if (code != MPI_SUCCESS || request == NULL) {
+        empty_status(status);
         return code;
     }
-    mpi_pause();
-    bool stays = it->persistent;
-    mpi_record_wait("wait", &it, 1, "MPI_Wait");
-    code = mpi_complete(it, status, "MPI_Wait");
+    hold_up();
+    bool stays = request->persistent;
+    record_wait("wait", &request, 1, "MPI_Wait");
+    code = complete_request(request, status, "MPI_Wait");
     if (!stays) *handle = MPI_REQUEST_NULL;
     return code;
 }
 
 int MPI_Test(MPI_Request *handle, int *flag, MPI_Status *status) {
-    mpi_self("MPI_Test");
-    struct request *it;
-    int code = mpi_request(*handle, "MPI_Test", &it);
-    *flag = code == MPI_SUCCESS && (it == NULL || !it->active);
+    this_rank("MPI_Test");
+    struct request *request;
+    int code = find_request(*handle, "MPI_Test", &request);
+    *flag = code == MPI_SUCCESS && (request == NULL || !request->active);
     if (code != MPI_SUCCESS || *flag) {
-        mpi_empty_status(status);
+        empty_status(status);
         return code;
     }
-    *flag = mpi_is_done(it) && !holds_back();
+    *flag = is_done(request) && !holds_back();
     if (!*flag) {
         sched_yield();
         return code;
     }
-    bool stays = it->persistent;
-    code = complete_found(it, status, "MPI_Test");
+    bool stays = request->persistent;
+    code = complete_found(request, status, "MPI_Test");
     if (!stays) *handle = MPI_REQUEST_NULL;
     return code;
 }
 
 int MPI_Request_get_status(MPI_Request handle, int *flag, MPI_Status *status) {
-    mpi_self("MPI_Request_get_status");
-    struct request *it;
-    int code = mpi_request(handle, "MPI_Request_get_status", &it);
-    *flag = code == MPI_SUCCESS && (it == NULL || mpi_is_done(it));
-    if (!*flag || it == NULL || !it->active) mpi_empty_status(status);
-    else mpi_show_status(it, status);
+    this_rank("MPI_Request_get_status");
+    struct request *request;
+    int code = find_request(handle, "MPI_Request_get_status", &request);
+    *flag = code == MPI_SUCCESS && (request == NULL || is_done(request));
+    if (!*flag || request == NULL || !request->active) empty_status(status);
+    else show_status(request, status);
     return code;
 }
 
@@ -136,21 +136,21 @@ static void give_up(struct list *list) {
 }
 
 static int read_list(struct list *list, int many, MPI_Request handles[], const char *call) {
-    mpi_self(call);
+    this_rank(call);
     int code = MPI_SUCCESS, read = 0, twice = -1;
     list->many = many;
     list->at = list->few;
-    if (many < 0) return mpi_refuse(NULL, MPI_ERR_COUNT, call, "the count %d is negative", many);
-    if (many > 32) list->at = mpi_must(malloc(sizeof *list->at * (size_t)many));
+    if (many < 0) return refuse(NULL, MPI_ERR_COUNT, call, "the count %d is negative", many);
+    if (many > 32) list->at = must(malloc(sizeof *list->at * (size_t)many));
     for (; read < many && code == MPI_SUCCESS; read++) {
-        code = mpi_request(handles[read], call, &list->at[read]);
-        struct request *it = list->at[read];
-        if (it != NULL && it->listed) twice = read;
-        if (it != NULL) it->listed = true;
+        code = find_request(handles[read], call, &list->at[read]);
+        struct request *request = list->at[read];
+        if (request != NULL && request->listed) twice = read;
+        if (request != NULL) request->listed = true;
     }
     for (int i = 0; i < read; i++)
         if (list->at[i] != NULL) list->at[i]->listed = false;
-    if (code == MPI_SUCCESS && twice >= 0) code = mpi_refuse(NULL, MPI_ERR_REQUEST, call, "the request of %s stands twice in the list", list->at[twice]->site);
+    if (code == MPI_SUCCESS && twice >= 0) code = refuse(NULL, MPI_ERR_REQUEST, call, "the request of %s stands twice in the list", list->at[twice]->site);
     if (code != MPI_SUCCESS) give_up(list);
     return code;
 }
@@ -159,7 +159,7 @@ static MPI_Status *status_at(MPI_Status *statuses, int i) { return statuses == M
 
 static int complete_one(struct list *list, int i, MPI_Request handles[], MPI_Status *status, const char *call) {
     bool stays = list->at[i]->persistent;
-    int code = mpi_complete(list->at[i], status, call);
+    int code = complete_request(list->at[i], status, call);
     if (!stays) handles[i] = MPI_REQUEST_NULL;
     list->at[i] = NULL;
     return code;
@@ -174,7 +174,7 @@ static void note_error(int *code, int one, MPI_Status *status) {
 static int complete_all(struct list *list, MPI_Request handles[], MPI_Status statuses[], const char *call) {
     int code = MPI_SUCCESS;
     for (int i = 0; i < list->many; i++) {
-        mpi_empty_status(status_at(statuses, i));
+        empty_status(status_at(statuses, i));
         if (list->at[i] == NULL) continue;
         note_error(&code, complete_one(list, i, handles, status_at(statuses, i), call), status_at(statuses, i));
     }
@@ -185,8 +185,8 @@ int MPI_Waitall(int many, MPI_Request handles[], MPI_Status statuses[]) {
     struct list list;
     int code = read_list(&list, many, handles, "MPI_Waitall");
     if (code != MPI_SUCCESS) return code;
-    mpi_pause();
-    mpi_record_wait("waitall", list.at, many, "MPI_Waitall");
+    hold_up();
+    record_wait("waitall", list.at, many, "MPI_Waitall");
     code = complete_all(&list, handles, statuses, "MPI_Waitall");
     give_up(&list);
     return code;
@@ -197,9 +197,9 @@ int MPI_Testall(int many, MPI_Request handles[], int *flag, MPI_Status statuses[
     int code = read_list(&list, many, handles, "MPI_Testall");
     *flag = code == MPI_SUCCESS;
     if (code != MPI_SUCCESS) return code;
-    for (int i = 0; i < many && *flag; i++) *flag = list.at[i] == NULL || mpi_is_done(list.at[i]);
+    for (int i = 0; i < many && *flag; i++) *flag = list.at[i] == NULL || is_done(list.at[i]);
     if (*flag) {
-        mpi_record_wait("waitall", list.at, many, "MPI_Testall");
+        record_wait("waitall", list.at, many, "MPI_Testall");
         code = complete_all(&list, handles, statuses, "MPI_Testall");
     } else sched_yield();
     give_up(&list);
@@ -212,30 +212,30 @@ struct found {
 };
 
 static struct found find_done(struct list *list) {
-    struct found found = { 0, 0, mpi_must(malloc(sizeof(int) * (size_t)(list->many + 1))) };
+    struct found found = { 0, 0, must(malloc(sizeof(int) * (size_t)(list->many + 1))) };
     for (int i = 0; i < list->many; i++) {
         if (list->at[i] == NULL || !list->at[i]->active) continue;
         found.active++;
-        if (mpi_is_done(list->at[i])) found.done[found.many++] = i;
+        if (is_done(list->at[i])) found.done[found.many++] = i;
     }
     return found;
 }
 
 /* Completes one of those that are done; under --seed any of them. */
 static int take_one(struct list *list, struct found *found, MPI_Request handles[], int *index, MPI_Status *status, const char *call) {
-    *index = found->done[mpi_draw((uint32_t)found->many)];
-    mpi_record_completed(list->at[*index]);
+    *index = found->done[draw_number((uint32_t)found->many)];
+    record_completed(list->at[*index]);
     return complete_one(list, *index, handles, status, call);
 }
 
 /* Completes those that are done; under --seed some of them, though one at least. */
 static int take_some(struct list *list, struct found *found, MPI_Request handles[], int *taken, int indices[], MPI_Status statuses[], const char *call) {
-    int code = MPI_SUCCESS, surely = (int)mpi_draw((uint32_t)found->many);
+    int code = MPI_SUCCESS, surely = (int)draw_number((uint32_t)found->many);
     *taken = 0;
     for (int i = 0; i < found->many; i++) {
-        if (i != surely && mpi_draw(2) == 1) continue;
+        if (i != surely && draw_number(2) == 1) continue;
         indices[*taken] = found->done[i];
-        mpi_record_completed(list->at[found->done[i]]);
+        record_completed(list->at[found->done[i]]);
         MPI_Status *status = status_at(statuses, (*taken)++);
         note_error(&code, complete_one(list, found->done[i], handles, status, call), status);
     }
@@ -244,11 +244,11 @@ static int take_some(struct list *list, struct found *found, MPI_Request handles
 
 /* Waits until one of the list is done. */
 static struct found wait_for_some(struct list *list, const char *word, const char *call) {
-    mpi_pause();
-    mpi_record_wait(word, list->at, list->many, call);
+    hold_up();
+    record_wait(word, list->at, list->many, call);
     struct found found = find_done(list);
     while (found.active > 0 && found.many == 0) {
-        mpi_wait_for(call, list->at, list->many, true);
+        wait_for(call, list->at, list->many, true);
         free(found.done);
         found = find_done(list);
     }
@@ -261,7 +261,7 @@ int MPI_Waitany(int many, MPI_Request handles[], int *index, MPI_Status *status)
     if (code != MPI_SUCCESS) return code;
     struct found found = wait_for_some(&list, "waitany", "MPI_Waitany");
     *index = MPI_UNDEFINED;
-    if (found.active == 0) mpi_empty_status(status);
+    if (found.active == 0) empty_status(status);
     else code = take_one(&list, &found, handles, index, status, "MPI_Waitany");
     free(found.done);
     give_up(&list);
@@ -288,7 +288,7 @@ int MPI_Testany(int many, MPI_Request handles[], int *index, int *flag, MPI_Stat
     *index = MPI_UNDEFINED;
     *flag = found.active == 0 || (found.many > 0 && !holds_back());
     if (!*flag) sched_yield();
-    else if (found.active == 0) mpi_empty_status(status);
+    else if (found.active == 0) empty_status(status);
     else code = take_one(&list, &found, handles, index, status, "MPI_Testany");
     free(found.done);
     give_up(&list);
@@ -311,56 +311,56 @@ int MPI_Testsome(int many, MPI_Request handles[], int *taken, int indices[], MPI
 /* ---- starting and freeing */
 
 static int start(MPI_Request handle, const char *call) {
-    struct request *it;
-    int code = mpi_request(handle, call, &it);
+    struct request *request;
+    int code = find_request(handle, call, &request);
     if (code != MPI_SUCCESS) return code;
-    if (it == NULL) return mpi_refuse(NULL, MPI_ERR_REQUEST, call, "the request is MPI_REQUEST_NULL");
-    if (!it->persistent) return mpi_refuse(it->comm, MPI_ERR_REQUEST, call, "the request of %s isn't persistent", it->site);
-    if (it->active) return mpi_refuse(it->comm, MPI_ERR_REQUEST, call, "the request of %s is active still: it was started at %s and not completed since", it->site, it->started_at);
-    mpi_pause();
-    if (it->sort != COLLECTIVE) {
-        mpi_lend(it);
-        return mpi_start_message(it);
+    if (request == NULL) return refuse(NULL, MPI_ERR_REQUEST, call, "the request is MPI_REQUEST_NULL");
+    if (!request->persistent) return refuse(request->comm, MPI_ERR_REQUEST, call, "the request of %s isn't persistent", request->site);
+    if (request->active) return refuse(request->comm, MPI_ERR_REQUEST, call, "the request of %s is active still: it was started at %s and not completed since", request->site, request->started_at);
+    hold_up();
+    if (request->sort != COLLECTIVE) {
+        lend(request);
+        return start_message(request);
     }
-    code = mpi_begin(it, call);
-    mpi_wake(it->comm, it->member);
+    code = begin_request(request, call);
+    wake_members(request->comm, request->member);
     return code;
 }
 
 int MPI_Start(MPI_Request *handle) {
-    mpi_self("MPI_Start");
+    this_rank("MPI_Start");
     return start(*handle, "MPI_Start");
 }
 
 int MPI_Startall(int many, MPI_Request handles[]) {
     int code = MPI_SUCCESS;
-    mpi_self("MPI_Startall");
+    this_rank("MPI_Startall");
     for (int i = 0; i < many && code == MPI_SUCCESS; i++) code = start(handles[i], "MPI_Startall");
     return code;
 }
 
-static int free_collective(struct request *it, const char *call) {
-    if (!it->persistent)
-        return mpi_refuse(it->comm, MPI_ERR_REQUEST, call, "the request of %s is a nonblocking collective's, which can't be freed (MPI 4.1, 6.12)", it->site);
-    if (it->active) return mpi_engine_refused(it, WZ_ACTIVE, call);
-    mpi_record_free(it);
-    int32_t code = mpi_ask_free(it);
-    if (code != WZ_DONE) return mpi_engine_refused(it, code, call);
-    mpi_note_freed(it);
+static int free_collective(struct request *request, const char *call) {
+    if (!request->persistent)
+        return refuse(request->comm, MPI_ERR_REQUEST, call, "the request of %s is a nonblocking collective's, which can't be freed (MPI 4.1, 6.12)", request->site);
+    if (request->active) return engine_refused(request, WZ_ACTIVE, call);
+    record_free(request);
+    int32_t code = engine_free(request);
+    if (code != WZ_DONE) return engine_refused(request, code, call);
+    note_freed(request);
     return MPI_SUCCESS;
 }
 
 int MPI_Request_free(MPI_Request *handle) {
     const char *call = "MPI_Request_free";
-    mpi_self(call);
-    struct request *it;
-    int code = mpi_request(*handle, call, &it);
+    this_rank(call);
+    struct request *request;
+    int code = find_request(*handle, call, &request);
     if (code != MPI_SUCCESS) return code;
-    if (it == NULL) return mpi_refuse(NULL, MPI_ERR_REQUEST, call, "the request is MPI_REQUEST_NULL");
-    if (it->sort == COLLECTIVE) code = free_collective(it, call);
+    if (request == NULL) return refuse(NULL, MPI_ERR_REQUEST, call, "the request is MPI_REQUEST_NULL");
+    if (request->sort == COLLECTIVE) code = free_collective(request, call);
     if (code != MPI_SUCCESS) return code;
     *handle = MPI_REQUEST_NULL;
-    if (it->sort != COLLECTIVE && it->active) return mpi_let_go(it, call);
-    mpi_drop_request(it);
+    if (request->sort != COLLECTIVE && request->active) return free_active(request, call);
+    drop_request(request);
     return code;
 }

@@ -103,9 +103,9 @@ static computer *const computers[] = {
     [24] = of_pair_short, [25] = of_pair_long_double,
 };
 
-void mpi_compute(const struct op *op, MPI_Datatype handle, const struct type *type, MPI_Count many, void *row, void *more) {
+void compute(const struct op *op, MPI_Datatype handle, const struct type *type, MPI_Count many, void *row, void *more) {
     int narrow = (int)many;
     if (op->user != NULL) op->user(row, more, &narrow, &handle);
     else if (op->user_wide != NULL) op->user_wide(row, more, &many, &handle);
-    else computers[mpi_basic(type->basic)->code](op->number, (size_t)many, row, more);
+    else computers[basic_type(type->basic)->code](op->number, (size_t)many, row, more);
 }

@@ -6,18 +6,18 @@
 #include <unistd.h>
 
 /* MPI_COMM_WORLD has the most slots from the beginning; other communicators have 256 for each member, which take less memory and time to open. */
-uint32_t mpi_slots_for(const struct comm *comm) {
+uint32_t slots_for(const struct comm *comm) {
     uint32_t slots = (uint32_t)comm->size * 256;
     return comm->maker == NULL || slots > 4096 ? 4096 : slots;
 }
 
 static struct engine *open_engine(const struct comm *comm, uint64_t number) {
-    struct engine *engine = mpi_must(malloc(sizeof *engine));
+    struct engine *engine = must(malloc(sizeof *engine));
     const uint8_t many = (uint8_t)comm->size;
     uint8_t ranks_of_engine[MOST_RANKS]; /* its rank numbers are the member numbers */
     for (uint8_t i = 0; i < many; i++) ranks_of_engine[i] = i;
     wz_limits limits = wz_greatest_limits(many);
-    limits.slots = mpi_slots_for(comm);
+    limits.slots = slots_for(comm);
     int32_t code = wz_shared_open(&engine->shared, &limits, &many, 1, ranks_of_engine, many);
     if (code != WZ_DONE) {
         fprintf(stderr, "wzrun: no engine can be opened for %d ranks: %s\n", comm->size, wz_message(code));
@@ -57,7 +57,7 @@ static struct engine *find_engine(struct comm *comm, uint64_t number) {
     return at;
 }
 
-struct engine *mpi_engine_at(struct comm *comm, uint64_t place) {
+struct engine *engine_at(struct comm *comm, uint64_t place) {
     uint64_t number = place / PLACES_OF_ENGINE;
     struct engine *engine = atomic_load(&comm->newest);
     if (engine != NULL && engine->number == number && place % PLACES_OF_ENGINE != 0) { /* nobody closes the newest */
@@ -77,7 +77,7 @@ struct engine *mpi_engine_at(struct comm *comm, uint64_t place) {
     return engine;
 }
 
-void mpi_leave_engine(struct comm *comm, struct engine *engine) {
+void leave_engine(struct comm *comm, struct engine *engine) {
     if (engine == atomic_load(&comm->newest)) {
         atomic_fetch_sub(&engine->requests, 1);
         return;
@@ -88,7 +88,7 @@ void mpi_leave_engine(struct comm *comm, struct engine *engine) {
     pthread_mutex_unlock(&comm->guard);
 }
 
-void mpi_close_engines(struct comm *comm) {
+void close_engines(struct comm *comm) {
     for (struct engine *at = atomic_load(&comm->newest), *older; at != NULL; at = older) {
         older = at->older;
         close_engine(at);
@@ -101,20 +101,20 @@ void mpi_close_engines(struct comm *comm) {
 
 /* ---- starts of persistent collectives */
 
-struct starts *mpi_starts_at(struct comm *comm, uint64_t place) {
+struct starts *starts_at(struct comm *comm, uint64_t place) {
     pthread_mutex_lock(&comm->guard);
-    struct starts *it;
-    for (it = comm->starts; it != NULL; it = it->next)
-        if (it->place == place) break;
-    if (it == NULL) {
-        it = mpi_must(calloc(1, sizeof *it + sizeof it->of[0] * (size_t)comm->size));
-        it->place = place;
-        it->next = comm->starts;
-        comm->starts = it;
+    struct starts *starts;
+    for (starts = comm->starts; starts != NULL; starts = starts->next)
+        if (starts->place == place) break;
+    if (starts == NULL) {
+        starts = must(calloc(1, sizeof *starts + sizeof starts->of[0] * (size_t)comm->size));
+        starts->place = place;
+        starts->next = comm->starts;
+        comm->starts = starts;
     }
-    it->requests++;
+    starts->requests++;
     pthread_mutex_unlock(&comm->guard);
-    return it;
+    return starts;
 }
 
 static bool all_are_past(const struct comm *comm, uint64_t place) {
@@ -123,7 +123,7 @@ static bool all_are_past(const struct comm *comm, uint64_t place) {
     return true;
 }
 
-void mpi_leave_starts(struct comm *comm, struct starts *starts) {
+void leave_starts(struct comm *comm, struct starts *starts) {
     pthread_mutex_lock(&comm->guard);
     if (--starts->requests == 0 && all_are_past(comm, starts->place)) {
         struct starts **at = &comm->starts;

@@ -3,7 +3,7 @@
 #include "explain.h"
 
 #include "record.h"
-#include "tell.h"
+#include "diagnostics.h"
 
 #include <sys/wait.h>
 #include <unistd.h>
@@ -20,8 +20,8 @@ static struct lines read_lines(FILE *from) {
     size_t room = 0;
     while (from != NULL && getline(&line, &room, from) > 0) {
         line[strcspn(line, "\n")] = '\0';
-        lines.at = mpi_must(realloc(lines.at, sizeof *lines.at * (lines.many + 1)));
-        lines.at[lines.many++] = mpi_must(strdup(line));
+        lines.at = must(realloc(lines.at, sizeof *lines.at * (lines.many + 1)));
+        lines.at[lines.many++] = must(strdup(line));
     }
     free(line);
     return lines;
@@ -90,17 +90,17 @@ static bool write_own(char path[]) {
     int file = mkstemp(path);
     if (file < 0) return false;
     close(file);
-    return mpi_record_write_text(path);
+    return record_write_text(path);
 }
 
-void mpi_explain_end(const struct question *question) {
+void explain_end(const struct question *question) {
     char own[] = "/tmp/wzrun-XXXXXX";
-    const char *path = mpi_run.text, *colljob = getenv("COLLJOB");
-    if (question->untold != NULL && (mpi_run.explains || path != NULL)) {
+    const char *path = the_run.text, *colljob = getenv("COLLJOB");
+    if (question->untold != NULL && (the_run.explains || path != NULL)) {
         fprintf(stderr, "  colljob can't tell more of it: %s\n", question->untold);
         return;
     }
-    if (!mpi_run.explains) {
+    if (!the_run.explains) {
         if (path != NULL) fprintf(stderr, "  the calls stand in %s: colljob %s %s\n", path, question->words, path);
         return;
     }

@@ -2,8 +2,8 @@
 #ifndef WZ_EXPLAIN_H
 #define WZ_EXPLAIN_H
 
-#include "unreached.h"
+#include "pending_calls.h"
 
-void mpi_explain_end(const struct question *question);
+void explain_end(const struct question *question);
 
 #endif

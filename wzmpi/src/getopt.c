@@ -1,4 +1,4 @@
-/* getopt and getopt_long, linked into each program beside own.c: those of the C library keep their place in variables that all ranks would share. A program that
+/* getopt and getopt_long, linked into each program beside per_rank_libc.c: those of the C library keep their place in variables that all ranks would share. A program that
    brings its own has that. What they do is said in getopt(3). */
 #include <getopt.h>
 #include <stdbool.h>
@@ -26,8 +26,8 @@ struct scan {
     bool in_order, stops, quiet; /* as `-`, `+` and `:` in front of the letters say */
 };
 
-static int complain(const struct scan *it, const char *what, const char *dashes, const char *name, int length) {
-    if (opterr && !it->quiet) fprintf(stderr, "%s: %s '%s%.*s'\n", it->argv[0], what, dashes, length, name);
+static int complain(const struct scan *scan, const char *what, const char *dashes, const char *name, int length) {
+    if (opterr && !scan->quiet) fprintf(stderr, "%s: %s '%s%.*s'\n", scan->argv[0], what, dashes, length, name);
     return '?';
 }
 
@@ -41,24 +41,24 @@ static void bring_forward(char **argv) {
 }
 
 /* Brings the next option to optind. Whether there is one. */
-static bool find_option(const struct scan *it) {
-    while (!it->in_order && !it->stops && optind + place.skipped < it->argc && !is_option(it->argv[optind + place.skipped])) place.skipped++;
-    if (optind + place.skipped >= it->argc || (it->stops && !is_option(it->argv[optind]))) return false;
-    bring_forward(it->argv);
+static bool find_option(const struct scan *scan) {
+    while (!scan->in_order && !scan->stops && optind + place.skipped < scan->argc && !is_option(scan->argv[optind + place.skipped])) place.skipped++;
+    if (optind + place.skipped >= scan->argc || (scan->stops && !is_option(scan->argv[optind]))) return false;
+    bring_forward(scan->argv);
     return true;
 }
 
 /* The argument of an option, which is the next word. Whether there is one. */
-static bool take_argument(const struct scan *it) {
-    if (optind + place.skipped >= it->argc) return false;
-    bring_forward(it->argv);
-    optarg = it->argv[optind++];
+static bool take_argument(const struct scan *scan) {
+    if (optind + place.skipped >= scan->argc) return false;
+    bring_forward(scan->argv);
+    optarg = scan->argv[optind++];
     return true;
 }
 
-static int read_letter(const struct scan *it) {
+static int read_letter(const struct scan *scan) {
     int letter = (unsigned char)*place.rest++;
-    const char *known = letter != ':' && letter != ';' ? strchr(it->letters, letter) : NULL;
+    const char *known = letter != ':' && letter != ';' ? strchr(scan->letters, letter) : NULL;
     char *rest = place.rest, name = (char)letter;
     bool takes = known != NULL && known[1] == ':';
     if (*rest == '\0' || takes) {
@@ -67,90 +67,90 @@ static int read_letter(const struct scan *it) {
     }
     if (known == NULL) {
         optopt = letter;
-        return complain(it, "invalid option --", "", &name, 1);
+        return complain(scan, "invalid option --", "", &name, 1);
     }
     if (takes && *rest != '\0') optarg = rest;
-    else if (takes && known[2] != ':' && !take_argument(it)) {
+    else if (takes && known[2] != ':' && !take_argument(scan)) {
         optopt = letter;
-        complain(it, "option requires an argument --", "", &name, 1);
-        return it->quiet ? ':' : '?';
+        complain(scan, "option requires an argument --", "", &name, 1);
+        return scan->quiet ? ':' : '?';
     }
     return letter;
 }
 
 /* The position of a name, which may be cut short where it is the only one that begins so. -1: there is none, -2: there are several. */
-static int find_name(const struct scan *it, const char *name, size_t length) {
+static int find_name(const struct scan *scan, const char *name, size_t length) {
     int found = -1;
-    for (int i = 0; it->names[i].name != NULL; i++) {
-        if (strncmp(it->names[i].name, name, length) != 0) continue;
-        if (strlen(it->names[i].name) == length) return i;
-        const struct option *other = &it->names[found >= 0 ? found : i];
-        bool alike = other->has_arg == it->names[i].has_arg && other->flag == it->names[i].flag && other->val == it->names[i].val;
+    for (int i = 0; scan->names[i].name != NULL; i++) {
+        if (strncmp(scan->names[i].name, name, length) != 0) continue;
+        if (strlen(scan->names[i].name) == length) return i;
+        const struct option *other = &scan->names[found >= 0 ? found : i];
+        bool alike = other->has_arg == scan->names[i].has_arg && other->flag == scan->names[i].flag && other->val == scan->names[i].val;
         if (found != -2) found = alike ? (found >= 0 ? found : i) : -2;
     }
     return found;
 }
 
-static int read_name(const struct scan *it, int at, const char *dashes, const char *name, int length) {
-    const struct option *option = &it->names[at];
+static int read_name(const struct scan *scan, int at, const char *dashes, const char *name, int length) {
+    const struct option *option = &scan->names[at];
     bool given = name[length] == '=';
     optind++;
     optopt = option->flag == NULL ? option->val : 0;
-    if (given && option->has_arg == no_argument) return complain(it, "option doesn't allow an argument", dashes, name, length);
+    if (given && option->has_arg == no_argument) return complain(scan, "option doesn't allow an argument", dashes, name, length);
     if (given) optarg = (char *)name + length + 1;
-    else if (option->has_arg == required_argument && !take_argument(it)) {
-        complain(it, "option requires an argument", dashes, name, length);
-        return it->quiet ? ':' : '?';
+    else if (option->has_arg == required_argument && !take_argument(scan)) {
+        complain(scan, "option requires an argument", dashes, name, length);
+        return scan->quiet ? ':' : '?';
     }
-    if (it->index != NULL) *it->index = at;
+    if (scan->index != NULL) *scan->index = at;
     if (option->flag == NULL) return option->val;
     *option->flag = option->val;
     return 0;
 }
 
 /* A word that names an option, or one with letters. */
-static int read_word(const struct scan *it) {
-    char *word = it->argv[optind];
+static int read_word(const struct scan *scan) {
+    char *word = scan->argv[optind];
     const char *dashes = word[1] == '-' ? "--" : "-", *name = word + strlen(dashes);
     int length = (int)strcspn(name, "=");
-    bool named = it->names != NULL && (word[1] == '-' || (it->one_dash && (word[2] != '\0' || strchr(it->letters, word[1]) == NULL)));
-    int at = named ? find_name(it, name, (size_t)length) : -1;
-    if (at >= 0) return read_name(it, at, dashes, name, length);
-    if (named && (word[1] == '-' || strchr(it->letters, word[1]) == NULL)) {
+    bool named = scan->names != NULL && (word[1] == '-' || (scan->one_dash && (word[2] != '\0' || strchr(scan->letters, word[1]) == NULL)));
+    int at = named ? find_name(scan, name, (size_t)length) : -1;
+    if (at >= 0) return read_name(scan, at, dashes, name, length);
+    if (named && (word[1] == '-' || strchr(scan->letters, word[1]) == NULL)) {
         optind++;
         optopt = 0;
-        return complain(it, at == -2 ? "option is ambiguous" : "unrecognized option", dashes, name, length);
+        return complain(scan, at == -2 ? "option is ambiguous" : "unrecognized option", dashes, name, length);
     }
     place.rest = word + 1;
-    return read_letter(it);
+    return read_letter(scan);
 }
 
-static int next(const struct scan *it) {
+static int next(const struct scan *scan) {
     optarg = NULL;
-    if (place.rest != NULL) return read_letter(it);
-    if (!find_option(it)) return -1;
-    if (it->in_order && !is_option(it->argv[optind])) {
-        optarg = it->argv[optind++];
+    if (place.rest != NULL) return read_letter(scan);
+    if (!find_option(scan)) return -1;
+    if (scan->in_order && !is_option(scan->argv[optind])) {
+        optarg = scan->argv[optind++];
         return 1;
     }
-    if (strcmp(it->argv[optind], "--") != 0) return read_word(it);
+    if (strcmp(scan->argv[optind], "--") != 0) return read_word(scan);
     optind++;
     return -1;
 }
 
 static int scan(int argc, char *const argv[], const char *letters, const struct option *names, int *index, bool one_dash) {
-    struct scan it = { .argc = argc, .argv = (char **)argv, .names = names, .index = index, .one_dash = one_dash };
-    it.in_order = letters[0] == '-';
-    it.stops = letters[0] == '+' || (!it.in_order && getenv("POSIXLY_CORRECT") != NULL);
+    struct scan scanned = { .argc = argc, .argv = (char **)argv, .names = names, .index = index, .one_dash = one_dash };
+    scanned.in_order = letters[0] == '-';
+    scanned.stops = letters[0] == '+' || (!scanned.in_order && getenv("POSIXLY_CORRECT") != NULL);
     if (letters[0] == '-' || letters[0] == '+') letters++;
-    it.quiet = letters[0] == ':';
-    it.letters = letters;
+    scanned.quiet = letters[0] == ':';
+    scanned.letters = letters;
     if (optind != place.expected || optind == 0) {
         place.rest = NULL;
         place.skipped = 0;
     }
     if (optind == 0) optind = 1;
-    int code = next(&it);
+    int code = next(&scanned);
     if (code == -1) place.skipped = 0;
     place.expected = optind;
     return code;

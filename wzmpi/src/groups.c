@@ -1,26 +1,26 @@
 /* Groups: each rank has its own. */
 #include "comms.h"
-#include "tell.h"
+#include "diagnostics.h"
 
 static struct group empty_group;
 
-struct group *mpi_group(MPI_Group handle) { return handle == MPI_GROUP_EMPTY ? &empty_group : mpi_find(GROUP, handle); }
+struct group *find_group(MPI_Group handle) { return handle == MPI_GROUP_EMPTY ? &empty_group : find_handle(GROUP, handle); }
 
-MPI_Group mpi_new_group(const int *ranks, int size) {
+MPI_Group new_group(const int *ranks, int size) {
     if (size == 0) return MPI_GROUP_EMPTY;
-    struct group *group = mpi_must(malloc(sizeof *group));
+    struct group *group = must(malloc(sizeof *group));
     group->size = size;
     memcpy(group->ranks, ranks, sizeof *ranks * (size_t)size);
-    return (MPI_Group)mpi_add(GROUP, group);
+    return (MPI_Group)add_handle(GROUP, group);
 }
 
 static struct group *known(MPI_Group handle, const char *call, int *code) {
-    mpi_self(call);
-    struct group *group = mpi_group(handle);
+    this_rank(call);
+    struct group *group = find_group(handle);
     *code = MPI_SUCCESS;
     if (group != NULL) return group;
-    if (handle == MPI_GROUP_NULL) *code = mpi_refuse(NULL, MPI_ERR_GROUP, call, "the group is MPI_GROUP_NULL");
-    else *code = mpi_refuse(NULL, MPI_ERR_GROUP, call, mpi_was_freed(GROUP, handle) ? "the group was freed" : "there is no such group");
+    if (handle == MPI_GROUP_NULL) *code = refuse(NULL, MPI_ERR_GROUP, call, "the group is MPI_GROUP_NULL");
+    else *code = refuse(NULL, MPI_ERR_GROUP, call, was_freed(GROUP, handle) ? "the group was freed" : "there is no such group");
     return NULL;
 }
 
@@ -31,13 +31,13 @@ static int place_in(const struct group *group, int rank) {
 }
 
 static int of_members(MPI_Comm handle, bool far, MPI_Group *group, const char *call) {
-    mpi_self(call);
-    struct comm *comm = mpi_comm(handle);
-    if (comm == NULL) return mpi_comm_error(handle, call);
-    if (far && comm->first == 0) return mpi_refuse(comm, MPI_ERR_COMM, call, "this is no intercommunicator");
-    int from, ranks[MOST_RANKS], size = far ? mpi_far(comm, &from) : mpi_near(comm, &from);
+    this_rank(call);
+    struct comm *comm = find_comm(handle);
+    if (comm == NULL) return comm_error(handle, call);
+    if (far && comm->first == 0) return refuse(comm, MPI_ERR_COMM, call, "this is no intercommunicator");
+    int from, ranks[MOST_RANKS], size = far ? far_group(comm, &from) : near_group(comm, &from);
     for (int i = 0; i < size; i++) ranks[i] = comm->members[from + i].rank;
-    *group = mpi_new_group(ranks, size);
+    *group = new_group(ranks, size);
     return MPI_SUCCESS;
 }
 
@@ -55,7 +55,7 @@ int MPI_Group_size(MPI_Group handle, int *size) {
 int MPI_Group_rank(MPI_Group handle, int *rank) {
     int code;
     struct group *group = known(handle, "MPI_Group_rank", &code);
-    if (group != NULL) *rank = place_in(group, mpi_me->number);
+    if (group != NULL) *rank = place_in(group, current_rank->number);
     return code;
 }
 
@@ -65,7 +65,7 @@ int MPI_Group_translate_ranks(MPI_Group first, int many, const int of[], MPI_Gro
     struct group *from = known(first, call, &code), *into = from != NULL ? known(second, call, &code) : NULL;
     if (into == NULL) return code;
     for (int i = 0; i < many; i++) {
-        if (of[i] != MPI_PROC_NULL && (of[i] < 0 || of[i] >= from->size)) return mpi_refuse(NULL, MPI_ERR_RANK, call, "there is no rank %d in the group, which has %d", of[i], from->size);
+        if (of[i] != MPI_PROC_NULL && (of[i] < 0 || of[i] >= from->size)) return refuse(NULL, MPI_ERR_RANK, call, "there is no rank %d in the group, which has %d", of[i], from->size);
         to[i] = of[i] == MPI_PROC_NULL ? MPI_PROC_NULL : place_in(into, from->ranks[of[i]]);
     }
     return code;
@@ -93,7 +93,7 @@ static int of_two(MPI_Group first, MPI_Group second, bool common, bool apart, bo
         if (place_in(two, one->ranks[i]) != MPI_UNDEFINED ? common : apart) ranks[size++] = one->ranks[i];
     for (int i = 0; rest && i < two->size; i++)
         if (place_in(one, two->ranks[i]) == MPI_UNDEFINED) ranks[size++] = two->ranks[i];
-    *made = mpi_new_group(ranks, size);
+    *made = new_group(ranks, size);
     return code;
 }
 
@@ -109,8 +109,8 @@ int MPI_Group_difference(MPI_Group one, MPI_Group two, MPI_Group *made) { return
 static int judged(const struct group *group, int many, const int of[], const char *call) {
     uint64_t seen = 0;
     for (int i = 0; i < many; i++) {
-        if (of[i] < 0 || of[i] >= group->size) return mpi_refuse(NULL, MPI_ERR_RANK, call, "there is no rank %d in the group, which has %d", of[i], group->size);
-        if (seen >> of[i] & 1) return mpi_refuse(NULL, MPI_ERR_RANK, call, "rank %d stands twice in the list", of[i]);
+        if (of[i] < 0 || of[i] >= group->size) return refuse(NULL, MPI_ERR_RANK, call, "there is no rank %d in the group, which has %d", of[i], group->size);
+        if (seen >> of[i] & 1) return refuse(NULL, MPI_ERR_RANK, call, "rank %d stands twice in the list", of[i]);
         seen |= 1ull << of[i];
     }
     return MPI_SUCCESS;
@@ -120,7 +120,7 @@ static int some(MPI_Group handle, int many, const int of[], bool within, MPI_Gro
     int code, ranks[MOST_RANKS], size = 0;
     struct group *group = known(handle, call, &code);
     if (group == NULL) return code;
-    if (many < 0) return mpi_refuse(NULL, MPI_ERR_ARG, call, "the number %d of ranks is negative", many);
+    if (many < 0) return refuse(NULL, MPI_ERR_ARG, call, "the number %d of ranks is negative", many);
     code = judged(group, many, of, call);
     if (code != MPI_SUCCESS) return code;
     uint64_t named = 0;
@@ -128,7 +128,7 @@ static int some(MPI_Group handle, int many, const int of[], bool within, MPI_Gro
     for (int i = 0; within && i < many; i++) ranks[size++] = group->ranks[of[i]];
     for (int i = 0; !within && i < group->size; i++)
         if (!(named >> i & 1)) ranks[size++] = group->ranks[i];
-    *made = mpi_new_group(ranks, size);
+    *made = new_group(ranks, size);
     return code;
 }
 
@@ -140,9 +140,9 @@ static int ranged(MPI_Group group, int many, int ranges[][3], bool within, MPI_G
     int of[MOST_RANKS], size = 0;
     for (int i = 0; i < many; i++) {
         int at = ranges[i][0], last = ranges[i][1], stride = ranges[i][2];
-        if (stride == 0) return mpi_refuse(NULL, MPI_ERR_ARG, call, "the stride of range %d is 0", i);
+        if (stride == 0) return refuse(NULL, MPI_ERR_ARG, call, "the stride of range %d is 0", i);
         for (; stride > 0 ? at <= last : at >= last; at += stride) {
-            if (size == MOST_RANKS) return mpi_refuse(NULL, MPI_ERR_RANK, call, "the ranges have more ranks than there are");
+            if (size == MOST_RANKS) return refuse(NULL, MPI_ERR_RANK, call, "the ranges have more ranks than there are");
             of[size++] = at;
         }
     }
@@ -158,7 +158,7 @@ int MPI_Group_free(MPI_Group *handle) {
     struct group *group = known(*handle, "MPI_Group_free", &code);
     if (group == NULL) return code;
     if (group != &empty_group) {
-        mpi_remove(GROUP, *handle);
+        remove_handle(GROUP, *handle);
         free(group);
     }
     *handle = MPI_GROUP_NULL;

@@ -9,7 +9,7 @@ static uint32_t number_in(const void *handle) { return (uint32_t)((uintptr_t)han
 
 static uint32_t generation_in(const void *handle) { return (uint32_t)((uintptr_t)handle >> TABLE_NUMBER_BITS); }
 
-void *mpi_must(void *memory) {
+void *must(void *memory) {
     if (memory != NULL) return memory;
     fprintf(stderr, "wzrun: there is no memory left\n");
     _exit(1);
@@ -20,18 +20,18 @@ static uint32_t free_number(struct table *table) {
     while (at < table->many && table->objects[at] != NULL) at++;
     if (at == table->room) {
         table->room = 2 * table->room + 16;
-        table->objects = mpi_must(realloc(table->objects, sizeof *table->objects * table->room));
-        table->generations = mpi_must(realloc(table->generations, sizeof *table->generations * table->room));
+        table->objects = must(realloc(table->objects, sizeof *table->objects * table->room));
+        table->generations = must(realloc(table->generations, sizeof *table->generations * table->room));
     }
     if (at == table->many) table->generations[table->many++] = 0;
     return at;
 }
 
-uintptr_t mpi_add(enum kind kind, void *object) {
-    struct table *table = &mpi_me->tables[kind];
+uintptr_t add_handle(enum kind kind, void *object) {
+    struct table *table = &current_rank->tables[kind];
     uint32_t at = free_number(table);
     if (at >= (1u << TABLE_NUMBER_BITS) - FIRST_MADE) {
-        fprintf(stderr, "wzrun: rank %d has 16 million objects of one kind\n", mpi_me->number);
+        fprintf(stderr, "wzrun: rank %d has 16 million objects of one kind\n", current_rank->number);
         _exit(1);
     }
     table->objects[at] = object;
@@ -42,27 +42,27 @@ uintptr_t mpi_add(enum kind kind, void *object) {
 /* Whether a handle is of this kind and names something that a table has or had. */
 static bool names(enum kind kind, const void *handle) {
     uint32_t number = number_in(handle);
-    return (uintptr_t)handle >> 56 == (uintptr_t)kind && number >= FIRST_MADE && number - FIRST_MADE < mpi_me->tables[kind].many;
+    return (uintptr_t)handle >> 56 == (uintptr_t)kind && number >= FIRST_MADE && number - FIRST_MADE < current_rank->tables[kind].many;
 }
 
-void *mpi_find(enum kind kind, const void *handle) {
+void *find_handle(enum kind kind, const void *handle) {
     if (!names(kind, handle)) return NULL;
-    struct table *table = &mpi_me->tables[kind];
+    struct table *table = &current_rank->tables[kind];
     uint32_t at = number_in(handle) - FIRST_MADE;
     return table->generations[at] == generation_in(handle) ? table->objects[at] : NULL;
 }
 
-uintptr_t mpi_handle_of(enum kind kind, const void *object) {
-    struct table *table = &mpi_me->tables[kind];
+uintptr_t handle_of(enum kind kind, const void *object) {
+    struct table *table = &current_rank->tables[kind];
     for (uint32_t i = 0; i < table->many; i++)
         if (table->objects[i] == object) return (uintptr_t)kind << 56 | (uintptr_t)table->generations[i] << TABLE_NUMBER_BITS | (i + FIRST_MADE);
     return (uintptr_t)kind << 56;
 }
 
-bool mpi_was_freed(enum kind kind, const void *handle) { return names(kind, handle) && mpi_find(kind, handle) == NULL; }
+bool was_freed(enum kind kind, const void *handle) { return names(kind, handle) && find_handle(kind, handle) == NULL; }
 
-void mpi_remove(enum kind kind, const void *handle) {
-    struct table *table = &mpi_me->tables[kind];
+void remove_handle(enum kind kind, const void *handle) {
+    struct table *table = &current_rank->tables[kind];
     uint32_t at = number_in(handle) - FIRST_MADE;
     table->objects[at] = NULL;
     table->generations[at]++;
@@ -78,14 +78,14 @@ static uint64_t next_random(uint64_t *state) { /* splitmix64 */
     return z ^ (z >> 31);
 }
 
-uint32_t mpi_draw(uint32_t below) {
-    if (mpi_run.seed == 0 || below < 2) return 0;
-    return (uint32_t)(next_random(&mpi_me->random) % below);
+uint32_t draw_number(uint32_t below) {
+    if (the_run.seed == 0 || below < 2) return 0;
+    return (uint32_t)(next_random(&current_rank->random) % below);
 }
 
-void mpi_pause(void) {
-    if (mpi_run.seed == 0) return;
-    uint32_t drawn = mpi_draw(256);
+void hold_up(void) {
+    if (the_run.seed == 0) return;
+    uint32_t drawn = draw_number(256);
     if (drawn < 32) sched_yield();
-    else if (drawn == 32) nanosleep(&(struct timespec){ 0, (long)mpi_draw(2000000) }, NULL);
+    else if (drawn == 32) nanosleep(&(struct timespec){ 0, (long)draw_number(2000000) }, NULL);
 }

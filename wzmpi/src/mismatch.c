@@ -1,7 +1,7 @@
 /* Calls that don't agree: who has which, and who is the odd one. */
 #include "collectives.h"
-#include "tell.h"
-#include "watch.h"
+#include "diagnostics.h"
+#include "deadlock_watch.h"
 
 #include <time.h>
 
@@ -11,13 +11,13 @@ enum {
 };
 
 /* Whether a rank won't come to the place any more, as far as can be seen. */
-static bool stays_away(const struct rank *rank) { return atomic_load(&rank->ended) || rank == mpi_me; }
+static bool stays_away(const struct rank *rank) { return atomic_load(&rank->ended) || rank == current_rank; }
 
 static uint64_t members_at(struct comm *comm, uint64_t place) {
     struct called called;
     uint64_t members = 0;
     for (int i = 0; i < comm->size; i++)
-        if (mpi_read_called(comm, i, place, &called)) members |= 1ull << i;
+        if (read_called(comm, i, place, &called)) members |= 1ull << i;
     return members;
 }
 
@@ -30,9 +30,9 @@ struct stuck {
 static bool nobody_comes(struct comm *comm, uint64_t there, struct stuck *stuck) {
     bool nobody = true;
     for (int i = 0; i < comm->size; i++) {
-        struct rank *rank = &mpi_run.ranks[comm->members[i].rank];
+        struct rank *rank = &the_run.ranks[comm->members[i].rank];
         unsigned waits = atomic_load(&rank->waits_begun);
-        bool same = waits == stuck->waits[i] && atomic_load(&rank->waits) && mpi_is_stuck(rank);
+        bool same = waits == stuck->waits[i] && atomic_load(&rank->waits) && is_stuck(rank);
         stuck->turns[i] = same ? stuck->turns[i] + 1 : 0;
         stuck->waits[i] = waits;
         nobody = nobody && ((there >> i & 1) || stays_away(rank) || stuck->turns[i] > STUCK_TURNS);
@@ -44,15 +44,15 @@ static bool nobody_comes(struct comm *comm, uint64_t there, struct stuck *stuck)
 static void wait_for_others(struct comm *comm, uint64_t place) {
     struct stuck stuck = { { 0 }, { 0 } };
     for (int turn = 0; turn < LONGEST_TURNS; turn++) {
-        mpi_look(true);
+        hold_watch(true);
         bool nobody = nobody_comes(comm, members_at(comm, place), &stuck);
-        mpi_look(false);
+        hold_watch(false);
         if (nobody) return;
         nanosleep(&(struct timespec){ 0, 1000000 }, NULL);
     }
 }
 
-static bool all_alike(const struct called *one, const struct called *other) { return mpi_agree(one, other) && strcmp(one->site, other->site) == 0; }
+static bool all_alike(const struct called *one, const struct called *other) { return calls_agree(one, other) && strcmp(one->site, other->site) == 0; }
 
 /* What a place of a communicator has, once it is looked at. */
 struct place {
@@ -68,7 +68,7 @@ static uint64_t alike(const struct place *place, int i, bool exactly) {
     uint64_t ranks = 0;
     for (int j = 0; j < place->comm->size; j++) {
         if (!(place->there >> j & 1)) continue;
-        bool same = exactly ? all_alike(&place->called[i], &place->called[j]) : mpi_agree(&place->called[i], &place->called[j]);
+        bool same = exactly ? all_alike(&place->called[i], &place->called[j]) : calls_agree(&place->called[i], &place->called[j]);
         if (same) ranks |= rank_bit(place, j);
     }
     return ranks;
@@ -81,13 +81,13 @@ static void tell_calls(const struct place *place) {
         if (!(place->there >> i & 1) || (told & rank_bit(place, i))) continue;
         uint64_t same = alike(place, i, true);
         told |= same;
-        fprintf(stderr, "  %s: %s: %s\n", mpi_ranks_text(same, ranks), place->called[i].site, mpi_called_text(&place->called[i], call));
+        fprintf(stderr, "  %s: %s: %s\n", ranks_text(same, ranks), place->called[i].site, called_text(&place->called[i], call));
     }
 }
 
 static void tell_absent(const struct place *place) {
     for (int i = 0; i < place->comm->size; i++) {
-        const struct rank *rank = &mpi_run.ranks[place->comm->members[i].rank];
+        const struct rank *rank = &the_run.ranks[place->comm->members[i].rank];
         if (place->there >> i & 1) continue;
         const char *what = atomic_load(&rank->ended) ? "has ended; its last call stands at" : atomic_load(&rank->waits) ? "waits at" : "goes on after its call at";
         fprintf(stderr, "  rank %d hasn't come there: it %s %s\n", rank->number, what, atomic_load(&rank->site));
@@ -103,28 +103,28 @@ static void tell_difference(const struct place *place) {
         if (!(place->there >> i & 1)) continue;
         uint64_t same = alike(place, i, false);
         all |= rank_bit(place, i);
-        if (mpi_count_ranks(same) > mpi_count_ranks(most)) most = same, common = i;
+        if (count_ranks(same) > count_ranks(most)) most = same, common = i;
     }
     for (int i = place->comm->size - 1; i >= 0; i--)
         if ((place->there >> i & 1) && !(most & rank_bit(place, i))) odd = i;
     if (odd < 0) return;
-    const char *difference = mpi_difference(&place->called[odd], &place->called[common]);
-    if (2 * mpi_count_ranks(most) > mpi_count_ranks(all))
-        fprintf(stderr, "  %d ranks agree, so %s may be wrong: %s\n", mpi_count_ranks(most), mpi_ranks_text(all & ~most, text), difference);
+    const char *difference = what_differs(&place->called[odd], &place->called[common]);
+    if (2 * count_ranks(most) > count_ranks(all))
+        fprintf(stderr, "  %d ranks agree, so %s may be wrong: %s\n", count_ranks(most), ranks_text(all & ~most, text), difference);
     else fprintf(stderr, "  %s\n", difference);
 }
 
-void mpi_tell_mismatch(struct comm *comm, uint64_t number) {
+void tell_mismatch(struct comm *comm, uint64_t number) {
     char name[NAME_TEXT];
     struct place place = { .comm = comm };
-    mpi_tell_alone();
+    tell_alone();
     wait_for_others(comm, number);
     for (int i = 0; i < comm->size; i++)
-        if (mpi_read_called(comm, i, number, &place.called[i])) place.there |= 1ull << i;
+        if (read_called(comm, i, number, &place.called[i])) place.there |= 1ull << i;
     fflush(stdout);
-    fprintf(stderr, "wzrun: collectives don't agree: place %llu of %s (MPI_ERR_ARG)\n", (unsigned long long)number, mpi_comm_name(comm, name));
+    fprintf(stderr, "wzrun: collectives don't agree: place %llu of %s (MPI_ERR_ARG)\n", (unsigned long long)number, comm_name(comm, name));
     tell_calls(&place);
     tell_absent(&place);
     tell_difference(&place);
-    mpi_end_run(STATUS_WRONG, mpi_complete_mismatch());
+    end_run(STATUS_WRONG, complete_mismatch());
 }

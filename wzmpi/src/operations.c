@@ -1,6 +1,6 @@
 /* Operations: which there are, and what they take. */
 #include "counted.h"
-#include "tell.h"
+#include "diagnostics.h"
 #include "types.h"
 
 #include <dlfcn.h>
@@ -23,16 +23,16 @@ __attribute__((constructor)) static void number_operations(void) {
     for (int i = 0; i < PREDEFINED; i++) predefined[i].identity = (uintptr_t)i;
 }
 
-struct op *mpi_op(MPI_Op handle) {
+struct op *find_op(MPI_Op handle) {
     uintptr_t number = (uintptr_t)handle - (uintptr_t)MPI_OP_NULL;
-    return number > 0 && number < PREDEFINED ? &predefined[number] : mpi_find(OP, handle);
+    return number > 0 && number < PREDEFINED ? &predefined[number] : find_handle(OP, handle);
 }
 
-void mpi_op_unuse(struct op *op) {
+void op_unuse(struct op *op) {
     if (op->number == 0 && --op->uses == 0) free(op);
 }
 
-int mpi_engine_op(const struct op *op) {
+int engine_op(const struct op *op) {
     static const int numbers[PREDEFINED] = { -1, WZ_MAX, WZ_MIN, WZ_SUM, WZ_PROD, WZ_LAND, WZ_BAND, WZ_LOR, WZ_BOR, WZ_LXOR, WZ_BXOR, WZ_MINLOC, WZ_MAXLOC, -1, -1 };
     return numbers[op->number];
 }
@@ -48,7 +48,7 @@ static bool takes_class(int op, enum class class) {
     case 4: return whole || class == REAL || class == COMPLEX;
     case 5:
     case 7:
-    case 9: return whole || class == TRUTH || (class == REAL && !mpi_run.strict);
+    case 9: return whole || class == TRUTH || (class == REAL && !the_run.strict);
     case 6:
     case 8:
     case 10: return whole || class == BITS;
@@ -58,11 +58,11 @@ static bool takes_class(int op, enum class class) {
     }
 }
 
-bool mpi_op_takes(const struct op *op, const struct type *type) {
+bool op_takes(const struct op *op, const struct type *type) {
     if (op->number == 0) return true;
     if (type->basic == 0 || type->signature.elements != 1 || type->basic == (MPI_PACKED & 0xff)) return false;
-    enum class class = mpi_basic(type->basic)->class;
-    if (type->basic == (MPI_CHAR & 0xff) && !mpi_run.strict) class = SIGNED;
+    enum class class = basic_type(type->basic)->class;
+    if (type->basic == (MPI_CHAR & 0xff) && !the_run.strict) class = SIGNED;
     return takes_class(op->number, class);
 }
 
@@ -76,13 +76,13 @@ static uintptr_t identity_of(void *function, const char **name) {
 }
 
 static int create(MPI_User_function *user, MPI_User_function_c *wide, int commutes, MPI_Op *made, const char *call) {
-    if (user == NULL && wide == NULL) return mpi_refuse(NULL, MPI_ERR_ARG, call, "there is no function");
+    if (user == NULL && wide == NULL) return refuse(NULL, MPI_ERR_ARG, call, "there is no function");
     const char *name;
-    struct op *op = mpi_must(calloc(1, sizeof *op));
+    struct op *op = must(calloc(1, sizeof *op));
     *op = (struct op){ .user = user, .user_wide = wide, .commutes = commutes != 0, .uses = 1 };
     op->identity = identity_of(user != NULL ? (void *)(uintptr_t)user : (void *)(uintptr_t)wide, &name);
     op->name = name != NULL ? name : "an operation of the program"; /* both stay as long as the run */
-    *made = (MPI_Op)mpi_add(OP, op);
+    *made = (MPI_Op)add_handle(OP, op);
     return MPI_SUCCESS;
 }
 
@@ -91,37 +91,37 @@ int MPI_Op_create(MPI_User_function *user, int commutes, MPI_Op *made) { return 
 int MPI_Op_create_c(MPI_User_function_c *user, int commutes, MPI_Op *made) { return create(NULL, user, commutes, made, "MPI_Op_create_c"); }
 
 static int unknown(MPI_Op handle, const char *call) {
-    if (handle == MPI_OP_NULL) return mpi_refuse(NULL, MPI_ERR_OP, call, "the operation is MPI_OP_NULL");
-    return mpi_refuse(NULL, MPI_ERR_OP, call, mpi_was_freed(OP, handle) ? "the operation was freed" : "there is no such operation");
+    if (handle == MPI_OP_NULL) return refuse(NULL, MPI_ERR_OP, call, "the operation is MPI_OP_NULL");
+    return refuse(NULL, MPI_ERR_OP, call, was_freed(OP, handle) ? "the operation was freed" : "there is no such operation");
 }
 
 int MPI_Op_free(MPI_Op *handle) {
-    struct op *op = mpi_op(*handle);
+    struct op *op = find_op(*handle);
     if (op == NULL) return unknown(*handle, "MPI_Op_free");
-    if (op->number > 0) return mpi_refuse(NULL, MPI_ERR_OP, "MPI_Op_free", "%s can't be freed", op->name);
-    mpi_remove(OP, *handle);
-    mpi_op_unuse(op);
+    if (op->number > 0) return refuse(NULL, MPI_ERR_OP, "MPI_Op_free", "%s can't be freed", op->name);
+    remove_handle(OP, *handle);
+    op_unuse(op);
     *handle = MPI_OP_NULL;
     return MPI_SUCCESS;
 }
 
 int MPI_Op_commutative(MPI_Op handle, int *commutes) {
-    struct op *op = mpi_op(handle);
+    struct op *op = find_op(handle);
     if (op == NULL) return unknown(handle, "MPI_Op_commutative");
     *commutes = op->commutes;
     return MPI_SUCCESS;
 }
 
-int mpi_Reduce_local(const void *row, void *more, MPI_Count many, MPI_Datatype handle, MPI_Op operation) {
+int counted_Reduce_local(const void *row, void *more, MPI_Count many, MPI_Datatype handle, MPI_Op operation) {
     const char *call = "MPI_Reduce_local";
-    struct type *type = mpi_type(handle);
-    struct op *op = mpi_op(operation);
-    if (type == NULL) return mpi_type_error(handle, call);
+    struct type *type = find_type(handle);
+    struct op *op = find_op(operation);
+    if (type == NULL) return type_error(handle, call);
     if (op == NULL) return unknown(operation, call);
-    if (many < 0) return mpi_refuse(NULL, MPI_ERR_COUNT, call, "the count %lld is negative", (long long)many);
-    if (!mpi_op_takes(op, type)) return mpi_refuse(NULL, MPI_ERR_OP, call, "%s isn't for %s", op->name, type->name != NULL ? type->name : "this type");
-    if (row == MPI_IN_PLACE || more == MPI_IN_PLACE) return mpi_refuse(NULL, MPI_ERR_BUFFER, call, "MPI_IN_PLACE isn't for this call");
-    if (row == more && many > 0) return mpi_refuse(NULL, MPI_ERR_BUFFER, call, "both buffers are the same memory");
-    mpi_compute(op, handle, type, many, (void *)(uintptr_t)row, more);
+    if (many < 0) return refuse(NULL, MPI_ERR_COUNT, call, "the count %lld is negative", (long long)many);
+    if (!op_takes(op, type)) return refuse(NULL, MPI_ERR_OP, call, "%s isn't for %s", op->name, type->name != NULL ? type->name : "this type");
+    if (row == MPI_IN_PLACE || more == MPI_IN_PLACE) return refuse(NULL, MPI_ERR_BUFFER, call, "MPI_IN_PLACE isn't for this call");
+    if (row == more && many > 0) return refuse(NULL, MPI_ERR_BUFFER, call, "both buffers are the same memory");
+    compute(op, handle, type, many, (void *)(uintptr_t)row, more);
     return MPI_SUCCESS;
 }

@@ -1,7 +1,7 @@
 /* The words of wzrun, and runs over many seeds. */
 #include "options.h"
 
-#include "tell.h"
+#include "diagnostics.h"
 
 #include <sys/wait.h>
 #include <unistd.h>
@@ -53,22 +53,22 @@ static bool is_word(const char *word, const char *text) { return strcmp(word, te
 
 /* A word without a value. Whether it is one. */
 static bool read_flag(const char *word) {
-    if (is_word(word, "--strict")) mpi_run.strict = true;
-    else if (is_word(word, "--check")) mpi_run.checks = true;
-    else if (is_word(word, "--explain")) mpi_run.explains = true;
-    else if (is_word(word, "--stats")) mpi_run.statistics = true;
+    if (is_word(word, "--strict")) the_run.strict = true;
+    else if (is_word(word, "--check")) the_run.checks = true;
+    else if (is_word(word, "--explain")) the_run.explains = true;
+    else if (is_word(word, "--stats")) the_run.statistics = true;
     else return false;
     return true;
 }
 
 static bool read_value(const char *word, const char *value, struct options *options) {
     if (is_word(word, "-n") || is_word(word, "-np")) options->ranks = ranks_of(word, value);
-    else if (is_word(word, "--seed")) mpi_run.seed = number(word, value, NULL);
+    else if (is_word(word, "--seed")) the_run.seed = number(word, value, NULL);
     else if (is_word(word, "--seeds")) read_seeds(value, options);
-    else if (is_word(word, "--text")) mpi_run.text = value;
-    else if (is_word(word, "--values")) mpi_run.values = value;
-    else if (is_word(word, "--timeline")) mpi_run.timeline = value;
-    else if (is_word(word, "--trace")) mpi_run.trace = value;
+    else if (is_word(word, "--text")) the_run.text = value;
+    else if (is_word(word, "--values")) the_run.values = value;
+    else if (is_word(word, "--timeline")) the_run.timeline = value;
+    else if (is_word(word, "--trace")) the_run.trace = value;
     else return false;
     return true;
 }
@@ -81,18 +81,18 @@ static bool is_set(const char *variable) {
 /* A program that runs by itself has its options in variables. */
 static void read_variables(struct options *options) {
     if (is_set("WZ_RANKS")) options->ranks = ranks_of("WZ_RANKS", getenv("WZ_RANKS"));
-    mpi_run.strict = is_set("WZ_STRICT");
-    mpi_run.checks = is_set("WZ_CHECK");
-    mpi_run.explains = is_set("WZ_EXPLAIN");
-    mpi_run.statistics = is_set("WZ_STATS");
-    if (is_set("WZ_SEED")) mpi_run.seed = number("WZ_SEED", getenv("WZ_SEED"), NULL);
-    if (is_set("WZ_TEXT")) mpi_run.text = getenv("WZ_TEXT");
-    if (is_set("WZ_VALUES")) mpi_run.values = getenv("WZ_VALUES");
-    if (is_set("WZ_TIMELINE")) mpi_run.timeline = getenv("WZ_TIMELINE");
-    if (is_set("WZ_TRACE")) mpi_run.trace = getenv("WZ_TRACE");
+    the_run.strict = is_set("WZ_STRICT");
+    the_run.checks = is_set("WZ_CHECK");
+    the_run.explains = is_set("WZ_EXPLAIN");
+    the_run.statistics = is_set("WZ_STATS");
+    if (is_set("WZ_SEED")) the_run.seed = number("WZ_SEED", getenv("WZ_SEED"), NULL);
+    if (is_set("WZ_TEXT")) the_run.text = getenv("WZ_TEXT");
+    if (is_set("WZ_VALUES")) the_run.values = getenv("WZ_VALUES");
+    if (is_set("WZ_TIMELINE")) the_run.timeline = getenv("WZ_TIMELINE");
+    if (is_set("WZ_TRACE")) the_run.trace = getenv("WZ_TRACE");
 }
 
-void mpi_read_options(int argc, char **argv, struct options *options) {
+void read_options(int argc, char **argv, struct options *options) {
     int at = 1;
     *options = (struct options){ .ranks = 1 };
     read_variables(options);
@@ -118,7 +118,7 @@ void mpi_read_options(int argc, char **argv, struct options *options) {
 static int run_seed(int argc, char **argv, uint64_t seed) {
     static char word[] = "--seed";
     char text[24];
-    char **words = mpi_must(calloc((size_t)argc + 1, sizeof *words));
+    char **words = must(calloc((size_t)argc + 1, sizeof *words));
     snprintf(text, sizeof text, "%llu", (unsigned long long)seed);
     for (int i = 0; i < argc; i++) words[i] = argv[i];
     for (int i = 1; i + 1 < argc; i++)
@@ -138,7 +138,7 @@ static int run_seed(int argc, char **argv, uint64_t seed) {
     return WIFSIGNALED(status) ? 128 + WTERMSIG(status) : WEXITSTATUS(status);
 }
 
-int mpi_run_seeds(int argc, char **argv, const struct options *options) {
+int run_seeds(int argc, char **argv, const struct options *options) {
     for (uint64_t seed = options->first_seed; seed <= options->last_seed; seed++) {
         fflush(stdout);
         int status = run_seed(argc, argv, seed);

@@ -10,10 +10,10 @@ struct options {
     int program;                    /* where in argv the program stands */
 };
 
-/* Reads them into *options and mpi_run. Ends with status 1, or 0 after --help. */
-void mpi_read_options(int argc, char **argv, struct options *options);
+/* Reads them into *options and the_run. Ends with status 1, or 0 after --help. */
+void read_options(int argc, char **argv, struct options *options);
 
 /* Runs the program once for each seed, as a process of its own, until one ends badly. The status of that, or 0. */
-int mpi_run_seeds(int argc, char **argv, const struct options *options);
+int run_seeds(int argc, char **argv, const struct options *options);
 
 #endif

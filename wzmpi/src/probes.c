@@ -1,14 +1,14 @@
 /* The calls that look for a message, take it out for one receive, and give up a receive. */
 #include "counted.h"
-#include "mail.h"
-#include "tell.h"
+#include "mailbox.h"
+#include "diagnostics.h"
 
 #include <sched.h>
 
 /* A probe as a request that is active, with what it asks for. */
 static int make_probe(int source, int tag, MPI_Comm comm, struct request **made, const char *call) {
     char byte;
-    int code = mpi_make_message(&(struct words){ NULL, &byte, 0, MPI_BYTE, source, tag, comm, call }, RECEIVING, false, made);
+    int code = make_message(&(struct words){ NULL, &byte, 0, MPI_BYTE, source, tag, comm, call }, RECEIVING, false, made);
     if (code != MPI_SUCCESS) return code;
     (*made)->sort = PROBING;
     (*made)->active = true;
@@ -16,25 +16,25 @@ static int make_probe(int source, int tag, MPI_Comm comm, struct request **made,
 }
 
 /* Whether a message is there; where it is waited for, it is in the end. */
-static bool look(struct request *it, bool waits, MPI_Status *status) {
-    struct request *only[1] = { it };
-    if (it->other == MPI_PROC_NULL) {
-        mpi_write_status(status, NULL);
+static bool look(struct request *request, bool waits, MPI_Status *status) {
+    struct request *only[1] = { request };
+    if (request->other == MPI_PROC_NULL) {
+        write_status(status, NULL);
         return true;
     }
-    if (waits && !mpi_has_come(it, MPI_STATUS_IGNORE)) mpi_wait_for(it->name, only, 1, false);
-    bool there = mpi_has_come(it, status);
+    if (waits && !has_come(request, MPI_STATUS_IGNORE)) wait_for(request->name, only, 1, false);
+    bool there = has_come(request, status);
     if (!there) sched_yield();
     return there;
 }
 
 static int probe(int source, int tag, MPI_Comm comm, int *flag, MPI_Status *status, const char *call) {
-    struct request *it;
-    int code = make_probe(source, tag, comm, &it, call);
+    struct request *request;
+    int code = make_probe(source, tag, comm, &request, call);
     if (code != MPI_SUCCESS) return code;
-    bool there = look(it, flag == NULL, status);
+    bool there = look(request, flag == NULL, status);
     if (flag != NULL) *flag = there;
-    mpi_drop_request(it);
+    drop_request(request);
     return code;
 }
 
@@ -50,19 +50,19 @@ struct taken {
 };
 
 static int take(int source, int tag, MPI_Comm comm, int *flag, MPI_Message *handle, MPI_Status *status, const char *call) {
-    struct request *it;
-    int code = make_probe(source, tag, comm, &it, call);
+    struct request *request;
+    int code = make_probe(source, tag, comm, &request, call);
     *handle = MPI_MESSAGE_NULL;
     if (code != MPI_SUCCESS) return code;
-    bool there = look(it, flag == NULL, status);
+    bool there = look(request, flag == NULL, status);
     if (flag != NULL) *flag = there;
     if (there && source == MPI_PROC_NULL) *handle = MPI_MESSAGE_NO_PROC;
     else if (there) {
-        struct taken *taken = mpi_must(malloc(sizeof *taken));
-        *taken = (struct taken){ mpi_take_message(it), comm };
-        *handle = (MPI_Message)mpi_add(TAKEN, taken);
+        struct taken *taken = must(malloc(sizeof *taken));
+        *taken = (struct taken){ take_message(request), comm };
+        *handle = (MPI_Message)add_handle(TAKEN, taken);
     }
-    mpi_drop_request(it);
+    drop_request(request);
     return code;
 }
 
@@ -76,37 +76,37 @@ int MPI_Improbe(int source, int tag, MPI_Comm comm, int *flag, MPI_Message *mess
 
 /* An active receive of what was taken out. */
 static int receive(void *into, MPI_Count many, MPI_Datatype type, MPI_Message *handle, struct request **made, const char *call) {
-    mpi_self(call);
+    this_rank(call);
     bool nobody = *handle == MPI_MESSAGE_NO_PROC;
-    struct taken *taken = nobody ? NULL : mpi_find(TAKEN, *handle);
-    if (!nobody && taken == NULL) return mpi_refuse(NULL, MPI_ERR_REQUEST, call, "there is no such message, or it was received before");
+    struct taken *taken = nobody ? NULL : find_handle(TAKEN, *handle);
+    if (!nobody && taken == NULL) return refuse(NULL, MPI_ERR_REQUEST, call, "there is no such message, or it was received before");
     struct words words = { NULL, into, many, type, MPI_PROC_NULL, MPI_ANY_TAG, MPI_COMM_SELF, call };
     if (!nobody) words = (struct words){ NULL, into, many, type, taken->message->group_rank, taken->message->tag, taken->comm, call };
-    int code = mpi_make_message(&words, RECEIVING, false, made);
+    int code = make_message(&words, RECEIVING, false, made);
     if (code != MPI_SUCCESS) return code;
     (*made)->active = true;
     if (nobody) atomic_store(&(*made)->arrived, true);
     else {
-        mpi_receive_taken(taken->message, *made);
-        mpi_remove(TAKEN, *handle);
+        receive_taken(taken->message, *made);
+        remove_handle(TAKEN, *handle);
         free(taken);
     }
     *handle = MPI_MESSAGE_NULL;
     return code;
 }
 
-int mpi_Mrecv(void *into, MPI_Count many, MPI_Datatype type, MPI_Message *message, MPI_Status *status) {
-    struct request *it;
-    int code = receive(into, many, type, message, &it, "MPI_Mrecv");
-    return code == MPI_SUCCESS ? mpi_complete(it, status, "MPI_Mrecv") : code;
+int counted_Mrecv(void *into, MPI_Count many, MPI_Datatype type, MPI_Message *message, MPI_Status *status) {
+    struct request *request;
+    int code = receive(into, many, type, message, &request, "MPI_Mrecv");
+    return code == MPI_SUCCESS ? complete_request(request, status, "MPI_Mrecv") : code;
 }
 
-int mpi_Imrecv(void *into, MPI_Count many, MPI_Datatype type, MPI_Message *message, MPI_Request *request) {
-    struct request *it;
-    int code = receive(into, many, type, message, &it, "MPI_Imrecv");
+int counted_Imrecv(void *into, MPI_Count many, MPI_Datatype type, MPI_Message *message, MPI_Request *request) {
+    struct request *made;
+    int code = receive(into, many, type, message, &made, "MPI_Imrecv");
     if (code == MPI_SUCCESS) {
-        *request = mpi_publish(it);
-        mpi_lend(it);
+        *request = publish(made);
+        lend(made);
     }
     return code;
 }
@@ -115,16 +115,16 @@ int mpi_Imrecv(void *into, MPI_Count many, MPI_Datatype type, MPI_Message *messa
 
 int MPI_Cancel(MPI_Request *handle) {
     const char *call = "MPI_Cancel";
-    struct request *it;
-    mpi_self(call);
-    int code = mpi_request(*handle, call, &it);
+    struct request *request;
+    this_rank(call);
+    int code = find_request(*handle, call, &request);
     if (code != MPI_SUCCESS) return code;
-    if (it == NULL) return mpi_refuse(NULL, MPI_ERR_REQUEST, call, "the request is MPI_REQUEST_NULL");
-    if (it->sort == COLLECTIVE) return mpi_refuse(it->comm, MPI_ERR_REQUEST, call, "the request of %s is a collective's, which can't be cancelled (MPI 4.1, 6.12)", it->site);
-    if (!it->active) return mpi_refuse(it->comm, MPI_ERR_REQUEST, call, "the request of %s isn't active", it->site);
-    if (it->other == MPI_PROC_NULL) return MPI_SUCCESS;
-    if (it->sort == RECEIVING) it->cancelled = mpi_cancel_receive(it);
-    else it->cancelled = mpi_cancel_send(it);
+    if (request == NULL) return refuse(NULL, MPI_ERR_REQUEST, call, "the request is MPI_REQUEST_NULL");
+    if (request->sort == COLLECTIVE) return refuse(request->comm, MPI_ERR_REQUEST, call, "the request of %s is a collective's, which can't be cancelled (MPI 4.1, 6.12)", request->site);
+    if (!request->active) return refuse(request->comm, MPI_ERR_REQUEST, call, "the request of %s isn't active", request->site);
+    if (request->other == MPI_PROC_NULL) return MPI_SUCCESS;
+    if (request->sort == RECEIVING) request->cancelled = cancel_receive(request);
+    else request->cancelled = cancel_send(request);
     return MPI_SUCCESS;
 }
 

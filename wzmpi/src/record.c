@@ -8,21 +8,21 @@ static int many_comms = 1;
 static atomic_int posts;
 static pthread_mutex_t comms_guard = PTHREAD_MUTEX_INITIALIZER;
 
-bool mpi_record_is_wanted(void) { return mpi_run.text != NULL || mpi_run.values != NULL || mpi_run.explains; }
+bool record_is_wanted(void) { return the_run.text != NULL || the_run.values != NULL || the_run.explains; }
 
 /* The rank makes its part, or whoever ends the run, if that comes first. */
-struct recording *mpi_record_part(struct rank *rank) {
+struct recording *record_part(struct rank *rank) {
     struct recording *part = atomic_load(&rank->recording), *none = NULL;
     if (part != NULL) return part;
-    part = mpi_must(calloc(1, sizeof *part));
-    part->text = mpi_must(open_memstream(&part->bytes, &part->length));
+    part = must(calloc(1, sizeof *part));
+    part->text = must(open_memstream(&part->bytes, &part->length));
     return atomic_compare_exchange_strong(&rank->recording, &none, part) ? part : none;
 }
 
 /* This rank's part, locked; NULL: no text is wanted. */
 static struct recording *open_part(void) {
-    if (!mpi_record_is_wanted()) return NULL;
-    struct recording *part = mpi_record_part(mpi_me);
+    if (!record_is_wanted()) return NULL;
+    struct recording *part = record_part(current_rank);
     flockfile(part->text);
     return part;
 }
@@ -31,7 +31,7 @@ static void close_part(struct recording *part) { funlockfile(part->text); }
 
 /* ---- communicators */
 
-static int find_comm(long serial) {
+static int comm_of_serial(long serial) {
     for (int i = 1; i < many_comms; i++)
         if (comms[i].serial == serial) return i;
     return -1;
@@ -52,30 +52,30 @@ static int add_comm(long serial, const int *ranks, int size, const char *name) {
 static int text_number(struct comm *comm) {
     char name[NAME_TEXT];
     int ranks[MOST_RANKS];
-    if (comm == mpi_world()) return 0;
-    mpi_comm_name(comm, name);
+    if (comm == world_comm()) return 0;
+    comm_name(comm, name);
     for (int i = 0; i < comm->size; i++) ranks[i] = comm->members[i].rank;
     pthread_mutex_lock(&comms_guard);
-    int at = find_comm(comm->serial);
+    int at = comm_of_serial(comm->serial);
     if (at < 0) at = add_comm(comm->serial, ranks, comm->size, name);
     pthread_mutex_unlock(&comms_guard);
     return at;
 }
 
-int mpi_record_comms(void) {
+int record_comms(void) {
     pthread_mutex_lock(&comms_guard);
     int many = many_comms;
     pthread_mutex_unlock(&comms_guard);
     return many;
 }
 
-const struct text_comm *mpi_record_comm(int number) {
-    comms[0].size = mpi_run.size;
-    for (int i = 0; number == 0 && i < mpi_run.size; i++) comms[0].ranks[i] = i;
+const struct text_comm *record_comm(int number) {
+    comms[0].size = the_run.size;
+    for (int i = 0; number == 0 && i < the_run.size; i++) comms[0].ranks[i] = i;
     return &comms[number];
 }
 
-int mpi_record_add_comm(const int *ranks, int size, const char *name) {
+int record_add_comm(const int *ranks, int size, const char *name) {
     pthread_mutex_lock(&comms_guard);
     int at = add_comm(MESSAGE_COMM, ranks, size, name);
     pthread_mutex_unlock(&comms_guard);
@@ -102,8 +102,8 @@ static unsigned long long unsigned_at(const char *at, int type) {
     }
 }
 
-void mpi_write_values(FILE *to, int type, const void *bytes, size_t length) {
-    size_t width = mpi_engine_width(type);
+void write_values(FILE *to, int type, const void *bytes, size_t length) {
+    size_t width = engine_width(type);
     if (length == 0) return;
     fputs(" :", to);
     for (size_t i = 0; i + width <= length; i += width) {
@@ -118,121 +118,121 @@ void mpi_write_values(FILE *to, int type, const void *bytes, size_t length) {
 /* ---- posts, initialisations and starts */
 
 /* A reduction that is carried stands as its own kind over no elements. */
-void mpi_write_signature(FILE *to, const struct request *it) {
+void write_signature(FILE *to, const struct request *request) {
     static const bool rooted[] = { [WZ_BCAST] = true, [WZ_GATHER] = true, [WZ_SCATTER] = true, [WZ_REDUCE] = true, [WZ_ALLGATHERV] = false };
-    const wz_call *call = &it->call;
+    const wz_call *call = &request->call;
     fputs(wz_kind_word(call->kind), to);
     if (rooted[call->kind]) fprintf(to, " %d", call->root);
     if (call->op != WZ_NO_OPERATION) fprintf(to, " %s", wz_operation_word(call->op));
     if (call->kind == WZ_BARRIER) return;
-    fprintf(to, " %s", wz_type_word(it->text_type));
-    if (call->kind != WZ_ALLGATHERV) fprintf(to, " %u", it->direct ? call->count : 0);
-    else for (int i = 0; i < it->comm->size; i++) fprintf(to, " %u", it->counts[i]);
+    fprintf(to, " %s", wz_type_word(request->text_type));
+    if (call->kind != WZ_ALLGATHERV) fprintf(to, " %u", request->direct ? call->count : 0);
+    else for (int i = 0; i < request->comm->size; i++) fprintf(to, " %u", request->counts[i]);
 }
 
 static bool is_full(struct recording *to, bool posts_more) {
     if (to->full) return true;
     fflush(to->text);
-    to->full = (posts_more && atomic_fetch_add(&posts, 1) >= MOST_POSTS) || to->length > MOST_TEXT / (size_t)mpi_run.size;
+    to->full = (posts_more && atomic_fetch_add(&posts, 1) >= MOST_POSTS) || to->length > MOST_TEXT / (size_t)the_run.size;
     if (to->full) fprintf(to->text, "# the text ends here for this rank: it has room for 4,096 posts and 1 MiB\n");
     return to->full;
 }
 
-static void write_where(FILE *to, const struct request *it, const char *call) {
-    fprintf(to, "# %s, %s%s\n", call, atomic_load(&mpi_me->site), it->direct ? "" : ": carried, so without its values");
+static void write_where(FILE *to, const struct request *request, const char *call) {
+    fprintf(to, "# %s, %s%s\n", call, atomic_load(&current_rank->site), request->direct ? "" : ": carried, so without its values");
 }
 
-bool mpi_record_begin_post(struct recording *to, const struct made *made) {
+bool record_begin_post(struct recording *to, const struct made *made) {
     if (is_full(to, true)) return false;
-    if (to->requests % 64 == 0) to->made = mpi_must(realloc(to->made, sizeof *to->made * (size_t)(to->requests + 64)));
+    if (to->requests % 64 == 0) to->made = must(realloc(to->made, sizeof *to->made * (size_t)(to->requests + 64)));
     fprintf(to->text, "%s %d ", made->persistent ? "init" : "post", made->comm);
     fflush(to->text);
-    struct made *it = &to->made[to->requests++];
-    *it = *made;
-    it->place = to->places[made->comm]++;
-    it->begin = to->length;
+    struct made *entry = &to->made[to->requests++];
+    *entry = *made;
+    entry->place = to->places[made->comm]++;
+    entry->begin = to->length;
     return true;
 }
 
-void mpi_record_end_signature(struct recording *to) {
+void record_end_signature(struct recording *to) {
     fflush(to->text);
     to->made[to->requests - 1].end = to->length;
 }
 
 /* Writes a post or an initialisation, but for what it gives. Whether it is there. */
-static bool write_post(struct recording *to, struct request *it, const char *call) {
-    struct made made = { .comm = text_number(it->comm), .persistent = it->persistent, .call = it->call, .name = call, .site = atomic_load(&mpi_me->site) };
+static bool write_post(struct recording *to, struct request *request, const char *call) {
+    struct made made = { .comm = text_number(request->comm), .persistent = request->persistent, .call = request->call, .name = call, .site = atomic_load(&current_rank->site) };
     if (to->full) return false;
-    write_where(to->text, it, call);
+    write_where(to->text, request, call);
     if (made.comm < 0) {
         fprintf(to->text, "# left out, since a text has room for 15 communicators beside MPI_COMM_WORLD\n");
         to->left_out = true;
         return false;
     }
-    made.call.type = it->text_type;
-    if (!it->direct) made.call.count = 0;
-    if (!mpi_record_begin_post(to, &made)) return false;
-    it->recorded = to->requests - 1;
-    mpi_write_signature(to->text, it);
-    mpi_record_end_signature(to);
+    made.call.type = request->text_type;
+    if (!request->direct) made.call.count = 0;
+    if (!record_begin_post(to, &made)) return false;
+    request->recorded = to->requests - 1;
+    write_signature(to->text, request);
+    record_end_signature(to);
     return true;
 }
 
-void mpi_record_post(struct request *it, const char *call, const void *bytes, size_t length) {
+void record_post(struct request *request, const char *call, const void *bytes, size_t length) {
     struct recording *to = open_part();
     if (to == NULL) return;
-    if (write_post(to, it, call)) {
-        if (it->direct) mpi_write_values(to->text, it->text_type, bytes, length);
+    if (write_post(to, request, call)) {
+        if (request->direct) write_values(to->text, request->text_type, bytes, length);
         fputc('\n', to->text);
     }
     close_part(to);
 }
 
-void mpi_record_init(struct request *it) {
+void record_init(struct request *request) {
     struct recording *to = open_part();
     if (to == NULL) return;
-    if (write_post(to, it, it->name)) fputc('\n', to->text);
+    if (write_post(to, request, request->name)) fputc('\n', to->text);
     close_part(to);
 }
 
-void mpi_record_start(struct request *it, const char *call, const void *bytes, size_t length) {
-    if (it->recorded < 0) return;
+void record_start(struct request *request, const char *call, const void *bytes, size_t length) {
+    if (request->recorded < 0) return;
     struct recording *to = open_part();
     if (!is_full(to, false)) {
-        write_where(to->text, it, call);
-        fprintf(to->text, "start %d", it->recorded);
-        if (it->direct) mpi_write_values(to->text, it->text_type, bytes, length);
+        write_where(to->text, request, call);
+        fprintf(to->text, "start %d", request->recorded);
+        if (request->direct) write_values(to->text, request->text_type, bytes, length);
         fputc('\n', to->text);
-        to->made[it->recorded].starts++;
+        to->made[request->recorded].starts++;
     }
     close_part(to);
 }
 
-void mpi_record_refused(struct request *it) {
+void record_refused(struct request *request) {
     void *packed = NULL;
     size_t length = 0;
-    if (!mpi_record_is_wanted()) return;
-    if (it->persistent) {
-        mpi_record_init(it);
+    if (!record_is_wanted()) return;
+    if (request->persistent) {
+        record_init(request);
         return;
     }
-    const void *bytes = it->direct ? mpi_given_bytes(it, &packed, &length) : NULL;
-    mpi_record_post(it, it->name, bytes, length);
+    const void *bytes = request->direct ? given_bytes(request, &packed, &length) : NULL;
+    record_post(request, request->name, bytes, length);
     free(packed);
 }
 
 /* ---- completion */
 
-static bool is_recorded(const struct request *it) { return it != NULL && it->active && it->recorded >= 0; }
+static bool is_recorded(const struct request *request) { return request != NULL && request->active && request->recorded >= 0; }
 
-void mpi_record_wait(const char *word, struct request **list, int many, const char *call) {
+void record_wait(const char *word, struct request **list, int many, const char *call) {
     bool any = false;
-    if (!mpi_record_is_wanted()) return;
+    if (!record_is_wanted()) return;
     for (int i = 0; i < many; i++) any = any || is_recorded(list[i]);
     if (!any) return;
     struct recording *to = open_part();
     if (!is_full(to, false)) {
-        fprintf(to->text, "# %s, %s\n%s", call, atomic_load(&mpi_me->site), word);
+        fprintf(to->text, "# %s, %s\n%s", call, atomic_load(&current_rank->site), word);
         for (int i = 0; i < many; i++)
             if (is_recorded(list[i])) fprintf(to->text, " %d", list[i]->recorded);
         fputc('\n', to->text);
@@ -241,31 +241,31 @@ void mpi_record_wait(const char *word, struct request **list, int many, const ch
 }
 
 /* A line of one recorded request. */
-static void write_command(const struct request *it, const char *call, const char *command) {
-    if (it->recorded < 0) return;
+static void write_command(const struct request *request, const char *call, const char *command) {
+    if (request->recorded < 0) return;
     struct recording *to = open_part();
     if (!is_full(to, false)) {
-        fprintf(to->text, "# %s, %s\n%s %d\n", call, atomic_load(&mpi_me->site), command, it->recorded);
-        if (strcmp(command, "free") == 0) to->made[it->recorded].freed = true;
+        fprintf(to->text, "# %s, %s\n%s %d\n", call, atomic_load(&current_rank->site), command, request->recorded);
+        if (strcmp(command, "free") == 0) to->made[request->recorded].freed = true;
     }
     close_part(to);
 }
 
 /* A text shows only by waits that a request is inactive, and a test that completes one stands as a wait. */
-void mpi_record_completed(struct request *it) { write_command(it, "completed", "wait"); }
+void record_completed(struct request *request) { write_command(request, "completed", "wait"); }
 
-void mpi_record_free(struct request *it) { write_command(it, "MPI_Request_free", "free"); }
+void record_free(struct request *request) { write_command(request, "MPI_Request_free", "free"); }
 
-void mpi_record_outcome(struct request *it) {
-    if (mpi_run.values == NULL || it->recorded < 0) return;
+void record_outcome(struct request *request) {
+    if (the_run.values == NULL || request->recorded < 0) return;
     struct recording *to = open_part();
     size_t size;
-    if (to->outcomes % 64 == 0) to->got = mpi_must(realloc(to->got, sizeof *to->got * (size_t)(to->outcomes + 64)));
+    if (to->outcomes % 64 == 0) to->got = must(realloc(to->got, sizeof *to->got * (size_t)(to->outcomes + 64)));
     struct outcome *got = &to->got[to->outcomes++];
-    *got = (struct outcome){ it->recorded, it->persistent ? it->times - 1 : 0, NULL };
-    FILE *line = mpi_must(open_memstream(&got->line, &size));
-    fprintf(line, "rank %d req %d start %u", mpi_me->number, got->request, got->start);
-    if (it->direct && it->room > 0) mpi_write_values(line, it->text_type, it->out, it->room);
+    *got = (struct outcome){ request->recorded, request->persistent ? request->times - 1 : 0, NULL };
+    FILE *line = must(open_memstream(&got->line, &size));
+    fprintf(line, "rank %d req %d start %u", current_rank->number, got->request, got->start);
+    if (request->direct && request->room > 0) write_values(line, request->text_type, request->out, request->room);
     else fputs(" :", line);
     fputc('\n', line);
     fclose(line);
@@ -274,17 +274,17 @@ void mpi_record_outcome(struct request *it) {
 
 /* ---- the files */
 
-bool mpi_record_write_text(const char *path) {
+bool record_write_text(const char *path) {
     FILE *to = fopen(path, "w");
     if (to == NULL) return false;
-    fprintf(to, "ranks %d\n", mpi_run.size);
-    for (int i = 1; i < mpi_record_comms(); i++) {
+    fprintf(to, "ranks %d\n", the_run.size);
+    for (int i = 1; i < record_comms(); i++) {
         fprintf(to, "# %s\ncomm", comms[i].name);
         for (int j = 0; j < comms[i].size; j++) fprintf(to, " %d", comms[i].ranks[j]);
         fputc('\n', to);
     }
-    for (int i = 0; i < mpi_run.size; i++) {
-        struct recording *part = atomic_load(&mpi_run.ranks[i].recording);
+    for (int i = 0; i < the_run.size; i++) {
+        struct recording *part = atomic_load(&the_run.ranks[i].recording);
         fprintf(to, "rank %d\n", i);
         if (part == NULL) continue;
         flockfile(part->text);
@@ -305,8 +305,8 @@ static int in_order(const void *one, const void *other) {
 static bool write_outcomes(const char *path) {
     FILE *to = fopen(path, "w");
     if (to == NULL) return false;
-    for (int i = 0; i < mpi_run.size; i++) {
-        struct recording *part = atomic_load(&mpi_run.ranks[i].recording);
+    for (int i = 0; i < the_run.size; i++) {
+        struct recording *part = atomic_load(&the_run.ranks[i].recording);
         if (part == NULL) continue;
         flockfile(part->text);
         if (part->outcomes > 0) qsort(part->got, (size_t)part->outcomes, sizeof *part->got, in_order);
@@ -316,7 +316,7 @@ static bool write_outcomes(const char *path) {
     return fclose(to) == 0;
 }
 
-bool mpi_record_write(void) {
-    bool text = mpi_run.text == NULL || mpi_record_write_text(mpi_run.text);
-    return (mpi_run.values == NULL || write_outcomes(mpi_run.values)) && text;
+bool record_write(void) {
+    bool text = the_run.text == NULL || record_write_text(the_run.text);
+    return (the_run.values == NULL || write_outcomes(the_run.values)) && text;
 }

@@ -1,10 +1,10 @@
-/* A rank's part of the job text, for those who write it: record.c, as the rank makes its calls, and unreached.c, at the end of a run. Whoever writes or reads one
+/* A rank's part of the job text, for those who write it: record.c, as the rank makes its calls, and pending_calls.c, at the end of a run. Whoever writes or reads one
    has locked its text by flockfile. */
 #ifndef WZ_RECORDING_H
 #define WZ_RECORDING_H
 
 #include "record.h"
-#include "tell.h"
+#include "diagnostics.h"
 
 enum { MOST_POSTS = 4096, MOST_COMMS = 15, MOST_TEXT = 1000000, MESSAGE_COMM = -1 };
 
@@ -43,16 +43,16 @@ struct text_comm {
     char name[NAME_TEXT];
 };
 
-struct recording *mpi_record_part(struct rank *rank);
+struct recording *record_part(struct rank *rank);
 
 /* How many communicators the text has, and one of them. */
-int mpi_record_comms(void);
-const struct text_comm *mpi_record_comm(int number);
+int record_comms(void);
+const struct text_comm *record_comm(int number);
 /* One more, for a message that the first of some ranks waits for. Its number; -1: there is no room. */
-int mpi_record_add_comm(const int *ranks, int size, const char *name);
+int record_add_comm(const int *ranks, int size, const char *name);
 
 /* Begins the line of a post or an initialisation, up to where its signature begins. Whether there is room for it. */
-bool mpi_record_begin_post(struct recording *to, const struct made *made);
-void mpi_record_end_signature(struct recording *to);
+bool record_begin_post(struct recording *to, const struct made *made);
+void record_end_signature(struct recording *to);
 
 #endif

@@ -1,10 +1,10 @@
 /* wzrun: each rank has a copy of the program in memory, so that it has its static variables for itself, and a thread that calls its main. */
 #include "run.h"
 
-#include "notes.h"
+#include "trace.h"
 #include "options.h"
 #include "record.h"
-#include "tell.h"
+#include "diagnostics.h"
 
 #include <dlfcn.h>
 #include <errno.h>
@@ -64,7 +64,7 @@ static void load(struct start *start, const char *program) {
     void *run = dlsym(copy, "wz_run_rank_");
     if (run == NULL || dladdr(run, &about) == 0) give_up(program, "it was not linked by wzcc");
     memcpy(&start->run, &run, sizeof run);
-    mpi_note_copy(start->rank->number, about.dli_fbase);
+    note_copy(start->rank->number, about.dli_fbase);
 }
 
 /* A name without a slash is looked for as it is, and then in PATH, as mpirun does. */
@@ -92,7 +92,7 @@ static void tell_crash(int number) {
     const char *name = "a signal";
     for (int i = 0; i < 5; i++)
         if (crashes[i] == number) name = crash_names[i];
-    int length = mpi_me == NULL ? 0 : snprintf(text, sizeof text, "wzrun: rank %d crashes: %s, after its call at %s\n", mpi_me->number, name, atomic_load(&mpi_me->site));
+    int length = current_rank == NULL ? 0 : snprintf(text, sizeof text, "wzrun: rank %d crashes: %s, after its call at %s\n", current_rank->number, name, atomic_load(&current_rank->site));
     if (length > 0 && write(2, text, (size_t)length) < 0) _exit(128 + number);
     signal(number, SIG_DFL);
     raise(number);
@@ -110,13 +110,13 @@ static void tell_crashes(void) {
 
 static void *play(void *given) {
     struct start *start = given;
-    struct rank *me = mpi_me = start->rank;
+    struct rank *me = current_rank = start->rank;
     atomic_store(&me->thread, (int)syscall(SYS_gettid));
-    stack_t stack = { .ss_sp = mpi_must(malloc(SIGNAL_STACK)), .ss_size = SIGNAL_STACK }, none = { .ss_flags = SS_DISABLE };
+    stack_t stack = { .ss_sp = must(malloc(SIGNAL_STACK)), .ss_size = SIGNAL_STACK }, none = { .ss_flags = SS_DISABLE };
     sigaltstack(&stack, NULL); /* for the crash that runs out of stack */
-    mpi_be_main();
+    be_main();
     me->status = start->run(start->argc, start->argv);
-    if (me->begun && !atomic_load(&me->finalized) && me->status == 0) mpi_warn("rank %d ended without MPI_Finalize", me->number);
+    if (me->begun && !atomic_load(&me->finalized) && me->status == 0) print_warning("rank %d ended without MPI_Finalize", me->number);
     sigaltstack(&none, NULL);
     free(stack.ss_sp);
     atomic_store(&me->ended, true);
@@ -131,8 +131,8 @@ static size_t stack_bytes(void) {
 }
 
 static char **copied_words(int argc, char **argv) {
-    char **words = mpi_must(calloc((size_t)argc + 1, sizeof *words));
-    for (int i = 0; i < argc; i++) words[i] = mpi_must(strdup(argv[i]));
+    char **words = must(calloc((size_t)argc + 1, sizeof *words));
+    for (int i = 0; i < argc; i++) words[i] = must(strdup(argv[i]));
     return words;
 }
 
@@ -145,7 +145,7 @@ static void watch_ranks(int size) {
         until.tv_sec += until.tv_nsec / 1000000000;
         until.tv_nsec %= 1000000000;
         if (sem_timedwait(&ended, &until) == 0) left--;
-        else if (errno == ETIMEDOUT) mpi_watch();
+        else if (errno == ETIMEDOUT) watch_for_deadlock();
     }
 }
 
@@ -158,30 +158,30 @@ static int run_ranks(int argc, char **argv, const struct options *options) {
     pthread_attr_init(&attributes);
     pthread_attr_setstacksize(&attributes, stack_bytes());
     pthread_attr_setdetachstate(&attributes, PTHREAD_CREATE_DETACHED); /* `ended` tells of its end */
-    mpi_begin_run(size);
+    begin_run(size);
     sem_init(&ended, 0, 0);
     tell_crashes();
     for (int i = 0; i < size; i++) {
-        starts[i] = (struct start){ .rank = &mpi_run.ranks[i], .argc = argc - options->program };
+        starts[i] = (struct start){ .rank = &the_run.ranks[i], .argc = argc - options->program };
         starts[i].argv = copied_words(starts[i].argc, argv + options->program);
         load(&starts[i], program);
     }
     for (int i = 0; i < size; i++)
         if (pthread_create(&thread, &attributes, play, &starts[i]) != 0) give_up("a thread for each rank", strerror(errno));
     watch_ranks(size);
-    for (int i = 0; i < size && status == 0; i++) status = mpi_run.ranks[i].status;
-    if (status == 0) mpi_warn_of_mail();
+    for (int i = 0; i < size && status == 0; i++) status = the_run.ranks[i].status;
+    if (status == 0) warn_of_mail();
     return status;
 }
 
 int wz_main_(int argc, char **argv) {
     struct options options;
-    mpi_read_options(argc, argv, &options);
-    if (options.first_seed > 0) return mpi_run_seeds(argc, argv, &options);
+    read_options(argc, argv, &options);
+    if (options.first_seed > 0) return run_seeds(argc, argv, &options);
     int status = run_ranks(argc, argv, &options);
-    if (mpi_run.statistics) mpi_tell_statistics();
-    if (!mpi_record_write()) give_up(mpi_run.text != NULL ? mpi_run.text : mpi_run.values, "it can't be written");
-    const char *unwritten = mpi_run.notes ? mpi_write_notes() : NULL;
+    if (the_run.statistics) tell_statistics();
+    if (!record_write()) give_up(the_run.text != NULL ? the_run.text : the_run.values, "it can't be written");
+    const char *unwritten = the_run.notes ? write_notes() : NULL;
     if (unwritten != NULL) give_up(unwritten, "it can't be written");
     return status;
 }

@@ -2,9 +2,9 @@
 #ifndef WZ_RUN_H
 #define WZ_RUN_H
 
-void mpi_begin_run(int size);
-void mpi_note_copy(int rank, const void *base); /* where a rank's copy of the program lies */
-void mpi_be_main(void);                         /* this thread is its rank's main one */
+void begin_run(int size);
+void note_copy(int rank, const void *base); /* where a rank's copy of the program lies */
+void be_main(void);                         /* this thread is its rank's main one */
 
 /* wzrun itself. */
 int wz_main_(int argc, char **argv);

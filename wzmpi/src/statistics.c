@@ -1,7 +1,7 @@
 /* What --stats reports. */
-#include "notes.h"
+#include "trace.h"
 
-#include "tell.h"
+#include "diagnostics.h"
 
 enum { COLUMNS = 10, MOST_LENT = 6 };
 static const uint64_t NO_SUM = UINT64_MAX; /* of the most lent: ranks have theirs at different times */
@@ -12,12 +12,12 @@ static void tell_kinds(void) {
     fprintf(stderr, "wzrun: collectives that were posted or initialised, by all ranks:\n");
     for (int i = 0; i < COLLECTIVES; i++) {
         uint64_t direct = 0, carried = 0;
-        for (int j = 0; j < mpi_run.size; j++) {
-            direct += mpi_run.ranks[j].calls[i][true];
-            carried += mpi_run.ranks[j].calls[i][false];
+        for (int j = 0; j < the_run.size; j++) {
+            direct += the_run.ranks[j].calls[i][true];
+            carried += the_run.ranks[j].calls[i][false];
         }
         if (direct + carried > 0)
-            fprintf(stderr, "  %s: %llu direct, %llu carried\n", mpi_collective_names[i][BLOCKING], (unsigned long long)direct, (unsigned long long)carried);
+            fprintf(stderr, "  %s: %llu direct, %llu carried\n", collective_names[i][BLOCKING], (unsigned long long)direct, (unsigned long long)carried);
     }
 }
 
@@ -42,8 +42,8 @@ static void tell_ranks(void) {
     uint64_t all[COLUMNS] = { 0 }, row[COLUMNS];
     char name[16];
     fprintf(stderr, "wzrun: by rank:\n  rank    posts   inits   starts  completed  bytes given    bytes got   most lent messages  their bytes   waited us\n");
-    for (int i = 0; i < mpi_run.size; i++) {
-        read_row(mpi_run.ranks[i].notes, row);
+    for (int i = 0; i < the_run.size; i++) {
+        read_row(the_run.ranks[i].notes, row);
         snprintf(name, sizeof name, "%d", i);
         tell_row(name, row);
         for (int j = 0; j < COLUMNS; j++) all[j] += row[j];
@@ -62,19 +62,19 @@ static struct tally *find(struct tally *list, const struct tally *other) {
 /* One list of all ranks' tallies, in which `times` are those of the first member. */
 static struct tally *merged(void) {
     struct tally *all = NULL, **end = &all;
-    for (int i = 0; i < mpi_run.size; i++)
-        for (const struct tally *it = mpi_run.ranks[i].notes->tallies; it != NULL; it = it->next) {
-            struct tally *into = find(all, it);
+    for (int i = 0; i < the_run.size; i++)
+        for (const struct tally *tally = the_run.ranks[i].notes->tallies; tally != NULL; tally = tally->next) {
+            struct tally *into = find(all, tally);
             if (into == NULL) {
-                into = *end = mpi_must(calloc(1, sizeof *into));
+                into = *end = must(calloc(1, sizeof *into));
                 end = &into->next;
-                *into = (struct tally){ .text = it->text, .comm = it->comm, .members = it->members };
+                *into = (struct tally){ .text = tally->text, .comm = tally->comm, .members = tally->members };
             }
-            if (it->first) into->times = it->times;
-            into->completed += it->completed;
-            into->given += it->given;
-            into->all += it->all;
-            if (it->longest > into->longest) into->longest = it->longest;
+            if (tally->first) into->times = tally->times;
+            into->completed += tally->completed;
+            into->given += tally->given;
+            into->all += tally->all;
+            if (tally->longest > into->longest) into->longest = tally->longest;
         }
     return all;
 }
@@ -82,17 +82,17 @@ static struct tally *merged(void) {
 static void tell_collectives(void) {
     fprintf(stderr, "wzrun: by collective, with microseconds from a member's call to the end of the one that completed it:\n"
                     "  members    times  bytes given     mean us  longest us\n");
-    for (const struct tally *it = merged(); it != NULL; it = it->next) {
-        double mean = it->completed > 0 ? (double)it->all / (double)it->completed / 1000 : 0;
-        fprintf(stderr, "  %7d %8llu %12llu %11.1f %11.1f  %s\n", it->members, (unsigned long long)it->times, (unsigned long long)it->given, mean, (double)it->longest / 1000,
-                it->text);
+    for (const struct tally *tally = merged(); tally != NULL; tally = tally->next) {
+        double mean = tally->completed > 0 ? (double)tally->all / (double)tally->completed / 1000 : 0;
+        fprintf(stderr, "  %7d %8llu %12llu %11.1f %11.1f  %s\n", tally->members, (unsigned long long)tally->times, (unsigned long long)tally->given, mean, (double)tally->longest / 1000,
+                tally->text);
     }
 }
 
-void mpi_tell_statistics(void) {
+void tell_statistics(void) {
     tell_kinds();
-    for (int i = 0; i < mpi_run.size; i++) pthread_mutex_lock(&mpi_run.ranks[i].notes->guard);
+    for (int i = 0; i < the_run.size; i++) pthread_mutex_lock(&the_run.ranks[i].notes->guard);
     tell_ranks();
     tell_collectives();
-    for (int i = 0; i < mpi_run.size; i++) pthread_mutex_unlock(&mpi_run.ranks[i].notes->guard);
+    for (int i = 0; i < the_run.size; i++) pthread_mutex_unlock(&the_run.ranks[i].notes->guard);
 }

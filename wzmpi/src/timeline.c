@@ -1,21 +1,21 @@
 /* The files of --trace and --timeline. */
-#include "notes.h"
+#include "trace.h"
 
-static struct notes *notes_of(int rank) { return mpi_run.ranks[rank].notes; }
+static struct notes *notes_of(int rank) { return the_run.ranks[rank].notes; }
 
 static bool some_are_full(void) {
     bool full = false;
-    for (int i = 0; i < mpi_run.size; i++) full = full || notes_of(i)->full;
+    for (int i = 0; i < the_run.size; i++) full = full || notes_of(i)->full;
     return full;
 }
 
 /* Nobody writes notes any longer. */
 static void lock_all(void) {
-    for (int i = 0; i < mpi_run.size; i++) pthread_mutex_lock(&notes_of(i)->guard);
+    for (int i = 0; i < the_run.size; i++) pthread_mutex_lock(&notes_of(i)->guard);
 }
 
 static void unlock_all(void) {
-    for (int i = 0; i < mpi_run.size; i++) pthread_mutex_unlock(&notes_of(i)->guard);
+    for (int i = 0; i < the_run.size; i++) pthread_mutex_unlock(&notes_of(i)->guard);
 }
 
 /* ---- the trace: each accepted call of an engine, in the order in which the engines took them */
@@ -32,9 +32,9 @@ static int by_order(const void *one, const void *other) {
 
 static size_t collect_entries(struct entry **entries) {
     size_t many = 0, all = 0;
-    for (int i = 0; i < mpi_run.size; i++) all += notes_of(i)->many;
-    *entries = mpi_must(malloc(sizeof **entries * (all + 1)));
-    for (int i = 0; i < mpi_run.size; i++)
+    for (int i = 0; i < the_run.size; i++) all += notes_of(i)->many;
+    *entries = must(malloc(sizeof **entries * (all + 1)));
+    for (int i = 0; i < the_run.size; i++)
         for (size_t j = 0; j < notes_of(i)->many; j++)
             if (notes_of(i)->at[j].what <= FREED) (*entries)[many++] = (struct entry){ i, &notes_of(i)->at[j] };
     qsort(*entries, many, sizeof **entries, by_order);
@@ -51,7 +51,7 @@ static void write_entry(FILE *to, const struct entry *entry) {
     fprintf(to, "  # %s, %s%s\n", note->call, note->site, note->carried ? ": carried" : "");
 }
 
-bool mpi_write_trace(const char *path) {
+bool write_trace(const char *path) {
     FILE *to = fopen(path, "w");
     struct entry *entries;
     if (to == NULL) return false;
@@ -125,7 +125,7 @@ static int free_lane(int64_t **lanes, int *many, int64_t begun, int64_t ended) {
     int lane = 0;
     while (lane < *many && (*lanes)[lane] > begun) lane++;
     if (lane == *many) {
-        *lanes = mpi_must(realloc(*lanes, sizeof **lanes * (size_t)(lane + 1)));
+        *lanes = must(realloc(*lanes, sizeof **lanes * (size_t)(lane + 1)));
         ++*many;
     }
     (*lanes)[lane] = ended;
@@ -138,7 +138,7 @@ static void write_name(FILE *to, int rank, int lane, const char *kind, const cha
 
 static void write_rank(FILE *to, int rank, int64_t end) {
     struct notes *notes = notes_of(rank);
-    const struct note **bars = mpi_must(malloc(sizeof *bars * (notes->many + 1)));
+    const struct note **bars = must(malloc(sizeof *bars * (notes->many + 1)));
     int64_t *lanes = NULL;
     int many_lanes = 0;
     size_t many = 0;
@@ -159,12 +159,12 @@ static void write_rank(FILE *to, int rank, int64_t end) {
     free(bars);
 }
 
-bool mpi_write_timeline(const char *path) {
+bool write_timeline(const char *path) {
     FILE *to = fopen(path, "w");
     if (to == NULL) return false;
     lock_all();
     fputs("{\"displayTimeUnit\":\"ns\",\"traceEvents\":[\n{\"ph\":\"M\",\"pid\":0,\"tid\":0,\"name\":\"process_sort_index\",\"args\":{\"sort_index\":0}}", to);
-    for (int i = 0; i < mpi_run.size; i++) write_rank(to, i, mpi_clock());
+    for (int i = 0; i < the_run.size; i++) write_rank(to, i, run_clock());
     fputs("\n]}\n", to);
     if (some_are_full()) fprintf(stderr, "wzrun: warning: the timeline lacks calls, for it has room for %d in all\n", MOST_NOTES);
     unlock_all();

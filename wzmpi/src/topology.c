@@ -1,29 +1,29 @@
 /* Topologies: which members of a communicator are neighbours (MPI 4.1, 8). Ranks are never put in another order. */
 #include "collectives.h"
-#include "tell.h"
+#include "diagnostics.h"
 
 static struct comm *judged(MPI_Comm handle, const char *call, int *code) {
-    mpi_self(call);
-    struct comm *comm = mpi_comm(handle);
+    this_rank(call);
+    struct comm *comm = find_comm(handle);
     *code = MPI_SUCCESS;
-    if (comm == NULL) *code = mpi_comm_error(handle, call);
-    else if (comm->first > 0) *code = mpi_refuse(comm, MPI_ERR_COMM, call, "a topology isn't for an intercommunicator");
+    if (comm == NULL) *code = comm_error(handle, call);
+    else if (comm->first > 0) *code = refuse(comm, MPI_ERR_COMM, call, "a topology isn't for an intercommunicator");
     return *code == MPI_SUCCESS ? comm : NULL;
 }
 
-static struct topology *topology_of(struct comm *comm) { return comm->topologies != NULL ? comm->topologies[mpi_my_member(comm)] : NULL; }
+static struct topology *topology_of(struct comm *comm) { return comm->topologies != NULL ? comm->topologies[my_member(comm)] : NULL; }
 
 static struct topology *known(MPI_Comm handle, int kind, const char *call, int *code) {
     struct comm *comm = judged(handle, call, code);
     if (comm == NULL) return NULL;
-    struct topology *it = topology_of(comm);
-    if (it != NULL && it->kind == kind) return it;
-    *code = mpi_refuse(comm, MPI_ERR_TOPOLOGY, call, "the communicator has no such topology");
+    struct topology *topology = topology_of(comm);
+    if (topology != NULL && topology->kind == kind) return topology;
+    *code = refuse(comm, MPI_ERR_TOPOLOGY, call, "the communicator has no such topology");
     return NULL;
 }
 
 static int *copy_of(const int *numbers, int many) {
-    int *copy = mpi_must(malloc(sizeof *copy * (size_t)(many + 1)));
+    int *copy = must(malloc(sizeof *copy * (size_t)(many + 1)));
     if (many > 0) memcpy(copy, numbers, sizeof *copy * (size_t)many);
     return copy;
 }
@@ -32,83 +32,83 @@ static int *copy_of(const int *numbers, int many) {
 static int make(struct comm *comm, int size, const char *call, MPI_Comm *made) {
     struct request *done;
     int ranks[MOST_RANKS];
-    int code = mpi_post_and_wait(comm, &(struct arguments){ .function = COMM_CREATE, .form = BLOCKING, .give_type = MPI_BYTE, .name = call }, &done);
+    int code = post_and_wait(comm, &(struct arguments){ .function = COMM_CREATE, .form = BLOCKING, .give_type = MPI_BYTE, .name = call }, &done);
     if (code != MPI_SUCCESS) return code;
     for (int i = 0; i < size; i++) ranks[i] = comm->members[i].rank;
     *made = MPI_COMM_NULL;
-    if (mpi_my_member(comm) < size) *made = mpi_join(comm, done->place << 32, call, ranks, size, 0);
-    mpi_drop_request(done);
+    if (my_member(comm) < size) *made = join_comm(comm, done->place << 32, call, ranks, size, 0);
+    drop_request(done);
     return code;
 }
 
-void mpi_give_topology(MPI_Comm handle, struct topology topology) {
-    struct comm *comm = mpi_comm(handle);
+void give_topology(MPI_Comm handle, struct topology topology) {
+    struct comm *comm = find_comm(handle);
     pthread_mutex_lock(&comm->guard);
-    if (comm->topologies == NULL) comm->topologies = mpi_must(calloc((size_t)comm->size, sizeof *comm->topologies));
+    if (comm->topologies == NULL) comm->topologies = must(calloc((size_t)comm->size, sizeof *comm->topologies));
     pthread_mutex_unlock(&comm->guard);
-    struct topology *own = mpi_must(malloc(sizeof *own));
+    struct topology *own = must(malloc(sizeof *own));
     *own = topology;
-    comm->topologies[mpi_my_member(comm)] = own;
+    comm->topologies[my_member(comm)] = own;
 }
 
 static int *copy_of_some(const int *numbers, int many) { return numbers != NULL ? copy_of(numbers, many) : NULL; }
 
 /* A copy of a communicator has its topology too (MPI 4.1, 7.4.2). */
-void mpi_copy_topology(struct comm *comm, MPI_Comm copy) {
-    const struct topology *it = topology_of(comm);
-    if (it == NULL) return;
-    int edges = it->kind == MPI_GRAPH && it->nodes > 0 ? it->index[it->nodes - 1] : 0;
-    struct topology own = *it;
-    own.sizes = copy_of_some(it->sizes, it->dimensions);
-    own.periods = copy_of_some(it->periods, it->dimensions);
-    own.index = copy_of_some(it->index, it->nodes);
-    own.edges = copy_of_some(it->edges, edges);
-    own.sources = copy_of_some(it->sources, it->in);
-    own.destinations = copy_of_some(it->destinations, it->out);
-    own.source_weights = copy_of_some(it->source_weights, it->in);
-    own.destination_weights = copy_of_some(it->destination_weights, it->out);
-    mpi_give_topology(copy, own);
+void copy_topology(struct comm *comm, MPI_Comm copy) {
+    const struct topology *topology = topology_of(comm);
+    if (topology == NULL) return;
+    int edges = topology->kind == MPI_GRAPH && topology->nodes > 0 ? topology->index[topology->nodes - 1] : 0;
+    struct topology own = *topology;
+    own.sizes = copy_of_some(topology->sizes, topology->dimensions);
+    own.periods = copy_of_some(topology->periods, topology->dimensions);
+    own.index = copy_of_some(topology->index, topology->nodes);
+    own.edges = copy_of_some(topology->edges, edges);
+    own.sources = copy_of_some(topology->sources, topology->in);
+    own.destinations = copy_of_some(topology->destinations, topology->out);
+    own.source_weights = copy_of_some(topology->source_weights, topology->in);
+    own.destination_weights = copy_of_some(topology->destination_weights, topology->out);
+    give_topology(copy, own);
 }
 
 /* ---- Cartesian topologies */
 
-static int rank_at(const struct topology *it, const int *at) {
+static int rank_at(const struct topology *topology, const int *at) {
     int rank = 0;
-    for (int i = 0; i < it->dimensions; i++) {
+    for (int i = 0; i < topology->dimensions; i++) {
         int place = at[i];
-        if (it->periods[i]) place = (place % it->sizes[i] + it->sizes[i]) % it->sizes[i];
-        if (place < 0 || place >= it->sizes[i]) return MPI_PROC_NULL;
-        rank = rank * it->sizes[i] + place;
+        if (topology->periods[i]) place = (place % topology->sizes[i] + topology->sizes[i]) % topology->sizes[i];
+        if (place < 0 || place >= topology->sizes[i]) return MPI_PROC_NULL;
+        rank = rank * topology->sizes[i] + place;
     }
     return rank;
 }
 
-static void place_of(const struct topology *it, int rank, int *at) {
-    for (int i = it->dimensions - 1; i >= 0; i--) {
-        at[i] = rank % it->sizes[i];
-        rank /= it->sizes[i];
+static void place_of(const struct topology *topology, int rank, int *at) {
+    for (int i = topology->dimensions - 1; i >= 0; i--) {
+        at[i] = rank % topology->sizes[i];
+        rank /= topology->sizes[i];
     }
 }
 
-static int shifted(const struct topology *it, int rank, int dimension, int by) {
+static int shifted(const struct topology *topology, int rank, int dimension, int by) {
     int at[64];
-    place_of(it, rank, at);
+    place_of(topology, rank, at);
     at[dimension] += by;
-    return rank_at(it, at);
+    return rank_at(topology, at);
 }
 
 /* For each dimension the one below and the one above. */
-static void find_neighbors(struct topology *it, int rank) {
-    it->in = it->out = 2 * it->dimensions;
-    it->sources = mpi_must(malloc(sizeof(int) * (size_t)(it->in + 1)));
-    it->destinations = mpi_must(malloc(sizeof(int) * (size_t)(it->out + 1)));
-    for (int i = 0; i < it->in; i++) it->sources[i] = it->destinations[i] = shifted(it, rank, i / 2, i % 2 == 0 ? -1 : 1);
+static void find_neighbors(struct topology *topology, int rank) {
+    topology->in = topology->out = 2 * topology->dimensions;
+    topology->sources = must(malloc(sizeof(int) * (size_t)(topology->in + 1)));
+    topology->destinations = must(malloc(sizeof(int) * (size_t)(topology->out + 1)));
+    for (int i = 0; i < topology->in; i++) topology->sources[i] = topology->destinations[i] = shifted(topology, rank, i / 2, i % 2 == 0 ? -1 : 1);
 }
 
 static struct topology grid(int dimensions, const int *sizes, const int *periods, int rank) {
-    struct topology it = { .kind = MPI_CART, .dimensions = dimensions, .sizes = copy_of(sizes, dimensions), .periods = copy_of(periods, dimensions) };
-    find_neighbors(&it, rank);
-    return it;
+    struct topology topology = { .kind = MPI_CART, .dimensions = dimensions, .sizes = copy_of(sizes, dimensions), .periods = copy_of(periods, dimensions) };
+    find_neighbors(&topology, rank);
+    return topology;
 }
 
 int MPI_Cart_create(MPI_Comm handle, int dimensions, const int sizes[], const int periods[], int reorder, MPI_Comm *made) {
@@ -117,33 +117,33 @@ int MPI_Cart_create(MPI_Comm handle, int dimensions, const int sizes[], const in
     struct comm *comm = judged(handle, call, &code);
     (void)reorder;
     if (comm == NULL) return code;
-    if (dimensions < 0 || dimensions > 64) return mpi_refuse(comm, MPI_ERR_DIMS, call, "there are %d dimensions", dimensions);
+    if (dimensions < 0 || dimensions > 64) return refuse(comm, MPI_ERR_DIMS, call, "there are %d dimensions", dimensions);
     long long all = 1;
     for (int i = 0; i < dimensions; i++) {
-        if (sizes[i] < 1) return mpi_refuse(comm, MPI_ERR_DIMS, call, "dimension %d has the size %d", i, sizes[i]);
+        if (sizes[i] < 1) return refuse(comm, MPI_ERR_DIMS, call, "dimension %d has the size %d", i, sizes[i]);
         all = all * sizes[i] > MOST_RANKS ? MOST_RANKS + 1 : all * sizes[i];
     }
-    if (all > comm->size) return mpi_refuse(comm, MPI_ERR_ARG, call, "the grid has more ranks than the communicator, which has %d", comm->size);
+    if (all > comm->size) return refuse(comm, MPI_ERR_ARG, call, "the grid has more ranks than the communicator, which has %d", comm->size);
     code = make(comm, (int)all, call, made);
-    if (code == MPI_SUCCESS && *made != MPI_COMM_NULL) mpi_give_topology(*made, grid(dimensions, sizes, periods, mpi_my_member(comm)));
+    if (code == MPI_SUCCESS && *made != MPI_COMM_NULL) give_topology(*made, grid(dimensions, sizes, periods, my_member(comm)));
     return code;
 }
 
 int MPI_Cartdim_get(MPI_Comm comm, int *dimensions) {
     int code;
-    struct topology *it = known(comm, MPI_CART, "MPI_Cartdim_get", &code);
-    if (it != NULL) *dimensions = it->dimensions;
+    struct topology *topology = known(comm, MPI_CART, "MPI_Cartdim_get", &code);
+    if (topology != NULL) *dimensions = topology->dimensions;
     return code;
 }
 
 int MPI_Cart_get(MPI_Comm handle, int most, int sizes[], int periods[], int at[]) {
     int code, place[64];
-    struct topology *it = known(handle, MPI_CART, "MPI_Cart_get", &code);
-    if (it == NULL) return code;
-    place_of(it, mpi_my_member(mpi_comm(handle)), place);
-    for (int i = 0; i < most && i < it->dimensions; i++) {
-        sizes[i] = it->sizes[i];
-        periods[i] = it->periods[i];
+    struct topology *topology = known(handle, MPI_CART, "MPI_Cart_get", &code);
+    if (topology == NULL) return code;
+    place_of(topology, my_member(find_comm(handle)), place);
+    for (int i = 0; i < most && i < topology->dimensions; i++) {
+        sizes[i] = topology->sizes[i];
+        periods[i] = topology->periods[i];
         at[i] = place[i];
     }
     return code;
@@ -151,49 +151,49 @@ int MPI_Cart_get(MPI_Comm handle, int most, int sizes[], int periods[], int at[]
 
 int MPI_Cart_rank(MPI_Comm handle, const int at[], int *rank) {
     int code;
-    struct topology *it = known(handle, MPI_CART, "MPI_Cart_rank", &code);
-    if (it == NULL) return code;
-    *rank = rank_at(it, at);
-    return *rank != MPI_PROC_NULL ? code : mpi_refuse(mpi_comm(handle), MPI_ERR_ARG, "MPI_Cart_rank", "the coordinates lie outside of the grid");
+    struct topology *topology = known(handle, MPI_CART, "MPI_Cart_rank", &code);
+    if (topology == NULL) return code;
+    *rank = rank_at(topology, at);
+    return *rank != MPI_PROC_NULL ? code : refuse(find_comm(handle), MPI_ERR_ARG, "MPI_Cart_rank", "the coordinates lie outside of the grid");
 }
 
 int MPI_Cart_coords(MPI_Comm handle, int rank, int most, int at[]) {
     int code, place[64];
-    struct topology *it = known(handle, MPI_CART, "MPI_Cart_coords", &code);
-    if (it == NULL) return code;
-    if (rank < 0 || rank >= mpi_comm(handle)->size) return mpi_refuse(mpi_comm(handle), MPI_ERR_RANK, "MPI_Cart_coords", "there is no rank %d in the communicator", rank);
-    place_of(it, rank, place);
-    for (int i = 0; i < most && i < it->dimensions; i++) at[i] = place[i];
+    struct topology *topology = known(handle, MPI_CART, "MPI_Cart_coords", &code);
+    if (topology == NULL) return code;
+    if (rank < 0 || rank >= find_comm(handle)->size) return refuse(find_comm(handle), MPI_ERR_RANK, "MPI_Cart_coords", "there is no rank %d in the communicator", rank);
+    place_of(topology, rank, place);
+    for (int i = 0; i < most && i < topology->dimensions; i++) at[i] = place[i];
     return code;
 }
 
 int MPI_Cart_shift(MPI_Comm handle, int dimension, int by, int *source, int *destination) {
     int code;
-    struct topology *it = known(handle, MPI_CART, "MPI_Cart_shift", &code);
-    if (it == NULL) return code;
-    if (dimension < 0 || dimension >= it->dimensions) return mpi_refuse(mpi_comm(handle), MPI_ERR_DIMS, "MPI_Cart_shift", "there is no dimension %d, there are %d", dimension, it->dimensions);
-    int rank = mpi_my_member(mpi_comm(handle));
-    *source = shifted(it, rank, dimension, -by);
-    *destination = shifted(it, rank, dimension, by);
+    struct topology *topology = known(handle, MPI_CART, "MPI_Cart_shift", &code);
+    if (topology == NULL) return code;
+    if (dimension < 0 || dimension >= topology->dimensions) return refuse(find_comm(handle), MPI_ERR_DIMS, "MPI_Cart_shift", "there is no dimension %d, there are %d", dimension, topology->dimensions);
+    int rank = my_member(find_comm(handle));
+    *source = shifted(topology, rank, dimension, -by);
+    *destination = shifted(topology, rank, dimension, by);
     return code;
 }
 
 int MPI_Cart_sub(MPI_Comm handle, const int stays[], MPI_Comm *made) {
     int code, place[64], sizes[64], periods[64], dimensions = 0, color = 0, key = 0;
-    struct topology *it = known(handle, MPI_CART, "MPI_Cart_sub", &code);
-    if (it == NULL) return code;
-    place_of(it, mpi_my_member(mpi_comm(handle)), place);
-    for (int i = 0; i < it->dimensions; i++) {
+    struct topology *topology = known(handle, MPI_CART, "MPI_Cart_sub", &code);
+    if (topology == NULL) return code;
+    place_of(topology, my_member(find_comm(handle)), place);
+    for (int i = 0; i < topology->dimensions; i++) {
         if (!stays[i]) {
-            color = color * it->sizes[i] + place[i];
+            color = color * topology->sizes[i] + place[i];
             continue;
         }
-        key = key * it->sizes[i] + place[i];
-        sizes[dimensions] = it->sizes[i];
-        periods[dimensions++] = it->periods[i];
+        key = key * topology->sizes[i] + place[i];
+        sizes[dimensions] = topology->sizes[i];
+        periods[dimensions++] = topology->periods[i];
     }
-    code = mpi_split(handle, color, key, made, "MPI_Cart_sub");
-    if (code == MPI_SUCCESS) mpi_give_topology(*made, grid(dimensions, sizes, periods, mpi_my_member(mpi_comm(*made))));
+    code = split_comm(handle, color, key, made, "MPI_Cart_sub");
+    if (code == MPI_SUCCESS) give_topology(*made, grid(dimensions, sizes, periods, my_member(find_comm(*made))));
     return code;
 }
 
@@ -221,11 +221,11 @@ int MPI_Dims_create(int nodes, int dimensions, int sizes[]) {
     int left = nodes, open = 0, free_at[64];
     for (int i = 0; i < dimensions && i < 64; i++) {
         if (sizes[i] < 0 || (sizes[i] > 0 && left % sizes[i] != 0))
-            return mpi_refuse(NULL, MPI_ERR_DIMS, "MPI_Dims_create", "dimension %d has the size %d, which doesn't divide the %d nodes", i, sizes[i], nodes);
+            return refuse(NULL, MPI_ERR_DIMS, "MPI_Dims_create", "dimension %d has the size %d, which doesn't divide the %d nodes", i, sizes[i], nodes);
         if (sizes[i] > 0) left /= sizes[i];
         else free_at[open++] = i;
     }
-    if (open == 0 && left != 1) return mpi_refuse(NULL, MPI_ERR_DIMS, "MPI_Dims_create", "the sizes don't make %d nodes", nodes);
+    if (open == 0 && left != 1) return refuse(NULL, MPI_ERR_DIMS, "MPI_Dims_create", "the sizes don't make %d nodes", nodes);
     for (int i = 0; i < open; i++) {
         sizes[free_at[i]] = next_size(left, open - i);
         left /= sizes[free_at[i]];
@@ -241,24 +241,24 @@ int MPI_Graph_create(MPI_Comm handle, int nodes, const int index[], const int ed
     struct comm *comm = judged(handle, call, &code);
     (void)reorder;
     if (comm == NULL) return code;
-    if (nodes < 0 || nodes > comm->size) return mpi_refuse(comm, MPI_ERR_ARG, call, "the graph has %d nodes, and the communicator %d ranks", nodes, comm->size);
-    int many = nodes > 0 ? index[nodes - 1] : 0, me = mpi_my_member(comm);
+    if (nodes < 0 || nodes > comm->size) return refuse(comm, MPI_ERR_ARG, call, "the graph has %d nodes, and the communicator %d ranks", nodes, comm->size);
+    int many = nodes > 0 ? index[nodes - 1] : 0, me = my_member(comm);
     for (int i = 0; i < many; i++)
-        if (edges[i] < 0 || edges[i] >= nodes) return mpi_refuse(comm, MPI_ERR_ARG, call, "edge %d goes to node %d, which isn't there", i, edges[i]);
+        if (edges[i] < 0 || edges[i] >= nodes) return refuse(comm, MPI_ERR_ARG, call, "edge %d goes to node %d, which isn't there", i, edges[i]);
     code = make(comm, nodes, call, made);
     if (code != MPI_SUCCESS || *made == MPI_COMM_NULL) return code;
     int from = me > 0 ? index[me - 1] : 0, own = index[me] - from;
-    mpi_give_topology(*made, (struct topology){ .kind = MPI_GRAPH, .nodes = nodes, .index = copy_of(index, nodes), .edges = copy_of(edges, many), .in = own, .out = own,
+    give_topology(*made, (struct topology){ .kind = MPI_GRAPH, .nodes = nodes, .index = copy_of(index, nodes), .edges = copy_of(edges, many), .in = own, .out = own,
                                             .sources = copy_of(edges + from, own), .destinations = copy_of(edges + from, own) });
     return code;
 }
 
 int MPI_Graph_neighbors_count(MPI_Comm handle, int rank, int *many) {
     int code;
-    struct topology *it = known(handle, MPI_GRAPH, "MPI_Graph_neighbors_count", &code);
-    if (it == NULL) return code;
-    if (rank < 0 || rank >= it->nodes) return mpi_refuse(mpi_comm(handle), MPI_ERR_RANK, "MPI_Graph_neighbors_count", "there is no rank %d in the graph", rank);
-    *many = it->index[rank] - (rank > 0 ? it->index[rank - 1] : 0);
+    struct topology *topology = known(handle, MPI_GRAPH, "MPI_Graph_neighbors_count", &code);
+    if (topology == NULL) return code;
+    if (rank < 0 || rank >= topology->nodes) return refuse(find_comm(handle), MPI_ERR_RANK, "MPI_Graph_neighbors_count", "there is no rank %d in the graph", rank);
+    *many = topology->index[rank] - (rank > 0 ? topology->index[rank - 1] : 0);
     return code;
 }
 
@@ -266,16 +266,16 @@ int MPI_Graph_neighbors(MPI_Comm handle, int rank, int most, int neighbors[]) {
     int code, many;
     code = MPI_Graph_neighbors_count(handle, rank, &many);
     if (code != MPI_SUCCESS) return code;
-    struct topology *it = topology_of(mpi_comm(handle));
-    int from = rank > 0 ? it->index[rank - 1] : 0;
-    for (int i = 0; i < many && i < most; i++) neighbors[i] = it->edges[from + i];
+    struct topology *topology = topology_of(find_comm(handle));
+    int from = rank > 0 ? topology->index[rank - 1] : 0;
+    for (int i = 0; i < many && i < most; i++) neighbors[i] = topology->edges[from + i];
     return code;
 }
 
 static int judge_neighbors(struct comm *comm, int many, const int *neighbors, const char *call) {
-    if (many < 0) return mpi_refuse(comm, MPI_ERR_ARG, call, "the number %d of neighbours is negative", many);
+    if (many < 0) return refuse(comm, MPI_ERR_ARG, call, "the number %d of neighbours is negative", many);
     for (int i = 0; i < many; i++)
-        if (neighbors[i] < 0 || neighbors[i] >= comm->size) return mpi_refuse(comm, MPI_ERR_ARG, call, "neighbour %d is rank %d, which isn't in the communicator", i, neighbors[i]);
+        if (neighbors[i] < 0 || neighbors[i] >= comm->size) return refuse(comm, MPI_ERR_ARG, call, "neighbour %d is rank %d, which isn't in the communicator", i, neighbors[i]);
     return MPI_SUCCESS;
 }
 
@@ -291,34 +291,34 @@ int MPI_Dist_graph_create_adjacent(MPI_Comm handle, int in, const int sources[],
     if (code == MPI_SUCCESS) code = make(comm, comm->size, call, made);
     if (code != MPI_SUCCESS) return code;
     bool weighted = source_weights != MPI_UNWEIGHTED;
-    struct topology it = { .kind = MPI_DIST_GRAPH, .in = in, .out = out, .sources = copy_of(sources, in), .destinations = copy_of(destinations, out), .weighted = weighted };
-    if (weighted) it.source_weights = copy_of(source_weights, source_weights != MPI_WEIGHTS_EMPTY ? in : 0);
-    if (weighted) it.destination_weights = copy_of(destination_weights, destination_weights != MPI_WEIGHTS_EMPTY ? out : 0);
-    mpi_give_topology(*made, it);
+    struct topology topology = { .kind = MPI_DIST_GRAPH, .in = in, .out = out, .sources = copy_of(sources, in), .destinations = copy_of(destinations, out), .weighted = weighted };
+    if (weighted) topology.source_weights = copy_of(source_weights, source_weights != MPI_WEIGHTS_EMPTY ? in : 0);
+    if (weighted) topology.destination_weights = copy_of(destination_weights, destination_weights != MPI_WEIGHTS_EMPTY ? out : 0);
+    give_topology(*made, topology);
     return code;
 }
 
 int MPI_Dist_graph_neighbors_count(MPI_Comm handle, int *in, int *out, int *weighted) {
     int code;
-    struct topology *it = known(handle, MPI_DIST_GRAPH, "MPI_Dist_graph_neighbors_count", &code);
-    if (it == NULL) return code;
-    *in = it->in;
-    *out = it->out;
-    *weighted = it->weighted;
+    struct topology *topology = known(handle, MPI_DIST_GRAPH, "MPI_Dist_graph_neighbors_count", &code);
+    if (topology == NULL) return code;
+    *in = topology->in;
+    *out = topology->out;
+    *weighted = topology->weighted;
     return code;
 }
 
 int MPI_Dist_graph_neighbors(MPI_Comm handle, int most_in, int sources[], int source_weights[], int most_out, int destinations[], int destination_weights[]) {
     int code;
-    struct topology *it = known(handle, MPI_DIST_GRAPH, "MPI_Dist_graph_neighbors", &code);
-    if (it == NULL) return code;
-    for (int i = 0; i < most_in && i < it->in; i++) {
-        sources[i] = it->sources[i];
-        if (it->weighted && source_weights != MPI_UNWEIGHTED) source_weights[i] = it->source_weights[i];
+    struct topology *topology = known(handle, MPI_DIST_GRAPH, "MPI_Dist_graph_neighbors", &code);
+    if (topology == NULL) return code;
+    for (int i = 0; i < most_in && i < topology->in; i++) {
+        sources[i] = topology->sources[i];
+        if (topology->weighted && source_weights != MPI_UNWEIGHTED) source_weights[i] = topology->source_weights[i];
     }
-    for (int i = 0; i < most_out && i < it->out; i++) {
-        destinations[i] = it->destinations[i];
-        if (it->weighted && destination_weights != MPI_UNWEIGHTED) destination_weights[i] = it->destination_weights[i];
+    for (int i = 0; i < most_out && i < topology->out; i++) {
+        destinations[i] = topology->destinations[i];
+        if (topology->weighted && destination_weights != MPI_UNWEIGHTED) destination_weights[i] = topology->destination_weights[i];
     }
     return code;
 }
@@ -327,7 +327,7 @@ int MPI_Topo_test(MPI_Comm handle, int *kind) {
     int code;
     struct comm *comm = judged(handle, "MPI_Topo_test", &code);
     if (comm == NULL) return code;
-    struct topology *it = topology_of(comm);
-    *kind = it != NULL ? it->kind : MPI_UNDEFINED;
+    struct topology *topology = topology_of(comm);
+    *kind = topology != NULL ? topology->kind : MPI_UNDEFINED;
     return code;
 }

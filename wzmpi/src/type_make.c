@@ -1,6 +1,6 @@
 /* The calls that make types and ask about them. */
 #include "counted.h"
-#include "tell.h"
+#include "diagnostics.h"
 #include "types.h"
 
 /* ---- runs are added one after the other */
@@ -9,14 +9,14 @@ static void add_run(struct building *b, MPI_Aint at, int basic, size_t many) {
     if (many == 0) return;
     if (b->many > 0) {
         struct run_of *last = &b->runs[b->many - 1];
-        if (last->basic == basic && last->at + (MPI_Aint)(mpi_basic(basic)->size * last->many) == at) {
+        if (last->basic == basic && last->at + (MPI_Aint)(basic_type(basic)->size * last->many) == at) {
             last->many += many;
             return;
         }
     }
     if (b->many == b->room) {
         b->room = 2 * b->room + 4;
-        b->runs = mpi_must(realloc(b->runs, sizeof *b->runs * b->room));
+        b->runs = must(realloc(b->runs, sizeof *b->runs * b->room));
     }
     b->runs[b->many++] = (struct run_of){ at, basic, many };
 }
@@ -27,7 +27,7 @@ static void widen(struct building *b, MPI_Aint low, MPI_Aint high) {
     b->any = true;
 }
 
-void mpi_build(struct building *b, const struct type *type, MPI_Aint at, MPI_Count many) {
+void build(struct building *b, const struct type *type, MPI_Aint at, MPI_Count many) {
     if (type->alignment > b->alignment) b->alignment = type->alignment;
     for (MPI_Count i = 0; i < many; i++) {
         MPI_Aint from = at + (MPI_Aint)i * type->extent;
@@ -36,21 +36,21 @@ void mpi_build(struct building *b, const struct type *type, MPI_Aint at, MPI_Cou
     }
 }
 
-MPI_Datatype mpi_built(struct building *b) { return mpi_new_type(b->runs, b->many, b->low, b->high - b->low, b->alignment > 0 ? b->alignment : 1); }
+MPI_Datatype built(struct building *b) { return new_type(b->runs, b->many, b->low, b->high - b->low, b->alignment > 0 ? b->alignment : 1); }
 
 /* ---- what is judged before */
 
 static struct type *known(MPI_Datatype handle, const char *call, int *code) {
-    struct type *type = mpi_type(handle);
-    *code = type != NULL ? MPI_SUCCESS : mpi_type_error(handle, call);
+    struct type *type = find_type(handle);
+    *code = type != NULL ? MPI_SUCCESS : type_error(handle, call);
     return type;
 }
 
-static int count_error(long long count, const char *call) { return mpi_refuse(NULL, MPI_ERR_COUNT, call, "the count %lld is negative", count); }
+static int count_error(long long count, const char *call) { return refuse(NULL, MPI_ERR_COUNT, call, "the count %lld is negative", count); }
 
 /* Gives the program a type, which says by what call it was made. */
 static int give(MPI_Datatype *made, MPI_Datatype handle, int combiner, int integers, int addresses, int parts) {
-    struct type *type = mpi_type(handle);
+    struct type *type = find_type(handle);
     type->combiner = combiner;
     type->integers = integers;
     type->addresses = addresses;
@@ -61,14 +61,14 @@ static int give(MPI_Datatype *made, MPI_Datatype handle, int combiner, int integ
 
 /* ---- the calls */
 
-int mpi_Type_contiguous(MPI_Count many, MPI_Datatype of, MPI_Datatype *made) {
+int counted_Type_contiguous(MPI_Count many, MPI_Datatype of, MPI_Datatype *made) {
     int code;
     struct type *type = known(of, "MPI_Type_contiguous", &code);
     if (type == NULL) return code;
     if (many < 0) return count_error(many, "MPI_Type_contiguous");
     struct building b = { 0 };
-    mpi_build(&b, type, 0, many);
-    return give(made, mpi_built(&b), MPI_COMBINER_CONTIGUOUS, 1, 0, 1);
+    build(&b, type, 0, many);
+    return give(made, built(&b), MPI_COMBINER_CONTIGUOUS, 1, 0, 1);
 }
 
 static int vector(MPI_Count many, MPI_Count length, MPI_Aint stride, bool in_bytes, MPI_Datatype of, MPI_Datatype *made, const char *call) {
@@ -76,14 +76,14 @@ static int vector(MPI_Count many, MPI_Count length, MPI_Aint stride, bool in_byt
     struct type *type = known(of, call, &code);
     if (type == NULL) return code;
     if (many < 0) return count_error(many, call);
-    if (length < 0) return mpi_refuse(NULL, MPI_ERR_ARG, call, "the block length %lld is negative", (long long)length);
+    if (length < 0) return refuse(NULL, MPI_ERR_ARG, call, "the block length %lld is negative", (long long)length);
     struct building b = { 0 };
     MPI_Aint step = in_bytes ? stride : stride * type->extent;
-    for (MPI_Count i = 0; i < many; i++) mpi_build(&b, type, (MPI_Aint)i * step, length);
-    return in_bytes ? give(made, mpi_built(&b), MPI_COMBINER_HVECTOR, 2, 1, 1) : give(made, mpi_built(&b), MPI_COMBINER_VECTOR, 3, 0, 1);
+    for (MPI_Count i = 0; i < many; i++) build(&b, type, (MPI_Aint)i * step, length);
+    return in_bytes ? give(made, built(&b), MPI_COMBINER_HVECTOR, 2, 1, 1) : give(made, built(&b), MPI_COMBINER_VECTOR, 3, 0, 1);
 }
 
-int mpi_Type_vector(MPI_Count many, MPI_Count length, MPI_Count stride, MPI_Datatype of, MPI_Datatype *made) {
+int counted_Type_vector(MPI_Count many, MPI_Count length, MPI_Count stride, MPI_Datatype of, MPI_Datatype *made) {
     return vector(many, length, stride, false, of, made, "MPI_Type_vector");
 }
 
@@ -105,15 +105,15 @@ static int indexed(const struct blocks *blocks, MPI_Datatype of, MPI_Datatype *m
     if (blocks->many < 0) return count_error(blocks->many, call);
     for (int i = 0; i < blocks->many; i++) {
         int length = blocks->lengths != NULL ? blocks->lengths[i] : blocks->length;
-        if (length < 0) return mpi_refuse(NULL, MPI_ERR_ARG, call, "the block length %d is negative", length);
+        if (length < 0) return refuse(NULL, MPI_ERR_ARG, call, "the block length %d is negative", length);
     }
     struct building b = { 0 };
     for (int i = 0; i < blocks->many; i++) {
         MPI_Aint at = blocks->bytes != NULL ? blocks->bytes[i] : blocks->places[i] * type->extent;
-        mpi_build(&b, type, at, blocks->lengths != NULL ? blocks->lengths[i] : blocks->length);
+        build(&b, type, at, blocks->lengths != NULL ? blocks->lengths[i] : blocks->length);
     }
     int addresses = blocks->bytes != NULL ? blocks->many : 0, integers = 1 + (blocks->lengths != NULL ? blocks->many : 1) + (blocks->bytes != NULL ? 0 : blocks->many);
-    return give(made, mpi_built(&b), blocks->combiner, integers, addresses, 1);
+    return give(made, built(&b), blocks->combiner, integers, addresses, 1);
 }
 
 int MPI_Type_indexed(int many, const int lengths[], const int places[], MPI_Datatype of, MPI_Datatype *made) {
@@ -137,20 +137,20 @@ int MPI_Type_create_struct(int many, const int lengths[], const MPI_Aint places[
     if (many < 0) return count_error(many, "MPI_Type_create_struct");
     for (int i = 0; i < many; i++) {
         if (known(of[i], "MPI_Type_create_struct", &code) == NULL) return code;
-        if (lengths[i] < 0) return mpi_refuse(NULL, MPI_ERR_ARG, "MPI_Type_create_struct", "the block length %d is negative", lengths[i]);
+        if (lengths[i] < 0) return refuse(NULL, MPI_ERR_ARG, "MPI_Type_create_struct", "the block length %d is negative", lengths[i]);
     }
     struct building b = { 0 };
-    for (int i = 0; i < many; i++) mpi_build(&b, mpi_type(of[i]), places[i], lengths[i]);
+    for (int i = 0; i < many; i++) build(&b, find_type(of[i]), places[i], lengths[i]);
     if (b.alignment > 1) { /* as the C compiler ends a struct (MPI 4.1, 5.1.6) */
         MPI_Aint over = (b.high - b.low) % (MPI_Aint)b.alignment;
         if (over > 0) b.high += (MPI_Aint)b.alignment - over;
     }
-    return give(made, mpi_built(&b), MPI_COMBINER_STRUCT, many + 1, many, many);
+    return give(made, built(&b), MPI_COMBINER_STRUCT, many + 1, many, many);
 }
 
 /* A dimension of a subarray: so many of the type that the inner dimensions make, of so many in all. */
 static void narrow(struct building *b, const struct type *inner, int size, int part, int start) {
-    mpi_build(b, inner, start * inner->extent, part);
+    build(b, inner, start * inner->extent, part);
     b->low = 0;
     b->high = size * inner->extent;
 }
@@ -159,16 +159,16 @@ int MPI_Type_create_subarray(int dimensions, const int sizes[], const int parts[
     const char *call = "MPI_Type_create_subarray";
     int code;
     if (known(of, call, &code) == NULL) return code;
-    if (order != MPI_ORDER_C && order != MPI_ORDER_FORTRAN) return mpi_refuse(NULL, MPI_ERR_ARG, call, "the order is neither MPI_ORDER_C nor MPI_ORDER_FORTRAN");
+    if (order != MPI_ORDER_C && order != MPI_ORDER_FORTRAN) return refuse(NULL, MPI_ERR_ARG, call, "the order is neither MPI_ORDER_C nor MPI_ORDER_FORTRAN");
     for (int i = 0; i < dimensions; i++)
         if (sizes[i] < 1 || parts[i] < 1 || starts[i] < 0 || starts[i] > sizes[i] - parts[i])
-            return mpi_refuse(NULL, MPI_ERR_ARG, call, "dimension %d: %d elements from %d on don't lie within %d", i, parts[i], starts[i], sizes[i]);
+            return refuse(NULL, MPI_ERR_ARG, call, "dimension %d: %d elements from %d on don't lie within %d", i, parts[i], starts[i], sizes[i]);
     MPI_Datatype inner = of;
     for (int i = 0; i < dimensions; i++) {
         int at = order == MPI_ORDER_C ? dimensions - 1 - i : i;
         struct building b = { 0 };
-        narrow(&b, mpi_type(inner), sizes[at], parts[at], starts[at]);
-        MPI_Datatype outer = mpi_built(&b);
+        narrow(&b, find_type(inner), sizes[at], parts[at], starts[at]);
+        MPI_Datatype outer = built(&b);
         if (inner != of) MPI_Type_free(&inner);
         inner = outer;
     }
@@ -177,9 +177,9 @@ int MPI_Type_create_subarray(int dimensions, const int sizes[], const int parts[
 }
 
 static MPI_Datatype copied(const struct type *type, MPI_Aint low, MPI_Aint extent) {
-    struct run_of *runs = mpi_must(malloc(sizeof *runs * (type->many + 1)));
+    struct run_of *runs = must(malloc(sizeof *runs * (type->many + 1)));
     memcpy(runs, type->runs, sizeof *runs * type->many);
-    return mpi_new_type(runs, type->many, low, extent, type->alignment);
+    return new_type(runs, type->many, low, extent, type->alignment);
 }
 
 int MPI_Type_create_resized(MPI_Datatype of, MPI_Aint low, MPI_Aint extent, MPI_Datatype *made) {
@@ -193,9 +193,9 @@ int MPI_Type_dup(MPI_Datatype of, MPI_Datatype *made) {
     struct type *type = known(of, "MPI_Type_dup", &code);
     if (type == NULL) return code;
     give(made, copied(type, type->low, type->extent), MPI_COMBINER_DUP, 0, 0, 1);
-    struct type *copy = mpi_type(*made);
+    struct type *copy = find_type(*made);
     copy->committed = type->committed;
-    if (type->name != NULL) copy->name = mpi_must(strdup(type->name));
+    if (type->name != NULL) copy->name = must(strdup(type->name));
     return code;
 }
 
@@ -210,9 +210,9 @@ int MPI_Type_free(MPI_Datatype *of) {
     int code;
     struct type *type = known(*of, "MPI_Type_free", &code);
     if (type == NULL) return code;
-    if (type->predefined) return mpi_refuse(NULL, MPI_ERR_TYPE, "MPI_Type_free", "%s can't be freed", type->name);
-    mpi_forget_type(*of);
-    mpi_type_unuse(type);
+    if (type->predefined) return refuse(NULL, MPI_ERR_TYPE, "MPI_Type_free", "%s can't be freed", type->name);
+    forget_type(*of);
+    type_unuse(type);
     *of = MPI_DATATYPE_NULL;
     return code;
 }
@@ -264,7 +264,7 @@ int MPI_Type_set_name(MPI_Datatype of, const char *name) {
     struct type *type = known(of, "MPI_Type_set_name", &code);
     if (type == NULL || type->predefined) return code;
     free((char *)(uintptr_t)type->name);
-    type->name = mpi_must(strndup(name, MPI_MAX_OBJECT_NAME - 1));
+    type->name = must(strndup(name, MPI_MAX_OBJECT_NAME - 1));
     return code;
 }
 
@@ -314,8 +314,8 @@ int MPI_Get_elements_x(const MPI_Status *status, MPI_Datatype of, MPI_Count *cou
     *count = (MPI_Count)(left / type->size * type->spread.elements);
     left %= type->size;
     for (size_t i = 0; i < type->many && left > 0; i++) {
-        size_t size = mpi_basic(type->runs[i].basic)->size, here = left / size < type->runs[i].many ? left / size : type->runs[i].many;
-        size_t value = mpi_value_size(type->runs[i].basic);
+        size_t size = basic_type(type->runs[i].basic)->size, here = left / size < type->runs[i].many ? left / size : type->runs[i].many;
+        size_t value = value_size(type->runs[i].basic);
         *count += (MPI_Count)here * (value > 0 ? 2 : 1);
         left -= here * size;
         if (here == type->runs[i].many) continue;

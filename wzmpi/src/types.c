@@ -1,7 +1,7 @@
 /* Basic types, what a type is, and bytes with and without gaps. */
 #include "types.h"
 
-#include "tell.h"
+#include "diagnostics.h"
 
 #include <complex.h>
 #include <wchar.h>
@@ -52,9 +52,9 @@ enum { BASICS = sizeof basics / sizeof basics[0] };
 static struct type basic_types[BASICS];
 static struct run_of basic_runs[BASICS];
 
-const struct basic *mpi_basic(int basic) { return &basics[basic]; }
+const struct basic *basic_type(int basic) { return &basics[basic]; }
 
-size_t mpi_engine_width(int type) {
+size_t engine_width(int type) {
     static const uint8_t widths[ENGINE_TYPES] = { 1, 2, 4, 8, 1, 2, 4, 8, 1, 8 };
     return widths[type];
 }
@@ -76,9 +76,9 @@ static struct signature repeated(struct signature one, uint64_t times) {
     return all;
 }
 
-struct signature mpi_signature_of(const struct type *type, uint64_t many) { return repeated(type->signature, many); }
+struct signature type_signature(const struct type *type, uint64_t many) { return repeated(type->signature, many); }
 
-struct signature mpi_spread_of(const struct type *type, uint64_t many) { return repeated(type->spread, many); }
+struct signature spread_of(const struct type *type, uint64_t many) { return repeated(type->spread, many); }
 
 /* The types of the pairs' values (MPI 4.1, 6.9.4), from MPI_2INT on. The gap within a MPI_SHORT_INT is moved with it, so it is as no structure. */
 static const int values[] = { MPI_INT, MPI_FLOAT, MPI_DOUBLE, MPI_LONG, 0, MPI_LONG_DOUBLE };
@@ -88,7 +88,7 @@ static const struct basic *value_of(int basic) {
     return value != 0 ? &basics[value & 0xff] : NULL;
 }
 
-size_t mpi_value_size(int basic) { return value_of(basic) != NULL ? value_of(basic)->size : 0; }
+size_t value_size(int basic) { return value_of(basic) != NULL ? value_of(basic)->size : 0; }
 
 static struct signature of_basic(uint32_t code) { return (struct signature){ 1, code, POINT }; }
 
@@ -120,7 +120,7 @@ __attribute__((constructor)) static void fill_basic_types(void) {
 enum { NUMBER_BITS = 19, GENERATION_MASK = 0x7ff, MADE_TYPE = 0x40000000 };
 
 static const void *table_word(MPI_Datatype handle) {
-    const struct table *table = &mpi_me->tables[TYPE];
+    const struct table *table = &current_rank->tables[TYPE];
     uint32_t number = (uint32_t)handle & ((1u << NUMBER_BITS) - 1), at = number - FIRST_MADE;
     if (handle < MADE_TYPE || number < FIRST_MADE || at >= table->many) return NULL;
     uint32_t generation = table->generations[at], said = (uint32_t)handle >> NUMBER_BITS & GENERATION_MASK;
@@ -131,36 +131,36 @@ static const void *table_word(MPI_Datatype handle) {
 static MPI_Datatype short_handle(uintptr_t word) {
     uint32_t number = word & ((1u << TABLE_NUMBER_BITS) - 1), generation = (uint32_t)(word >> TABLE_NUMBER_BITS);
     if (number >= 1u << NUMBER_BITS) {
-        fprintf(stderr, "wzrun: rank %d has 524,288 types\n", mpi_me->number);
+        fprintf(stderr, "wzrun: rank %d has 524,288 types\n", current_rank->number);
         exit(1);
     }
     return (MPI_Datatype)(MADE_TYPE | (generation & GENERATION_MASK) << NUMBER_BITS | number);
 }
 
-bool mpi_was_type(MPI_Datatype handle) { return mpi_was_freed(TYPE, table_word(handle)); }
+bool was_type(MPI_Datatype handle) { return was_freed(TYPE, table_word(handle)); }
 
-void mpi_forget_type(MPI_Datatype handle) { mpi_remove(TYPE, table_word(handle)); }
+void forget_type(MPI_Datatype handle) { remove_handle(TYPE, table_word(handle)); }
 
 static bool is_predefined(MPI_Datatype handle) { return handle > MPI_DATATYPE_NULL && handle < MPI_DATATYPE_NULL + BASICS; }
 
-struct type *mpi_type(MPI_Datatype handle) { return is_predefined(handle) ? &basic_types[handle & 0xff] : mpi_find(TYPE, table_word(handle)); }
+struct type *find_type(MPI_Datatype handle) { return is_predefined(handle) ? &basic_types[handle & 0xff] : find_handle(TYPE, table_word(handle)); }
 
-int mpi_type_error(MPI_Datatype handle, const char *call) {
-    if (handle == MPI_DATATYPE_NULL) return mpi_refuse(NULL, MPI_ERR_TYPE, call, "the type is MPI_DATATYPE_NULL");
-    if (mpi_was_type(handle)) return mpi_refuse(NULL, MPI_ERR_TYPE, call, "the type was freed");
-    return mpi_refuse(NULL, MPI_ERR_TYPE, call, "%d is no type", handle);
+int type_error(MPI_Datatype handle, const char *call) {
+    if (handle == MPI_DATATYPE_NULL) return refuse(NULL, MPI_ERR_TYPE, call, "the type is MPI_DATATYPE_NULL");
+    if (was_type(handle)) return refuse(NULL, MPI_ERR_TYPE, call, "the type was freed");
+    return refuse(NULL, MPI_ERR_TYPE, call, "%d is no type", handle);
 }
 
-void mpi_type_use(const struct type *type) {
+void type_use(const struct type *type) {
     if (!type->predefined) ((struct type *)(uintptr_t)type)->uses++;
 }
 
-void mpi_type_unuse(const struct type *type) {
-    struct type *it = (struct type *)(uintptr_t)type;
-    if (it->predefined || --it->uses > 0) return;
-    free((char *)(uintptr_t)it->name);
-    free(it->runs);
-    free(it);
+void type_unuse(const struct type *type) {
+    struct type *own = (struct type *)(uintptr_t)type;
+    if (own->predefined || --own->uses > 0) return;
+    free((char *)(uintptr_t)own->name);
+    free(own->runs);
+    free(own);
 }
 
 /* ---- types that programs make */
@@ -188,8 +188,8 @@ static void measure(struct type *type) {
     type->dense = dense && type->low == 0 && (size_t)type->extent == type->size;
 }
 
-MPI_Datatype mpi_new_type(struct run_of *runs, size_t many, MPI_Aint low, MPI_Aint extent, size_t alignment) {
-    struct type *type = mpi_must(calloc(1, sizeof *type));
+MPI_Datatype new_type(struct run_of *runs, size_t many, MPI_Aint low, MPI_Aint extent, size_t alignment) {
+    struct type *type = must(calloc(1, sizeof *type));
     type->runs = runs;
     type->many = many;
     type->low = low;
@@ -197,12 +197,12 @@ MPI_Datatype mpi_new_type(struct run_of *runs, size_t many, MPI_Aint low, MPI_Ai
     type->alignment = alignment;
     type->uses = 1;
     measure(type);
-    return short_handle(mpi_add(TYPE, type));
+    return short_handle(add_handle(TYPE, type));
 }
 
 /* ---- bytes */
 
-void mpi_pack(const struct type *type, size_t many, const void *from, void *bytes) {
+void pack(const struct type *type, size_t many, const void *from, void *bytes) {
     char *to = bytes;
     if (type->dense) {
         if (many * type->size > 0) memcpy(to, from, many * type->size);
@@ -216,7 +216,7 @@ void mpi_pack(const struct type *type, size_t many, const void *from, void *byte
         }
 }
 
-void mpi_unpack_part(const struct type *type, void *to, const void *bytes, size_t length) {
+void unpack_part(const struct type *type, void *to, const void *bytes, size_t length) {
     const char *from = bytes;
     for (size_t i = 0; i < type->many && length > 0; i++) {
         size_t here = run_bytes(&type->runs[i]) < length ? run_bytes(&type->runs[i]) : length;
@@ -226,7 +226,7 @@ void mpi_unpack_part(const struct type *type, void *to, const void *bytes, size_
     }
 }
 
-void mpi_unpack(const struct type *type, size_t many, void *to, const void *bytes) {
+void unpack(const struct type *type, size_t many, void *to, const void *bytes) {
     const char *from = bytes;
     if (type->dense) {
         if (many * type->size > 0) memcpy(to, from, many * type->size);

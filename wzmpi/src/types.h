@@ -55,24 +55,24 @@ struct op {
     int uses;
 };
 
-const struct basic *mpi_basic(int basic);
+const struct basic *basic_type(int basic);
 enum { ENGINE_TYPES = 10 };
-size_t mpi_engine_width(int type);
+size_t engine_width(int type);
 
-struct type *mpi_type(MPI_Datatype type); /* NULL: there is none */
-bool mpi_was_type(MPI_Datatype type);    /* a handle of a type that was freed */
-void mpi_forget_type(MPI_Datatype type);
-void mpi_type_use(const struct type *type);
-void mpi_type_unuse(const struct type *type);
-struct signature mpi_signature_of(const struct type *type, uint64_t many);
-struct signature mpi_spread_of(const struct type *type, uint64_t many);
-size_t mpi_value_size(int basic); /* of a pair that is as a structure has it; 0: it is none */
-int mpi_type_error(MPI_Datatype type, const char *call); /* tells what is wrong with it */
+struct type *find_type(MPI_Datatype type); /* NULL: there is none */
+bool was_type(MPI_Datatype type);    /* a handle of a type that was freed */
+void forget_type(MPI_Datatype type);
+void type_use(const struct type *type);
+void type_unuse(const struct type *type);
+struct signature type_signature(const struct type *type, uint64_t many);
+struct signature spread_of(const struct type *type, uint64_t many);
+size_t value_size(int basic); /* of a pair that is as a structure has it; 0: it is none */
+int type_error(MPI_Datatype type, const char *call); /* tells what is wrong with it */
 
 /* Copies MANY elements of a type from or to bytes without gaps. */
-void mpi_pack(const struct type *type, size_t many, const void *from, void *bytes);
-void mpi_unpack(const struct type *type, size_t many, void *to, const void *bytes);
-void mpi_unpack_part(const struct type *type, void *to, const void *bytes, size_t length); /* the first bytes of one element */
+void pack(const struct type *type, size_t many, const void *from, void *bytes);
+void unpack(const struct type *type, size_t many, void *to, const void *bytes);
+void unpack_part(const struct type *type, void *to, const void *bytes, size_t length); /* the first bytes of one element */
 
 /* ---- making types (type_make.c) */
 struct building {
@@ -82,16 +82,16 @@ struct building {
     size_t alignment;
     bool any;
 };
-void mpi_build(struct building *building, const struct type *type, MPI_Aint at, MPI_Count many);
-MPI_Datatype mpi_built(struct building *building);
-MPI_Datatype mpi_new_type(struct run_of *runs, size_t many, MPI_Aint low, MPI_Aint extent, size_t alignment); /* it is given the runs */
+void build(struct building *building, const struct type *type, MPI_Aint at, MPI_Count many);
+MPI_Datatype built(struct building *building);
+MPI_Datatype new_type(struct run_of *runs, size_t many, MPI_Aint low, MPI_Aint extent, size_t alignment); /* it is given the runs */
 
 /* ---- operations (operations.c, compute.c) */
-struct op *mpi_op(MPI_Op op);
-void mpi_op_unuse(struct op *op);
-int mpi_engine_op(const struct op *op); /* -1: the engine has no such operation */
-bool mpi_op_takes(const struct op *op, const struct type *type);
+struct op *find_op(MPI_Op op);
+void op_unuse(struct op *op);
+int engine_op(const struct op *op); /* -1: the engine has no such operation */
+bool op_takes(const struct op *op, const struct type *type);
 /* more[i] = row[i] op more[i] */
-void mpi_compute(const struct op *op, MPI_Datatype handle, const struct type *type, MPI_Count many, void *row, void *more);
+void compute(const struct op *op, MPI_Datatype handle, const struct type *type, MPI_Count many, void *row, void *more);
 
 #endif

@@ -1,5 +1,5 @@
 /* Waiting: for one request of an engine the engine's own wait serves; for others a rank sleeps until a call of another may have let it go on. */
-#include "notes.h"
+#include "trace.h"
 
 #include <linux/futex.h>
 #include <sched.h>
@@ -12,36 +12,36 @@ enum {
     NAP_NANOSECONDS = 1000000 /* the longest sleep: what is computed beside the engine's lock wakes nobody */
 };
 
-/* ---- what others read of a rank that waits (watch.c) */
+/* ---- what others read of a rank that waits (deadlock_watch.c) */
 
 static pthread_mutex_t looking = PTHREAD_MUTEX_INITIALIZER;
 static atomic_bool looked_at;
 
 static void begin_wait(struct wait wait) {
-    struct rank *me = mpi_me;
+    struct rank *me = current_rank;
     me->wait = wait;
-    me->wait_begun = mpi_clock();
+    me->wait_begun = run_clock();
     atomic_fetch_add_explicit(&me->waits_begun, 1, memory_order_relaxed);
     atomic_store(&me->waits, true);
 }
 
-void mpi_begin_wait(const char *call, struct request **list, int many, bool any) {
-    begin_wait((struct wait){ .call = call, .site = mpi_me->site, .list = list, .many = many, .any = any });
+void begin_waiting(const char *call, struct request **list, int many, bool any) {
+    begin_wait((struct wait){ .call = call, .site = current_rank->site, .list = list, .many = many, .any = any });
 }
 
-void mpi_begin_wait_for_room(const char *call, struct request *it) { begin_wait((struct wait){ .call = call, .site = mpi_me->site, .room = it }); }
+void begin_wait_for_room(const char *call, struct request *request) { begin_wait((struct wait){ .call = call, .site = current_rank->site, .room = request }); }
 
 /* Whoever looks at the ranks may be at this one's list, which the caller gives up now. */
-void mpi_end_wait(void) {
-    struct rank *me = mpi_me;
+void end_waiting(void) {
+    struct rank *me = current_rank;
     atomic_store(&me->waits, false);
-    mpi_note_wait(me->wait.call, me->wait.site, me->wait_begun);
+    note_wait(me->wait.call, me->wait.site, me->wait_begun);
     if (!atomic_load(&looked_at)) return;
     pthread_mutex_lock(&looking);
     pthread_mutex_unlock(&looking);
 }
 
-void mpi_look(bool begin) {
+void hold_watch(bool begin) {
     if (begin) {
         pthread_mutex_lock(&looking);
         atomic_store(&looked_at, true);
@@ -53,21 +53,21 @@ void mpi_look(bool begin) {
 
 /* ---- how far a request is */
 
-static bool has_called(const struct request *it, int member) {
-    if (atomic_load(&it->comm->members[member].posted) <= it->place) return false;
-    return it->starts == NULL || atomic_load(&it->starts->of[member]) >= it->times;
+static bool has_called(const struct request *request, int member) {
+    if (atomic_load(&request->comm->members[member].posted) <= request->place) return false;
+    return request->starts == NULL || atomic_load(&request->starts->of[member]) >= request->times;
 }
 
-uint64_t mpi_lacking(const struct request *it) {
+uint64_t lacking(const struct request *request) {
     uint64_t ranks = 0;
-    if (it->sort != COLLECTIVE) {
-        int other, far = mpi_far_from(it->comm, it->member, &other); /* the watching thread is no rank */
-        int first = it->other == MPI_ANY_SOURCE ? 0 : it->other, last = it->other == MPI_ANY_SOURCE ? far - 1 : it->other;
-        for (int i = first; i <= last; i++) ranks |= 1ull << it->comm->members[other + i].rank;
+    if (request->sort != COLLECTIVE) {
+        int other, far = far_group_from(request->comm, request->member, &other); /* the watching thread is no rank */
+        int first = request->other == MPI_ANY_SOURCE ? 0 : request->other, last = request->other == MPI_ANY_SOURCE ? far - 1 : request->other;
+        for (int i = first; i <= last; i++) ranks |= 1ull << request->comm->members[other + i].rank;
         return ranks;
     }
-    for (int i = 0; i < it->comm->size; i++)
-        if (!has_called(it, i)) ranks |= 1ull << it->comm->members[i].rank;
+    for (int i = 0; i < request->comm->size; i++)
+        if (!has_called(request, i)) ranks |= 1ull << request->comm->members[i].rank;
     return ranks;
 }
 
@@ -79,9 +79,9 @@ struct sight_of_request {
 
 static int32_t see(wz_shared *shared, wz_ask *ask) {
     struct sight_of_request *sight = ask->out;
-    const struct request *it = sight->request;
+    const struct request *request = sight->request;
     uint8_t phase = WZ_IS_DONE;
-    if (it->held.generation != 0) wz_phase(&shared->engine, (uint8_t)it->member, &it->held, &phase);
+    if (request->held.generation != 0) wz_phase(&shared->engine, (uint8_t)request->member, &request->held, &phase);
     sight->progress = phase != WZ_IS_PENDING ? IS_DONE : shared->outside > 0 || shared->unsettled ? COMPUTES : GOES_ON;
     return WZ_DONE;
 }
@@ -91,7 +91,7 @@ static int32_t see_rest(wz_shared *shared, wz_ask *ask) {
     return WZ_DONE;
 }
 
-bool mpi_is_at_rest(struct engine *engine) {
+bool is_at_rest(struct engine *engine) {
     bool rests = false;
     wz_ask ask = wz_ask_(WZ_ONCE, (uint8_t)engine->shared.ranks, see_rest);
     ask.out = &rests;
@@ -100,33 +100,33 @@ bool mpi_is_at_rest(struct engine *engine) {
 }
 
 /* The watching thread plays no rank, so it is a guest of the engine. */
-static enum progress progress_of_collective(struct request *it) {
-    struct sight_of_request sight = { it, GOES_ON };
-    if (it->collected) return IS_DONE;
-    wz_ask ask = wz_ask_(WZ_ONCE, (uint8_t)it->engine->shared.ranks, see);
+static enum progress progress_of_collective(struct request *request) {
+    struct sight_of_request sight = { request, GOES_ON };
+    if (request->collected) return IS_DONE;
+    wz_ask ask = wz_ask_(WZ_ONCE, (uint8_t)request->engine->shared.ranks, see);
     ask.out = &sight;
-    wz_asked_(&it->engine->shared, &ask);
-    if (sight.progress == IS_DONE && mpi_run.strict && mpi_lacking(it) != 0) return GOES_ON;
+    wz_asked_(&request->engine->shared, &ask);
+    if (sight.progress == IS_DONE && the_run.strict && lacking(request) != 0) return GOES_ON;
     return sight.progress;
 }
 
-enum progress mpi_progress(struct request *it) {
-    if (!it->active) return IS_DONE;
-    if (it->sort == COLLECTIVE) return progress_of_collective(it);
-    if (it->sort == PROBING) return mpi_message_waits(it) ? IS_DONE : GOES_ON;
-    return atomic_load(&it->arrived) ? IS_DONE : GOES_ON;
+enum progress make_progress(struct request *request) {
+    if (!request->active) return IS_DONE;
+    if (request->sort == COLLECTIVE) return progress_of_collective(request);
+    if (request->sort == PROBING) return message_waits(request) ? IS_DONE : GOES_ON;
+    return atomic_load(&request->arrived) ? IS_DONE : GOES_ON;
 }
 
 /* Takes over the outcome of a collective that is done in the engine: it lies in it->out then. */
-static bool collect(struct request *it) {
-    if (!it->collected) it->collected = mpi_ask_test(it) == WZ_DONE;
-    return it->collected;
+static bool collect(struct request *request) {
+    if (!request->collected) request->collected = engine_test(request) == WZ_DONE;
+    return request->collected;
 }
 
-bool mpi_is_done(struct request *it) {
-    if (!it->active || it->sort != COLLECTIVE) return mpi_progress(it) == IS_DONE;
-    if (mpi_run.strict && mpi_lacking(it) != 0) return false;
-    return collect(it);
+bool is_done(struct request *request) {
+    if (!request->active || request->sort != COLLECTIVE) return make_progress(request) == IS_DONE;
+    if (the_run.strict && lacking(request) != 0) return false;
+    return collect(request);
 }
 
 /* ---- sleeping */
@@ -136,21 +136,21 @@ static void sleep_until_woken(struct rank *me, uint32_t seen) {
     syscall(SYS_futex, &me->wake, FUTEX_WAIT_PRIVATE, seen, &longest, NULL, 0);
 }
 
-void mpi_wake_rank(struct rank *rank) {
+void wake_rank(struct rank *rank) {
     if (!atomic_load(&rank->sleeps)) return;
     atomic_fetch_add(&rank->wake, 1);
     syscall(SYS_futex, &rank->wake, FUTEX_WAKE_PRIVATE, 1, NULL, NULL, 0);
 }
 
-void mpi_wake(struct comm *comm, int but) {
+void wake_members(struct comm *comm, int but) {
     for (int i = 0; i < comm->size; i++)
-        if (i != but) mpi_wake_rank(&mpi_run.ranks[comm->members[i].rank]);
+        if (i != but) wake_rank(&the_run.ranks[comm->members[i].rank]);
 }
 
 static bool may_go_on(struct request **list, int many, bool any) {
     for (int i = 0; i < many; i++) {
         if (list[i] == NULL || !list[i]->active) continue;
-        bool done = mpi_is_done(list[i]);
+        bool done = is_done(list[i]);
         if (done && any) return true;
         if (!done && !any) return false;
     }
@@ -170,7 +170,7 @@ static struct engine *common_engine(struct request **list, int many) {
 
 /* The engine's wait for one of several. Whether one is done. */
 static bool wait_in_engine(struct engine *engine, struct request **list, int many) {
-    const wz_request **held = mpi_must(malloc(sizeof *held * (size_t)many));
+    const wz_request **held = must(malloc(sizeof *held * (size_t)many));
     size_t listed = 0, index;
     int member = 0;
     for (int i = 0; i < many; i++) {
@@ -183,10 +183,10 @@ static bool wait_in_engine(struct engine *engine, struct request **list, int man
     return code == WZ_DONE;
 }
 
-void mpi_wait_for(const char *call, struct request **list, int many, bool any) {
-    struct rank *me = mpi_me;
-    mpi_begin_wait(call, list, many, any);
-    struct engine *engine = any && !mpi_run.strict ? common_engine(list, many) : NULL;
+void wait_for(const char *call, struct request **list, int many, bool any) {
+    struct rank *me = current_rank;
+    begin_waiting(call, list, many, any);
+    struct engine *engine = any && !the_run.strict ? common_engine(list, many) : NULL;
     bool done = engine != NULL && wait_in_engine(engine, list, many);
     for (int look = 0; !done && look < LOOKS; look++) done = may_go_on(list, many, any);
     while (!done) {
@@ -196,5 +196,5 @@ void mpi_wait_for(const char *call, struct request **list, int many, bool any) {
         if (!done) sleep_until_woken(me, seen);
         atomic_store(&me->sleeps, false);
     }
-    mpi_end_wait();
+    end_waiting();
 }

@@ -1,59 +1,59 @@
 /* The beginning and the end of a run, and the calls that need no communicator. */
-#include "notes.h"
+#include "trace.h"
 #include "record.h"
-#include "tell.h"
+#include "diagnostics.h"
 
 #include <dlfcn.h>
 #include <time.h>
 #include <unistd.h>
 
-struct run mpi_run;
-__thread struct rank *mpi_me;
+struct run the_run;
+__thread struct rank *current_rank;
 
 /* Where each rank's copy of the program lies, so that a thread that the program makes has the rank of the copy whose code it runs. */
 static const void *copies[MOST_RANKS];
 
-void mpi_note_copy(int rank, const void *base) { copies[rank] = base; }
+void note_copy(int rank, const void *base) { copies[rank] = base; }
 
 static struct rank *rank_of_address(const void *address) {
     Dl_info about;
     if (dladdr(address, &about) == 0) return NULL;
-    for (int i = 0; i < mpi_run.size; i++)
-        if (copies[i] == about.dli_fbase) return &mpi_run.ranks[i];
+    for (int i = 0; i < the_run.size; i++)
+        if (copies[i] == about.dli_fbase) return &the_run.ranks[i];
     return NULL;
 }
 
 void wz_note_line_(const char *line) {
-    struct rank *rank = mpi_me != NULL ? mpi_me : rank_of_address(line);
+    struct rank *rank = current_rank != NULL ? current_rank : rank_of_address(line);
     if (rank == NULL) return; /* the call itself tells that its thread is no rank's */
-    mpi_me = rank;
+    current_rank = rank;
     atomic_store_explicit(&rank->site, line, memory_order_relaxed);
 }
 
-struct rank *mpi_self(const char *call) {
-    if (mpi_me == NULL) mpi_me = rank_of_address(__builtin_return_address(0));
-    if (mpi_me != NULL) return mpi_me;
+struct rank *this_rank(const char *call) {
+    if (current_rank == NULL) current_rank = rank_of_address(__builtin_return_address(0));
+    if (current_rank != NULL) return current_rank;
     fprintf(stderr, "wzrun: %s: the thread that calls it isn't one of a rank\n", call);
     _exit(STATUS_WRONG);
 }
 
-void mpi_begin_run(int size) {
-    mpi_run.size = size;
+void begin_run(int size) {
+    the_run.size = size;
     for (int i = 0; i < size; i++) {
-        mpi_run.ranks[i].number = i;
-        mpi_run.ranks[i].site = "its beginning";
-        mpi_run.ranks[i].random = mpi_run.seed * 64 + (uint64_t)i;
+        the_run.ranks[i].number = i;
+        the_run.ranks[i].site = "its beginning";
+        the_run.ranks[i].random = the_run.seed * 64 + (uint64_t)i;
     }
-    mpi_begin_notes();
-    mpi_open_mailboxes(size);
-    mpi_open_world(size);
+    begin_notes();
+    open_mailboxes(size);
+    open_world(size);
 }
 
 /* ---- MPI_Init and MPI_Finalize */
 
 static int initialise(int level, const char *call) {
-    struct rank *me = mpi_self(call);
-    if (me->begun) return mpi_refuse(NULL, MPI_ERR_OTHER, call, "MPI_Init was called before");
+    struct rank *me = this_rank(call);
+    if (me->begun) return refuse(NULL, MPI_ERR_OTHER, call, "MPI_Init was called before");
     me->begun = true;
     me->level = level;
     return MPI_SUCCESS;
@@ -71,13 +71,13 @@ int MPI_Init_thread(int *argc, char ***argv, int wanted, int *given) {
 }
 
 int MPI_Query_thread(int *given) {
-    *given = mpi_self("MPI_Query_thread")->level;
+    *given = this_rank("MPI_Query_thread")->level;
     return MPI_SUCCESS;
 }
 
 static __thread bool is_main;
 
-void mpi_be_main(void) { is_main = true; }
+void be_main(void) { is_main = true; }
 
 int MPI_Is_thread_main(int *flag) {
     *flag = is_main;
@@ -85,40 +85,40 @@ int MPI_Is_thread_main(int *flag) {
 }
 
 int MPI_Initialized(int *flag) {
-    const struct rank *me = mpi_me != NULL ? mpi_me : rank_of_address(__builtin_return_address(0)); /* any thread may ask */
+    const struct rank *me = current_rank != NULL ? current_rank : rank_of_address(__builtin_return_address(0)); /* any thread may ask */
     *flag = me != NULL && me->begun;
     return MPI_SUCCESS;
 }
 
 int MPI_Finalized(int *flag) {
-    const struct rank *me = mpi_me != NULL ? mpi_me : rank_of_address(__builtin_return_address(0));
+    const struct rank *me = current_rank != NULL ? current_rank : rank_of_address(__builtin_return_address(0));
     *flag = me != NULL && me->finalized;
     return MPI_SUCCESS;
 }
 
 int MPI_Finalize(void) {
-    struct rank *me = mpi_self("MPI_Finalize");
-    if (!me->begun || me->finalized) return mpi_refuse(NULL, MPI_ERR_OTHER, "MPI_Finalize", me->begun ? "MPI_Finalize was called before" : "MPI_Init wasn't called before");
-    mpi_delete_attributes(mpi_comm(MPI_COMM_SELF), MPI_COMM_SELF);
-    mpi_delete_attributes(mpi_world(), MPI_COMM_WORLD);
+    struct rank *me = this_rank("MPI_Finalize");
+    if (!me->begun || me->finalized) return refuse(NULL, MPI_ERR_OTHER, "MPI_Finalize", me->begun ? "MPI_Finalize was called before" : "MPI_Init wasn't called before");
+    delete_attributes(find_comm(MPI_COMM_SELF), MPI_COMM_SELF);
+    delete_attributes(world_comm(), MPI_COMM_WORLD);
     for (uint32_t i = 0; i < me->tables[REQUEST].many; i++) {
-        struct request *it = me->tables[REQUEST].objects[i];
+        struct request *request = me->tables[REQUEST].objects[i];
         char text[NAME_TEXT];
-        if (it == NULL || !it->active) continue;
-        mpi_warn("rank %d calls MPI_Finalize at %s, and its request of %s at %s on %s was never completed", me->number, me->site, it->name, it->started_at,
-                mpi_comm_name(it->comm, text));
+        if (request == NULL || !request->active) continue;
+        print_warning("rank %d calls MPI_Finalize at %s, and its request of %s at %s on %s was never completed", me->number, me->site, request->name, request->started_at,
+                comm_name(request->comm, text));
     }
     me->finalized = true;
     return MPI_SUCCESS;
 }
 
 int MPI_Abort(MPI_Comm comm, int status) {
-    struct rank *me = mpi_self("MPI_Abort");
+    struct rank *me = this_rank("MPI_Abort");
     (void)comm;
-    mpi_tell_alone();
+    tell_alone();
     fflush(stdout);
     fprintf(stderr, "wzrun: rank %d ends all by MPI_Abort(%d) at %s\n", me->number, status, me->site);
-    mpi_end_run((status & 255) != 0 ? status & 255 : 1, (struct question){ NULL, NULL });
+    end_run((status & 255) != 0 ? status & 255 : 1, (struct question){ NULL, NULL });
 }
 
 /* ---- calls that need nothing */
@@ -152,7 +152,7 @@ int MPI_Get_processor_name(char *name, int *length) {
 int MPI_Alloc_mem(MPI_Aint size, MPI_Info info, void *base) {
     (void)info;
     *(void **)base = malloc(size > 0 ? (size_t)size : 1);
-    return *(void **)base != NULL ? MPI_SUCCESS : mpi_refuse(NULL, MPI_ERR_NO_MEM, "MPI_Alloc_mem", "there is no memory left");
+    return *(void **)base != NULL ? MPI_SUCCESS : refuse(NULL, MPI_ERR_NO_MEM, "MPI_Alloc_mem", "there is no memory left");
 }
 
 int MPI_Free_mem(void *base) {

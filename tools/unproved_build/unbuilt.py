@@ -50,7 +50,7 @@ def built(wanted, kit, missing, words):
         return making.build(wanted, kit, progress)
     except kits.OtherKit as error:
         progress.clear()
-        try_once(wanted.top, f"this kit builds no quick program ({error})", words)
+        try_once(wanted.top, f"this kit builds no unproved program ({error})", words)
     except OSError as error:
         progress.clear()
         answering.fail(building.told(error, wanted.folder))
@@ -59,7 +59,7 @@ def built(wanted, kit, missing, words):
 
 
 def try_once(top, why, words):
-    script = os.path.join(top, "tools", "quick_build", "try_once")
+    script = os.path.join(top, "tools", "unproved_build", "try_once")
     answering.become(script, [script, *words], {**os.environ, "COLLJOB_WHY": why})
 
 

@@ -30,7 +30,7 @@ class Kept:
 
     def __init__(self, top, kind="whole"):
         self.top, self.kind, self.root = top, kind, ROOTS[kind]
-        self.folder = os.path.join(top, "crates", self.root, "out", "quick")
+        self.folder = os.path.join(top, "crates", self.root, "out", "unproved")
         self.uses = sources.read_crates(top)
         self.crates = sources.crates_below(self.uses, [self.root])
         self.seen = None

@@ -4,9 +4,9 @@
    MPI_Finalize. A collective may be done before all members have called it, so it is given up only where all of those that it lacks are lost; under --strict
    where one is. Of the requests of MPI_Waitany and MPI_Waitsome all have to be given up. A rank that waits for room in an engine is lost where all other members of
    the communicator are: each of them might complete requests. The lost ranks are the greatest set that is so. */
-#include "watch.h"
+#include "deadlock_watch.h"
 
-#include "tell.h"
+#include "diagnostics.h"
 
 #include <time.h>
 
@@ -18,15 +18,15 @@ struct sight {
     uint64_t gone;    /* ranks that call nothing any more */
 };
 
-static bool is_open(struct request *it) { return it != NULL && it->active; }
+static bool is_open(struct request *request) { return request != NULL && request->active; }
 
-bool mpi_is_stuck(const struct rank *rank) {
+bool is_stuck(const struct rank *rank) {
     const struct wait *wait = &rank->wait;
     bool open = false;
-    if (wait->room != NULL) return mpi_is_at_rest(wait->room->engine);
+    if (wait->room != NULL) return is_at_rest(wait->room->engine);
     for (int i = 0; i < wait->many; i++) {
         if (!is_open(wait->list[i])) continue;
-        if (mpi_progress(wait->list[i]) != GOES_ON) return false;
+        if (make_progress(wait->list[i]) != GOES_ON) return false;
         open = true;
     }
     return open;
@@ -34,25 +34,25 @@ bool mpi_is_stuck(const struct rank *rank) {
 
 static struct sight look(void) {
     struct sight sight = { 0, 0 };
-    for (int i = 0; i < mpi_run.size; i++) {
-        struct rank *rank = &mpi_run.ranks[i];
+    for (int i = 0; i < the_run.size; i++) {
+        struct rank *rank = &the_run.ranks[i];
         if (atomic_load(&rank->ended) || atomic_load(&rank->finalized)) sight.gone |= 1ull << i;
-        else if (atomic_load(&rank->waits) && mpi_is_stuck(rank)) sight.waiting |= 1ull << i;
+        else if (atomic_load(&rank->waits) && is_stuck(rank)) sight.waiting |= 1ull << i;
     }
     return sight;
 }
 
-static bool is_hopeless(const struct request *it, uint64_t lost) {
-    uint64_t lacks = mpi_lacking(it);
+static bool is_hopeless(const struct request *request, uint64_t lost) {
+    uint64_t lacks = lacking(request);
     if (lacks == 0) return false;
-    bool one = it->sort == COLLECTIVE && mpi_run.strict;
+    bool one = request->sort == COLLECTIVE && the_run.strict;
     return one ? (lacks & lost) != 0 : (lacks & ~lost) == 0;
 }
 
 /* Whether all other members of a communicator are lost. */
-static bool gets_no_room(const struct request *it, uint64_t lost) {
-    for (int i = 0; i < it->comm->size; i++)
-        if (i != it->member && !(lost >> it->comm->members[i].rank & 1)) return false;
+static bool gets_no_room(const struct request *request, uint64_t lost) {
+    for (int i = 0; i < request->comm->size; i++)
+        if (i != request->member && !(lost >> request->comm->members[i].rank & 1)) return false;
     return true;
 }
 
@@ -72,50 +72,50 @@ static uint64_t find_lost(const struct sight *sight) {
     uint64_t lost = sight->waiting, before;
     do {
         before = lost;
-        for (int i = 0; i < mpi_run.size; i++)
-            if ((lost >> i & 1) && !is_lost(&mpi_run.ranks[i], lost | sight->gone)) lost &= ~(1ull << i);
+        for (int i = 0; i < the_run.size; i++)
+            if ((lost >> i & 1) && !is_lost(&the_run.ranks[i], lost | sight->gone)) lost &= ~(1ull << i);
     } while (lost != before);
     return lost;
 }
 
 /* ---- telling */
 
-static void tell_message(const struct request *it) {
+static void tell_message(const struct request *request) {
     char ranks[RANKS_TEXT];
-    const char *what = it->sort == SENDING ? "that its message is received by" : "for a message from";
-    const char *whom = it->other == MPI_ANY_SOURCE ? "any rank" : mpi_ranks_text(mpi_lacking(it), ranks);
+    const char *what = request->sort == SENDING ? "that its message is received by" : "for a message from";
+    const char *whom = request->other == MPI_ANY_SOURCE ? "any rank" : ranks_text(lacking(request), ranks);
     fprintf(stderr, "    %s %s", what, whom);
-    if (it->tag >= 0) fprintf(stderr, ", tag %d", it->tag);
-    fprintf(stderr, ": %s at %s\n", it->name, it->started_at);
+    if (request->tag >= 0) fprintf(stderr, ", tag %d", request->tag);
+    fprintf(stderr, ": %s at %s\n", request->name, request->started_at);
 }
 
-static void tell_request(struct request *it, const char *call) {
+static void tell_request(struct request *request, const char *call) {
     char ranks[RANKS_TEXT], name[NAME_TEXT], root[40] = "", start[300] = "";
-    uint64_t lacks = mpi_lacking(it);
-    if (it->sort != COLLECTIVE) {
-        tell_message(it);
+    uint64_t lacks = lacking(request);
+    if (request->sort != COLLECTIVE) {
+        tell_message(request);
         return;
     }
-    if (mpi_is_rooted(it->arguments.function) && it->comm->first == 0) snprintf(root, sizeof root, ", root %d", it->arguments.root);
-    if (it->starts != NULL) snprintf(start, sizeof start, ", start %u at %s", it->times, it->started_at);
-    const char *where = it->name == call ? "" : " at ";
-    fprintf(stderr, "    for %s%s%s%s, place %llu of %s%s, which %s %s not %s\n", it->name, root, where, it->name == call ? "" : it->site, (unsigned long long)it->place,
-            mpi_comm_name(it->comm, name), start, mpi_ranks_text(lacks, ranks), mpi_count_ranks(lacks) == 1 ? "has" : "have", it->starts != NULL ? "made" : "called");
+    if (is_rooted(request->arguments.function) && request->comm->first == 0) snprintf(root, sizeof root, ", root %d", request->arguments.root);
+    if (request->starts != NULL) snprintf(start, sizeof start, ", start %u at %s", request->times, request->started_at);
+    const char *where = request->name == call ? "" : " at ";
+    fprintf(stderr, "    for %s%s%s%s, place %llu of %s%s, which %s %s not %s\n", request->name, root, where, request->name == call ? "" : request->site, (unsigned long long)request->place,
+            comm_name(request->comm, name), start, ranks_text(lacks, ranks), count_ranks(lacks) == 1 ? "has" : "have", request->starts != NULL ? "made" : "called");
 }
 
 /* Whom a rank waits for. */
 static uint64_t awaited(const struct rank *rank, uint64_t lost) {
     uint64_t ranks = 0;
     for (int i = 0; i < rank->wait.many; i++)
-        if (is_open(rank->wait.list[i]) && (rank->wait.any || is_hopeless(rank->wait.list[i], lost))) ranks |= mpi_lacking(rank->wait.list[i]);
+        if (is_open(rank->wait.list[i]) && (rank->wait.any || is_hopeless(rank->wait.list[i], lost))) ranks |= lacking(rank->wait.list[i]);
     return ranks;
 }
 
 static void tell_rank(const struct rank *rank, uint64_t lost) {
     fprintf(stderr, "  rank %d waits in %s at %s\n", rank->number, rank->wait.call, rank->wait.site);
     for (int i = 0; i < rank->wait.many; i++) {
-        struct request *it = rank->wait.list[i];
-        if (is_open(it) && (rank->wait.any || is_hopeless(it, lost))) tell_request(it, rank->wait.call);
+        struct request *request = rank->wait.list[i];
+        if (is_open(request) && (rank->wait.any || is_hopeless(request, lost))) tell_request(request, rank->wait.call);
     }
 }
 
@@ -127,15 +127,15 @@ static int lowest(uint64_t ranks) {
 
 /* Each lost rank points to one that it waits for; -1: it waits for none of the lost. */
 static void point(uint64_t lost, uint64_t gone, int points[MOST_RANKS]) {
-    for (int i = 0; i < mpi_run.size; i++) {
-        uint64_t whom = lost >> i & 1 ? awaited(&mpi_run.ranks[i], lost | gone) & lost : 0;
+    for (int i = 0; i < the_run.size; i++) {
+        uint64_t whom = lost >> i & 1 ? awaited(&the_run.ranks[i], lost | gone) & lost : 0;
         points[i] = whom != 0 ? lowest(whom) : -1;
     }
 }
 
 /* Follows the pointers for as many steps as there are ranks, which ends within a circle if there is one on the way. -1: there is none. */
 static int find_circle(const int points[MOST_RANKS], int rank) {
-    for (int step = 0; step < mpi_run.size && rank >= 0; step++) rank = points[rank];
+    for (int step = 0; step < the_run.size && rank >= 0; step++) rank = points[rank];
     return rank;
 }
 
@@ -156,8 +156,8 @@ static bool tell_circle(const int points[MOST_RANKS], int from) {
 }
 
 static void tell_others(const struct sight *sight, uint64_t lost) {
-    for (int i = 0; i < mpi_run.size; i++) {
-        const struct rank *rank = &mpi_run.ranks[i];
+    for (int i = 0; i < the_run.size; i++) {
+        const struct rank *rank = &the_run.ranks[i];
         if (lost >> i & 1) continue;
         const char *site = atomic_load(&rank->site);
         if (atomic_load(&rank->ended)) fprintf(stderr, "  rank %d has ended with status %d; its last call stands at %s\n", i, rank->status, site);
@@ -170,7 +170,7 @@ static void tell_others(const struct sight *sight, uint64_t lost) {
 static void wait_for_ends(void) {
     for (int turn = 0; turn < 400; turn++) {
         bool all = true;
-        for (int i = 0; i < mpi_run.size; i++) all = all && (!atomic_load(&mpi_run.ranks[i].finalized) || atomic_load(&mpi_run.ranks[i].ended));
+        for (int i = 0; i < the_run.size; i++) all = all && (!atomic_load(&the_run.ranks[i].finalized) || atomic_load(&the_run.ranks[i].ended));
         if (all) return;
         nanosleep(&(struct timespec){ 0, 5000000 }, NULL);
     }
@@ -178,46 +178,46 @@ static void wait_for_ends(void) {
 
 static void tell_stall(const struct sight *sight, uint64_t lost) {
     char ranks[RANKS_TEXT];
-    bool all = (lost | sight->gone) == (mpi_run.size == 64 ? UINT64_MAX : (1ull << mpi_run.size) - 1);
-    if (!mpi_tells_first()) return; /* whoever tells already ends the run, and may want to look at the ranks before */
+    bool all = (lost | sight->gone) == (the_run.size == 64 ? UINT64_MAX : (1ull << the_run.size) - 1);
+    if (!tells_first()) return; /* whoever tells already ends the run, and may want to look at the ranks before */
     wait_for_ends();
     fflush(stdout);
     if (all) fprintf(stderr, "wzrun: stalled: no rank can go on\n");
-    else fprintf(stderr, "wzrun: stalled: %s can't go on\n", mpi_ranks_text(lost, ranks));
-    for (int i = 0; i < mpi_run.size; i++)
-        if (lost >> i & 1) tell_rank(&mpi_run.ranks[i], lost | sight->gone);
+    else fprintf(stderr, "wzrun: stalled: %s can't go on\n", ranks_text(lost, ranks));
+    for (int i = 0; i < the_run.size; i++)
+        if (lost >> i & 1) tell_rank(&the_run.ranks[i], lost | sight->gone);
     tell_others(sight, lost);
     int points[MOST_RANKS];
     point(lost, sight->gone, points);
-    for (int i = 0; i < mpi_run.size; i++)
+    for (int i = 0; i < the_run.size; i++)
         if ((lost >> i & 1) && tell_circle(points, i)) break;
-    if (mpi_run.strict) fprintf(stderr, "  (--strict: each collective is taken to wait for all its members, each send for its receive)\n");
-    mpi_end_run(STATUS_STALLED, mpi_complete_stalled(lost, sight->gone));
+    if (the_run.strict) fprintf(stderr, "  (--strict: each collective is taken to wait for all its members, each send for its receive)\n");
+    end_run(STATUS_STALLED, complete_stalled(lost, sight->gone));
 }
 
 /* The waits that lost ranks are in, as one number: it changes where one of them has gone on in between. */
 static uint64_t waits_of(uint64_t lost) {
     uint64_t number = 0;
-    for (int i = 0; i < mpi_run.size; i++)
-        if (lost >> i & 1) number = number * 1000003 + atomic_load(&mpi_run.ranks[i].waits_begun);
+    for (int i = 0; i < the_run.size; i++)
+        if (lost >> i & 1) number = number * 1000003 + atomic_load(&the_run.ranks[i].waits_begun);
     return number;
 }
 
 /* The lowest of the lost ranks that wait for room; NULL: none does. */
 static struct rank *first_without_room(uint64_t lost) {
-    for (int i = 0; i < mpi_run.size; i++)
-        if ((lost >> i & 1) && mpi_run.ranks[i].wait.room != NULL) return &mpi_run.ranks[i];
+    for (int i = 0; i < the_run.size; i++)
+        if ((lost >> i & 1) && the_run.ranks[i].wait.room != NULL) return &the_run.ranks[i];
     return NULL;
 }
 
 /* Whether each lost rank that waits for room has begun and ended a turn in vain since BEFORE, which becomes now: the second of two turns that ended was begun since. */
 static bool all_tried_again(uint64_t lost, unsigned before[MOST_RANKS]) {
     bool all = true;
-    for (int i = 0; i < mpi_run.size; i++) {
-        const struct rank *rank = &mpi_run.ranks[i];
+    for (int i = 0; i < the_run.size; i++) {
+        const struct rank *rank = &the_run.ranks[i];
         if ((lost >> i & 1) && rank->wait.room != NULL && atomic_load(&rank->turns_in_vain) - before[i] < 2) all = false;
     }
-    for (int i = 0; all && i < mpi_run.size; i++) before[i] = atomic_load(&mpi_run.ranks[i].turns_in_vain);
+    for (int i = 0; all && i < the_run.size; i++) before[i] = atomic_load(&the_run.ranks[i].turns_in_vain);
     return all;
 }
 
@@ -240,9 +240,9 @@ static uint64_t time_run(int thread) {
 /* Whether each rank that goes on ran since BEFORE, which becomes now, or sleeps: one to which a busy machine gave no turn may be on its way to a wait. */
 static bool all_had_turns(uint64_t others, uint64_t before[MOST_RANKS]) {
     bool all = true;
-    for (int i = 0; i < mpi_run.size; i++) {
+    for (int i = 0; i < the_run.size; i++) {
         if (!(others >> i & 1)) continue;
-        uint64_t time = time_run(atomic_load(&mpi_run.ranks[i].thread));
+        uint64_t time = time_run(atomic_load(&the_run.ranks[i].thread));
         if (time != UINT64_MAX && time == before[i]) all = false;
         before[i] = time;
     }
@@ -252,15 +252,15 @@ static bool all_had_turns(uint64_t others, uint64_t before[MOST_RANKS]) {
 /* One look sees the ranks one after the other, so one that it sees last may just have let go on one that it saw first. Where a second look sees the same ranks
    lost in the same waits, nothing that any of them did before the first look's end has let another go on. At that second look an engine at rest stays so; if a rank
    that waits for room then makes a turn in vain, and a third look sees the same, none of its requests gives a slot up. */
-void mpi_watch(void) {
+void watch_for_deadlock(void) {
     static uint64_t lost_before, waits_before;
     static unsigned turns_before[MOST_RANKS];
     static uint64_t run_before[MOST_RANKS];
     static int looks;
-    mpi_look(true);
+    hold_watch(true);
     struct sight sight = look();
     uint64_t lost = sight.waiting != 0 ? find_lost(&sight) : 0, waits = waits_of(lost);
-    uint64_t all = mpi_run.size == 64 ? UINT64_MAX : (1ull << mpi_run.size) - 1;
+    uint64_t all = the_run.size == 64 ? UINT64_MAX : (1ull << the_run.size) - 1;
     bool same = lost != 0 && lost == lost_before && waits == waits_before, again = all_tried_again(same ? lost : 0, turns_before);
     bool had_turns = all_had_turns(same ? all & ~lost & ~sight.gone : 0, run_before);
     looks = !same ? 0 : again && had_turns ? looks + 1 : looks;
@@ -272,5 +272,5 @@ void mpi_watch(void) {
         atomic_store(&without_room->has_no_hope, true); /* it is refused, and others may go on then */
         lost_before = 0;
     } else if (is_sure) tell_stall(&sight, lost);
-    mpi_look(false);
+    hold_watch(false);
 }

@@ -1,6 +1,6 @@
-"""The command `colljob`: finds the program that answers, and has a quick one built where there is none.
+"""The command `colljob`: finds the program that answers, and has an unproved one built where there is none.
 
-The proved program answers where it is built and no source is newer. Else a quick program of the same sources does: it is built once, without
+The proved program answers where it is built and no source is newer. Else an unproved program of the same sources does: it is built once, without
 proof, and kept. Modules that only some calls need are loaded where they need them, so that a call that finds its program starts at once.
 """
 

@@ -5,7 +5,7 @@
 
 static struct slot *slot_of(const struct comm *comm, int member, uint64_t place) { return &comm->members[member].board[place % KEPT_PLACES]; }
 
-void mpi_write_called(struct comm *comm, int member, uint64_t place, const struct called *called) {
+void write_call(struct comm *comm, int member, uint64_t place, const struct called *called) {
     struct slot *slot = slot_of(comm, member, place);
     uint64_t words[CALLED_WORDS];
     memcpy(words, called, sizeof words);
@@ -15,7 +15,7 @@ void mpi_write_called(struct comm *comm, int member, uint64_t place, const struc
     atomic_store(&slot->place, place + 1);
 }
 
-bool mpi_read_called(const struct comm *comm, int member, uint64_t place, struct called *called) {
+bool read_called(const struct comm *comm, int member, uint64_t place, struct called *called) {
     struct slot *slot = slot_of(comm, member, place);
     uint64_t words[CALLED_WORDS];
     if (atomic_load(&slot->place) != place + 1) return false;
@@ -31,12 +31,12 @@ static bool is_other_call(const struct called *one, const struct called *other) 
     return one->function != other->function || (one->function >= COMM_DUP && one->form == other->form && strcmp(one->name, other->name) != 0);
 }
 
-bool mpi_agree(const struct called *one, const struct called *other) {
+bool calls_agree(const struct called *one, const struct called *other) {
     return !is_other_call(one, other) && one->form == other->form && one->root == other->root && one->operation == other->operation &&
            one->elements == other->elements && one->signature == other->signature && one->counts == other->counts;
 }
 
-const char *mpi_difference(const struct called *one, const struct called *other) {
+const char *what_differs(const struct called *one, const struct called *other) {
     if (is_other_call(one, other)) return "it is another collective";
     if (one->form != other->form) {
         bool persistent = one->form == PERSISTENT || other->form == PERSISTENT;
@@ -49,9 +49,9 @@ const char *mpi_difference(const struct called *one, const struct called *other)
     return "the type differs";
 }
 
-int mpi_disagreeing(struct comm *comm, int member, uint64_t place, const struct called *called) {
+int first_disagreeing(struct comm *comm, int member, uint64_t place, const struct called *called) {
     struct called other;
     for (int i = 0; i < comm->size; i++)
-        if (i != member && mpi_read_called(comm, i, place, &other) && !mpi_agree(called, &other)) return i;
+        if (i != member && read_called(comm, i, place, &other) && !calls_agree(called, &other)) return i;
     return -1;
 }

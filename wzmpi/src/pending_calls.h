@@ -1,6 +1,6 @@
 /* What colljob can be asked of a run that ended badly. */
-#ifndef WZ_UNREACHED_H
-#define WZ_UNREACHED_H
+#ifndef WZ_PENDING_CALLS_H
+#define WZ_PENDING_CALLS_H
 
 #include "base.h"
 
@@ -10,8 +10,8 @@ struct question {
 };
 
 /* Both complete the job text, where one is wanted, by the calls that ranks haven't come to, but for those of ranks that call nothing any more. No rank writes to it
-   afterwards. Of a stall, under mpi_look: LOST ranks can't go on, those in GONE have ended. */
-struct question mpi_complete_stalled(uint64_t lost, uint64_t gone);
-struct question mpi_complete_mismatch(void);
+   afterwards. Of a stall, under hold_watch: LOST ranks can't go on, those in GONE have ended. */
+struct question complete_stalled(uint64_t lost, uint64_t gone);
+struct question complete_mismatch(void);
 
 #endif

@@ -10,7 +10,7 @@ class NoKit(Exception):
 
 
 class OtherKit(Exception):
-    """The kit has another shape than the one that a quick build knows."""
+    """The kit has another shape than the one that an unproved build knows."""
 
 
 class Kit:

@@ -1,6 +1,6 @@
 /* What a run did, for --trace, --timeline and --stats: each rank keeps notes of its own. */
-#ifndef WZ_NOTES_H
-#define WZ_NOTES_H
+#ifndef WZ_TRACE_H
+#define WZ_TRACE_H
 
 #include "collectives.h"
 
@@ -47,21 +47,21 @@ struct notes {
     struct tally *tallies;
 };
 
-bool mpi_notes_are_wanted(void);
-int64_t mpi_clock(void); /* nanoseconds since the run began; 0 where no notes are wanted */
-void mpi_begin_notes(void);
+bool notes_are_wanted(void);
+int64_t run_clock(void); /* nanoseconds since the run began; 0 where no notes are wanted */
+void begin_notes(void);
 
-void mpi_note_called(struct request *request, const struct called *called); /* a post or an initialisation that was judged */
-void mpi_note_begun(struct request *request, enum what what, const char *call, const void *bytes, size_t length);
-void mpi_note_completed(struct request *request, const char *call);
-void mpi_note_freed(struct request *request);
-void mpi_note_message(struct request *request, const char *call);
-void mpi_note_wait(const char *call, const char *site, int64_t begun);
+void note_called(struct request *request, const struct called *called); /* a post or an initialisation that was judged */
+void note_begun(struct request *request, enum what what, const char *call, const void *bytes, size_t length);
+void note_completed(struct request *request, const char *call);
+void note_freed(struct request *request);
+void note_message(struct request *request, const char *call);
+void note_wait(const char *call, const char *site, int64_t begun);
 
 /* Writes the files that are wanted. NULL: it could; else the one that can't be written. */
-const char *mpi_write_notes(void);
-bool mpi_write_timeline(const char *path);
-bool mpi_write_trace(const char *path);
-void mpi_tell_statistics(void);
+const char *write_notes(void);
+bool write_timeline(const char *path);
+bool write_trace(const char *path);
+void tell_statistics(void);
 
 #endif

@@ -2,7 +2,7 @@
    rank's last call, as they have to be if the ranks agree, so that colljob can tell why the run ends so. */
 #include "recording.h"
 
-#include "unreached.h"
+#include "pending_calls.h"
 
 enum { LONGEST_TEXT = 1048576 };
 
@@ -11,11 +11,11 @@ static const char *untold;
 /* Some rank that calls nothing any more lacks a call. */
 static bool lacks;
 
-static struct recording *part_of(int rank) { return mpi_record_part(&mpi_run.ranks[rank]); }
+static struct recording *part_of(int rank) { return record_part(&the_run.ranks[rank]); }
 
 /* Nobody writes any longer. */
 static void lock_parts(void) {
-    for (int i = 0; i < mpi_run.size; i++) {
+    for (int i = 0; i < the_run.size; i++) {
         flockfile(part_of(i)->text);
         fflush(part_of(i)->text);
         if (part_of(i)->full) untold = "the text ends before the calls do";
@@ -115,13 +115,13 @@ static void write_post(const struct place *place, int member) {
     made.freed = false;
     const char *what = place->comm->serial == MESSAGE_COMM ? "# never reached: what %s of rank %d at %s waits for\n" : "# never reached: %s, as rank %d has it at %s\n";
     fprintf(to->text, what, made.name, place->rank, made.site);
-    if (!mpi_record_begin_post(to, &made)) {
+    if (!record_begin_post(to, &made)) {
         untold = "the text has room for 4,096 posts";
         return;
     }
     const char *signature = signature_of(place->rank, &place->first, &length);
     fwrite(signature, 1, length, to->text);
-    mpi_record_end_signature(to);
+    record_end_signature(to);
     if (made.persistent) fputc('\n', to->text);
     else write_zeros(to->text, place, member);
     fflush(to->text);
@@ -154,7 +154,7 @@ static void complete_member(const struct place *place, int member, uint64_t gone
 }
 
 static void complete(int number, uint64_t gone) {
-    struct place place = { .comm = mpi_record_comm(number), .number = number };
+    struct place place = { .comm = record_comm(number), .number = number };
     uint32_t places = 0;
     for (int i = 0; i < place.comm->size; i++) {
         uint32_t own = part_of(place.comm->ranks[i])->places[number];
@@ -172,58 +172,58 @@ static void complete(int number, uint64_t gone) {
 
 enum { RECEIVES, SENDS, ANSWERED_SENDS, WAITS };
 
-static int wait_of(const struct request *it) {
-    if (it->sort != SENDING) return RECEIVES;
-    return strncmp(it->name, "MPI_Ss", 6) == 0 || strncmp(it->name, "MPI_Iss", 7) == 0 ? ANSWERED_SENDS : SENDS;
+static int wait_of(const struct request *request) {
+    if (request->sort != SENDING) return RECEIVES;
+    return strncmp(request->name, "MPI_Ss", 6) == 0 || strncmp(request->name, "MPI_Iss", 7) == 0 ? ANSWERED_SENDS : SENDS;
 }
 
 /* A receive waits for its sender whatever the library, as a gather's root does. A send may be complete before it is received, as the root of a bcast may; a
    synchronous one may not. */
-static void write_message(struct rank *rank, const struct request *it, int wait, uint64_t others) {
+static void write_message(struct rank *rank, const struct request *request, int wait, uint64_t others) {
     static const char *const signatures[WAITS] = { "gather 0 byte 1", "bcast 0 byte 1", "barrier" };
     static const wz_call calls[WAITS] = { { WZ_GATHER, 0, WZ_BYTE, 0, 1 }, { WZ_BCAST, 0, WZ_BYTE, 0, 1 }, { WZ_BARRIER, 0, WZ_BYTE, 0, 0 } };
     struct recording *to = part_of(rank->number);
     int ranks[MOST_RANKS] = { rank->number }, size = 1;
     char text[RANKS_TEXT], name[RANKS_TEXT + 40];
-    for (int i = 0; i < mpi_run.size; i++)
+    for (int i = 0; i < the_run.size; i++)
         if (others >> i & 1) ranks[size++] = i;
-    snprintf(name, sizeof name, "messages of rank %d and %s", rank->number, mpi_ranks_text(others, text));
-    struct made made = { .comm = mpi_record_add_comm(ranks, size, name), .call = calls[wait], .name = it->name, .site = it->started_at };
+    snprintf(name, sizeof name, "messages of rank %d and %s", rank->number, ranks_text(others, text));
+    struct made made = { .comm = record_add_comm(ranks, size, name), .call = calls[wait], .name = request->name, .site = request->started_at };
     if (made.comm < 0) untold = "the text has no room for all communicators";
     if (made.comm < 0 || untold != NULL) return;
-    fprintf(to->text, "# %s, %s: a message, which stands as a collective\n", it->name, it->started_at);
-    if (!mpi_record_begin_post(to, &made)) return;
+    fprintf(to->text, "# %s, %s: a message, which stands as a collective\n", request->name, request->started_at);
+    if (!record_begin_post(to, &made)) return;
     fputs(signatures[wait], to->text);
-    mpi_record_end_signature(to);
+    record_end_signature(to);
     fprintf(to->text, "%s\n# %s, %s\nwait %d\n", wait != ANSWERED_SENDS ? " : 0" : "", rank->wait.call, rank->wait.site, to->requests - 1);
     fflush(to->text);
 }
 
 /* The ranks that a message is lacking, those that may still call if there are such. */
-static uint64_t others_of(const struct rank *rank, const struct request *it, uint64_t gone) {
-    uint64_t others = mpi_lacking(it);
-    if (it->other != MPI_ANY_SOURCE) return others;
+static uint64_t others_of(const struct rank *rank, const struct request *request, uint64_t gone) {
+    uint64_t others = lacking(request);
+    if (request->other != MPI_ANY_SOURCE) return others;
     others &= ~(1ull << rank->number);
     return (others & ~gone) != 0 ? others & ~gone : others;
 }
 
-static bool is_open(const struct request *it) { return it != NULL && it->active; }
+static bool is_open(const struct request *request) { return request != NULL && request->active; }
 
 static void write_messages(struct rank *rank, uint64_t gone) {
     uint64_t others[WAITS] = { 0 };
     const struct request *first[WAITS] = { NULL };
     bool collectives = false;
     for (int i = 0; i < rank->wait.many; i++) {
-        const struct request *it = rank->wait.list[i];
-        if (!is_open(it)) continue;
-        if (it->sort == COLLECTIVE) {
+        const struct request *request = rank->wait.list[i];
+        if (!is_open(request)) continue;
+        if (request->sort == COLLECTIVE) {
             collectives = true;
-            if (it->recorded < 0) untold = "the text lacks a call that a rank waits for";
+            if (request->recorded < 0) untold = "the text lacks a call that a rank waits for";
             continue;
         }
-        int wait = wait_of(it);
-        if (first[wait] == NULL) first[wait] = it;
-        others[wait] |= others_of(rank, it, gone);
+        int wait = wait_of(request);
+        if (first[wait] == NULL) first[wait] = request;
+        others[wait] |= others_of(rank, request, gone);
     }
     if (rank->wait.any && collectives) return; /* that stands in the text, and is as hopeless */
     for (int wait = 0; wait < WAITS; wait++) {
@@ -237,26 +237,26 @@ static void write_messages(struct rank *rank, uint64_t gone) {
 
 static struct question asked(const char *words) {
     size_t length = 0;
-    for (int i = 0; i < mpi_run.size; i++) length += part_of(i)->length;
+    for (int i = 0; i < the_run.size; i++) length += part_of(i)->length;
     if (untold == NULL && length > LONGEST_TEXT - 10000) untold = "the text would be longer than 1 MiB";
     return (struct question){ words, untold };
 }
 
-struct question mpi_complete_stalled(uint64_t lost, uint64_t gone) {
-    if (!mpi_record_is_wanted()) return (struct question){ NULL, NULL };
+struct question complete_stalled(uint64_t lost, uint64_t gone) {
+    if (!record_is_wanted()) return (struct question){ NULL, NULL };
     lock_parts();
-    for (int i = 0; i < mpi_run.size && untold == NULL; i++)
-        if (lost >> i & 1) write_messages(&mpi_run.ranks[i], gone);
-    for (int i = 0; i < mpi_record_comms() && untold == NULL; i++) complete(i, gone);
+    for (int i = 0; i < the_run.size && untold == NULL; i++)
+        if (lost >> i & 1) write_messages(&the_run.ranks[i], gone);
+    for (int i = 0; i < record_comms() && untold == NULL; i++) complete(i, gone);
     return asked(lacks ? "check" : "explain --strict");
 }
 
-struct question mpi_complete_mismatch(void) {
+struct question complete_mismatch(void) {
     uint64_t gone = 0;
-    if (!mpi_record_is_wanted()) return (struct question){ NULL, NULL };
+    if (!record_is_wanted()) return (struct question){ NULL, NULL };
     lock_parts();
-    for (int i = 0; i < mpi_run.size; i++)
-        if (atomic_load(&mpi_run.ranks[i].ended) || atomic_load(&mpi_run.ranks[i].finalized)) gone |= 1ull << i;
-    for (int i = 0; i < mpi_record_comms() && untold == NULL; i++) complete(i, gone);
+    for (int i = 0; i < the_run.size; i++)
+        if (atomic_load(&the_run.ranks[i].ended) || atomic_load(&the_run.ranks[i].finalized)) gone |= 1ull << i;
+    for (int i = 0; i < record_comms() && untold == NULL; i++) complete(i, gone);
     return asked("check");
 }

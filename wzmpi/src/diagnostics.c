@@ -1,9 +1,9 @@
 /* Refusals, warnings and what sentences are made of. */
-#include "tell.h"
+#include "diagnostics.h"
 
 #include "collectives.h"
 #include "explain.h"
-#include "notes.h"
+#include "trace.h"
 #include "record.h"
 
 #include <stdarg.h>
@@ -19,29 +19,29 @@ static const char *const classes[] = {
 };
 enum { CLASSES = sizeof classes / sizeof classes[0], OWN_CODES = 64 };
 
-const char *mpi_class_name(int class) { return class >= 0 && class < CLASSES ? classes[class] : "an error of the program's own"; }
+const char *class_name(int class) { return class >= 0 && class < CLASSES ? classes[class] : "an error of the program's own"; }
 
 int MPI_Error_class(int code, int *class) {
-    bool own = mpi_me != NULL && code > MPI_ERR_LASTCODE && code <= MPI_ERR_LASTCODE + mpi_me->many_codes;
-    *class = own ? mpi_me->error_classes[code - MPI_ERR_LASTCODE - 1] : code;
+    bool own = current_rank != NULL && code > MPI_ERR_LASTCODE && code <= MPI_ERR_LASTCODE + current_rank->many_codes;
+    *class = own ? current_rank->error_classes[code - MPI_ERR_LASTCODE - 1] : code;
     return MPI_SUCCESS;
 }
 
 int MPI_Error_string(int code, char *text, int *length) {
-    bool own = mpi_me != NULL && code > MPI_ERR_LASTCODE && code <= MPI_ERR_LASTCODE + mpi_me->many_codes;
-    const char *last = mpi_me != NULL && code == mpi_me->last_class ? mpi_me->last_refusal : "";
-    if (own) *length = snprintf(text, MPI_MAX_ERROR_STRING, "%s", mpi_me->error_strings[code - MPI_ERR_LASTCODE - 1]);
-    else *length = snprintf(text, MPI_MAX_ERROR_STRING, "%s%s%s", mpi_class_name(code), last[0] != '\0' ? ": " : "", last);
+    bool own = current_rank != NULL && code > MPI_ERR_LASTCODE && code <= MPI_ERR_LASTCODE + current_rank->many_codes;
+    const char *last = current_rank != NULL && code == current_rank->last_class ? current_rank->last_refusal : "";
+    if (own) *length = snprintf(text, MPI_MAX_ERROR_STRING, "%s", current_rank->error_strings[code - MPI_ERR_LASTCODE - 1]);
+    else *length = snprintf(text, MPI_MAX_ERROR_STRING, "%s%s%s", class_name(code), last[0] != '\0' ? ": " : "", last);
     return MPI_SUCCESS;
 }
 
 /* A class or code of the program's own. */
 static int add_code(int class, int *code, const char *call) {
-    struct rank *me = mpi_self(call);
-    if (me->many_codes == OWN_CODES) return mpi_refuse(NULL, MPI_ERR_OTHER, call, "there are %d codes already", OWN_CODES);
+    struct rank *me = this_rank(call);
+    if (me->many_codes == OWN_CODES) return refuse(NULL, MPI_ERR_OTHER, call, "there are %d codes already", OWN_CODES);
     *code = MPI_ERR_LASTCODE + 1 + me->many_codes;
     me->error_classes[me->many_codes] = class > 0 ? class : *code;
-    me->error_strings[me->many_codes++] = mpi_must(strdup(""));
+    me->error_strings[me->many_codes++] = must(strdup(""));
     return MPI_SUCCESS;
 }
 
@@ -50,11 +50,11 @@ int MPI_Add_error_class(int *class) { return add_code(0, class, "MPI_Add_error_c
 int MPI_Add_error_code(int class, int *code) { return add_code(class, code, "MPI_Add_error_code"); }
 
 int MPI_Add_error_string(int code, const char *text) {
-    struct rank *me = mpi_self("MPI_Add_error_string");
+    struct rank *me = this_rank("MPI_Add_error_string");
     int at = code - MPI_ERR_LASTCODE - 1;
-    if (at < 0 || at >= me->many_codes) return mpi_refuse(NULL, MPI_ERR_ARG, "MPI_Add_error_string", "%d is no code of the program's own", code);
+    if (at < 0 || at >= me->many_codes) return refuse(NULL, MPI_ERR_ARG, "MPI_Add_error_string", "%d is no code of the program's own", code);
     free(me->error_strings[at]);
-    me->error_strings[at] = mpi_must(strdup(text));
+    me->error_strings[at] = must(strdup(text));
     return MPI_SUCCESS;
 }
 
@@ -62,21 +62,21 @@ int MPI_Add_error_string(int code, const char *text) {
 
 static pthread_mutex_t telling = PTHREAD_MUTEX_INITIALIZER;
 
-void mpi_tell_alone(void) { pthread_mutex_lock(&telling); }
+void tell_alone(void) { pthread_mutex_lock(&telling); }
 
-bool mpi_tells_first(void) { return pthread_mutex_trylock(&telling) == 0; }
+bool tells_first(void) { return pthread_mutex_trylock(&telling) == 0; }
 
-void mpi_end_run(int status, struct question question) {
+void end_run(int status, struct question question) {
     fflush(stdout);
-    if (!mpi_record_write()) fprintf(stderr, "wzrun: %s can't be written\n", mpi_run.text != NULL ? mpi_run.text : mpi_run.values);
-    const char *unwritten = mpi_run.notes ? mpi_write_notes() : NULL;
+    if (!record_write()) fprintf(stderr, "wzrun: %s can't be written\n", the_run.text != NULL ? the_run.text : the_run.values);
+    const char *unwritten = the_run.notes ? write_notes() : NULL;
     if (unwritten != NULL) fprintf(stderr, "wzrun: %s can't be written\n", unwritten);
-    if (question.words != NULL) mpi_explain_end(&question);
+    if (question.words != NULL) explain_end(&question);
     fflush(stderr);
     _exit(status);
 }
 
-void mpi_warn(const char *format, ...) {
+void print_warning(const char *format, ...) {
     char text[1000];
     va_list rest;
     va_start(rest, format);
@@ -85,51 +85,51 @@ void mpi_warn(const char *format, ...) {
     fprintf(stderr, "wzrun: warning: %s\n", text);
 }
 
-int mpi_refuse(struct comm *comm, int class, const char *call, const char *format, ...) {
-    struct rank *me = mpi_self(call);
-    struct comm *judge = comm != NULL && mpi_my_member(comm) >= 0 ? comm : mpi_world();
-    struct errhandler *handler = mpi_member(judge)->handler;
+int refuse(struct comm *comm, int class, const char *call, const char *format, ...) {
+    struct rank *me = this_rank(call);
+    struct comm *judge = comm != NULL && my_member(comm) >= 0 ? comm : world_comm();
+    struct errhandler *handler = this_member(judge)->handler;
     va_list rest;
     va_start(rest, format);
     vsnprintf(me->last_refusal, sizeof me->last_refusal, format, rest);
     va_end(rest);
     me->last_class = class;
     if (handler != NULL && handler->function != NULL) {
-        MPI_Comm handle = mpi_comm_handle(judge);
+        MPI_Comm handle = comm_handle(judge);
         handler->function(&handle, &class);
         return class;
     }
     if (handler != NULL && handler->returns) return class;
-    mpi_tell_alone();
+    tell_alone();
     fflush(stdout);
-    fprintf(stderr, "wzrun: rank %d: %s at %s: %s (%s)\n", me->number, call, me->site, me->last_refusal, mpi_class_name(class));
-    mpi_end_run(STATUS_WRONG, (struct question){ NULL, NULL });
+    fprintf(stderr, "wzrun: rank %d: %s at %s: %s (%s)\n", me->number, call, me->site, me->last_refusal, class_name(class));
+    end_run(STATUS_WRONG, (struct question){ NULL, NULL });
 }
 
 /* ---- words */
 
-int mpi_count_ranks(uint64_t ranks) { return __builtin_popcountll(ranks); }
+int count_ranks(uint64_t ranks) { return __builtin_popcountll(ranks); }
 
-const char *mpi_ranks_text(uint64_t ranks, char text[RANKS_TEXT]) {
+const char *ranks_text(uint64_t ranks, char text[RANKS_TEXT]) {
     const char *before = " ";
-    size_t at = (size_t)snprintf(text, RANKS_TEXT, mpi_count_ranks(ranks) == 1 ? "rank" : "ranks");
+    size_t at = (size_t)snprintf(text, RANKS_TEXT, count_ranks(ranks) == 1 ? "rank" : "ranks");
     while (ranks != 0) {
         at += (size_t)snprintf(text + at, RANKS_TEXT - at, "%s%d", before, __builtin_ctzll(ranks));
         ranks &= ranks - 1;
-        before = mpi_count_ranks(ranks) == 1 ? " and " : ", ";
+        before = count_ranks(ranks) == 1 ? " and " : ", ";
     }
     return text;
 }
 
-const char *mpi_called_text(const struct called *called, char text[NAME_TEXT]) {
+const char *called_text(const struct called *called, char text[NAME_TEXT]) {
     size_t at = (size_t)snprintf(text, NAME_TEXT, "%s", called->name);
     if (called->root >= 0) at += (size_t)snprintf(text + at, NAME_TEXT - at, ", root %d", called->root);
     if (called->operation != 0) at += (size_t)snprintf(text + at, NAME_TEXT - at, ", %s", called->operation_name);
     if (called->function == BARRIER || called->function >= COMM_DUP || called->function == ALLGATHERV) return text;
     bool moves = called->elements > 0 || called->basic >= 0;
-    if (called->basic > 0) snprintf(text + at, NAME_TEXT - at, ", %llu %s", (unsigned long long)called->elements, mpi_basic(called->basic)->name);
+    if (called->basic > 0) snprintf(text + at, NAME_TEXT - at, ", %llu %s", (unsigned long long)called->elements, basic_type(called->basic)->name);
     else if (moves) snprintf(text + at, NAME_TEXT - at, ", %llu elements of several types", (unsigned long long)called->elements);
     else if (called->function != ALLTOALLV && called->function != ALLTOALLW && called->function != GATHERV && called->function != SCATTERV &&
-             !mpi_is_neighbor(called->function)) snprintf(text + at, NAME_TEXT - at, ", no elements");
+             !is_neighbor(called->function)) snprintf(text + at, NAME_TEXT - at, ", no elements");
     return text;
 }

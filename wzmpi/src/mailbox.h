@@ -1,6 +1,6 @@
 /* Messages on their way: each rank has a mailbox. */
-#ifndef WZ_MAIL_H
-#define WZ_MAIL_H
+#ifndef WZ_MAILBOX_H
+#define WZ_MAILBOX_H
 
 #include "collectives.h"
 
@@ -20,19 +20,19 @@ struct message {
 };
 
 /* Begin a send, and a receive, that is active. */
-void mpi_start_send(struct request *send);
-void mpi_start_receive(struct request *receive);
+void start_send(struct request *send);
+void start_receive(struct request *receive);
 /* Whether a message is there that a receive, or a probe, asks for; it stays there. */
-bool mpi_has_come(const struct request *probe, MPI_Status *status);
+bool has_come(const struct request *probe, MPI_Status *status);
 /* Takes it out, for this rank alone; NULL: it isn't there. */
-struct message *mpi_take_message(const struct request *probe);
+struct message *take_message(const struct request *probe);
 /* Gives a receive what was taken out. */
-void mpi_receive_taken(struct message *message, struct request *receive);
+void receive_taken(struct message *message, struct request *receive);
 /* Gives up a receive that nothing has come for. Whether it could. */
-bool mpi_cancel_receive(struct request *receive);
+bool cancel_receive(struct request *receive);
 /* Gives up a send whose message nobody has received. Whether it could. */
-bool mpi_cancel_send(struct request *send);
-void mpi_write_status(MPI_Status *status, const struct message *message); /* NULL: of MPI_PROC_NULL */
+bool cancel_send(struct request *send);
+void write_status(MPI_Status *status, const struct message *message); /* NULL: of MPI_PROC_NULL */
 
 /* ---- messages.c: the arguments of a message's call */
 struct words {
@@ -44,6 +44,6 @@ struct words {
     MPI_Comm comm;
     const char *call;
 };
-int mpi_make_message(const struct words *words, enum sort sort, bool synchronous, struct request **made);
+int make_message(const struct words *words, enum sort sort, bool synchronous, struct request **made);
 
 #endif

@@ -1,0 +1,36 @@
+/* What is told to the user: refused calls, calls that don't agree, who waits for whom. */
+#ifndef WZ_DIAGNOSTICS_H
+#define WZ_DIAGNOSTICS_H
+
+#include "comms.h"
+#include "pending_calls.h"
+
+enum { STATUS_WRONG = 2, STATUS_STALLED = 3 };
+
+/* A call that MPI doesn't allow. Under MPI_ERRORS_RETURN of the communicator (NULL: of MPI_COMM_WORLD) gives the class back; else it is told and the run
+   ends. */
+int refuse(struct comm *comm, int class, const char *call, const char *format, ...) __attribute__((format(printf, 4, 5)));
+void print_warning(const char *format, ...) __attribute__((format(printf, 1, 2)));
+const char *class_name(int class);
+
+/* Ends the run; with --explain colljob is asked why. Whoever reports something has taken the right to it first, so that one thing is reported. */
+void tell_alone(void);
+bool tells_first(void); /* false, and at once, where another has taken it */
+void end_run(int status, struct question question) __attribute__((noreturn));
+
+/* Lists of ranks: "rank 2", "ranks 0, 1 and 3". */
+enum { RANKS_TEXT = 320 };
+const char *ranks_text(uint64_t ranks, char text[RANKS_TEXT]);
+int count_ranks(uint64_t ranks);
+
+enum { NAME_TEXT = 400 };
+const char *comm_name(struct comm *comm, char text[NAME_TEXT]);
+const char *called_text(const struct called *called, char text[NAME_TEXT]);
+
+/* The calls at a place don't agree. */
+void tell_mismatch(struct comm *comm, uint64_t place) __attribute__((noreturn));
+
+/* Tells a stall where ranks can't go on any more; else returns. For the thread that watches. */
+void watch_for_deadlock(void);
+
+#endif
