@@ -5,10 +5,10 @@ mod held;
 ghost use Rattle.std.specs.Prelude.{◌≡◌, IfErr};
 
 use crate::locked::{Locked, Successor};
-use crate::patience::Processors;
 use crate::record::PublicationRecord;
 use coll_core::{DoneShortWork, ShortWork};
 use coll_kinds::Refusal;
+use coll_spin::Processors;
 use coll_traced::{Entries, Ranks, TracedCore};
 use crossbeam_utils::sync::EventCount;
 use crossbeam_utils::{Backoff, CachePadded};

@@ -19,7 +19,6 @@
 //! | `looking` | the calls of a port on it, in words that outlast the hold of the lock |
 //! | `publishing` | posts and starts, which the combiner makes where the lock isn't free |
 //! | `waiter` | waits: to look at the record, to take the lock, and to park |
-//! | `patience` | how long a thread looks before it sleeps, and whether it gives turns meanwhile |
 //! | `turn` | what a waiting port, a test and a progress thread do with the lock |
 //! | `plans` | `Plans`, those that a port made last |
 //!
@@ -43,7 +42,6 @@ mod inspect;
 mod locked;
 mod looking;
 mod made_plan;
-mod patience;
 mod plans;
 mod port;
 mod publication;

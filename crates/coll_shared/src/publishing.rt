@@ -22,8 +22,8 @@ use std::sync::Wait;
 impl<L: Entries> Combiner<L> {
     /// Waits until there is an answer in the record, or serves it as the combiner.
     fn await_made<R: Wait + Clock>(&self, rt: &R, record: &PublicationRecord<L>) {
-        let mut patience = self.processors.patience(rt, record.waits());
-        if let Some(held) = self.spin(rt, record, &mut patience) {
+        let mut policy = self.processors.policy(rt, record.history());
+        if let Some(held) = self.spin(rt, record, &mut policy) {
             self.release(held);
             record.set_leads(true);
         }

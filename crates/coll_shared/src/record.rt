@@ -4,9 +4,9 @@ ghost use Rattle.std.specs.Prelude.{◌≡◌, ◌+◌, IfNone, IfSome, Ok};
 ghost use Rattle.std.specs.Bool.{OnFalse, OnTrue};
 ghost use Rattle.coll_shared.specs.Publications.{IsAwake, IsExpected, IsUnanswered};
 
-use crate::patience::Waits;
 use crate::publication::{Content, Expected, Publication};
 use coll_kinds::Ticket;
+use coll_spin::WaitHistory;
 use coll_traced::{Completed, Entries, Receipt, Tally, TracedCore};
 use crossbeam_utils::CachePadded;
 use std::sync::atomic::{AtomicBool, AtomicU64, Ordering};
@@ -31,7 +31,7 @@ pub(crate) struct PublicationRecord<L: Entries> {
     word: CachePadded<AtomicU64>,
     /// Whether the port served its last call itself. Only the port uses it.
     leads: AtomicBool,
-    waits: Waits,
+    history: WaitHistory,
     /// On lines of its own too, so that the port keeps those before it while the combiner writes here.
     slot: CachePadded<Mutex<Option<Publication<L>>>>,
 }
@@ -57,7 +57,7 @@ impl<L: Entries> PublicationRecord<L> {
         PublicationRecord {
             word: CachePadded::new(AtomicU64::new(EMPTY)),
             leads: AtomicBool::new(true),
-            waits: Waits::new(),
+            history: WaitHistory::new(),
             slot: CachePadded::new(Mutex::new(None)),
         }
     }
@@ -69,8 +69,8 @@ impl<L: Entries> PublicationRecord<L> {
     }
 
     /// What the port has found in its waits.
-    pub(crate) fn waits(&self) -> &Waits {
-        &self.waits
+    pub(crate) fn history(&self) -> &WaitHistory {
+        &self.history
     }
 
     /// Nothing is written where all is as before: each store of an atomic waits until all stores before it are done.

@@ -6,10 +6,10 @@ ghost use Rattle.coll_traced.specs.Awaiting.{IsHindrance, IsSetback};
 use crate::combiner::{Combiner, Held};
 use crate::gate::Gate;
 use crate::locked::{STEPS, Successor};
-use crate::patience::{Patience, pause_with_the_lock};
 use crate::record::PublicationRecord;
 use coll_core::{Stepped, Work};
 use coll_kinds::Refusal;
+use coll_spin::{SpinPolicy, pause_with_the_lock};
 use coll_traced::Entries;
 use std::sync::Wait;
 
@@ -68,7 +68,7 @@ impl<L: Entries> Combiner<L> {
         mut held: Held<'a, L>,
         rank: u8,
         record: &PublicationRecord<L>,
-        patience: Patience,
+        policy: SpinPolicy,
     ) -> Result<Turn, Refusal>
         ensures { IfErr result (IsHindrance L.setting rank) }
     {
@@ -80,7 +80,7 @@ impl<L: Entries> Combiner<L> {
             if gate.is_always_open() {
                 held = self.compute_short(rt, held, rank)?;
             }
-            match self.next(&mut held, rank, record, patience, &mut effort) {
+            match self.next(&mut held, rank, record, policy, &mut effort) {
                 Ok(Next::Again) => {}
                 Ok(Next::Compute(work)) => {
                     let (again, piece) = self.compute(rt, gate, held, Some(rank), written, work)?;
@@ -139,7 +139,7 @@ impl<L: Entries> Combiner<L> {
         held: &mut Held<'_, L>,
         rank: u8,
         record: &PublicationRecord<L>,
-        patience: Patience,
+        policy: SpinPolicy,
         effort: &mut Effort,
     ) -> Result<Next, Refusal>
         ensures { IfErr result (IsHindrance L.setting rank) }
@@ -160,13 +160,13 @@ impl<L: Entries> Combiner<L> {
         if held.locked.is_stalled(rank) {
             return Err(Refusal::Stalled);
         }
-        if effort.looks < patience.holds() && !self.is_wanted() {
+        if effort.looks < policy.spins_with_lock() && !self.is_wanted() {
             let is_stalled = effort.is_doubled() && held.locked.traced.stall_now();
             if !is_stalled {
                 return Ok(effort.look());
             }
         }
-        if patience.is_over() {
+        if policy.is_over() {
             held.locked.parked = held.locked.parked.with(rank);
             return Ok(Next::End(Turn::Park));
         }

@@ -7,13 +7,13 @@ ghost use Rattle.coll_traced.specs.Unfinished.{WasPending};
 
 use crate::combiner::{Combiner, Held};
 use crate::gate::Gate;
-use crate::patience::Patience;
 use crate::publication::Content;
 use crate::record::PublicationRecord;
 use crate::turn::Turn;
 use coll_complete::Request;
 use coll_core::Outcome;
 use coll_kinds::{Refusal, Ticket};
+use coll_spin::SpinPolicy;
 use coll_traced::{Awaited, Completed, Entries, Receipts, Tally};
 use std::rt::Clock;
 use std::sync::Wait;
@@ -25,22 +25,22 @@ impl<L: Entries> Combiner<L> {
         &self,
         rt: &R,
         record: &PublicationRecord<L>,
-        patience: &mut Patience,
+        policy: &mut SpinPolicy,
     ) -> Option<Held<'_, L>> {
         for _ in rt.forever() {
-            let Some(look) = patience.look() else {
+            let Some(spin) = policy.next_spin() else {
                 return Some(self.enter(rt));
             };
             if record.is_answered() {
                 record.set_leads(false);
                 return None;
             }
-            if patience.tries(look) {
+            if policy.tries_lock(spin) {
                 if let Some(held) = self.try_enter() {
                     return Some(held);
                 }
             }
-            self.processors.pause(rt, record.waits(), patience, look);
+            self.processors.pause(rt, record.history(), policy, spin);
         }
         unreachable!()
     }
@@ -67,26 +67,26 @@ impl<L: Entries> Combiner<L> {
     ) -> Result<(), Refusal>
         ensures { IfErr result (IsHindrance L.setting rank) }
     {
-        let mut patience = self.processors.patience(rt, record.waits());
-        let mut looked = false;
+        let mut policy = self.processors.policy(rt, record.history());
+        let mut spun = false;
         let mut slept = false;
         for _ in rt.forever() {
             let turn = match held {
                 Some(held) => {
-                    let turn = self.turn(rt, gate, held, rank, record, patience)?;
-                    patience.has_held();
+                    let turn = self.turn(rt, gate, held, rank, record, policy)?;
+                    policy.gave_up_lock();
                     turn
                 }
                 None => Turn::Spin,
             };
             let found = match turn {
                 Turn::Over => {
-                    record.waits().note(patience, looked, slept);
+                    record.history().note(policy, spun, slept);
                     return Ok(());
                 }
                 Turn::Spin => {
-                    looked = true;
-                    self.spin(rt, record, &mut patience)
+                    spun = true;
+                    self.spin(rt, record, &mut policy)
                 }
                 Turn::Park => {
                     slept = true;
@@ -94,7 +94,7 @@ impl<L: Entries> Combiner<L> {
                 }
             };
             let Some(again) = found else {
-                record.waits().note(patience, looked, slept);
+                record.history().note(policy, spun, slept);
                 return Ok(());
             };
             held = Some(again);
