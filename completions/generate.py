@@ -1,13 +1,13 @@
 #!/usr/bin/env python3
 """generate.py [--check]: writes the manual page `docs/colljob.1` and the completions `completions/colljob.bash` and
-`completions/_colljob` from what the program prints of its own words, which is stored in `crates/test_examples/data/words/` and which
+`completions/_colljob` from what the program prints of its own words, which is stored in `crates/colljob_examples/data/words/` and which
 the tests compare with the program. With --check nothing is written, and the status is 1 where a file isn't what would be written."""
 import pathlib
 import re
 import sys
 
 TOP = pathlib.Path(__file__).resolve().parent.parent
-WORDS = TOP / "crates/test_examples/data/words"
+WORDS = TOP / "crates/colljob_examples/data/words"
 VALUES = re.compile(r" \[possible values: ([^\]]*)\]")
 RANGE = re.compile(r"(\d+) to (\d+)")
 # The words of the script `colljob` that the program doesn't know.

@@ -83,7 +83,7 @@ def asked_for(top, words):
     import usage
 
     try:
-        return usage.Words(os.path.join(top, "crates", "test_examples", "data", "words")).task_of(words)
+        return usage.Words(os.path.join(top, "crates", "colljob_examples", "data", "words")).task_of(words)
     except usage.Unsure:
         return None
     except usage.Told as told:

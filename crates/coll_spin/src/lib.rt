@@ -1,6 +1,6 @@
 //! How a thread waits before it sleeps: how often it spins, when it tries for a lock, and when it yields its processor.
 //!
-//! Nothing of it is promised by a contract, since none says when a thread goes on. `tests/test_spin` and the liveness programs test it,
+//! Nothing of it is promised by a contract, since none says when a thread goes on. `tests/spin` and the liveness programs test it,
 //! and `bench/RESULTS.md`, "Waiting", has the measurements behind each number.
 //!
 //! | Module | Has |
