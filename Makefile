@@ -2,6 +2,7 @@
 # make prove       both proved; from nothing an hour and a half
 # make check       the proofs and all tests, ending in a line `N passed, N failed`; its parts are check-gate, check-tests, check-program,
 #                  check-c, check-cpp, check-rust, check-mpi, check-recorder, check-recorded and check-install
+# make theorem     docs/theorem: each theorem on one page, with all definitions that its reader must believe
 # make install     PREFIX= (/usr/local) and DESTDIR=: program, manual page, completions, headers, library, pkg-config file, and the recorder
 #                  of MPI programs where there is an mpicc
 # make uninstall   the same PREFIX= and DESTDIR=
@@ -35,6 +36,9 @@ check:
 
 $(PARTS:%=check-%): check-%:
 	@tools/check $*
+
+theorem:
+	tools/reading_list --pages docs/theorem
 
 # The recorder is for the MPI library whose mpicc is on the path, or the one that `make -C recorder MPICC=..` named.
 recorder:
@@ -70,4 +74,4 @@ clean:
 	$(MAKE) --no-print-directory -C recorder clean
 	@if [ "$(MPI_CALLS)" ]; then $(MAKE) --no-print-directory -C wzmpi clean; fi
 
-.PHONY: all program library recorder prove check $(PARTS:%=check-%) install install-program install-recorder uninstall clean
+.PHONY: all program library recorder prove theorem check $(PARTS:%=check-%) install install-program install-recorder uninstall clean
