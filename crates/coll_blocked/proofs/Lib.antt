@@ -1,7 +1,0 @@
-mod Owning
-mod Blocking
-mod Registering
-mod Staying
-mod Lining
-mod Locking
-mod Rows

@@ -1,5 +1,0 @@
-use Rattle.coll_blocked.proofs.Locking.{always_here_is_no_end}
-use Rattle.coll_blocked.proofs.laws.always_here_is_no_end.Goals as goal
-
-pub returns : goal.returns
-returns c = always_here_is_no_end

@@ -1,5 +1,0 @@
-use Rattle.coll_blocked.proofs.Rows.{is_awake_at_line}
-use Rattle.coll_blocked.proofs.laws.is_awake_at_line.Goals as goal
-
-pub returns : goal.returns
-returns c = is_awake_at_line

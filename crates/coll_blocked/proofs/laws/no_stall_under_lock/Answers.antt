@@ -1,5 +1,0 @@
-use Rattle.coll_blocked.proofs.Locking.{no_stall_under_lock}
-use Rattle.coll_blocked.proofs.laws.no_stall_under_lock.Goals as goal
-
-pub returns : goal.returns
-returns c = no_stall_under_lock

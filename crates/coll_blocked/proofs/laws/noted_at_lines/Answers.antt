@@ -1,5 +1,0 @@
-use Rattle.coll_blocked.proofs.Lining.{noted_at_lines}
-use Rattle.coll_blocked.proofs.laws.noted_at_lines.Goals as goal
-
-pub returns : goal.returns
-returns c = noted_at_lines

@@ -1,5 +1,0 @@
-use Rattle.coll_blocked.proofs.Lining.{open_at_lines}
-use Rattle.coll_blocked.proofs.laws.open_at_lines.Goals as goal
-
-pub returns : goal.returns
-returns c = open_at_lines

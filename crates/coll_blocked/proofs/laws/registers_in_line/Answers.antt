@@ -1,5 +1,0 @@
-use Rattle.coll_blocked.proofs.Registering.{registers_in_line}
-use Rattle.coll_blocked.proofs.laws.registers_in_line.Goals as goal
-
-pub returns : goal.returns
-returns c = registers_in_line

@@ -1,5 +1,0 @@
-use Rattle.coll_blocked.proofs.Lining.{stay_at_lines}
-use Rattle.coll_blocked.proofs.laws.stay_at_lines.Goals as goal
-
-pub returns : goal.returns
-returns c = stay_at_lines

@@ -1,5 +1,0 @@
-use Rattle.coll_blocked.proofs.Locking.{steps_may_finish}
-use Rattle.coll_blocked.proofs.laws.steps_may_finish.Goals as goal
-
-pub returns : goal.returns
-returns c = steps_may_finish

@@ -1,5 +1,0 @@
-use Rattle.coll_stalls.proofs.Stalling.{always_here_never_ends}
-use Rattle.coll_stalls.proofs.laws.always_here_never_ends.Goals as goal
-
-pub returns : goal.returns
-returns c = always_here_never_ends c.args.core.now

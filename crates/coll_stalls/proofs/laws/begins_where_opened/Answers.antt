@@ -1,5 +1,0 @@
-use Rattle.coll_stalls.proofs.Running.{begins_where_opened}
-use Rattle.coll_stalls.proofs.laws.begins_where_opened.Goals as goal
-
-pub returns : goal.returns
-returns c = begins_where_opened

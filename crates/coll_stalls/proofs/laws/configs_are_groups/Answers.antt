@@ -1,5 +1,0 @@
-use Rattle.coll_core.proofs.Groups.{are_groups}
-use Rattle.coll_stalls.proofs.laws.configs_are_groups.Goals as goal
-
-pub returns : goal.returns
-returns c = λ config fits comm. are_groups config.ranks config.groups.items fits.groups.2 comm

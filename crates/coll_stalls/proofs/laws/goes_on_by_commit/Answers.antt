@@ -1,5 +1,0 @@
-use Rattle.coll_stalls.proofs.Running.{goes_on_by_commit}
-use Rattle.coll_stalls.proofs.laws.goes_on_by_commit.Goals as goal
-
-pub returns : goal.returns
-returns c = goes_on_by_commit c.args.core.now c.none_is_early.ensures

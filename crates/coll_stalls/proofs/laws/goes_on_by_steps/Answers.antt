@@ -1,5 +1,0 @@
-use Rattle.coll_stalls.proofs.Running.{goes_on_by_steps}
-use Rattle.coll_stalls.proofs.laws.goes_on_by_steps.Goals as goal
-
-pub returns : goal.returns
-returns c = goes_on_by_steps c.args.core.now c.none_is_early.ensures

@@ -1,5 +1,0 @@
-use Rattle.coll_stalls.proofs.Stalling.{never_here_ends}
-use Rattle.coll_stalls.proofs.laws.never_here_ends.Goals as goal
-
-pub returns : goal.returns
-returns c = never_here_ends c.args.core.now c.quiet_is_settled.ensures

@@ -1,5 +1,0 @@
-use Rattle.coll_stalls.proofs.Stalling.{quiet_stalls}
-use Rattle.coll_stalls.proofs.laws.quiet_stalls.Goals as goal
-
-pub returns : goal.returns
-returns c = quiet_stalls c.args.core.now c.quiet_is_settled.ensures
