@@ -1,5 +1,7 @@
-pub mod Answering
+-- what is read decides the verdict, and how it is explained
 pub mod Meaning
+pub mod Answering
 pub mod Heading
 pub mod Cutting
+-- from whom a member hears
 mod HearingRounds

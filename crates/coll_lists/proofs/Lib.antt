@@ -1,13 +1,17 @@
-pub mod Changing
+-- main lemmas: a move shows the layout after it, and lists read alike both ways
+pub mod Showing
+pub mod WellLinked
 pub mod Keeping
 pub mod Lawful
+-- a move in steps
+pub mod Changing
 pub mod Linking
 pub mod Moving
-pub mod Occurrences
-pub mod Opening
-pub mod Reading
 pub mod Rings
-pub mod Showing
-pub mod Values
+-- walks and look-ups
 pub mod Walking
-pub mod WellLinked
+pub mod Reading
+pub mod Values
+pub mod Occurrences
+-- what `new` makes
+pub mod Opening

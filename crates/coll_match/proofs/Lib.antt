@@ -1,6 +1,8 @@
-pub mod Puts
+-- instances and messages as maps' entries
+pub mod Standing
 pub mod Shares
 pub mod Messages
-pub mod Standing
 pub mod Sizes
 pub mod Hints
+-- functions
+pub mod Puts

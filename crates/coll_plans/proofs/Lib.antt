@@ -1,31 +1,39 @@
-pub mod Around
+-- main lemmas: every plan serves its collective; the computed hearing is the proofs'; how many actions
+pub mod Plans
+pub mod Hearings
+mod Counts
+-- the barrier
 pub mod DisseminationBarrier
-pub mod DirectChoosing
-pub mod DirectPlaces
-pub mod DirectExchange
-pub mod DirectArrivals
-pub mod DirectCosts
+pub mod Around
+-- direct exchange: gather, scatter, alltoall, allgatherv, rsblock
 pub mod DirectGather
 pub mod DirectScatter
 pub mod DirectAlltoall
-pub mod DirectRowRegions
 pub mod DirectAllgatherv
-pub mod DirectRsblockCombining
 pub mod DirectRsblock
-pub mod LocalRounds
-pub mod PrefixDoublingRounds
+pub mod DirectRsblockCombining
+pub mod DirectExchange
+pub mod DirectArrivals
+pub mod DirectChoosing
+pub mod DirectPlaces
+pub mod DirectRowRegions
+pub mod DirectCosts
+-- prefix doubling: scan, exscan
 pub mod PrefixDoublingScan
-pub mod BruckRegions
-pub mod BruckRounds
-pub mod BruckAllgather
 pub mod PrefixDoublingExscan
-pub mod RecursiveDoublingHypercube
+pub mod PrefixDoublingRounds
+-- Bruck's algorithm: allgather
+pub mod BruckAllgather
+pub mod BruckRounds
+pub mod BruckRegions
+-- recursive doubling: allreduce
+pub mod RecursiveDoublingAllreduce
 pub mod RecursiveDoublingRounds
 pub mod RecursiveDoublingRanges
-pub mod RecursiveDoublingAllreduce
-pub mod ChainSegments
-pub mod ChainRounds
+pub mod RecursiveDoublingHypercube
+-- the chain: long bcasts
 pub mod ChainBcast
-mod Counts
-pub mod Plans
-pub mod Hearings
+pub mod ChainRounds
+pub mod ChainSegments
+-- rounds without messages
+pub mod LocalRounds

@@ -1,8 +1,12 @@
-pub mod Asking
-pub mod Telling
+-- main lemmas: the lines of a run are its job's
 pub mod Meant
-mod Indexing
-mod Printed
+pub mod Telling
+pub mod Asking
+-- threads and their results
 mod Ending
 mod RankEnds
+-- completions and lines in memory
+mod Indexing
+mod Printed
+-- worked rows
 mod AttestedRows

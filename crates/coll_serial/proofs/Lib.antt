@@ -1,11 +1,15 @@
-pub mod Sets
+-- the invariant of an engine
+pub mod Keeping
 pub mod Measuring
 pub mod Outcomes
-pub mod Keeping
 pub mod Refused
+-- progress
 pub mod Advancing
 pub mod Handing
+-- completions of lists into spans of memory
 pub mod Listing
-pub mod Spans
 pub mod Completing
 pub mod Finding
+pub mod Spans
+-- lists
+pub mod Sets

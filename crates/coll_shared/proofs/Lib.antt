@@ -1,5 +1,7 @@
+-- what a port tells of requests and plans
+pub mod Telling
 pub mod Planning
 pub mod Starts
-pub mod Telling
+-- threads and programs of ranks
 pub mod RankThreads
 pub mod RankPrograms

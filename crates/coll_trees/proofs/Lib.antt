@@ -1,14 +1,18 @@
+-- bcast
+pub mod BinomialTreeBcast
+pub mod BinomialTreeBcastRounds
+-- reduce
+pub mod BinomialTreeReduce
+pub mod BinomialTreeReduceHop
+pub mod BinomialTreeReduceFirst
+pub mod BinomialTreeReduceRounds
+-- the allreduce by two trees
+pub mod ReduceThenBcast
+-- what all builders rest on
 pub mod Columns
 pub mod Depths
 pub mod RootNumbers
-pub mod BinomialTreeBcastRounds
 pub mod Spans
-pub mod BinomialTreeReduceRounds
 pub mod Checked
-pub mod BinomialTreeBcast
-pub mod BinomialTreeReduceFirst
-pub mod ReduceThenBcast
-pub mod BinomialTreeReduceHop
-pub mod BinomialTreeReduce
 pub mod Steps
 pub mod BinomialTreeActions

@@ -1,9 +1,12 @@
-mod Cutting
-mod Totals
-mod Words
-mod Boxes
-mod Coding
-mod Padding
-mod Recoding
+-- what an export did, in the words of its answer
 mod Answering
 pub mod ListAnswers
+mod Recoding
+mod Coding
+-- what C hands in: groups and counts
+mod Cutting
+mod Totals
+mod Padding
+-- boxes of engines
+mod Boxes
+mod Words
