@@ -1,4 +1,4 @@
-# make             the program colljob and the C library, quickly: without proof, in a few minutes (where they are proved: the proved ones)
+# make             the program colljob and the C library, unproved, in a few minutes (once they are proved: the proved ones)
 # make prove       both proved; from nothing an hour and a half
 # make check       the proofs and all tests, ending in a line `N passed, N failed`; its parts are check-gate, check-tests, check-program,
 #                  check-c, check-cpp, check-rust, check-mpi, check-recorder, check-recorded and check-install

@@ -9,7 +9,7 @@ With `samples` after RUNS each thread of the shim has a processor of its own, fo
 lowest tenth counts: that can be compared on a machine that does other work too. WZ_HEADERS names a folder with other headers.
 
 With `waits` after RUNS it compares how ranks wait, on the machine as it is and beside as many busy processes as it has processors: medians of small
-operations by 2, 4 and 8 ranks, with the time that nine of ten stay below in brackets, ours and each MPI library's by turns. `idle`, `busy` and numbers of
+operations by 2, 4 and 8 ranks, with the time that nine of ten stay below in brackets, ours and each MPI library's interleaved. `idle`, `busy` and numbers of
 ranks after `waits` choose some of these. WZ_BEFORE="HEADERS:LIBRARY .." adds other states of ours, each named by its folder of headers,
 WZ_TRIED="0 200 WZ_FEW_LOOKS=20,WZ_LOOKS=2000" the shim with other numbers of looks before a thread sleeps, or with other macros, and WZ_WITHOUT="mpich"
 leaves programs out. WZ_SECONDS is how long each measure is repeated (0.7).
@@ -78,7 +78,7 @@ def compiled(folder, library, name, *defines, headers=os.environ.get("WZ_HEADERS
 
 
 def rows(library, runs):
-    """Medians of sums of rows, by turns."""
+    """Medians of sums of rows, interleaved."""
     with tempfile.TemporaryDirectory() as folder:
         programs = {"free": compiled(folder, library, "free", "-DWZ_LONG=1"),
                     "held": compiled(folder, library, "held", "-DWZ_LONG=2147483647")}
@@ -132,7 +132,7 @@ def waiters(folder, library):
 
 
 def waits(library, runs, asked):
-    """Medians of both, by turns, in the states and for the numbers of ranks that are asked for, or all."""
+    """Medians of both, interleaved, in the states and for the numbers of ranks that are asked for, or all."""
     states = [word for word in STATES if word in asked] or list(STATES)
     numbers = [int(word) for word in asked if word not in STATES] or [2, 4, 8]
     environment = dict(os.environ, OMPI_ALLOW_RUN_AS_ROOT="1", OMPI_ALLOW_RUN_AS_ROOT_CONFIRM="1")

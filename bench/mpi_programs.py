@@ -1,6 +1,6 @@
 #!/usr/bin/env python3
 """Measures bench/mpi_programs.c under wzrun, whose ranks are threads, beside MPI libraries, whose ranks are processes: medians of
-ROUNDS rounds by turns, in microseconds an operation, for 2, 4 and 8 ranks, on the machine as it is and beside as many busy processes as
+ROUNDS interleaved rounds, in microseconds an operation, for 2, 4 and 8 ranks, on the machine as it is and beside as many busy processes as
 it has processors. Prints the rows of two tables for bench/RESULTS.md.
 
     bench/mpi_programs.py [ROUNDS] [--bin BIN] [--seconds S] [--longest S] [--ranks N ..] [--only idle|busy]

@@ -4,8 +4,8 @@
 Each text has 2 to 6 ranks, or 2 to RANKS and at most 100 lines, some communicators, and collectives that are posted or started in an order of
 each rank's own among communicators, with waits, waits for any and some, and tests in between. It is explained once, and run three times with 0
 to 8 progress threads. A text that never stalls must end in each run, one that stalls in every run must stall in each, and a run that ends must
-write what `plain` writes. Ends with 1 where one doesn't, and shows the text. So it does where the shortest circle that is reported is no circle,
-or a search of all circles finds a shorter one. It also prints how many of the texts that may stall did so in some run, and in each, and how
+write what `plain` writes. Ends with 1 where one doesn't, and shows the text. So it does where the shortest cycle that is reported is no cycle,
+or a search of all cycles finds a shorter one. It also prints how many of the texts that may stall did so in some run, and in each, and how
 long the runs took.
 """
 import collections
@@ -133,7 +133,7 @@ def short_text(rng, most):
 
 
 def shortest_length(awaited):
-    """The length of a shortest circle, by a search in breadth from each rank; 0 where there is none."""
+    """The length of a shortest cycle, by a search in breadth from each rank; 0 where there is none."""
     best = 0
     for first in awaited:
         reached, steps = {first}, 0
@@ -146,7 +146,7 @@ def shortest_length(awaited):
 
 
 def is_shortest(objects):
-    """Whether the ranks of `shortest` wait each for the next, and no circle has fewer."""
+    """Whether the ranks of `shortest` wait each for the next, and no cycle has fewer."""
     awaited = {it["rank"]: {lack["rank"] for request in it["requests"] for lack in request["lacks"]} for it in objects[:-1]}
     ring = objects[-1]["shortest"]
     waits = all(after in awaited[rank] for rank, after in zip(ring, ring[1:] + ring[:1]))
@@ -159,7 +159,7 @@ def verdict(program, text):
         return f"{ended.returncode} {ended.stderr.decode()}"
     objects = [json.loads(line) for line in ended.stdout.decode().splitlines()]
     if not is_shortest(objects):
-        return f"no shortest circle: {objects[-1]['shortest']}"
+        return f"no shortest cycle: {objects[-1]['shortest']}"
     return objects[-1]["verdict"]
 
 

@@ -1,5 +1,5 @@
 #!/usr/bin/env python3
-"""Writes random job texts without faults, whose ranks don't wait for one another in a circle:
+"""Writes random job texts without faults, whose ranks don't wait for one another in a cycle:
 
     tests/fuzz/random_texts.py FOLDER [COUNT [SEED]]    COUNT texts, 1000 where none is said, of numbers from SEED, 1 where none is said
     tests/fuzz/random_texts.py FOLDER COUNT SEED pairs    some of them over the type 2int

@@ -21,7 +21,7 @@ UNOPENED = 1
 # The numbers of standard output and standard error.
 OUTPUT, ERRORS = 1, 2
 
-# The options of `run` that the small program knows.
+# The options of `run` that the minimal program knows.
 OF_FIRST = {"workers", "quiet"}
 
 
@@ -104,12 +104,12 @@ def show(text):
 
 
 def is_for_first(task):
-    """Whether the small program does the task."""
+    """Whether the minimal program does the task."""
     return task is not None and task.way in (("run",), ("plain",)) and set(task.options) <= OF_FIRST
 
 
 def words_of_first(task):
-    """The words that the small program takes."""
+    """The words that the minimal program takes."""
     workers = int(task.options.get("workers", "2"))
     shown = "quiet" if "quiet" in task.options else "shown"
     file = [] if task.file in (None, "-") else [task.file]

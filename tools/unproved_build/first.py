@@ -1,4 +1,4 @@
-"""The sources of the small program for `run` and `plain`: those of `coll_job`, without what these two don't need.
+"""The sources of the minimal program for `run` and `plain`: those of `coll_job`, without what these two don't need.
 
 Whole modules are left out, and functions of a few others; first_main.txt has what stands in their place. No line of what these two do is
 written anew but there, so they say and write the same as the whole program. `make check` compares them; tools/checks/names, which takes no

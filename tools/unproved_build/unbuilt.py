@@ -20,12 +20,12 @@ WRITTEN = ["trace", "stats", "timeline", "picture", "out"]
 
 
 def build_small(small, kit, missing, words):
-    """Builds the small program; None where the sources have become others than those that it is cut out of."""
+    """Builds the minimal program; None where the sources have become others than those that it is cut out of."""
     try:
         return built(small, kit, missing, words)
     except (first.OtherShape, front_end.Refused) as error:
         why = str(error).splitlines()[0] if str(error) else "no reason is given"
-        answering.say(f"the small program can't be cut out of these sources ({why}), so the whole one is built")
+        answering.say(f"the minimal program can't be cut out of these sources ({why}), so the whole one is built")
         return None
 
 
