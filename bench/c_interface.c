@@ -1,4 +1,4 @@
-/* The time of a small collective through include/worzsunab.h: one thread plays all ranks, or a thread for each; see c_interface.py. */
+/* The time of a small collective through the C library: one thread plays all ranks, or a thread for each; see c_interface.py. */
 #include <sched.h>
 #include <stdio.h>
 #include <stdlib.h>

@@ -1,5 +1,5 @@
 #!/usr/bin/env python3
-"""Compares small collectives through include/worzsunab.h with MPI libraries, in one run: medians of RUNS runs in turn, in
+"""Compares small collectives through the C library with MPI libraries, in one run: medians of RUNS runs in turn, in
 microseconds an operation of all ranks, for 1, 2, 4 and 8 ranks. Ours are one thread that plays all ranks, and a thread for each;
 theirs are processes.
 
@@ -23,6 +23,7 @@ Run it at the top of the repository after `make -C bindings` has built out/lib/l
 is measured whose compiler is found, mpicc.openmpi or mpicc.mpich (Debian's libopenmpi-dev and libmpich-dev).
 """
 
+import glob
 import os
 import re
 import shutil
@@ -34,6 +35,7 @@ import tempfile
 import mpi
 
 LIBRARY = os.path.join(mpi.HERE, "..", "out", "lib", "libworzsunab.a")
+SHIM = os.path.join(mpi.HERE, "..", "bindings", "c", "src", "*.c")
 RANKS = [1, 2, 4, 8]
 # A library that isn't through by then is left out.
 SECONDS = float(os.environ.get("WZ_LIMIT", "15"))
@@ -70,10 +72,10 @@ def samples(library, runs):
 
 
 def compiled(folder, library, name, *defines, headers=os.environ.get("WZ_HEADERS", os.path.join(mpi.HERE, "..", "include"))):
-    """The program, with these definitions and headers."""
+    """The program, with these headers. Where there are definitions, the library's combiner is compiled with them too, and serves in place of its own."""
     program = os.path.join(folder, name)
-    source = os.path.join(mpi.HERE, "c_interface.c")
-    subprocess.run(["cc", "-O2", "-D_GNU_SOURCE", f"-I{headers}", *defines, source, library, "-pthread", "-o", program], check=True)
+    sources = [os.path.join(mpi.HERE, "c_interface.c"), *(sorted(glob.glob(SHIM)) if defines else [])]
+    subprocess.run(["cc", "-O2", "-D_GNU_SOURCE", f"-I{headers}", *defines, *sources, library, "-pthread", "-o", program], check=True)
     return program
 
 

@@ -23,6 +23,8 @@ c="$cc -std=c11 -D_GNU_SOURCE $warnings $header"
 cplus="$cxx -std=c++17 $warnings $header"
 static="$lib/libworzsunab.a -pthread"
 shared="-L$lib -lworzsunab -pthread -Wl,-rpath,$lib"
+# The combiner compiled with a client, as a sanitizer needs it and a test of its insides: the library's is left out then.
+shim="-I$here/c/src $(echo "$here"/c/src/*.c)"
 # No check takes more than a minute on an idle machine; one that takes a quarter of an hour hangs.
 limit="timeout 900"
 # The library publishes a combination that members share by an atomic of its own, which neither the sanitizer nor Helgrind sees.
@@ -132,33 +134,46 @@ check_tables() {
     check "docs/C.md has each answer" cmp "$work/answers" "$work/answers.want"
 }
 
+# The shared library has the functions and the constant that the headers declare, and no other symbol.
+check_symbols() {
+    has nm || { skip "the shared library's symbols" "there is no nm"; return; }
+    nm -D --defined-only "$lib/libworzsunab.so" | awk '{ print $3 }' | sort > "$work/symbols"
+    { echo wz_proved; grep -oh '\bwz_[a-z0-9_]*(' "$here"/../include/*.h | tr -d '('; } | sort -u > "$work/declared"
+    check "the shared library has just what the headers declare" cmp "$work/symbols" "$work/declared"
+    check "what a client holds is a pointer" sh -c \
+        "echo '#include \"worzsunab_threads.h\"
+        int held[sizeof(wz_shared) == sizeof(void *) ? 1 : -1];' | $c -x c -fsyntax-only -"
+}
+
 check_c() {
     has "${cc%% *}" || { skip "C" "there is no $cc"; return; }
     checks_threads=
     ! runs_threads_checked "$cc" || checks_threads=yes
     [ "$checks_threads" ] || skip "C under ThreadSanitizer" "programs of $cc don't run under it here"
-    for client in sum threads refusals cases waits explained calls mixed left; do
-        [ -e "$here/c/$client.c" ] || continue
+    for client in sum threads refusals cases waits explained calls mixed; do
         # shellcheck disable=SC2086
         try_client $client static $c "$here/c/$client.c" $static
         # shellcheck disable=SC2086
         try_client $client shared $c "$here/c/$client.c" $shared
         # shellcheck disable=SC2086
-        [ ! "$checks_threads" ] || try_client $client tsan $c -fsanitize=thread "$here/c/$client.c" $static
+        [ ! "$checks_threads" ] || try_client $client tsan $c -fsanitize=thread "$here/c/$client.c" $shim $static
     done
     # shellcheck disable=SC2086
-    try_client memory static $c "$here/c/memory.c" $static -Wl,--wrap=malloc -Wl,--wrap=realloc
+    try_client left static $c "$here/c/left.c" $shim $static
+    # shellcheck disable=SC2086
+    try_client memory static $c "$here/c/memory.c" $static -Wl,--wrap=malloc,--wrap=realloc,--wrap=calloc,--wrap=aligned_alloc
     counted="-Wl,--wrap=wz_run_work -Wl,--wrap=wz_return_work -Wl,--wrap=wz_step -Wl,--wrap=wz_settle -Wl,--wrap=pthread_cond_wait"
     # shellcheck disable=SC2086
-    try_client bounded static $c "$here/c/bounded.c" $static $counted
+    try_client bounded static $c "$here/c/bounded.c" $shim $static $counted
     # shellcheck disable=SC2086
-    [ ! "$checks_threads" ] || try_client bounded tsan $c -fsanitize=thread "$here/c/bounded.c" $static $counted
+    [ ! "$checks_threads" ] || try_client bounded tsan $c -fsanitize=thread "$here/c/bounded.c" $shim $static $counted
     # shellcheck disable=SC2086
-    try_client waiting static $c "$here/c/waiting.c" $static -Wl,--wrap=sched_yield
+    try_client waiting static $c "$here/c/waiting.c" $shim $static -Wl,--wrap=sched_yield
     check_one_refusal
     check_helgrind
     check_headers c c11 "$cc" gcc clang
     check_tables
+    check_symbols
     check_leaks refusals cases memory sum explained left "waits 3 5" "calls 3 2" "threads 4 20 quiet"
 }
 
@@ -170,10 +185,10 @@ check_one_refusal() {
     check "sum with one refusal ends, and all learn of it" sh -c \
         "timeout --foreground 600 $work/one_refusal 2>&1 | sort | cut -c1-40 > $work/sentences; grep -c 'no wait can end' $work/sentences | grep -qx 3 && grep -q 'rank 2: there is no communicator 9' $work/sentences"
     # shellcheck disable=SC2086
-    [ ! "$checks_threads" ] || try_client one_refusal tsan $c -fsanitize=thread "$here/c/sum.c" "$here/c/one_refusal.c" -Wl,--wrap=wz_post $static
+    [ ! "$checks_threads" ] || try_client one_refusal tsan $c -fsanitize=thread "$here/c/sum.c" "$here/c/one_refusal.c" -Wl,--wrap=wz_post $shim $static
 }
 
-# Programs of 2 to 8 ranks under Helgrind, which the shim tells of its words.
+# Programs of 2 to 8 ranks under Helgrind, to which the combiner declares its atomics.
 check_helgrind() {
     has valgrind || { skip "C under Helgrind" "there is no valgrind"; return; }
     echo '#include <valgrind/helgrind.h>' | $cc -x c -fsyntax-only - 2> /dev/null || { skip "C under Helgrind" "there is no valgrind/helgrind.h"; return; }
@@ -184,7 +199,7 @@ check_helgrind() {
         [ "$client" != bounded ] || sources="$sources $counted"
         [ "$client" != one_refusal ] || sources="$sources $here/c/sum.c -Wl,--wrap=wz_post"
         # shellcheck disable=SC2086
-        [ -x "$work/$client.helgrind" ] || check "build $client, helgrind" $c -DWZ_HELGRIND $sources $static -o "$work/$client.helgrind"
+        [ -x "$work/$client.helgrind" ] || check "build $client, helgrind" $c -DWZ_HELGRIND $sources $shim $static -o "$work/$client.helgrind"
         # shellcheck disable=SC2086
         check "$words, helgrind" $helgrind "$work/$client.helgrind" $arguments
     done
@@ -202,19 +217,33 @@ check_leaks() {
     done
 }
 
+# The combiner's objects, compiled with these options, for programs of other languages. Prints their names.
+shim_objects() {
+    made=$work/shim.$1
+    shift
+    mkdir -p "$made"
+    for source in "$here"/c/src/*.c; do
+        # shellcheck disable=SC2086
+        $c "$@" -fPIC -c "$source" -o "$made/$(basename "$source" .c).o" || return
+    done
+    echo "$made"/*.o
+}
+
 check_cpp() {
     has "${cxx%% *}" || { skip "C++" "there is no $cxx"; return; }
     # shellcheck disable=SC2086
     try_client cpp static $cplus "$here/cpp/sum.cpp" $static
+    # shellcheck disable=SC2086
+    try_client cpp shared $cplus "$here/cpp/sum.cpp" $shared
     if has valgrind && echo '#include <valgrind/helgrind.h>' | $cxx -x c++ -fsyntax-only - 2> /dev/null; then
         # shellcheck disable=SC2086
-        check "build cpp, helgrind" $cplus -DWZ_HELGRIND "$here/cpp/sum.cpp" $static -o "$work/cpp.helgrind"
+        check "build cpp, helgrind" $cplus "$here/cpp/sum.cpp" $(shim_objects helgrind -DWZ_HELGRIND) $static -o "$work/cpp.helgrind"
         # shellcheck disable=SC2086
         [ ! -x "$work/cpp.helgrind" ] || check "cpp, helgrind" $helgrind "$work/cpp.helgrind"
     fi
     if runs_threads_checked "${CC:-cc}"; then
         # shellcheck disable=SC2086
-        try_client cpp tsan $cplus -fsanitize=thread "$here/cpp/sum.cpp" $static
+        try_client cpp tsan $cplus -fsanitize=thread "$here/cpp/sum.cpp" $(shim_objects tsan -fsanitize=thread) $static
     fi
     check_headers c++ c++11 "$cxx" g++ clang++
     check_leaks cpp
@@ -247,8 +276,8 @@ check_rust_leaks() {
     check "$name" valgrind -q --error-exitcode=9 --leak-check=full --show-leak-kinds=definite --errors-for-leak-kinds=definite --fair-sched=yes "$@"
 }
 
-# The standard library was built without ThreadSanitizer, so src/lock.rs tells of the lock, and what that library does among its own
-# functions is left out. The variable lets this compiler take the option, which is no stable one yet.
+# The library with the combiner's instrumented objects in place of its own. What Rust's standard library, which isn't instrumented, does among its
+# own functions is left out, and src/sanitizer.rs tells what it hides. The variable lets this compiler take the option, which is no stable one yet.
 check_rust_threads() {
     host=$(rustc -vV | sed -n 's/^host: //p')
     export RUSTC_BOOTSTRAP=1 TSAN_OPTIONS="suppressions=$here/rust/tsan.suppressions"
@@ -256,14 +285,23 @@ check_rust_threads() {
     echo 'fn main() {}' > "$work/empty.rs"
     # shellcheck disable=SC2086
     if rustc $flags --target "$host" "$work/empty.rs" -o "$work/empty.rust" > /dev/null 2>&1 && "$work/empty.rust" > /dev/null 2>&1; then
-        export RUSTFLAGS="$flags"
+        export RUSTFLAGS="$flags" WORZSUNAB_LIB="$work/checked"
+        instrument_library "$work/checked"
+        check "build the library, tsan" test -e "$work/checked/libworzsunab.a"
         check "Rust: tests, tsan" cargo test --offline --quiet --target "$host" --test collectives -- --test-threads=1
         check "Rust: sums, tsan" cargo run --offline --quiet --target "$host" --example sums
     else
         skip "Rust under ThreadSanitizer" "programs of this rustc don't run under it here"
     fi
     unset RUSTC_BOOTSTRAP RUSTFLAGS
-    export TSAN_OPTIONS="suppressions=$here/c/tsan.suppressions"
+    export TSAN_OPTIONS="suppressions=$here/c/tsan.suppressions" WORZSUNAB_LIB="$lib"
+}
+
+instrument_library() {
+    mkdir -p "$1" && cp "$lib/libworzsunab.a" "$1/part.a" || return
+    objects=$(shim_objects tsan -fsanitize=thread) || return
+    # shellcheck disable=SC2086
+    ar d "$1/part.a" shim.o && ar qs "$1/part.a" $objects && mv "$1/part.a" "$1/libworzsunab.a"
 }
 
 for part in "${@:-all}"; do

@@ -160,11 +160,7 @@ typedef struct wz_limits {
 } wz_limits;
 
 /* The greatest limits, for so many ranks. */
-static inline wz_limits wz_greatest_limits(uint32_t ranks) {
-    wz_limits limits = { 0, 4096, 65536, 4294967295u, 1048576 };
-    limits.ranks = ranks;
-    return limits;
-}
+wz_limits wz_greatest_limits(uint32_t ranks);
 
 /* ---- what functions answer */
 

@@ -1,22 +1,23 @@
-/* How threads share one engine under include/worzsunab_threads.h: records, the lock, sleeping, and who makes progress. Run by shim.py; README.md
- * says what is checked and what isn't.
+/* How threads share one engine by bindings/c/src/combiner.c: records, the lock, sleeping, and who makes progress. Run by
+ * shim.py; README.md says what is checked and what isn't.
  *
- * The words that threads read and write without the lock (stage, piece, sleeps, held) change in steps of their own, in one order for all. What is
- * done to the engine under one hold of the lock is one step for each record that is served, and one for the progress that follows. How often a
- * thread looks before it sleeps, and how often one that leads looks again, are free choices.
+ * The words that threads read and write without the lock (stage, combination, sleeps, held) change in steps of their own,
+ * in one order for all. What is done to the engine under one hold of the lock is one step for each record that is served,
+ * and one for the progress that follows. How often a thread looks before it sleeps, and how often a combiner looks again,
+ * are free choices.
  *
- * Sizes:   RANKS, COLLECTIVES, PIECES (combinations of a collective)
+ * Sizes:   RANKS, COLLECTIVES, COMBINATIONS (combinations of a collective)
  * Forms:   LONG (combinations are computed with the lock free), CHAINED (a combination is ready once the one before it is there),
  *          FAIR (for liveness), COARSE (what one hold of the lock does to the records is one step for all of them, and so are the wake-ups
  *          that follow it)
- * Faults:  NOT_WOKEN          who gives the lock up wakes none of those that ask
+ * Faults:  NOT_WOKEN          who gives the lock up wakes none of those that have published
  *          LOOKS_FIRST        who is about to sleep looks at its record before it says so
  *          LOCK_UNSEEN        and doesn't look whether the lock is free
  *          NOT_HANDED_ON      work is left without calling one who waits
- *          UNJUDGED_RETURN    who only returns a piece doesn't look for a stall
+ *          UNJUDGED_RETURN    who only returns a combination doesn't look for a stall
  *          EARLY_STALL        a stall is reported though work is left
  *          STALL_WHILE_OUT    a stall is reported though a combination is out
- *          TAKES_MANY         who posts or tests goes on after its piece
+ *          TAKES_MANY         who posts or tests goes on after its combination
  *          LEFT_UNSEEN        those who wait look for a combination to take out, and not for the one that is left to them
  *          NEVER_LATE         who tests leaves a combination again and again, also where the one who was called to it doesn't come
  *          GONE_TWICE         who had left and calls again counts as gone still
@@ -27,8 +28,8 @@
 #ifndef COLLECTIVES
 #define COLLECTIVES 1
 #endif
-#ifndef PIECES
-#define PIECES 2
+#ifndef COMBINATIONS
+#define COMBINATIONS 2
 #endif
 #define BIT(n) (1 << (n))
 
@@ -43,15 +44,15 @@ byte missing[COLLECTIVES];  /* combinations that aren't there yet */
 
 /* ---------------------------------------------------------------- records */
 #define ANSWERED 0
-#define ASKED 1
+#define PUBLISHED 1
 #define TESTED 2
 #define WAITING 3
 #define CALLED 4
 byte stage[RANKS];
 #define NONE 0
-#define OUT 1
-#define BACK 2
-byte piece[RANKS];
+#define COMPUTING 1
+#define COMPUTED 2
+byte combination[RANKS];
 bit sleeps[RANKS];
 #define A_POST 0
 #define A_TEST 1
@@ -62,7 +63,7 @@ byte kind[RANKS], about[RANKS], taken[RANKS];
 #define PENDING 1
 #define STALLED 2
 byte reply[RANKS];
-byte pieces[RANKS];     /* that this call has computed */
+byte combinations[RANKS];     /* that this call has computed */
 
 bit held;
 /* under the lock */
@@ -71,13 +72,13 @@ byte next_of;           /* the collective, and one more, of the combination that
 bit stalled, unsettled, left[RANKS];
 bit late[RANKS];        /* it gave the lock up while a rank that had been called before hadn't come: once is often enough here */
 
-#define IS_OVER(r) (stage[r] == ANSWERED && piece[r] == NONE)
+#define IS_OVER(r) (stage[r] == ANSWERED && combination[r] == NONE)
 #ifdef NOT_WOKEN
-#define IS_DUE(r) (stage[r] == ANSWERED || stage[r] == CALLED || piece[r] == BACK)
+#define IS_DUE(r) (stage[r] == ANSWERED || stage[r] == CALLED || combination[r] == COMPUTED)
 #else
-#define IS_DUE(r) (stage[r] != WAITING || piece[r] == BACK)
+#define IS_DUE(r) (stage[r] != WAITING || combination[r] == COMPUTED)
 #endif
-#define NEEDS_LOCK(r) (stage[r] == ASKED || stage[r] == CALLED || piece[r] == BACK)
+#define NEEDS_LOCK(r) (stage[r] == PUBLISHED || stage[r] == CALLED || combination[r] == COMPUTED)
 
 /* ---------------------------------------------------------------- what the holder of the lock does */
 inline answer(r, what) {
@@ -136,16 +137,16 @@ inline take_back(r) {
 #ifdef CHAINED
     make_ready(taken[r]);
 #endif
-    outside--; unsettled = 1; piece[r] = NONE; taken[r] = 0
+    outside--; unsettled = 1; combination[r] = NONE; taken[r] = 0
 }
 
 inline serve(r) {
     if
-    :: piece[r] == BACK -> take_back(r)
+    :: combination[r] == COMPUTED -> take_back(r)
     :: else
     fi;
     if
-    :: stage[r] == ASKED -> carry_out(r)
+    :: stage[r] == PUBLISHED -> carry_out(r)
     :: else
     fi
 }
@@ -195,7 +196,7 @@ inline progress(r) {
     fi;
     if
     :: next_of > 0 && unsettled && !LEAVES(r) ->
-        taken[r] = next_of - 1; next_of = 0; outside++; piece[r] = OUT
+        taken[r] = next_of - 1; next_of = 0; outside++; combination[r] = COMPUTING
     :: else
 #else
     :: j == COLLECTIVES -> unsettled = 0
@@ -244,7 +245,7 @@ inline judge() {
     fi
 }
 
-#define GOES_ON(r) (stage[r] == WAITING && piece[r] != NONE)
+#define GOES_ON(r) (stage[r] == WAITING && combination[r] != NONE)
 
 inline hand_on(r) {
 #ifndef NOT_HANDED_ON
@@ -260,7 +261,7 @@ inline hand_on(r) {
 #endif
                 j = RANKS; break
             :: GOES_ON(i) -> j = RANKS; break
-            :: stage[i] == WAITING && piece[i] == NONE && j == RANKS -> j = i; i++
+            :: stage[i] == WAITING && combination[i] == NONE && j == RANKS -> j = i; i++
             :: else -> i++
             fi
         :: else -> break
@@ -296,7 +297,7 @@ byte must_stall;        /* ranks to which a stall must be reported */
 inline program() {
     i = 0;
     do
-    :: i < COLLECTIVES -> members[i] = EVERYONE; missing[i] = PIECES; i++
+    :: i < COLLECTIVES -> members[i] = EVERYONE; missing[i] = COMBINATIONS; i++
     :: else -> break
     od;
 #if defined(ONE)
@@ -346,9 +347,9 @@ inline program() {
 }
 
 #if RANKS == 3
-#define SOME_ASK (stage[0] == ASKED || stage[1] == ASKED || stage[2] == ASKED || piece[0] == BACK || piece[1] == BACK || piece[2] == BACK)
+#define SOME_PUBLISHED (stage[0] == PUBLISHED || stage[1] == PUBLISHED || stage[2] == PUBLISHED || combination[0] == COMPUTED || combination[1] == COMPUTED || combination[2] == COMPUTED)
 #else
-#define SOME_ASK (stage[0] == ASKED || stage[1] == ASKED || piece[0] == BACK || piece[1] == BACK)
+#define SOME_PUBLISHED (stage[0] == PUBLISHED || stage[1] == PUBLISHED || combination[0] == COMPUTED || combination[1] == COMPUTED)
 #endif
 
 #ifdef COARSE
@@ -365,9 +366,9 @@ proctype Rank(byte me) {
     bit was;
 Next: true;
     d_step {
-        what = command[me * LINES + at]; about[me] = argument[me * LINES + at]; at++; pieces[me] = 0; reply[me] = DONE;
+        what = command[me * LINES + at]; about[me] = argument[me * LINES + at]; at++; combinations[me] = 0; reply[me] = DONE;
         kind[me] = (what == POST -> A_POST : (what == WAIT -> A_WAIT : (what == END || what == LEAVE -> A_LEAVE : A_TEST)));
-        stage[me] = ASKED
+        stage[me] = PUBLISHED
     };
 
 Looks:
@@ -396,15 +397,15 @@ Looks:
     if
     :: stage[me] == ANSWERED ->
         if
-        :: piece[me] == NONE -> sleeps[me] = 0; goto Looks
+        :: combination[me] == NONE -> sleeps[me] = 0; goto Looks
         :: else
         fi
     :: else
     fi;
 #ifndef LOCK_UNSEEN
     if
-    :: stage[me] == ASKED || stage[me] == CALLED -> was = 1
-    :: else -> was = (piece[me] == BACK)
+    :: stage[me] == PUBLISHED || stage[me] == CALLED -> was = 1
+    :: else -> was = (combination[me] == COMPUTED)
     fi;
     if
     :: was && !held -> was = 0; sleeps[me] = 0; goto Looks
@@ -417,7 +418,7 @@ Looks:
 
 Leads:
     if
-    :: stage[me] == ANSWERED ->         /* only a piece is left to return */
+    :: stage[me] == ANSWERED ->         /* only a combination is left to return */
         SERVE_ALL;
         true;
         d_step { answer_waits(); i = 0 };
@@ -447,10 +448,10 @@ Turn:
     };
     d_step { judge() };
     if
-    :: stage[me] == ANSWERED || piece[me] == OUT
-    :: !(stage[me] == ANSWERED || piece[me] == OUT) && unsettled -> goto Turn
-    :: !(stage[me] == ANSWERED || piece[me] == OUT) && !unsettled       /* it has looked often enough */
-    :: !(stage[me] == ANSWERED || piece[me] == OUT) && !unsettled && SOME_ASK -> goto Turn
+    :: stage[me] == ANSWERED || combination[me] == COMPUTING
+    :: !(stage[me] == ANSWERED || combination[me] == COMPUTING) && unsettled -> goto Turn
+    :: !(stage[me] == ANSWERED || combination[me] == COMPUTING) && !unsettled       /* it has looked often enough */
+    :: !(stage[me] == ANSWERED || combination[me] == COMPUTING) && !unsettled && SOME_PUBLISHED -> goto Turn
     fi;
 
 Unlocks: true;
@@ -458,10 +459,10 @@ Unlocks: true;
     held = 0;
     WAKE_ALL;
     if
-    :: piece[me] == OUT ->              /* it is computed with the lock free */
-        pieces[me] = pieces[me] + 1;
-        assert(kind[me] == A_WAIT || pieces[me] <= 1);
-        piece[me] = BACK
+    :: combination[me] == COMPUTING ->              /* it is computed with the lock free */
+        combinations[me] = combinations[me] + 1;
+        assert(kind[me] == A_WAIT || combinations[me] <= 1);
+        combination[me] = COMPUTED
     :: else
     fi;
     goto Looks;

@@ -6,7 +6,8 @@
 #include <stdlib.h>
 #include <time.h>
 
-#include "worzsunab_threads.h"
+#include "check.h"
+#include "combiner.h"
 
 enum { LONG = 65536, OVERLAPPING = 4, MOST = 8 };
 
@@ -49,16 +50,6 @@ int32_t __wrap_wz_settle(wz_engine *engine) {
     unbounded = true;
     return __real_wz_settle(engine);
 }
-
-#define HOLDS(fact)                                                                    \
-    do {                                                                               \
-        if (!(fact)) {                                                                 \
-            fprintf(stderr, "%s:%d: not so: %s\n", __FILE__, __LINE__, #fact);         \
-            abort();                                                                   \
-        }                                                                              \
-    } while (0)
-
-#define DONE(call) HOLDS((call) == WZ_DONE)
 
 int32_t __wrap_wz_run_work(wz_work *work) {
     int32_t code = __real_wz_run_work(work);
@@ -105,10 +96,10 @@ static void begins(void) {
     begun = now();
 }
 
-/* The call that began makes at most one combination, or WZ_STEPS actions. */
+/* The call that began makes at most one combination, or STEPS actions. */
 static void ends(double *longest) {
     double time = now() - begun;
-    HOLDS(combinations <= 1 && steps <= WZ_STEPS && !unbounded);
+    HOLDS(combinations <= 1 && steps <= STEPS && !unbounded);
     if (time > *longest) *longest = time;
 }
 
@@ -137,7 +128,7 @@ static void long_sums(uint8_t me) {
         for (int at = 0; at < LONG; at++) rows[me][i][at] = me + i + at;
         combinations = steps = 0;
         DONE(wz_iallreduce(&shared, me, 1, rows[me][i], rows[me][i], LONG, WZ_INT32, WZ_SUM, &requests[i]));
-        HOLDS(combinations <= 1 && steps <= WZ_STEPS && !unbounded);
+        HOLDS(combinations <= 1 && steps <= STEPS && !unbounded);
     }
     DONE(wz_wait_all(&shared, me, OVERLAPPING, requests));
     int32_t sum = 0, others = ranks - 1;
@@ -156,7 +147,7 @@ static void polled(uint8_t me) {
     while (code == WZ_PENDING) {
         combinations = steps = 0;
         code = wz_try(&shared, me, &request);
-        HOLDS(combinations <= 1 && steps <= WZ_STEPS && !unbounded);
+        HOLDS(combinations <= 1 && steps <= STEPS && !unbounded);
     }
     DONE(code);
     for (int at = 0; at < LONG; at++) HOLDS(rows[me][at] == ranks * at);
@@ -183,29 +174,30 @@ static void tests_alone(wz_request *request) {
         HOLDS(tests < most);
         combinations = steps = 0;
         code = wz_try(&shared, 0, request);
-        HOLDS((code == WZ_DONE || code == WZ_PENDING) && combinations <= 1 && steps <= WZ_STEPS && !unbounded);
+        HOLDS((code == WZ_DONE || code == WZ_PENDING) && combinations <= 1 && steps <= STEPS && !unbounded);
     }
 }
 
 /* Under the lock: whether the others sleep in their waits, where they are held up once they are woken, and nothing is left for which one would be
    called. A record's `sleeps` alone is set before its thread waits. */
-static int32_t others_sleep(wz_shared *its, wz_ask *ask) {
-    bool sleep = !its->unsettled && its->outside == 0;
+static int32_t others_sleep(struct wz_combiner *combiner, struct operation *operation) {
+    bool sleep = !combiner->unsettled && combiner->outside == 0;
     for (int r = 1; r < ranks; r++) {
-        const wz_record *record = &its->records[r];
-        sleep = sleep && wz_read_(&record->stage) == WZ_WAITING && wz_read_(&record->sleeps) && __atomic_load_n(&in_wait[r], __ATOMIC_SEQ_CST);
+        struct record *record = &combiner->records[r];
+        sleep = sleep && load(&record->stage) == WAITING && load(&record->sleeps) &&
+                __atomic_load_n(&in_wait[r], __ATOMIC_SEQ_CST);
     }
-    *(bool *)ask->out = sleep;
+    *(bool *)operation->out = sleep;
     return WZ_DONE;
 }
 
 static void until_others_sleep(void) {
     bool sleep = false;
-    wz_ask ask = wz_ask_(WZ_ONCE, UINT8_MAX, others_sleep);
-    ask.out = &sleep;
+    struct operation operation = operation_of(ONCE, UINT8_MAX, others_sleep);
+    operation.out = &sleep;
     while (!sleep) {
         sleep_for(1);
-        DONE(wz_asked_(&shared, &ask));
+        DONE(perform(&shared, &operation));
     }
 }
 
@@ -237,7 +229,7 @@ static void short_again(uint8_t me) {
     combinations = steps = 0;
     unbounded = false;
     DONE(wz_iallreduce(&shared, me, 0, &one, &sum, 1, WZ_INT32, WZ_SUM, &request));
-    HOLDS(combinations == 0 && steps <= WZ_STEPS && !unbounded);
+    HOLDS(combinations == 0 && steps <= STEPS && !unbounded);
     DONE(wz_wait(&shared, me, &request));
     HOLDS(sum == ranks && combinations == 0);
 }

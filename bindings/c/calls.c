@@ -4,20 +4,11 @@
 #include <stdio.h>
 #include <stdlib.h>
 
+#include "check.h"
 #include "worzsunab_threads.h"
 
 static wz_shared shared;
 static int ranks = 3, rounds = 20;
-
-#define HOLDS(fact)                                                                    \
-    do {                                                                               \
-        if (!(fact)) {                                                                 \
-            fprintf(stderr, "%s:%d: not so: %s\n", __FILE__, __LINE__, #fact);         \
-            abort();                                                                   \
-        }                                                                              \
-    } while (0)
-
-#define DONE(call) HOLDS((call) == WZ_DONE)
 
 enum { MOST = 8 };
 

@@ -3,17 +3,7 @@
 #include <stdlib.h>
 #include <string.h>
 
-#include "worzsunab.h"
-
-#define HOLDS(fact)                                                                    \
-    do {                                                                               \
-        if (!(fact)) {                                                                 \
-            fprintf(stderr, "%s:%d: not so: %s\n", __FILE__, __LINE__, #fact);         \
-            exit(1);                                                                   \
-        }                                                                              \
-    } while (0)
-
-#define DONE(call) HOLDS((call) == WZ_DONE)
+#include "check.h"
 
 static wz_engine opened(uint8_t ranks, uint32_t slots, uint32_t wear) {
     wz_engine engine = WZ_CLOSED_ENGINE;

@@ -3,7 +3,8 @@
 #include <stdio.h>
 #include <stdlib.h>
 
-#include "worzsunab_threads.h"
+#include "check.h"
+#include "combiner.h"
 
 enum { LONG = 4096, MOST_TESTS = WZ_LOOKS + 8 }; /* a sum of two ranks has two combinations */
 
@@ -11,17 +12,9 @@ static wz_shared shared;
 static int32_t rows[2][LONG];
 static wz_request requests[2];
 
-#define HOLDS(fact)                                                                    \
-    do {                                                                               \
-        if (!(fact)) {                                                                 \
-            fprintf(stderr, "%s:%d: not so: %s\n", __FILE__, __LINE__, #fact);         \
-            exit(1);                                                                   \
-        }                                                                              \
-    } while (0)
+static struct record *record_of_one(void) { return &shared.at->records[1]; }
 
-#define DONE(call) HOLDS((call) == WZ_DONE)
-
-static int stage_of_one(void) { return wz_read_(&shared.records[1].stage); }
+static int stage_of_one(void) { return load(&record_of_one()->stage); }
 
 /* A sum of so many elements. */
 static void gives(uint8_t rank, uint32_t count) {
@@ -31,15 +24,16 @@ static void gives(uint8_t rank, uint32_t count) {
 
 /* Rank 1's record, as it stands where its thread sleeps in wz_wait. */
 static void one_waits(void) {
+    static struct operation operation;
     static size_t count;
-    wz_ask ask = wz_ask_(WZ_WAITS, 1, wz_do_test_);
-    ask.request = &requests[1];
-    ask.out = rows[1];
-    ask.room = sizeof rows[1];
-    ask.count = &count;
-    shared.records[1].ask = ask;
-    shared.waiting++;
-    wz_write_(&shared.records[1].stage, WZ_WAITING);
+    operation = operation_of(WAITS, 1, apply_test);
+    operation.request = &requests[1];
+    operation.out = rows[1];
+    operation.room = sizeof rows[1];
+    operation.count = &count;
+    record_of_one()->operation = &operation;
+    shared.at->waiting++;
+    store(&record_of_one()->stage, WAITING);
 }
 
 /* Both give, and the combination is left to rank 1, which is called. */
@@ -47,25 +41,25 @@ static void post_leaves(uint32_t count) {
     gives(1, count);
     one_waits();
     gives(0, count);
-    HOLDS(shared.is_left && shared.outside == 0 && stage_of_one() == WZ_CALLED);
+    HOLDS(shared.at->is_left && shared.at->outside == 0 && stage_of_one() == CALLED);
 }
 
 /* Rank 0's tests alone complete both sums. */
 static void tests_complete(void) {
-    for (int test = 0; stage_of_one() != WZ_ANSWERED || requests[0].generation != 0; test++) {
+    for (int test = 0; stage_of_one() != ANSWERED || requests[0].generation != 0; test++) {
         HOLDS(test < MOST_TESTS);
         HOLDS(wz_try(&shared, 0, &requests[0]) <= WZ_DONE);
     }
-    HOLDS(shared.records[1].answer == WZ_DONE && shared.waiting == 0);
+    HOLDS(record_of_one()->answer == WZ_DONE && shared.at->waiting == 0);
 }
 
 static void tests_leave_and_make(void) {
     for (int test = 0; test < WZ_LOOKS; test++) {
         HOLDS(wz_try(&shared, 0, &requests[0]) == WZ_PENDING);
-        HOLDS(shared.is_left && stage_of_one() == WZ_CALLED);
+        HOLDS(shared.at->is_left && stage_of_one() == CALLED);
     }
     HOLDS(wz_try(&shared, 0, &requests[0]) <= WZ_DONE);
-    HOLDS(!shared.is_left);
+    HOLDS(!shared.at->is_left);
     tests_complete();
     for (int at = 0; at < LONG; at++) HOLDS(rows[0][at] == 1 + 2 * at && rows[1][at] == 1 + 2 * at);
 }

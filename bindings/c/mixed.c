@@ -6,6 +6,7 @@
 #include <stdlib.h>
 #include <string.h>
 
+#include "check.h"
 #include "worzsunab_threads.h"
 
 enum { MOST = 8, LIVE = 6, LONGEST = 3000 };
@@ -13,16 +14,6 @@ enum { MOST = 8, LIVE = 6, LONGEST = 3000 };
 static wz_shared shared;
 static int ranks = 4, rounds = 100;
 static uint32_t first = 1;
-
-#define HOLDS(fact)                                                                    \
-    do {                                                                               \
-        if (!(fact)) {                                                                 \
-            fprintf(stderr, "%s:%d: not so: %s\n", __FILE__, __LINE__, #fact);         \
-            abort();                                                                   \
-        }                                                                              \
-    } while (0)
-
-#define DONE(call) HOLDS((call) == WZ_DONE)
 
 static uint32_t next(uint32_t *seed) {
     *seed = *seed * 1664525u + 1013904223u;

@@ -4,24 +4,7 @@
 #include <stdlib.h>
 #include <string.h>
 
-#include "worzsunab.h"
-
-#define WANT(answer, call)                                                                                         \
-    do {                                                                                                           \
-        int32_t want_ = (answer), got_ = (call);                                                                   \
-        if (want_ != got_) {                                                                                       \
-            fprintf(stderr, "%s:%d: %s, not %s\n", __FILE__, __LINE__, wz_name(got_), wz_name(want_));             \
-            exit(1);                                                                                               \
-        }                                                                                                          \
-    } while (0)
-
-#define HOLDS(fact)                                                                                                \
-    do {                                                                                                           \
-        if (!(fact)) {                                                                                             \
-            fprintf(stderr, "%s:%d: not so: %s\n", __FILE__, __LINE__, #fact);                                     \
-            exit(1);                                                                                               \
-        }                                                                                                          \
-    } while (0)
+#include "check.h"
 
 static const wz_call sum = { WZ_ALLREDUCE, WZ_SUM, WZ_INT32, 0, 1 };
 static const wz_call barrier = { WZ_BARRIER, WZ_NO_OPERATION, WZ_BYTE, 0, 0 };

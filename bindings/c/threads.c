@@ -6,28 +6,12 @@
 #include <stdlib.h>
 #include <time.h>
 
+#include "check.h"
 #include "worzsunab_threads.h"
 
 static wz_shared shared;
 static int ranks = 4, times = 1000, quiet;
 static pthread_barrier_t together;
-
-#define MUST(call)                                                                         \
-    do {                                                                                   \
-        int32_t code_ = (call);                                                            \
-        if (code_ != WZ_DONE) {                                                            \
-            fprintf(stderr, "%s:%d: %s\n", __FILE__, __LINE__, wz_message(code_));         \
-            abort();                                                                       \
-        }                                                                                  \
-    } while (0)
-
-#define HOLDS(fact)                                                                        \
-    do {                                                                                   \
-        if (!(fact)) {                                                                     \
-            fprintf(stderr, "%s:%d: not so: %s\n", __FILE__, __LINE__, #fact);             \
-            abort();                                                                       \
-        }                                                                                  \
-    } while (0)
 
 static double now(void) {
     struct timespec t;
@@ -46,8 +30,8 @@ static void once(uint8_t me) {
         int32_t mine = me + i, sum = -1;
         size_t count = 0;
         wz_request request;
-        MUST(wz_shared_post(&shared, me, 0, &allreduce, &mine, sizeof mine, &request));
-        MUST(wz_shared_wait(&shared, me, &request, &sum, sizeof sum, &count));
+        DONE(wz_shared_post(&shared, me, 0, &allreduce, &mine, sizeof mine, &request));
+        DONE(wz_shared_wait(&shared, me, &request, &sum, sizeof sum, &count));
         HOLDS(count == sizeof sum && sum == sum_at(i) && request.generation == 0);
     }
     if (me == 0 && !quiet) printf("allreduce of 1 int32, %d ranks: %.2f us\n", ranks, (now() - from) / times);
@@ -55,17 +39,17 @@ static void once(uint8_t me) {
 
 static void persistent(uint8_t me) {
     wz_request request;
-    MUST(wz_shared_init(&shared, me, 0, &allreduce, &request));
+    DONE(wz_shared_init(&shared, me, 0, &allreduce, &request));
     double from = now();
     for (int32_t i = 0; i < times; i++) {
         int32_t mine = me + i, sum = -1;
         size_t count = 0;
-        MUST(wz_shared_start(&shared, me, &request, &mine, sizeof mine));
-        MUST(wz_shared_wait(&shared, me, &request, &sum, sizeof sum, &count));
+        DONE(wz_shared_start(&shared, me, &request, &mine, sizeof mine));
+        DONE(wz_shared_wait(&shared, me, &request, &sum, sizeof sum, &count));
         HOLDS(sum == sum_at(i) && request.generation != 0);
     }
     if (me == 0 && !quiet) printf("persistent: %.2f us\n", (now() - from) / times);
-    MUST(wz_shared_free(&shared, me, &request));
+    DONE(wz_shared_free(&shared, me, &request));
     HOLDS(request.generation == 0);
 }
 
@@ -75,14 +59,14 @@ static void overlap(uint8_t me) {
     wz_request requests[MANY];
     for (int32_t i = 0; i < MANY; i++) {
         int32_t mine = me + i;
-        MUST(wz_shared_post(&shared, me, 0, &allreduce, &mine, sizeof mine, &requests[i]));
+        DONE(wz_shared_post(&shared, me, 0, &allreduce, &mine, sizeof mine, &requests[i]));
     }
     for (int32_t i = MANY; i-- > 0;) {
         int32_t sum = -1;
         size_t count = 0;
         int32_t code = wz_shared_test(&shared, me, &requests[i], &sum, sizeof sum, &count);
         if (code == WZ_PENDING) code = wz_shared_wait(&shared, me, &requests[i], &sum, sizeof sum, &count);
-        MUST(code);
+        DONE(code);
         HOLDS(sum == sum_at(i));
     }
 }
@@ -95,11 +79,11 @@ static void reversed(uint8_t me) {
     size_t count = 0;
     wz_request request;
     int is_root = me == ranks - 1;
-    MUST(wz_shared_post(&shared, me, 1, &bcast, &mine, is_root ? sizeof mine : 0, &request));
-    MUST(wz_shared_wait(&shared, me, &request, &got, sizeof got, &count));
+    DONE(wz_shared_post(&shared, me, 1, &bcast, &mine, is_root ? sizeof mine : 0, &request));
+    DONE(wz_shared_wait(&shared, me, &request, &got, sizeof got, &count));
     HOLDS(got == ranks - 1);
-    MUST(wz_shared_post(&shared, me, 1, &gather, &mine, sizeof mine, &request));
-    MUST(wz_shared_wait(&shared, me, &request, all, sizeof all, &count));
+    DONE(wz_shared_post(&shared, me, 1, &gather, &mine, sizeof mine, &request));
+    DONE(wz_shared_wait(&shared, me, &request, all, sizeof all, &count));
     HOLDS(count == (is_root ? (size_t)ranks * sizeof mine : 0));
     for (int i = 0; is_root && i < ranks; i++) HOLDS(all[i] == ranks - 1 - i);
 }
@@ -112,16 +96,16 @@ static void counted(uint8_t me) {
     wz_request request;
     for (int r = 0; r < ranks; r++) total += counts[r] = (uint32_t)r + 1;
     for (int i = 0; i <= me; i++) mine[i] = 100 * me + i;
-    MUST(wz_shared_post_allgatherv(&shared, me, 0, WZ_INT32, counts, (size_t)ranks, mine, 4 * counts[me], &request));
-    MUST(wz_shared_wait(&shared, me, &request, all, sizeof all, &count));
+    DONE(wz_shared_post_allgatherv(&shared, me, 0, WZ_INT32, counts, (size_t)ranks, mine, 4 * counts[me], &request));
+    DONE(wz_shared_wait(&shared, me, &request, all, sizeof all, &count));
     HOLDS(count == 4 * total);
     for (int r = 0; r < ranks; r++)
         for (int i = 0; i <= r; i++) HOLDS(all[at++] == 100 * r + i);
-    MUST(wz_shared_init_allgatherv(&shared, me, 0, WZ_INT32, counts, (size_t)ranks, &request));
-    MUST(wz_shared_start(&shared, me, &request, mine, 4 * counts[me]));
-    MUST(wz_shared_wait(&shared, me, &request, all, sizeof all, &count));
+    DONE(wz_shared_init_allgatherv(&shared, me, 0, WZ_INT32, counts, (size_t)ranks, &request));
+    DONE(wz_shared_start(&shared, me, &request, mine, 4 * counts[me]));
+    DONE(wz_shared_wait(&shared, me, &request, all, sizeof all, &count));
     HOLDS(count == 4 * total && all[0] == 0);
-    MUST(wz_shared_free(&shared, me, &request));
+    DONE(wz_shared_free(&shared, me, &request));
 }
 
 /* Rows so long that they are combined with the lock free, while short ones go on. */
@@ -136,14 +120,14 @@ static void long_rows(uint8_t me) {
         int32_t mine = me + round, all = -1;
         size_t count = 0;
         for (int i = 0; i < LONG; i++) row[i] = me + round + i;
-        MUST(wz_shared_post(&shared, me, 0, &of_rows, row, sizeof rows[0], &whole));
-        MUST(wz_shared_post(&shared, me, 0, &prefixes, row, sizeof rows[0], &prefix));
-        MUST(wz_shared_post(&shared, me, 0, &allreduce, &mine, sizeof mine, &one));
-        MUST(wz_shared_wait(&shared, me, &one, &all, sizeof all, &count));
+        DONE(wz_shared_post(&shared, me, 0, &of_rows, row, sizeof rows[0], &whole));
+        DONE(wz_shared_post(&shared, me, 0, &prefixes, row, sizeof rows[0], &prefix));
+        DONE(wz_shared_post(&shared, me, 0, &allreduce, &mine, sizeof mine, &one));
+        DONE(wz_shared_wait(&shared, me, &one, &all, sizeof all, &count));
         HOLDS(all == sum_at(round));
-        MUST(wz_shared_wait(&shared, me, &whole, sum, sizeof sums[0], &count));
+        DONE(wz_shared_wait(&shared, me, &whole, sum, sizeof sums[0], &count));
         for (int i = 0; i < LONG; i++) HOLDS(sum[i] == sum_at(round + i));
-        MUST(wz_shared_wait(&shared, me, &prefix, sum, sizeof sums[0], &count));
+        DONE(wz_shared_wait(&shared, me, &prefix, sum, sizeof sums[0], &count));
         for (int i = 0; i < LONG; i++) HOLDS(sum[i] == me + round + i);
     }
 }
@@ -159,16 +143,16 @@ static void lists(uint8_t me) {
     uint8_t phase = 9;
     for (size_t i = 0; i < MANY; i++) {
         parts[i] = (wz_part){ WZ_NULL_REQUEST, 4 * i, 4, 0, false };
-        MUST(wz_shared_init(&shared, me, 0, &allreduce, &parts[i].request));
+        DONE(wz_shared_init(&shared, me, 0, &allreduce, &parts[i].request));
         given[i] = me + (int32_t)i;
     }
-    MUST(wz_shared_about(&shared, me, &parts[1].request, &about));
-    MUST(wz_shared_posted_at(&shared, 0, about.place, &posted));
-    MUST(wz_shared_outcome_length(&shared, me, &parts[1].request, &length));
-    MUST(wz_shared_phase(&shared, me, &parts[1].request, &phase));
+    DONE(wz_shared_about(&shared, me, &parts[1].request, &about));
+    DONE(wz_shared_posted_at(&shared, 0, about.place, &posted));
+    DONE(wz_shared_outcome_length(&shared, me, &parts[1].request, &length));
+    DONE(wz_shared_phase(&shared, me, &parts[1].request, &phase));
     HOLDS(about.rank == me && about.persistent && posted.call.kind == WZ_ALLREDUCE && length == 4 && phase == WZ_IDLE);
     for (int32_t round = 0; round < 20; round++) {
-        MUST(wz_shared_start_all(&shared, me, parts, MANY, given, sizeof given, &started));
+        DONE(wz_shared_start_all(&shared, me, parts, MANY, given, sizeof given, &started));
         HOLDS(started == MANY);
         HOLDS(wz_shared_start_all(&shared, me, parts, MANY, given, sizeof given, &started) == WZ_ACTIVE && started == 0);
         int32_t code = WZ_PENDING;
@@ -178,12 +162,12 @@ static void lists(uint8_t me) {
             if (round % 4 == 2) code = wz_shared_test_any(&shared, me, parts, MANY, sums, sizeof sums, &index);
             if (round % 4 == 3) code = wz_shared_test_some(&shared, me, parts, MANY, sums, sizeof sums, &some);
             if (code == WZ_PENDING && round % 4 != 0) continue;
-            MUST(code);
+            DONE(code);
             completed += round % 4 < 2 ? MANY : round % 4 == 2 ? 1 : some;
         }
         for (int32_t i = 0; i < MANY; i++) HOLDS(sums[i] == sum_at(i));
     }
-    for (size_t i = 0; i < MANY; i++) MUST(wz_shared_free(&shared, me, &parts[i].request));
+    for (size_t i = 0; i < MANY; i++) DONE(wz_shared_free(&shared, me, &parts[i].request));
 }
 
 /* Each rank is told why its own call was refused. */
@@ -206,7 +190,7 @@ static void stall(uint8_t me) {
         wz_shared_leave(&shared, me);
         return;
     }
-    MUST(wz_shared_post(&shared, me, 0, &barrier, NULL, 0, &request));
+    DONE(wz_shared_post(&shared, me, 0, &barrier, NULL, 0, &request));
     HOLDS(wz_shared_wait(&shared, me, &request, NULL, 0, &count) == WZ_STALLED);
     wz_part part = { request, 0, 0, 0, false };
     HOLDS(wz_shared_wait_all(&shared, me, &part, 1, NULL, 0) == WZ_STALLED && part.request.generation != 0);
@@ -220,11 +204,11 @@ static void *crossed_rank(void *number) {
     wz_call barrier = { WZ_BARRIER, WZ_NO_OPERATION, WZ_BYTE, 0, 0 };
     wz_request first, second;
     size_t count = 0;
-    MUST(wz_shared_post(&crossed, me, 1u + me, &barrier, NULL, 0, &first));
+    DONE(wz_shared_post(&crossed, me, 1u + me, &barrier, NULL, 0, &first));
     HOLDS(wz_shared_wait(&crossed, me, &first, NULL, 0, &count) == WZ_STALLED);
-    MUST(wz_shared_post(&crossed, me, 2u - me, &barrier, NULL, 0, &second));
-    MUST(wz_shared_wait(&crossed, me, &first, NULL, 0, &count)); /* a stall isn't the end: now both have posted both */
-    MUST(wz_shared_wait(&crossed, me, &second, NULL, 0, &count));
+    DONE(wz_shared_post(&crossed, me, 2u - me, &barrier, NULL, 0, &second));
+    DONE(wz_shared_wait(&crossed, me, &first, NULL, 0, &count)); /* a stall isn't the end: now both have posted both */
+    DONE(wz_shared_wait(&crossed, me, &second, NULL, 0, &count));
     return NULL;
 }
 
@@ -232,10 +216,10 @@ static void crossed_barriers(void) {
     uint8_t members[6] = { 0, 1, 0, 1, 0, 1 }, sizes[3] = { 2, 2, 2 };
     wz_limits limits = wz_greatest_limits(2);
     pthread_t threads[2];
-    MUST(wz_shared_open(&crossed, &limits, sizes, 3, members, 6));
+    DONE(wz_shared_open(&crossed, &limits, sizes, 3, members, 6));
     for (size_t i = 0; i < 2; i++) pthread_create(&threads[i], NULL, crossed_rank, (void *)i);
     for (int i = 0; i < 2; i++) pthread_join(threads[i], NULL);
-    MUST(wz_shared_close(&crossed));
+    DONE(wz_shared_close(&crossed));
 }
 
 static void *rank(void *number) {
@@ -265,15 +249,15 @@ int main(int argc, char **argv) {
     }
     sizes[0] = sizes[1] = (uint8_t)ranks;
     wz_limits limits = wz_greatest_limits((uint32_t)ranks);
-    MUST(wz_shared_open(&shared, &limits, sizes, 2, members, 2 * (size_t)ranks));
+    DONE(wz_shared_open(&shared, &limits, sizes, 2, members, 2 * (size_t)ranks));
     pthread_barrier_init(&together, NULL, (unsigned)ranks);
     for (size_t i = 0; i < (size_t)ranks; i++) pthread_create(&threads[i], NULL, rank, (void *)i);
     for (int i = 0; i < ranks; i++) pthread_join(threads[i], NULL);
     pthread_barrier_destroy(&together);
     uint64_t lent = 9;
-    MUST(wz_shared_lent(&shared, &lent));
+    DONE(wz_shared_lent(&shared, &lent));
     HOLDS(lent == 0); /* of the stall's barriers, which have no bytes */
-    MUST(wz_shared_close(&shared));
+    DONE(wz_shared_close(&shared));
     crossed_barriers();
     puts("threads: all as it should be");
     return 0;

@@ -1,5 +1,5 @@
-/* Ranks that wait offer their processor, and where offers take long, as beside busy threads, no more than the share of their time that
-   worzsunab_records.h says: linked with -Wl,--wrap=sched_yield, each offer takes a millisecond and more, and all are added up. It prints the median of
+/* Ranks that wait yield their processor, and where yields take long, as beside busy threads, no more than the share of
+   their time that c/src/combiner.h says: linked with -Wl,--wrap=sched_yield, each yield takes a millisecond and more, and all are added up. It prints the median of
    small allreduces too, beside busy threads, as many as there are processors.
    waiting RANKS */
 #include <stdio.h>
@@ -7,7 +7,8 @@
 #include <time.h>
 #include <unistd.h>
 
-#include "worzsunab_threads.h"
+#include "check.h"
+#include "combiner.h"
 
 enum { SAMPLES = 400, MOST = 8, MOST_BUSY = 64 };
 
@@ -15,14 +16,6 @@ static wz_shared shared;
 static int ranks = 2;
 static int over;
 static double samples[SAMPLES];
-
-#define HOLDS(fact)                                                                    \
-    do {                                                                               \
-        if (!(fact)) {                                                                 \
-            fprintf(stderr, "%s:%d: not so: %s\n", __FILE__, __LINE__, #fact);         \
-            abort();                                                                   \
-        }                                                                              \
-    } while (0)
 
 static double now(void) {
     struct timespec t;
@@ -32,8 +25,8 @@ static double now(void) {
 
 static pthread_mutex_t guard = PTHREAD_MUTEX_INITIALIZER;
 static struct timespec turn = { 0, 1000000 };
-static int offers;
-static double offered, longest; /* in microseconds, as all times here */
+static int yields;
+static double yielded, longest; /* in microseconds, as all times here */
 
 int __wrap_sched_yield(void);
 
@@ -42,24 +35,24 @@ int __wrap_sched_yield(void) {
     nanosleep(&turn, NULL);
     double took = now() - from;
     pthread_mutex_lock(&guard);
-    offers++;
-    offered += took;
+    yields++;
+    yielded += took;
     if (took > longest) longest = took;
     pthread_mutex_unlock(&guard);
     return 0;
 }
 
-/* What the offers of all ranks may take in a time. */
+/* What the yields of all ranks may take in a time. */
 static double allowed(double time) {
     return ranks * ((time + WZ_CREDIT / 1e3) / WZ_SHARE + longest);
 }
 
-/* A program that is stopped while it makes an offer, here for 0.7 s, makes one again after a minute, and not after a hundred times as long. */
+/* A program that is stopped while it yields, here for 0.7 s, yields again after a minute, and not after a hundred times as long. */
 static void stopped(void) {
-    static wz_record record;
+    static struct record record;
     turn.tv_nsec = 700000000;
-    wz_offer_(&record);
-    HOLDS(!record.offers && record.repaid <= wz_now_() + WZ_REPAID);
+    yield_processor(&record);
+    HOLDS(!record.yields && record.repaid <= nanoseconds() + WZ_REPAID);
 }
 
 static void *busy(void *none) {
@@ -103,8 +96,8 @@ int main(int argc, char **argv) {
     HOLDS(wz_shared_close(&shared) == WZ_DONE);
     qsort(samples, SAMPLES, sizeof samples[0], is_less);
     printf("waiting: an allreduce of %d ranks beside %ld busy threads: %.0f us\n", ranks, processors, samples[SAMPLES / 2]);
-    printf("waiting: %d offers took %.0f of %.0f us, and may take %.0f\n", offers, offered, took, allowed(took));
-    HOLDS(offers > 0 && offered <= allowed(took));
+    printf("waiting: %d yields took %.0f of %.0f us, and may take %.0f\n", yields, yielded, took, allowed(took));
+    HOLDS(yields > 0 && yielded <= allowed(took));
     stopped();
     puts("waiting: all as it should be");
     return 0;

@@ -4,21 +4,12 @@
 #include <stdlib.h>
 #include <unistd.h>
 
+#include "check.h"
 #include "worzsunab_threads.h"
 
 static wz_shared shared;
 static int ranks = 2, rounds = 50;
 static pthread_barrier_t together;
-
-#define HOLDS(fact)                                                                    \
-    do {                                                                               \
-        if (!(fact)) {                                                                 \
-            fprintf(stderr, "%s:%d: not so: %s\n", __FILE__, __LINE__, #fact);         \
-            abort();                                                                   \
-        }                                                                              \
-    } while (0)
-
-#define DONE(call) HOLDS((call) == WZ_DONE)
 
 enum { MANY = 8 };
 

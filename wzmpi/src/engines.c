@@ -11,6 +11,8 @@ uint32_t slots_for(const struct comm *comm) {
     return comm->maker == NULL || slots > 4096 ? 4096 : slots;
 }
 
+static uint64_t taken; /* calls of all engines, with --trace */
+
 static struct engine *open_engine(const struct comm *comm, uint64_t number) {
     struct engine *engine = must(malloc(sizeof *engine));
     const uint8_t many = (uint8_t)comm->size;
@@ -23,6 +25,7 @@ static struct engine *open_engine(const struct comm *comm, uint64_t number) {
         fprintf(stderr, "wzrun: no engine can be opened for %d ranks: %s\n", comm->size, wz_message(code));
         _exit(1);
     }
+    if (the_run.trace != NULL) wz_shared_number_calls(&engine->shared, &taken);
     atomic_init(&engine->requests, 0);
     engine->number = number;
     return engine;

@@ -71,43 +71,19 @@ uint64_t lacking(const struct request *request) {
     return ranks;
 }
 
-/* What a thread that watches sees of a request, under the engine's lock. */
-struct sight_of_request {
-    const struct request *request;
-    enum progress progress;
-};
-
-static int32_t see(wz_shared *shared, wz_ask *ask) {
-    struct sight_of_request *sight = ask->out;
-    const struct request *request = sight->request;
-    uint8_t phase = WZ_IS_DONE;
-    if (request->held.generation != 0) wz_phase(&shared->engine, (uint8_t)request->member, &request->held, &phase);
-    sight->progress = phase != WZ_IS_PENDING ? IS_DONE : shared->outside > 0 || shared->unsettled ? COMPUTES : GOES_ON;
-    return WZ_DONE;
-}
-
-static int32_t see_rest(wz_shared *shared, wz_ask *ask) {
-    *(bool *)ask->out = shared->outside == 0 && !shared->unsettled;
-    return WZ_DONE;
-}
-
 bool is_at_rest(struct engine *engine) {
     bool rests = false;
-    wz_ask ask = wz_ask_(WZ_ONCE, (uint8_t)engine->shared.ranks, see_rest);
-    ask.out = &rests;
-    wz_asked_(&engine->shared, &ask);
+    wz_shared_watch(&engine->shared, 0, NULL, NULL, &rests);
     return rests;
 }
 
-/* The watching thread plays no rank, so it is a guest of the engine. */
 static enum progress progress_of_collective(struct request *request) {
-    struct sight_of_request sight = { request, GOES_ON };
+    uint8_t phase = WZ_IS_DONE;
+    bool rests = false;
     if (request->collected) return IS_DONE;
-    wz_ask ask = wz_ask_(WZ_ONCE, (uint8_t)request->engine->shared.ranks, see);
-    ask.out = &sight;
-    wz_asked_(&request->engine->shared, &ask);
-    if (sight.progress == IS_DONE && the_run.strict && lacking(request) != 0) return GOES_ON;
-    return sight.progress;
+    wz_shared_watch(&request->engine->shared, (uint8_t)request->member, &request->held, &phase, &rests);
+    if (phase == WZ_IS_PENDING) return rests ? GOES_ON : COMPUTES;
+    return the_run.strict && lacking(request) != 0 ? GOES_ON : IS_DONE;
 }
 
 enum progress make_progress(struct request *request) {
