@@ -1,4 +1,6 @@
-//! The functions of include/worzsunab.h.
+//! The functions and structs of include/worzsunab.h and include/worzsunab_threads.h.
+
+use std::ffi::{c_char, c_int, c_void};
 
 use crate::call::Call;
 
@@ -78,6 +80,11 @@ pub struct RawLimits {
     pub starts: u32,
 }
 
+#[repr(C)]
+pub struct RawShared {
+    pub at: *mut c_void,
+}
+
 extern "C" {
     pub fn wz_open(
         engine: &mut RawEngine,
@@ -87,9 +94,18 @@ extern "C" {
         members: *const u8,
         member_count: usize,
     ) -> i32;
-    pub fn wz_close(engine: &mut RawEngine) -> i32;
-    pub fn wz_post(
-        engine: &mut RawEngine,
+    pub fn wz_shared_open(
+        shared: *mut RawShared,
+        limits: &RawLimits,
+        sizes: *const u8,
+        communicators: usize,
+        members: *const u8,
+        member_count: usize,
+    ) -> i32;
+    pub fn wz_shared_close(shared: *mut RawShared) -> i32;
+    pub fn wz_shared_leave(shared: *mut RawShared, rank: u8);
+    pub fn wz_shared_post(
+        shared: *mut RawShared,
         rank: u8,
         comm: u32,
         call: &Call,
@@ -97,9 +113,9 @@ extern "C" {
         length: usize,
         request: &mut RawRequest,
     ) -> i32;
-    pub fn wz_init(engine: &mut RawEngine, rank: u8, comm: u32, call: &Call, request: &mut RawRequest) -> i32;
-    pub fn wz_post_allgatherv(
-        engine: &mut RawEngine,
+    pub fn wz_shared_init(shared: *mut RawShared, rank: u8, comm: u32, call: &Call, request: &mut RawRequest) -> i32;
+    pub fn wz_shared_post_allgatherv(
+        shared: *mut RawShared,
         rank: u8,
         comm: u32,
         ty: u8,
@@ -109,8 +125,8 @@ extern "C" {
         length: usize,
         request: &mut RawRequest,
     ) -> i32;
-    pub fn wz_init_allgatherv(
-        engine: &mut RawEngine,
+    pub fn wz_shared_init_allgatherv(
+        shared: *mut RawShared,
         rank: u8,
         comm: u32,
         ty: u8,
@@ -118,45 +134,15 @@ extern "C" {
         many: usize,
         request: &mut RawRequest,
     ) -> i32;
-    pub fn wz_start(engine: &mut RawEngine, rank: u8, request: &RawRequest, bytes: *const u8, length: usize) -> i32;
-    pub fn wz_free(engine: &mut RawEngine, rank: u8, request: &mut RawRequest) -> i32;
-    pub fn wz_test(
-        engine: &mut RawEngine,
+    pub fn wz_shared_start(
+        shared: *mut RawShared,
         rank: u8,
-        request: &mut RawRequest,
-        out: *mut u8,
-        room: usize,
-        count: &mut usize,
+        request: &RawRequest,
+        bytes: *const u8,
+        length: usize,
     ) -> i32;
-    pub fn wz_phase(engine: &mut RawEngine, rank: u8, request: &RawRequest, phase: &mut u8) -> i32;
-    pub fn wz_test_any(
-        engine: &mut RawEngine,
-        rank: u8,
-        parts: *mut RawPart,
-        many: usize,
-        out: *mut u8,
-        room: usize,
-        index: &mut usize,
-    ) -> i32;
-    pub fn wz_test_some(
-        engine: &mut RawEngine,
-        rank: u8,
-        parts: *mut RawPart,
-        many: usize,
-        out: *mut u8,
-        room: usize,
-        completed: &mut usize,
-    ) -> i32;
-    pub fn wz_test_all(
-        engine: &mut RawEngine,
-        rank: u8,
-        parts: *mut RawPart,
-        many: usize,
-        out: *mut u8,
-        room: usize,
-    ) -> i32;
-    pub fn wz_start_all(
-        engine: &mut RawEngine,
+    pub fn wz_shared_start_all(
+        shared: *mut RawShared,
         rank: u8,
         parts: *const RawPart,
         many: usize,
@@ -164,9 +150,80 @@ extern "C" {
         length: usize,
         started: &mut usize,
     ) -> i32;
-    pub fn wz_about(engine: &mut RawEngine, request: &RawRequest, about: &mut RawAbout) -> i32;
-    pub fn wz_outcome_length(engine: &mut RawEngine, rank: u8, request: &RawRequest, bytes: &mut usize) -> i32;
-    pub fn wz_posted_at(engine: &mut RawEngine, comm: u32, place: u32, posted: &mut RawPosted) -> i32;
-    pub fn wz_settle(engine: &mut RawEngine) -> i32;
-    pub fn wz_lent(engine: &mut RawEngine, bytes: &mut u64) -> i32;
+    pub fn wz_shared_free(shared: *mut RawShared, rank: u8, request: &mut RawRequest) -> i32;
+    pub fn wz_shared_test(
+        shared: *mut RawShared,
+        rank: u8,
+        request: &mut RawRequest,
+        out: *mut u8,
+        room: usize,
+        count: &mut usize,
+    ) -> i32;
+    pub fn wz_shared_wait(
+        shared: *mut RawShared,
+        rank: u8,
+        request: &mut RawRequest,
+        out: *mut u8,
+        room: usize,
+        count: &mut usize,
+    ) -> i32;
+    pub fn wz_shared_test_any(
+        shared: *mut RawShared,
+        rank: u8,
+        parts: *mut RawPart,
+        many: usize,
+        out: *mut u8,
+        room: usize,
+        index: &mut usize,
+    ) -> i32;
+    pub fn wz_shared_test_some(
+        shared: *mut RawShared,
+        rank: u8,
+        parts: *mut RawPart,
+        many: usize,
+        out: *mut u8,
+        room: usize,
+        completed: &mut usize,
+    ) -> i32;
+    pub fn wz_shared_test_all(
+        shared: *mut RawShared,
+        rank: u8,
+        parts: *mut RawPart,
+        many: usize,
+        out: *mut u8,
+        room: usize,
+    ) -> i32;
+    pub fn wz_shared_wait_any(
+        shared: *mut RawShared,
+        rank: u8,
+        parts: *mut RawPart,
+        many: usize,
+        out: *mut u8,
+        room: usize,
+        index: &mut usize,
+    ) -> i32;
+    pub fn wz_shared_wait_some(
+        shared: *mut RawShared,
+        rank: u8,
+        parts: *mut RawPart,
+        many: usize,
+        out: *mut u8,
+        room: usize,
+        completed: &mut usize,
+    ) -> i32;
+    pub fn wz_shared_wait_all(
+        shared: *mut RawShared,
+        rank: u8,
+        parts: *mut RawPart,
+        many: usize,
+        out: *mut u8,
+        room: usize,
+    ) -> i32;
+    pub fn wz_shared_phase(shared: *mut RawShared, rank: u8, request: &RawRequest, phase: &mut u8) -> i32;
+    pub fn wz_shared_about(shared: *mut RawShared, rank: u8, request: &RawRequest, about: &mut RawAbout) -> i32;
+    pub fn wz_shared_outcome_length(shared: *mut RawShared, rank: u8, request: &RawRequest, bytes: &mut usize) -> i32;
+    pub fn wz_shared_posted_at(shared: *mut RawShared, comm: u32, place: u32, posted: &mut RawPosted) -> i32;
+    pub fn wz_shared_lent(shared: *mut RawShared, bytes: &mut u64) -> i32;
+    pub fn wz_shared_reason(shared: *const RawShared, rank: u8) -> RawReason;
+    pub fn wz_shared_explain(shared: *mut RawShared, rank: u8, text: *mut c_char, size: usize) -> c_int;
 }

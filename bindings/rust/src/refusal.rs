@@ -43,7 +43,7 @@ pub enum Refusal {
     StartsUsed,
     /// No request slot is free.
     Full,
-    /// No wait can end: each rank waits or has left.
+    /// No wait can end: each rank waits or has left. [`Port::explain`](crate::Port::explain) says who waits for whom.
     Stalled,
     /// Memory was refused.
     NoMemory,
@@ -95,7 +95,7 @@ pub struct Mismatch {
 }
 
 impl Refusal {
-    /// That of a function's answer, which is neither 0 nor negative, and the reason that the engine has noted.
+    /// That of a function's answer, which is neither 0 nor negative, and the reason that was noted with it.
     pub(crate) fn of(code: i32, reason: &RawReason) -> Refusal {
         match code {
             1 => Refusal::BadComm { comm: reason.comm },
@@ -115,6 +115,7 @@ impl Refusal {
             10 => Refusal::PlacesUsed,
             11 => Refusal::StartsUsed,
             12 => Refusal::Full,
+            14 => Refusal::Stalled,
             17 => Refusal::NoMemory,
             18 => Refusal::BadConfig(Field::of(reason.cause)),
             _ => unreachable!("an engine that is open, asked for what a type names, answered {code}"),
