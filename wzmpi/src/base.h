@@ -78,6 +78,9 @@ struct run {
     struct rank ranks[MOST_RANKS];
     atomic_int blocked; /* ranks that wait or have ended */
     bool strict, checks, explains, statistics;
+    bool quiet;      /* notes about what ranks share aren't told */
+    int folder;      /* in which wzrun was begun: the paths of files are meant from there */
+    bool one_folder; /* the system doesn't let ranks have working directories of their own */
     bool notes; /* for --trace, --timeline or --stats */
     uint64_t seed;           /* 0: nothing is drawn */
     const char *text, *values;    /* the files for the job text and for what requests got; NULL: none */
@@ -90,6 +93,9 @@ extern __thread struct rank *current_rank __attribute__((tls_model("initial-exec
 
 /* The rank of this thread. Where it has none, that is told, and the run ends. */
 struct rank *this_rank(const char *call);
+
+/* The rank whose code calls from ADDRESS: that of this thread, or else that of the copy of the program, or of a library, which has the address. NULL: none. */
+struct rank *rank_of_code(const void *address);
 
 void *must(void *memory); /* ends the run where there is no memory */
 

@@ -7,6 +7,7 @@
 #include "deadlock_watch.h"
 
 #include "diagnostics.h"
+#include "per_rank_libc.h"
 
 #include <time.h>
 
@@ -181,7 +182,7 @@ static void tell_stall(const struct sight *sight, uint64_t lost) {
     bool all = (lost | sight->gone) == (the_run.size == 64 ? UINT64_MAX : (1ull << the_run.size) - 1);
     if (!tells_first()) return; /* whoever tells already ends the run, and may want to look at the ranks before */
     wait_for_ends();
-    fflush(stdout);
+    flush_streams();
     if (all) fprintf(stderr, "wzrun: stalled: no rank can go on\n");
     else fprintf(stderr, "wzrun: stalled: %s can't go on\n", ranks_text(lost, ranks));
     for (int i = 0; i < the_run.size; i++)

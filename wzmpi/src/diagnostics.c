@@ -1,5 +1,6 @@
 /* Refusals, warnings and what sentences are made of. */
 #include "diagnostics.h"
+#include "per_rank_libc.h"
 
 #include "collectives.h"
 #include "explain.h"
@@ -66,8 +67,13 @@ void tell_alone(void) { pthread_mutex_lock(&telling); }
 
 bool tells_first(void) { return pthread_mutex_trylock(&telling) == 0; }
 
+void go_back(void) {
+    if (the_run.folder >= 0 && fchdir(the_run.folder) != 0) fprintf(stderr, "wzrun: the folder in which it was begun can't be entered any more\n");
+}
+
 void end_run(int status, struct question question) {
-    fflush(stdout);
+    flush_streams();
+    go_back();
     if (!record_write()) fprintf(stderr, "wzrun: %s can't be written\n", the_run.text != NULL ? the_run.text : the_run.values);
     const char *unwritten = the_run.notes ? write_notes() : NULL;
     if (unwritten != NULL) fprintf(stderr, "wzrun: %s can't be written\n", unwritten);
@@ -101,7 +107,7 @@ int refuse(struct comm *comm, int class, const char *call, const char *format, .
     }
     if (handler != NULL && handler->returns) return class;
     tell_alone();
-    fflush(stdout);
+    flush_streams();
     fprintf(stderr, "wzrun: rank %d: %s at %s: %s (%s)\n", me->number, call, me->site, me->last_refusal, class_name(class));
     end_run(STATUS_WRONG, (struct question){ NULL, NULL });
 }

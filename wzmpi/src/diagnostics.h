@@ -16,6 +16,7 @@ const char *class_name(int class);
 /* Ends the run; with --explain colljob is asked why. Whoever reports something has taken the right to it first, so that one thing is reported. */
 void tell_alone(void);
 bool tells_first(void); /* false, and at once, where another has taken it */
+void go_back(void); /* to the folder in which wzrun was begun: a rank may have left it */
 void end_run(int status, struct question question) __attribute__((noreturn));
 
 /* Lists of ranks: "rank 2", "ranks 0, 1 and 3". */

@@ -1,6 +1,7 @@
 /* Calls that don't agree: who has which, and who is the odd one. */
 #include "collectives.h"
 #include "diagnostics.h"
+#include "per_rank_libc.h"
 #include "deadlock_watch.h"
 
 #include <time.h>
@@ -121,7 +122,7 @@ void tell_mismatch(struct comm *comm, uint64_t number) {
     wait_for_others(comm, number);
     for (int i = 0; i < comm->size; i++)
         if (read_called(comm, i, number, &place.called[i])) place.there |= 1ull << i;
-    fflush(stdout);
+    flush_streams();
     fprintf(stderr, "wzrun: collectives don't agree: place %llu of %s (MPI_ERR_ARG)\n", (unsigned long long)number, comm_name(comm, name));
     tell_calls(&place);
     tell_absent(&place);

@@ -18,6 +18,7 @@ static const char help[] =
     "  --values FILE    writes what requests got, as the lines of `colljob plain`\n"
     "  --timeline FILE  writes when each collective and message was under way, and each wait, as trace events that Perfetto opens\n"
     "  --trace FILE     writes each call that an engine accepted, in the order in which the engines took them\n"
+    "  --quiet          without notes about what ranks share, as processes wouldn't\n"
     "  --stats          says what ranks and collectives gave, got and waited, how many collectives the engine carried out as they are, and how many it carried\n"
     "Statuses: that of the program; 1: wzrun can't run it; 2: a call that MPI doesn't allow, or calls that don't agree; 3: stalled; 128 + the signal of a crash.\n";
 
@@ -57,6 +58,7 @@ static bool read_flag(const char *word) {
     else if (is_word(word, "--check")) the_run.checks = true;
     else if (is_word(word, "--explain")) the_run.explains = true;
     else if (is_word(word, "--stats")) the_run.statistics = true;
+    else if (is_word(word, "--quiet") || is_word(word, "-q")) the_run.quiet = true;
     else return false;
     return true;
 }
@@ -85,6 +87,7 @@ static void read_variables(struct options *options) {
     the_run.checks = is_set("WZ_CHECK");
     the_run.explains = is_set("WZ_EXPLAIN");
     the_run.statistics = is_set("WZ_STATS");
+    the_run.quiet = is_set("WZ_QUIET");
     if (is_set("WZ_SEED")) the_run.seed = number("WZ_SEED", getenv("WZ_SEED"), NULL);
     if (is_set("WZ_TEXT")) the_run.text = getenv("WZ_TEXT");
     if (is_set("WZ_VALUES")) the_run.values = getenv("WZ_VALUES");

@@ -3,18 +3,17 @@
 
 #include "trace.h"
 #include "options.h"
+#include "per_rank_libc.h"
+#include "rank_copies.h"
 #include "record.h"
 #include "diagnostics.h"
 
-#include <dlfcn.h>
 #include <errno.h>
 #include <fcntl.h>
+#include <sched.h>
 #include <semaphore.h>
 #include <signal.h>
-#include <sys/mman.h>
 #include <sys/resource.h>
-#include <sys/sendfile.h>
-#include <sys/stat.h>
 #include <sys/syscall.h>
 #include <time.h>
 #include <unistd.h>
@@ -38,33 +37,11 @@ static void give_up(const char *what, const char *reason) {
 
 /* ---- the program's copies */
 
-static int copy_of(const char *program) {
-    struct stat about;
-    off_t at = 0;
-    int file = open(program, O_CLOEXEC);
-    if (file < 0 || fstat(file, &about) != 0) give_up(program, strerror(errno));
-    const char *name = strrchr(program, '/');
-    int to = memfd_create(name != NULL ? name + 1 : program, MFD_CLOEXEC);
-    if (to < 0) give_up(program, strerror(errno));
-    while (at < about.st_size)
-        if (sendfile(to, file, &at, (size_t)(about.st_size - at)) <= 0) give_up(program, "it can't be read");
-    close(file);
-    return to;
-}
-
 static void load(struct start *start, const char *program) {
-    char path[64];
-    Dl_info about;
-    snprintf(path, sizeof path, "/proc/%ld/fd/%d", (long)getpid(), copy_of(program));
-    void *copy = dlopen(path, RTLD_NOW | RTLD_LOCAL);
-    if (copy == NULL) {
-        fprintf(stderr, "wzrun: %s: %s\n", program, dlerror());
-        give_up(program, "it was not linked by wzcc, or a library that it needs isn't found");
-    }
-    void *run = dlsym(copy, "wz_run_rank_");
-    if (run == NULL || dladdr(run, &about) == 0) give_up(program, "it was not linked by wzcc");
+    const char *why = NULL;
+    void *run = load_program(start->rank, &why);
+    if (run == NULL) give_up(program, why);
     memcpy(&start->run, &run, sizeof run);
-    note_copy(start->rank->number, about.dli_fbase);
 }
 
 /* A name without a slash is looked for as it is, and then in PATH, as mpirun does. */
@@ -115,7 +92,8 @@ static void *play(void *given) {
     stack_t stack = { .ss_sp = must(malloc(SIGNAL_STACK)), .ss_size = SIGNAL_STACK }, none = { .ss_flags = SS_DISABLE };
     sigaltstack(&stack, NULL); /* for the crash that runs out of stack */
     be_main();
-    me->status = start->run(start->argc, start->argv);
+    if (!the_run.one_folder) unshare(CLONE_FS);
+    me->status = run_main(start->run, start->argc, start->argv);
     if (me->begun && !atomic_load(&me->finalized) && me->status == 0) print_warning("rank %d ended without MPI_Finalize", me->number);
     sigaltstack(&none, NULL);
     free(stack.ss_sp);
@@ -159,8 +137,13 @@ static int run_ranks(int argc, char **argv, const struct options *options) {
     pthread_attr_setstacksize(&attributes, stack_bytes());
     pthread_attr_setdetachstate(&attributes, PTHREAD_CREATE_DETACHED); /* `ended` tells of its end */
     begin_run(size);
+    the_run.one_folder = unshare(CLONE_FS) != 0; /* some containers forbid it; else each rank has its own working directory and umask */
+    the_run.folder = open(".", O_PATH | O_DIRECTORY | O_CLOEXEC);
     sem_init(&ended, 0, 0);
     tell_crashes();
+    const char *why = open_program(program);
+    if (why != NULL) give_up(program, why);
+    tell_shared();
     for (int i = 0; i < size; i++) {
         starts[i] = (struct start){ .rank = &the_run.ranks[i], .argc = argc - options->program };
         starts[i].argv = copied_words(starts[i].argc, argv + options->program);
@@ -179,6 +162,8 @@ int wz_main_(int argc, char **argv) {
     read_options(argc, argv, &options);
     if (options.first_seed > 0) return run_seeds(argc, argv, &options);
     int status = run_ranks(argc, argv, &options);
+    flush_streams();
+    go_back();
     if (the_run.statistics) tell_statistics();
     if (!record_write()) give_up(the_run.text != NULL ? the_run.text : the_run.values, "it can't be written");
     const char *unwritten = the_run.notes ? write_notes() : NULL;

@@ -2,6 +2,7 @@
 #include "trace.h"
 #include "record.h"
 #include "diagnostics.h"
+#include "per_rank_libc.h"
 
 #include <dlfcn.h>
 #include <time.h>
@@ -10,29 +11,41 @@
 struct run the_run;
 __thread struct rank *current_rank;
 
-/* Where each rank's copy of the program lies, so that a thread that the program makes has the rank of the copy whose code it runs. */
-static const void *copies[MOST_RANKS];
+/* Where each rank's copies of the program and of libraries lie, so that a thread that the program makes has the rank of the copy whose code it runs. */
+struct place_of_copy {
+    int rank;
+    const void *base;
+    struct place_of_copy *next;
+};
+static struct place_of_copy *_Atomic copies;
 
-void note_copy(int rank, const void *base) { copies[rank] = base; }
+void note_copy(int rank, const void *base) {
+    struct place_of_copy *copy = must(malloc(sizeof *copy));
+    *copy = (struct place_of_copy){ rank, base, atomic_load(&copies) };
+    while (!atomic_compare_exchange_weak(&copies, &copy->next, copy)) {}
+}
 
 static struct rank *rank_of_address(const void *address) {
     Dl_info about;
     if (dladdr(address, &about) == 0) return NULL;
-    for (int i = 0; i < the_run.size; i++)
-        if (copies[i] == about.dli_fbase) return &the_run.ranks[i];
+    for (const struct place_of_copy *copy = atomic_load(&copies); copy != NULL; copy = copy->next)
+        if (copy->base == about.dli_fbase) return &the_run.ranks[copy->rank];
     return NULL;
 }
 
+struct rank *rank_of_code(const void *address) {
+    if (current_rank == NULL) current_rank = rank_of_address(address);
+    return current_rank;
+}
+
 void wz_note_line_(const char *line) {
-    struct rank *rank = current_rank != NULL ? current_rank : rank_of_address(line);
+    struct rank *rank = rank_of_code(line);
     if (rank == NULL) return; /* the call itself tells that its thread is no rank's */
-    current_rank = rank;
     atomic_store_explicit(&rank->site, line, memory_order_relaxed);
 }
 
 struct rank *this_rank(const char *call) {
-    if (current_rank == NULL) current_rank = rank_of_address(__builtin_return_address(0));
-    if (current_rank != NULL) return current_rank;
+    if (rank_of_code(__builtin_return_address(0)) != NULL) return current_rank;
     fprintf(stderr, "wzrun: %s: the thread that calls it isn't one of a rank\n", call);
     _exit(STATUS_WRONG);
 }
@@ -116,7 +129,7 @@ int MPI_Abort(MPI_Comm comm, int status) {
     struct rank *me = this_rank("MPI_Abort");
     (void)comm;
     tell_alone();
-    fflush(stdout);
+    flush_streams();
     fprintf(stderr, "wzrun: rank %d ends all by MPI_Abort(%d) at %s\n", me->number, status, me->site);
     end_run((status & 255) != 0 ? status & 255 : 1, (struct question){ NULL, NULL });
 }

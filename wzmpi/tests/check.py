@@ -14,12 +14,12 @@ import os
 import pathlib
 import re
 import shutil
-import subprocess
 import sys
 import tempfile
 
-HERE = pathlib.Path(__file__).resolve().parent
-LONGEST = 900  # seconds: no run takes more than some on an idle machine
+import check_processes
+from checking import HERE, compiled, run
+
 NAME_LINE = re.compile(r"== (.*): status (\d+)")
 
 # How each wrong program is run that isn't run as `wzrun -n 3`.
@@ -33,31 +33,12 @@ OPTIONS = {
 }
 # Those that --explain is tried with.
 EXPLAINED = ["root", "blocking", "lacking", "crossed", "missing_start", "missing_split", "any_of_two", "receives_first", "lucky_bcasts", "lucky_sends"]
+# Other tests, each in a file of its own.
+MODULES = [check_processes]
 # The programs without a mistake.
 RIGHT = [HERE / "right.c", HERE / "right_edges.c"]
 # How many ranks each right program is run with, where these aren't 1, 2 and 5.
 RIGHT_RANKS = {"many_places": [2], "threads": [2], "grid": [4, 6], "intercommunicators": [2, 3, 5], "neighbors": [1, 2, 4]}
-
-
-def compiled(binaries, source, out, *words):
-    program = out / source.stem
-    compiler = "wzc++" if source.suffix == ".cpp" else "wzcc"
-    handed_down = {**os.environ, "CC": str(binaries / "wzcc"), "CXX": str(binaries / "wzc++")}  # as `make CC=wzcc` does
-    command = [str(binaries / compiler), "-O1", "-g", "-Wall", "-Wextra", *words, str(source), "-o", str(program)]
-    done = subprocess.run(command, capture_output=True, text=True, timeout=LONGEST, env=handed_down)
-    if done.returncode != 0 or done.stderr:
-        sys.exit(f"check.py: {source}:\n{done.stderr}")
-    return program
-
-
-def run(words):
-    """Status and what is said."""
-    try:
-        done = subprocess.run(words, capture_output=True, text=True, timeout=LONGEST, errors="replace")
-    except subprocess.TimeoutExpired:
-        return "none: it hangs", ""
-    status = done.returncode if done.returncode >= 0 else 128 - done.returncode
-    return status, done.stdout + done.stderr
 
 
 def names_of(source):
@@ -122,7 +103,7 @@ def compare(got, want_path, write, what):
 
 
 def check_wrong(binaries, out, only, write):
-    program = compiled(binaries, HERE / "wrong.c", out)
+    program = compiled(binaries, HERE / "wrong.c", out / "wrong")
     failed = compare(dict(wrong_blocks(binaries, program, only)), HERE / "wrong.want", write, "reported")
     if shutil.which(os.environ.get("COLLJOB", "colljob")) is None:
         print("check.py: there is no colljob in PATH or COLLJOB, so --explain isn't checked")
@@ -184,7 +165,7 @@ def faults_of_timeline(path, trace, ranks):
 
 def check_notes(binaries, out):
     """Whether --trace, --timeline and --stats say what a run did."""
-    program, failed = compiled(binaries, HERE / "right.c", out), 0
+    program, failed = compiled(binaries, HERE / "right.c", out / "right"), 0
     trace, timeline = out / "trace", out / "timeline.json"
     for name in ("all_kinds", "requests", "persistent", "doubles", "intercommunicators", "messages"):
         status, said = run([str(binaries / "wzrun"), "-n", "3", "--stats", "--trace", str(trace), "--timeline", str(timeline), str(program), name])
@@ -201,7 +182,7 @@ def check_notes(binaries, out):
 
 def right_programs(binaries, out, only):
     for source in RIGHT:
-        program = compiled(binaries, source, out)
+        program = compiled(binaries, source, out / source.stem)
         for name in names_of(source)[1:]:
             if not only or name in only:
                 yield name, program
@@ -229,7 +210,7 @@ def check_examples(binaries, out):
         if source.suffix == ".cpp" and shutil.which((os.environ.get("WZ_CXX") or "c++").split()[0]) is None:
             print(f"check.py: there is no C++ compiler, so {source.name} isn't checked")
             continue
-        program = compiled(binaries, source, out)
+        program = compiled(binaries, source, out / source.stem)
         head = source.read_text().split("*/")[0]
         words = re.search(r"wzrun (.*?) \./(\w+)", head)
         status = int(re.search(r"status (\d+)", head)[1])
@@ -246,7 +227,7 @@ def check_alone(binaries, out):
     """A program without a call of MPI, as configure scripts try one, is compiled and runs by itself."""
     source = out / "alone.c"
     source.write_text("int main(void) { return 7; }\n")
-    status, said = run([str(compiled(binaries, source, out))])
+    status, said = run([str(compiled(binaries, source, out / "alone"))])
     if (status, said) == (7, ""):
         return 0
     print(f"check.py: a program without a call of MPI: status {status}: {said}")
@@ -279,6 +260,7 @@ def main():
             failed += check_examples(binaries, out)
             failed += check_alone(binaries, out)
             failed += check_help(binaries)
+            failed += sum(module.check(binaries, out) for module in MODULES)
     print("check.py: all as it should be" if failed == 0 else f"check.py: {failed} failed")
     return min(failed, 1)
 

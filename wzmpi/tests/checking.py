@@ -1,0 +1,35 @@
+"""What the tests of this folder have in common: compiling, running and reporting."""
+
+import os
+import pathlib
+import subprocess
+import sys
+
+HERE = pathlib.Path(__file__).resolve().parent
+LONGEST = 900  # seconds: no run takes more than some on an idle machine
+
+
+def compiled(binaries, source, program, *words):
+    compiler = "wzc++" if source.suffix == ".cpp" else "wzcc"
+    handed_down = {**os.environ, "CC": str(binaries / "wzcc"), "CXX": str(binaries / "wzc++")}  # as `make CC=wzcc` does
+    command = [str(binaries / compiler), "-O1", "-g", "-Wall", "-Wextra", str(source), *words, "-o", str(program)]
+    done = subprocess.run(command, capture_output=True, text=True, timeout=LONGEST, env=handed_down)
+    if done.returncode != 0 or done.stderr:
+        sys.exit(f"check.py: {source}:\n{done.stderr}")
+    return program
+
+
+def run(words, **more):
+    """Status and what is said."""
+    try:
+        done = subprocess.run(words, stdout=subprocess.PIPE, stderr=subprocess.STDOUT, text=True, timeout=LONGEST, errors="replace", **more)
+    except subprocess.TimeoutExpired:
+        return "none: it hangs", ""
+    return done.returncode if done.returncode >= 0 else 128 - done.returncode, done.stdout
+
+
+def reported(is_so, what):
+    """1 where it isn't so, which is told."""
+    if not is_so:
+        print(f"check.py: {what}")
+    return 0 if is_so else 1
