@@ -2,9 +2,14 @@
 # make prove       both proved; from nothing an hour and a half
 # make check       the proofs and all tests, ending in a line `N passed, N failed`; its parts are check-gate, check-tests, check-program,
 #                  check-c, check-cpp, check-rust, check-mpi, check-recorder, check-recorded and check-install
+<<<<<<< HEAD
 # make theorem     docs/theorem: each theorem on one page, with all definitions that its reader must believe
 # make install     PREFIX= (/usr/local) and DESTDIR=: program, manual page, completions, headers, library, pkg-config file, and the recorder
 #                  of MPI programs where there is an mpicc
+=======
+# make install     PREFIX= (/usr/local) and DESTDIR=: program, manual pages, completions, headers, library, pkg-config file, and wzrecord with
+#                  a recorder for each MPI library whose compiler is here (MPICC= names one more)
+>>>>>>> 3feaf88a (wzrecord: one command records an MPI program under its launcher, watches for hangs and reports, as text or JSON; refused calls are no faults; operations are named; what can't be read or written has one line)
 # make uninstall   the same PREFIX= and DESTDIR=
 # make clean       what make made; what is proved stays
 PREFIX ?= /usr/local
@@ -12,10 +17,11 @@ DESTDIR ?=
 export PREFIX DESTDIR
 BIN = $(DESTDIR)$(PREFIX)/bin
 SHARE = $(DESTDIR)$(PREFIX)/share
+BASH_WORDS = $(SHARE)/bash-completion/completions
+ZSH_WORDS = $(SHARE)/zsh/site-functions
 # The recorder's scripts look for colljob two folders above their own.
 RECORDER = $(DESTDIR)$(PREFIX)/lib/worzsunab
 MPI_CALLS = $(wildcard wzmpi/Makefile)
-SCRIPTS = $(wildcard recorder/record/*.py)
 PARTS = gate tests program c cpp rust mpi recorder recorded install
 
 all: program library
@@ -40,32 +46,35 @@ $(PARTS:%=check-%): check-%:
 theorem:
 	tools/reading_list --pages docs/theorem
 
-# The recorder is for the MPI library whose mpicc is on the path, or the one that `make -C recorder MPICC=..` named.
+# A recorder for each MPI library whose compiler is here.
 recorder:
-	@if [ ! -e recorder/out/librecord.so ] && command -v mpicc > /dev/null; then $(MAKE) --no-print-directory -C recorder; fi
+	@recorder/libraries | while read -r library compiler; do \
+		$(MAKE) --no-print-directory -s -C recorder MPICC="$$compiler" OUT="out/$$library" < /dev/null || exit 1; done
 
-install: all recorder install-program
+install: all recorder install-program install-recorder
 	@if command -v $(firstword $(CC)) > /dev/null; then $(MAKE) --no-print-directory -C bindings install; fi
-	@if [ -e recorder/out/librecord.so ]; then $(MAKE) --no-print-directory install-recorder; \
-	else echo "make: there is no mpicc, so the recorder isn't installed"; fi
 	@if [ "$(MPI_CALLS)" ] && command -v $(firstword $(CC)) > /dev/null; then $(MAKE) --no-print-directory -C wzmpi install; fi
 
 install-program: program
-	mkdir -p $(BIN) $(SHARE)/man/man1 $(SHARE)/bash-completion/completions $(SHARE)/zsh/site-functions
-	cp out/colljob $(BIN)/colljob
-	cp docs/colljob.1 $(SHARE)/man/man1
-	cp completions/colljob.bash $(SHARE)/bash-completion/completions/colljob
-	cp completions/_colljob $(SHARE)/zsh/site-functions
+	mkdir -p "$(BIN)" "$(SHARE)/man/man1" "$(BASH_WORDS)" "$(ZSH_WORDS)"
+	cp out/colljob "$(BIN)/colljob"
+	cp docs/colljob.1 "$(SHARE)/man/man1"
+	cp completions/colljob.bash "$(BASH_WORDS)/colljob"
+	cp completions/_colljob "$(ZSH_WORDS)"
 
+# Where no MPI library is here, wzrecord builds a recorder when it first needs one.
 install-recorder:
-	mkdir -p $(RECORDER)/recorder/out $(RECORDER)/recorder/record
-	cp recorder/out/librecord.so $(RECORDER)/recorder/out
-	cp $(SCRIPTS) $(RECORDER)/recorder/record
-	ln -sf ../../bin/colljob $(RECORDER)/colljob
+	mkdir -p "$(BIN)" "$(SHARE)/man/man1" "$(BASH_WORDS)" "$(ZSH_WORDS)"
+	recorder/install "$(RECORDER)"
+	ln -sf ../lib/worzsunab/recorder/wzrecord ../lib/worzsunab/recorder/colljob-mpi "$(BIN)"
+	cp docs/wzrecord.1 "$(SHARE)/man/man1"
+	cp completions/wzrecord.bash "$(BASH_WORDS)/wzrecord"
+	cp completions/_wzrecord "$(ZSH_WORDS)"
 
 uninstall:
-	rm -f $(BIN)/colljob $(SHARE)/man/man1/colljob.1 $(SHARE)/bash-completion/completions/colljob $(SHARE)/zsh/site-functions/_colljob
-	rm -rf $(RECORDER)
+	rm -f $(addprefix "$(BIN)"/,colljob wzrecord colljob-mpi) $(addprefix "$(SHARE)"/man/man1/,colljob.1 wzrecord.1)
+	rm -f $(addprefix "$(BASH_WORDS)"/,colljob wzrecord) $(addprefix "$(ZSH_WORDS)"/,_colljob _wzrecord)
+	rm -rf "$(RECORDER)"
 	$(MAKE) --no-print-directory -C bindings uninstall
 	@if [ "$(MPI_CALLS)" ]; then $(MAKE) --no-print-directory -C wzmpi uninstall; fi
 

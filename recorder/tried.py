@@ -267,13 +267,13 @@ def judge_text(records):
     words, path = sys.argv, f"{records}/text.job"
     try:
         sys.argv = ["join.py", records]
-        with open(path, "w") as text, contextlib.redirect_stdout(text), contextlib.redirect_stderr(io.StringIO()), contextlib.suppress(SystemExit):
+        with open(path, "w") as text, contextlib.redirect_stdout(text), contextlib.redirect_stderr(io.StringIO()):
             join.main()
     finally:
         sys.argv = words
-    with contextlib.redirect_stdout(io.StringIO()) as report, contextlib.suppress(Unreadable):
-        text_places.tell(path, oracle())
-    return report.getvalue()
+    with contextlib.suppress(Unreadable):
+        return "".join(f"{line}\n" for line in text_places.tell(path, oracle())[0])
+    return ""
 
 
 def first_words(report):

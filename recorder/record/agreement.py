@@ -29,6 +29,9 @@ SAME, BY_LETTER, DIFFERENT = 0, 1, 2
 EQUAL = {"Bcast", "Reduce", "Allreduce", "Scan", "Exscan", "Reduce_scatter_block"}
 MOST_RUNS = 4096
 
+# How many of a type's runs are shown where they suffice.
+FEW_RUNS = 4
+
 
 def repeated(runs, count):
     """Runs, each a name, its bytes and how often it stands in a row, COUNT times, equal neighbours together; None where they are too many."""
@@ -215,34 +218,35 @@ def call_name(form, name):
     return f"MPI_{name}"
 
 
-def data_words(kind, count):
+def data_words(kind, count, most_runs=FEW_RUNS):
     """`10 MPI_INT`."""
     if len(kind.runs) == 1 and kind.whole:
         return f"{count * kind.runs[0].times} {kind.runs[0].name}"
     if not kind.runs:
         return f"{count * kind.bytes} bytes"
-    shown = ", ".join(f"{run.times} {run.name}" for run in kind.runs[:4]) + (", .." if len(kind.runs) > 4 or not kind.whole else "")
+    shown = ", ".join(f"{run.times} {run.name}" for run in kind.runs[:most_runs]) + (", .." if len(kind.runs) > most_runs or not kind.whole else "")
     return f"{count} of ({shown})"
 
 
-def side_words(side):
+def side_words(side, most_runs=FEW_RUNS):
     if not side.each:
-        return data_words(*part(side, 0))
+        return data_words(*part(side, 0), most_runs)
     if len(side.types) == 1 and len(side.types[0].runs) == 1:
         run = side.types[0].runs[0]
         counts = [str(count * run.times) for count in side.counts]
-        return f"{', '.join(counts[:8])}{', ..' if len(counts) > 8 else ''} {run.name}"
-    return ", ".join(data_words(*part(side, member)) for member in range(min(4, len(side.counts)))) + (", .." if len(side.counts) > 4 else "")
+        return f"{', '.join(counts[:2 * most_runs])}{', ..' if len(counts) > 2 * most_runs else ''} {run.name}"
+    shown = (data_words(*part(side, member), most_runs) for member in range(min(most_runs, len(side.counts))))
+    return ", ".join(shown) + (", .." if len(side.counts) > most_runs else "")
 
 
-def call_words(call, operation):
+def call_words(call, operation, most_runs=FEW_RUNS):
     """A call in words: `MPI_Reduce(1 MPI_INT, MPI_SUM, root 0)`. OPERATION gives those of an operation."""
     words = []
     if call.name in EQUAL or call.name == "Reduce_scatter":
-        words.append(side_words(call.sent))
+        words.append(side_words(call.sent, most_runs))
     else:
-        words += [f"sends {side_words(call.sent)}"] if call.sent else ["in place"] if call.got and call.name[:3] in ("All", "Gat") else []
-        words += [f"receives {side_words(call.got)}"] if call.got else []
+        words += [f"sends {side_words(call.sent, most_runs)}"] if call.sent else ["in place"] if call.got and call.name[:3] in ("All", "Gat") else []
+        words += [f"receives {side_words(call.got, most_runs)}"] if call.got else []
     if call.op:
         words.append(operation(call.op))
     if call.root is not None:

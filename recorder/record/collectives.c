@@ -201,7 +201,7 @@ static struct call describe_by_name(const char *name, MPI_Comm comm) { return pl
 
 /* What was written of a request before the library has made it. */
 struct posting {
-    bool written;
+    struct context *written; /* where it has a place in the order, or null */
     long number;
     bool persistent;
     struct gift gift;
@@ -216,7 +216,7 @@ static struct posting write_collective(char form, struct call call) {
     }
     begin_command();
     call.form = form;
-    posting.written = true;
+    posting.written = call.context;
     posting.gift = write_call(&call);
     if (form == 'p')
         log_text("\n");
@@ -230,28 +230,47 @@ static struct posting write_collective(char form, struct call call) {
     return posting;
 }
 
-static void write_refused(int result) {
+/* Whether a library says of a call that its arguments are wrong: it looks at these before it begins. */
+static bool is_of_arguments(int result) {
+    static const int classes[] = {MPI_ERR_BUFFER, MPI_ERR_COUNT, MPI_ERR_TYPE,    MPI_ERR_COMM, MPI_ERR_RANK,
+                                  MPI_ERR_ROOT,   MPI_ERR_OP,    MPI_ERR_REQUEST, MPI_ERR_ARG,  MPI_ERR_INFO};
+    int class = MPI_SUCCESS;
+    PMPI_Error_class(result, &class);
+    for (size_t place = 0; place < sizeof classes / sizeof *classes; place++)
+        if (class == classes[place])
+            return true;
+    return false;
+}
+
+/* A call that was refused for its arguments took no place in the order of its context. Where another thread has called there meanwhile, both
+   keep theirs. */
+static void write_refused(int result, const struct posting *posting) {
     if (result == MPI_SUCCESS)
         return;
+    bool gone = posting->written && posting->written->calls == posting->awaited.index + 1 && is_of_arguments(result);
+    if (gone)
+        posting->written->calls--;
     log_thread();
     log_place(here);
-    write_numbered("refused", result);
+    log_text("refused ");
+    log_signed(result);
+    log_text(gone ? " unmade\n" : "\n");
 }
 
 static int made_request(int result, const struct posting *posting, const MPI_Request *request) {
     log_lock();
-    write_refused(result);
+    write_refused(result, posting);
     if (result == MPI_SUCCESS && posting->written)
         request_made(request, posting->number, posting->persistent, posting->awaited)->gift = posting->gift;
     log_unlock();
     return result;
 }
 
-static int returned(int result) {
+static int returned(int result, const struct posting *posting) {
     if (result == MPI_SUCCESS)
         return result;
     log_lock();
-    write_refused(result);
+    write_refused(result, posting);
     log_unlock();
     return result;
 }
@@ -259,9 +278,9 @@ static int returned(int result) {
 #define BLOCKING(NAME, parameters, arguments, call)                                                                                         \
     INTERPOSED(NAME, parameters, arguments) {                                                                                               \
         log_lock();                                                                                                                         \
-        write_collective('b', call);                                                                                                        \
+        struct posting posting = write_collective('b', call);                                                                               \
         log_unlock();                                                                                                                       \
-        return returned(next_##NAME arguments);                                                                                             \
+        return returned(next_##NAME arguments, &posting);                                                                                   \
     }
 
 #define REQUESTING(NAME, form, parameters, arguments, call)                                                                                 \

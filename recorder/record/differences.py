@@ -2,7 +2,7 @@
 
 import collections
 
-from agreement import BY_LETTER, Disagreement, compare, call_words
+from agreement import BY_LETTER, FEW_RUNS, INTERPRETED, MOST_RUNS, Disagreement, compare, call_words
 from records import rank_words
 
 # What makes contexts, each numbered among those of its parent.
@@ -58,7 +58,15 @@ class Contexts:
         return sorted(self.known, key=lambda key: [[int(it) if it.isdigit() else 0 for it in part.split(".")] for part in key.split("/")])
 
     def operation_words(self, record, operation):
-        return "an operation of the program" if operation.name in ("user", "?") else operation.name
+        if operation.name not in ("user", "?"):
+            return operation.name
+        is_named = operation.module and not any(name in operation.module for name in INTERPRETED)
+        function = self.places.function(operation.module, operation.offset) if is_named else None
+        made = self.places.name(record, record.operation_places.get(operation.order))
+        words = [f"the program's {function}" if function else "an operation of the program"]
+        words += [f"made at {made}"] if made else []
+        words += ["not commutative"] if operation.commutes is False else []
+        return " ".join(words[:1] + [f"({', '.join(words[1:])})"] if words[1:] else words)
 
 
 class Judge:
@@ -173,18 +181,33 @@ class Judge:
         return []
 
 
+def alike_calls(difference, contexts, records, places):
+    """The calls of a difference in words with their places, and their ranks, those alike together. Where few parts of their types don't show
+    what differs, they are shown with all."""
+    for most_runs in (FEW_RUNS, MOST_RUNS):
+        alike = collections.defaultdict(list)
+        for rank, command in difference.calls.items():
+            record = records[rank]
+            words = call_words(command.call, lambda op, record=record: contexts.operation_words(record, op), most_runs)
+            refused = "; the library refused it" if command.refused else ""
+            alike[words, (places.name(record, command.place) or "place unknown") + refused].append(rank)
+        if len({words for words, _ in alike}) > 1 or difference.lacking:
+            break
+    return alike
+
+
 def difference_lines(difference, contexts, records, places):
     """A difference in words: what differs, and the calls of the ranks, those alike together."""
     lines = [f"call {difference.index + 1} on {contexts.name(difference.key)}: {difference.what}"]
-    alike = collections.defaultdict(list)
-    for rank, command in difference.calls.items():
-        record = records[rank]
-        words = call_words(command.call, lambda op: contexts.operation_words(record, op))
-        refused = "; the library refused it" if command.refused else ""
-        alike[f"{words}, {places.name(record, command.place) or 'place unknown'}{refused}"].append(rank)
-    lines += [f"  {rank_words(ranks)}: {words}" for words, ranks in alike.items()]
+    for (words, place), ranks in alike_calls(difference, contexts, records, places).items():
+        lines.append(f"  {rank_words(ranks)}: {words}, {place}")
     for rank in difference.lacking:
         made = records[rank].calls.get(difference.key, [])
         last = f", the last at {places.name(records[rank], made[-1].place) or 'place unknown'}" if made else ""
         lines.append(f"  rank {rank}: made {len(made)} calls on it{last}")
     return lines
+
+
+def difference_calls(difference, contexts, records, places):
+    """The same calls for JSON."""
+    return [{"ranks": ranks, "call": words, "place": place} for (words, place), ranks in alike_calls(difference, contexts, records, places).items()]

@@ -6,48 +6,48 @@
 
 Each command has a comment above it that says where the call stands in the program. What had to be left out stands on standard error and
 in the text's first lines; the status is then 3. Of a program that hung or was killed, what a rank never reached is added as it must be if
-the ranks agree, and said to be so. Where no text can be made, its only line says why, and the status is 2.
+the ranks agree, and said to be so. Where no text can be made, its only line says why, and the status is 2, as it is where the text couldn't be written.
 """
 
 import argparse
-import os
 import sys
 
 from differences import Contexts, Judge
 from job_text import Job
+from output import FAILED, run_reporting, write_out
 from records import Places, Unreadable, read_records
 from stalls import doubts
 from standing import limits_of, ranks_unseen, read_nows
 
 
 def give_up(why):
-    print(f"# no text: {why}")
+    write_out(f"# no text: {why}\n")
     print(why, file=sys.stderr)
-    sys.exit(2)
+    return FAILED
 
 
 def main():
-    parser = argparse.ArgumentParser(description="Makes a job text of a folder of records.", epilog="status 0: the whole text; 2: no text; 3: with something left out")
+    parser = argparse.ArgumentParser(description="Makes a job text of a folder of records.", epilog="status 0: the whole text; 2: no text, or it couldn't be written; 3: with something left out")
     parser.add_argument("folder")
     parser.add_argument("--from", dest="first", type=int, default=0, metavar="P", help="leave out what stands before place P")
     words = parser.parse_args()
     try:
         records = read_records(words.folder)
     except Unreadable as why:
-        give_up(str(why))
+        return give_up(str(why))
     places = Places(records)
     contexts = Contexts(records, places)
     nows = read_nows(words.folder, records)
     job = Job(records, contexts, places, Judge(records, contexts, ranks_unseen(nows)), notes=limits_of(records, nows) + doubts(records, contexts))
     lines = job.fitting_text(words.first)
     if lines is None:
-        give_up(f"{words.folder}: " + "; ".join(job.notes))
+        return give_up(f"{words.folder}: " + "; ".join(job.notes))
     notes = job.incomplete() + job.notes
     for note in notes:
         print(f"{words.folder}: {note}", file=sys.stderr)
-    print("\n".join(job.whole_lines(lines)))
-    sys.exit(3 if any(note.startswith("left out") for note in notes) else 0)
+    write_out("\n".join(job.whole_lines(lines)) + "\n")
+    return 3 if any(note.startswith("left out") for note in notes) else 0
 
 
 if __name__ == "__main__":
-    main()
+    sys.exit(run_reporting("join.py", main))

@@ -46,6 +46,7 @@ class Record:
         self.unsure = False  # whether a wait may have been for another request than the one that is written
         self.opened = []  # the numbers of collective requests that weren't complete as it came to MPI_Finalize
         self.refused = []  # the commands that the library refused
+        self.operation_places = {}  # where the program made its operations, by their order
         self.abort = None
         self.unknown = collections.Counter()
         self.calls = collections.defaultdict(list)  # of each context the commands, in their order
@@ -54,9 +55,12 @@ class Record:
         self.callers = set()  # all threads of the commands
         self.tests = {}  # of each request the last test
         self.thread_level = 0
-        with open(path, "rb") as file:
-            # The file of a program that was killed has zeros after its last line, or a part of a line.
-            written = file.read().rstrip(b"\0").decode(errors="replace")
+        try:
+            with open(path, "rb") as file:
+                # The file of a program that was killed has zeros after its last line, or a part of a line.
+                written = file.read().rstrip(b"\0").decode(errors="replace")
+        except OSError as why:
+            raise Unreadable(f"{path}: {why.strerror}") from why
         lines = written.split("\n")
         head = re.fullmatch(r"record 2 rank (\d+) of (\d+) run (\d+) library (\w+)", lines[0])
         if not head:
@@ -150,14 +154,14 @@ class Record:
             runs = tuple(self.type_run(it) for it in words[6:] if it != "?")
             self.types[int(words[1])] = Type(words[2], int(words[3]), words[4] == "1", int(words[5]), runs, words[-1] != "?")
         elif word == "op":
-            self.operations[int(words[1])] = self.operation(words[2:], place)
+            self.operations[int(words[1])] = self.operation(words[2:])
         elif word == "threads":
             self.thread_level = int(words[1])
         elif word == "unknown":
             self.unknown[words[1]] += 1
             self.keep(["# LEFT OUT: " + words[1] + " on a communicator whose maker isn't recorded"], place, thread)
         elif word == "refused":
-            self.refuse(place, thread, words[1])
+            self.refuse(place, thread, words[1], words[2:] == ["unmade"])
         elif word == "tested":
             self.tests[int(words[1])].done = True
         elif word == "unsure":
@@ -186,12 +190,18 @@ class Record:
         self.callers.add(thread)
         self.commands.append(command)
 
-    def refuse(self, place, thread, error):
-        """The library gave back an error of the last collective that a thread has called at a place."""
-        for command in reversed(self.commands):
+    def refuse(self, place, thread, error, is_unmade):
+        """The library gave back an error of the last collective that a thread has called at a place. One that is unmade took no place in the
+        order of its context, and stands in a text as a remark."""
+        for number in range(len(self.commands) - 1, -1, -1):
+            command = self.commands[number]
             if command.call and (command.place, command.thread) == (place, thread):
                 command.refused = error
                 self.refused.append(command)
+                if is_unmade and self.calls[command.key][-1] is command:
+                    self.calls[command.key].pop()
+                    remark = "# the library refused MPI_" + command.call.name + " for its arguments here"
+                    self.commands[number] = Command(place, thread, command.remarks + [remark], None)
                 return
 
     def keep(self, remarks, place, thread):
@@ -205,10 +215,11 @@ class Record:
         size, times = numbers.split("*")
         return Run(name, int(size), int(times))
 
-    def operation(self, words, place):
+    def operation(self, words):
         if words[0] != "user":
             return Operation(words[0], None, None, None, None)
         module = " ".join(words[5:])
+        self.operation_places[int(words[1])] = int(words[3])
         return Operation("user", int(words[1]), words[2] != "0", int(words[4], 16), module if module != "?" else None)
 
 
@@ -233,7 +244,12 @@ class Places:
     def __init__(self, records):
         addresses = {address for record in records.values() for address in record.places.values()}
         self.names = {address: f"{os.path.basename(address[1])}" for address in addresses if address[0] == "python"}
-        for module in {address[0] for address in addresses if address[0] != "python"}:
+        self.functions = {}
+        # A program's operations are known by the distances of their functions from their modules' begins.
+        begins = {address[0]: address[1] - address[2] for address in addresses if address[0] != "python"}
+        operations = {it for record in records.values() for it in record.operations.values() if it.module in begins}
+        addresses |= {(it.module, begins[it.module] + it.offset, it.offset) for it in operations}
+        for module in begins:
             self.ask(module, sorted(address for address in addresses if address[0] == module))
 
     def ask(self, module, addresses):
@@ -247,6 +263,7 @@ class Places:
         if len(answer) != 2 * len(asked):
             answer = ["??", "??:0"] * len(asked)
         for address, offset, function, line in zip(addresses, asked, answer[::2], answer[1::2]):
+            self.functions[address[0], address[2]] = function if function != "??" else None
             line = os.path.basename(line.split(" (")[0])
             if line.startswith("??") or line.endswith(":?"):
                 line = f"{os.path.basename(module)} {offset}, in {function}" if function != "??" else f"{os.path.basename(module)} {offset}"
@@ -255,6 +272,11 @@ class Places:
     def name(self, record, place):
         """The place of a number in a rank's record, or None."""
         return self.names.get(record.places.get(place))
+
+
+    def function(self, module, offset):
+        """The name of the function that begins at a distance from its module's begin, or None."""
+        return self.functions.get((module, offset))
 
 
 def is_fixed(module):

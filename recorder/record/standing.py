@@ -50,7 +50,7 @@ class Now:
 
     def __init__(self, path, run):
         self.there = self.lost = self.unshown = self.elsewhere = self.callbacks = False
-        self.threads, self.counts, self.beat, self.counted, self.finalized, self.unseen = [], b"", 0, False, False, False
+        self.threads, self.counts, self.beat, self.size, self.counted, self.finalized, self.unseen = [], b"", 0, 0, False, False, False
         try:
             with open(path, "rb") as file:
                 data = file.read()
@@ -58,10 +58,10 @@ class Now:
             return
         if len(data) < HEAD.size + THREADS * (THREAD.size + SHOWN * AWAITED.size) + MESSAGES * MESSAGE.size:
             return
-        version, _, _, finalized, its_run, beat, uncounted, unseen = HEAD.unpack_from(data)
+        version, _, size, finalized, its_run, beat, uncounted, unseen = HEAD.unpack_from(data)
         if version != VERSION or run not in (None, its_run):
             return
-        self.there, self.beat, self.counted, self.finalized = True, beat, not uncounted and not unseen & (UNSEEN | LOST), bool(finalized)
+        self.there, self.size, self.beat, self.counted, self.finalized = True, size, beat, not uncounted and not unseen & (UNSEEN | LOST), bool(finalized)
         self.unseen, self.lost, self.unshown, self.elsewhere, self.callbacks = (bool(unseen & flag) for flag in (UNSEEN, LOST, UNSHOWN, ELSEWHERE, CALLBACKS))
         at = HEAD.size
         for number in range(THREADS):
@@ -105,9 +105,11 @@ def limits_of(records, nows):
         "called MPI_Finalize with collectives that no call was seen to complete": [rank for rank, record in records.items() if record.opened],
     }
     ranks["called MPI_Finalize and didn't come out of it"] = [rank for rank, record in records.items() if record.ended and nows[rank].there and not nows[rank].finalized]
-    elsewhere = any(now.messages or now.elsewhere or not now.there for now in nows.values())
+    messages = sum(calls for now in nows.values() for (kind, *_), calls in now.messages.items() if kind == SEND)
+    elsewhere = messages or any(now.messages or now.elsewhere or not now.there for now in nows.values())
+    words = f"the program's {messages} messages aren't in the text" if messages else "what the ranks wait for beside collectives isn't in the text"
     notes = [f"incomplete: {rank_words(those)} {words}" for words, those in ranks.items() if those]
-    return notes + (["by themselves: what the ranks wait for beside collectives isn't in the text"] if elsewhere else [])
+    return notes + ([f"by themselves: {words}, so that it never stalls isn't said of the program"] if elsewhere else [])
 
 
 class Standings:

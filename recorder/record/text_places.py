@@ -49,10 +49,12 @@ class Text:
             words = line.split()
             if line.startswith("# no text: "):
                 self.none = line[11:].strip()
-            elif line.startswith("# "):
+            elif line.startswith("#"):
                 self.notes += [line[2:].strip()] if NOTE.fullmatch(line.strip()) else []
                 # Other comments explain. The wait of a blocking call has no place of its own.
                 where = line[2:].strip() if PLACE.fullmatch(line.strip()) else where
+            elif not self.ranks and words and words[:1] != ["ranks"]:
+                return  # a job text begins with its ranks
             elif words[:1] == ["ranks"]:
                 self.ranks = int(words[1])
                 self.members.append(list(range(self.ranks)))
@@ -154,28 +156,25 @@ def judge(path, program, text=None):
 
 
 def tell(path, program):
-    """Reports on a text alone, and returns the status of where.py."""
+    """What is reported of a text alone, in lines, and the status of where.py."""
     text = Text(path)
-    if text.none or not text.ranks:
-        raise Unreadable(f"{path}: no text to judge: {text.none or 'it is empty, or was cut: did join.py fail?'}")
-    for note in text.notes:
-        print(f"{path}: {note}")
+    if text.none:
+        raise Unreadable(f"{path}: no text to judge: {text.none}")
+    if not text.ranks:
+        raise Unreadable(f"{path}: not a job text, or one that was cut: its first command isn't `ranks N`")
+    lines = [f"{path}: {note}" for note in text.notes]
     if any(note.startswith("fault: ") for note in text.notes):
-        return 1
+        return lines, 1
     if CUT in text.notes:
-        print(f"{path}: not judged: what was cut off isn't known")
-        return 3
+        return lines + [f"{path}: not judged: what was cut off isn't known"], 3
     if any(note.startswith(NOT_JUDGED) for note in text.notes):
-        print(f"{path}: no fault in what is there")
-        return 3
+        return lines + [f"{path}: no fault in what is there"], 3
     verdict = judge(path, program, text)
     if verdict.fault or verdict.stalls:
-        print(verdict.fault or f"{path}: no fault in what is there")
-        print("\n".join(verdict.lines))
-        return 1
+        return lines + [verdict.fault or f"{path}: no fault in what is there", *verdict.lines], 1
     apart = any(note.startswith("by themselves: ") for note in text.notes)
     whole = len(text.notes) == apart and not verdict.unknown
-    print(f"{path}: no fault" + ("" if whole else " in what is there"))
+    lines.append(f"{path}: no fault" + (" of its collectives by themselves" if whole and apart else "" if whole else " in what is there"))
     if verdict.unknown or whole and not apart:
-        print("\n".join(verdict.lines))
-    return 0 if whole else 3
+        lines += verdict.lines
+    return lines, 0 if whole else 3
