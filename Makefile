@@ -2,14 +2,9 @@
 # make prove       both proved; from nothing an hour and a half
 # make check       the proofs and all tests, ending in a line `N passed, N failed`; its parts are check-gate, check-tests, check-program,
 #                  check-c, check-cpp, check-rust, check-mpi, check-recorder, check-recorded and check-install
-<<<<<<< HEAD
 # make theorem     docs/theorem: each theorem on one page, with all definitions that its reader must believe
-# make install     PREFIX= (/usr/local) and DESTDIR=: program, manual page, completions, headers, library, pkg-config file, and the recorder
-#                  of MPI programs where there is an mpicc
-=======
 # make install     PREFIX= (/usr/local) and DESTDIR=: program, manual pages, completions, headers, library, pkg-config file, and wzrecord with
 #                  a recorder for each MPI library whose compiler is here (MPICC= names one more)
->>>>>>> 3feaf88a (wzrecord: one command records an MPI program under its launcher, watches for hangs and reports, as text or JSON; refused calls are no faults; operations are named; what can't be read or written has one line)
 # make uninstall   the same PREFIX= and DESTDIR=
 # make clean       what make made; what is proved stays
 PREFIX ?= /usr/local
