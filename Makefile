@@ -48,7 +48,8 @@ recorder:
 
 install: all recorder install-program install-recorder
 	@if command -v $(firstword $(CC)) > /dev/null; then $(MAKE) --no-print-directory -C bindings install; fi
-	@if [ "$(MPI_CALLS)" ] && command -v $(firstword $(CC)) > /dev/null; then $(MAKE) --no-print-directory -C wzmpi install && cp docs/wzcc.1 docs/wzrun.1 "$(SHARE)/man/man1"; fi
+	@if [ "$(MPI_CALLS)" ] && command -v $(firstword $(CC)) > /dev/null; then $(MAKE) --no-print-directory -C wzmpi install; fi
+	@if [ "$(MPI_CALLS)" ] && command -v $(firstword $(CC)) > /dev/null; then cp docs/wzcc.1 docs/wzrun.1 "$(SHARE)/man/man1"; fi
 
 install-program: program
 	mkdir -p "$(BIN)" "$(SHARE)/man/man1" "$(BASH_WORDS)" "$(ZSH_WORDS)"
