@@ -131,7 +131,8 @@ def main():
     declared = list(all_declarations(calls))
     lines = [head] + [f"{result}{prefix}MPI_{name}({words});\n" for result, name, words, _ in declared for prefix in ("", "P")]
     (folder / "mpi_calls.h").write_text("".join(lines))
-    lines = [head, "#define WZ_WORD2_(line) #line\n#define WZ_WORD_(line) WZ_WORD2_(line)\n", '#define WZ_HERE_ __FILE__ ":" WZ_WORD_(__LINE__)\n']
+    pragma = "#ifdef __GNUC__\n#pragma GCC system_header /* macros with any number of arguments, also under -std=c89 -pedantic */\n#endif\n"
+    lines = [head, pragma, "#define WZ_WORD2_(line) #line\n#define WZ_WORD_(line) WZ_WORD2_(line)\n", '#define WZ_HERE_ __FILE__ ":" WZ_WORD_(__LINE__)\n']
     lines += [f"#define MPI_{name}(...) (wz_note_line_(WZ_HERE_), MPI_{name}(__VA_ARGS__))\n" for _, name, _, section in declared if section != "unproved"]
     (folder / "mpi_lines.h").write_text("".join(lines))
     (folder / "counted.h").write_text(head + "#include <mpi.h>\n" + "".join(f"int counted_{it.name}({it.declared(True)});\n" for it in plain))

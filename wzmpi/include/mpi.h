@@ -1,7 +1,7 @@
 /* MPI for programs whose ranks are threads of one process: the collectives of MPI 4.1 over Worzsunab's engine, and what programs use beside them.
    docs/WZRUN.md says which calls are there. Compile and link with wzcc, run with wzrun. C11 and C++11.
 
-   Each call notes its line in the program by a macro of its own name. A source that defines such calls itself, as profilers do, is compiled with
+   Each call notes its line in the program by a macro of its own name. wzcc compiles a source that defines such calls itself, as profilers do, with
    -DWORZSUNAB_NO_LINES. */
 #ifndef WORZSUNAB_MPI_H
 #define WORZSUNAB_MPI_H
@@ -31,8 +31,13 @@ typedef struct wz_message_handle_ *MPI_Message;
 #define WZ_HANDLE_(type, kind, number) ((type)(((uintptr_t)(kind) << 56) | (uintptr_t)(number)))
 
 typedef ptrdiff_t MPI_Aint;
+#ifdef __GNUC__
+__extension__ typedef long long MPI_Offset; /* C89 has no long long */
+__extension__ typedef long long MPI_Count;
+#else
 typedef long long MPI_Offset;
 typedef long long MPI_Count;
+#endif
 typedef int MPI_Fint;
 
 typedef struct MPI_Status {

@@ -38,6 +38,7 @@ struct wait {
     struct request **list;
     int many;
     bool any; /* one of the list is enough */
+    bool tests;           /* it doesn't wait, but only tests (test_loops.c) */
     struct request *room; /* it waits until the engine has room for this one, and the list is empty; NULL: it doesn't */
 };
 
@@ -52,6 +53,10 @@ struct rank {
     struct request *free_requests;
     struct request *let_go; /* messages under way whose requests were freed */
     int level; /* of MPI_Init_thread */
+    _Atomic uint64_t lines;      /* calls that have noted their lines */
+    _Atomic uint64_t progress;   /* requests that it has begun or completed */
+    _Atomic uint64_t vain_tests;
+    atomic_bool asked_time;      /* it has called MPI_Wtime */
     uint64_t random;
     uint64_t calls[64][2]; /* of each collective: those that were carried, and those that were direct */
     char last_refusal[800];
@@ -79,10 +84,12 @@ struct run {
     atomic_int blocked; /* ranks that wait or have ended */
     bool strict, checks, explains, statistics;
     bool quiet;      /* notes about what ranks share aren't told */
+    int status_of_faults; /* where wzrun reports a fault; 0: STATUS_WRONG, STATUS_STALLED */
     int folder;      /* in which wzrun was begun: the paths of files are meant from there */
     bool one_folder; /* the system doesn't let ranks have working directories of their own */
     bool notes; /* for --trace, --timeline or --stats */
     uint64_t seed;           /* 0: nothing is drawn */
+    double timeout;          /* seconds; 0: none */
     const char *text, *values;    /* the files for the job text and for what requests got; NULL: none */
     const char *trace, *timeline; /* and for what the run did */
     const char *program;

@@ -63,6 +63,7 @@ int begin_request(struct request *request, const char *call) {
     free(packed);
     if (code != WZ_DONE) return engine_refused(request, code, call);
     request->active = true;
+    note_progress();
     return MPI_SUCCESS;
 }
 

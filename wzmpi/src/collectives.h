@@ -175,6 +175,7 @@ bool is_at_rest(struct engine *engine); /* no request of it becomes done before 
 bool is_done(struct request *request);
 /* The members whose calls a collective lacks, as ranks; whom a message waits for. */
 uint64_t lacking(const struct request *request);
+void note_progress(void); /* this rank has begun or completed a request */
 void begin_waiting(const char *call, struct request **list, int many, bool any);
 void begin_wait_for_room(const char *call, struct request *request);
 void end_waiting(void);

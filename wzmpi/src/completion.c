@@ -3,8 +3,8 @@
 #include "trace.h"
 #include "record.h"
 #include "diagnostics.h"
+#include "test_loops.h"
 
-#include <sched.h>
 #include <time.h>
 
 void empty_status(MPI_Status *status) {
@@ -26,6 +26,7 @@ int tell_changed(const struct request *request, const char *what, const char *ca
 static int end_collective(struct request *request, const char *call) {
     int code = MPI_SUCCESS;
     const char *changed = end_loan(request);
+    note_progress();
     record_outcome(request);
     if (changed != NULL) code = tell_changed(request, changed, call);
     if (!request->direct) code = open_parcels(request, call);
@@ -104,7 +105,7 @@ int MPI_Test(MPI_Request *handle, int *flag, MPI_Status *status) {
     }
     *flag = is_done(request) && !holds_back();
     if (!*flag) {
-        sched_yield();
+        test_in_vain("MPI_Test", &request, 1);
         return code;
     }
     bool stays = request->persistent;
@@ -118,6 +119,7 @@ int MPI_Request_get_status(MPI_Request handle, int *flag, MPI_Status *status) {
     struct request *request;
     int code = find_request(handle, "MPI_Request_get_status", &request);
     *flag = code == MPI_SUCCESS && (request == NULL || is_done(request));
+    if (code == MPI_SUCCESS && !*flag) test_in_vain("MPI_Request_get_status", &request, 1);
     if (!*flag || request == NULL || !request->active) empty_status(status);
     else show_status(request, status);
     return code;
@@ -197,11 +199,15 @@ int MPI_Testall(int many, MPI_Request handles[], int *flag, MPI_Status statuses[
     int code = read_list(&list, many, handles, "MPI_Testall");
     *flag = code == MPI_SUCCESS;
     if (code != MPI_SUCCESS) return code;
-    for (int i = 0; i < many && *flag; i++) *flag = list.at[i] == NULL || is_done(list.at[i]);
+    int lacking = -1;
+    for (int i = 0; i < many && *flag; i++) {
+        *flag = list.at[i] == NULL || is_done(list.at[i]);
+        if (!*flag) lacking = i;
+    }
     if (*flag) {
         record_wait("waitall", list.at, many, "MPI_Testall");
         code = complete_all(&list, handles, statuses, "MPI_Testall");
-    } else sched_yield();
+    } else test_in_vain("MPI_Testall", &list.at[lacking], 1);
     give_up(&list);
     return code;
 }
@@ -287,7 +293,7 @@ int MPI_Testany(int many, MPI_Request handles[], int *index, int *flag, MPI_Stat
     struct found found = find_done(&list);
     *index = MPI_UNDEFINED;
     *flag = found.active == 0 || (found.many > 0 && !holds_back());
-    if (!*flag) sched_yield();
+    if (!*flag) test_in_vain("MPI_Testany", list.at, many);
     else if (found.active == 0) empty_status(status);
     else code = take_one(&list, &found, handles, index, status, "MPI_Testany");
     free(found.done);
@@ -302,7 +308,7 @@ int MPI_Testsome(int many, MPI_Request handles[], int *taken, int indices[], MPI
     struct found found = find_done(&list);
     *taken = found.active == 0 ? MPI_UNDEFINED : 0;
     if (found.many > 0 && !holds_back()) code = take_some(&list, &found, handles, taken, indices, statuses, "MPI_Testsome");
-    else if (found.active > 0) sched_yield();
+    else if (found.active > 0) test_in_vain("MPI_Testsome", list.at, many);
     free(found.done);
     give_up(&list);
     return code;

@@ -7,11 +7,39 @@
 #include "deadlock_watch.h"
 
 #include "diagnostics.h"
+#include "standing.h"
+#include "test_loops.h"
 #include "per_rank_libc.h"
 
 #include <time.h>
 
 enum { PATIENCE = 20 }; /* looks that give one answer, before a stall of some of the ranks is told while others go on */
+
+uint64_t all_ranks(void) { return the_run.size == 64 ? UINT64_MAX : (1ull << the_run.size) - 1; }
+
+/* ---- when each rank was last seen to call */
+
+static struct {
+    uint64_t calls, progress;
+    struct timespec at;
+} last_seen[MOST_RANKS];
+
+static void look_at_calls(void) {
+    for (int i = 0; i < the_run.size; i++) {
+        uint64_t calls = atomic_load(&the_run.ranks[i].lines), progress = atomic_load(&the_run.ranks[i].progress);
+        if (last_seen[i].at.tv_sec != 0 && calls == last_seen[i].calls && progress == last_seen[i].progress) continue;
+        last_seen[i].calls = calls;
+        last_seen[i].progress = progress;
+        clock_gettime(CLOCK_MONOTONIC, &last_seen[i].at);
+    }
+}
+
+double seconds_since_call(int rank) {
+    struct timespec now;
+    if (last_seen[rank].at.tv_sec == 0) return 0;
+    clock_gettime(CLOCK_MONOTONIC, &now);
+    return (double)(now.tv_sec - last_seen[rank].at.tv_sec) + (double)(now.tv_nsec - last_seen[rank].at.tv_nsec) / 1e9;
+}
 
 /* What a look has seen. */
 struct sight {
@@ -81,26 +109,26 @@ static uint64_t find_lost(const struct sight *sight) {
 
 /* ---- telling */
 
-static void tell_message(const struct request *request) {
+static void write_message(FILE *to, const struct request *request) {
     char ranks[RANKS_TEXT];
     const char *what = request->sort == SENDING ? "that its message is received by" : "for a message from";
     const char *whom = request->other == MPI_ANY_SOURCE ? "any rank" : ranks_text(lacking(request), ranks);
-    fprintf(stderr, "    %s %s", what, whom);
-    if (request->tag >= 0) fprintf(stderr, ", tag %d", request->tag);
-    fprintf(stderr, ": %s at %s\n", request->name, request->started_at);
+    fprintf(to, "\n    %s %s", what, whom);
+    if (request->tag >= 0) fprintf(to, ", tag %d", request->tag);
+    fprintf(to, ": %s at %s", request->name, request->started_at);
 }
 
-static void tell_request(struct request *request, const char *call) {
+void write_awaited(FILE *to, struct request *request, const char *call) {
     char ranks[RANKS_TEXT], name[NAME_TEXT], root[40] = "", start[300] = "";
     uint64_t lacks = lacking(request);
     if (request->sort != COLLECTIVE) {
-        tell_message(request);
+        write_message(to, request);
         return;
     }
     if (is_rooted(request->arguments.function) && request->comm->first == 0) snprintf(root, sizeof root, ", root %d", request->arguments.root);
     if (request->starts != NULL) snprintf(start, sizeof start, ", start %u at %s", request->times, request->started_at);
     const char *where = request->name == call ? "" : " at ";
-    fprintf(stderr, "    for %s%s%s%s, place %llu of %s%s, which %s %s not %s\n", request->name, root, where, request->name == call ? "" : request->site, (unsigned long long)request->place,
+    fprintf(to, "\n    for %s%s%s%s, place %llu of %s%s, which %s %s not %s", request->name, root, where, request->name == call ? "" : request->site, (unsigned long long)request->place,
             comm_name(request->comm, name), start, ranks_text(lacks, ranks), count_ranks(lacks) == 1 ? "has" : "have", request->starts != NULL ? "made" : "called");
 }
 
@@ -112,12 +140,14 @@ static uint64_t awaited(const struct rank *rank, uint64_t lost) {
     return ranks;
 }
 
-static void tell_rank(const struct rank *rank, uint64_t lost) {
-    fprintf(stderr, "  rank %d waits in %s at %s\n", rank->number, rank->wait.call, rank->wait.site);
+static void write_lost(struct standing *standing, const struct rank *rank, uint64_t lost) {
+    FILE *to = begin_standing(standing, rank->wait.tests ? "tests in vain in" : "waits in", rank->wait.tests ? "test in vain in" : "wait in");
+    fprintf(to, "%s at %s", rank->wait.call, rank->wait.site);
     for (int i = 0; i < rank->wait.many; i++) {
         struct request *request = rank->wait.list[i];
-        if (is_open(request) && (rank->wait.any || is_hopeless(request, lost))) tell_request(request, rank->wait.call);
+        if (is_open(request) && (rank->wait.any || is_hopeless(request, lost))) write_awaited(to, request, rank->wait.call);
     }
+    end_standing(to);
 }
 
 static int lowest(uint64_t ranks) {
@@ -130,6 +160,7 @@ static int lowest(uint64_t ranks) {
 static void point(uint64_t lost, uint64_t gone, int points[MOST_RANKS]) {
     for (int i = 0; i < the_run.size; i++) {
         uint64_t whom = lost >> i & 1 ? awaited(&the_run.ranks[i], lost | gone) & lost : 0;
+        if ((whom & ~(1ull << i)) != 0) whom &= ~(1ull << i); /* any rank is another one first */
         points[i] = whom != 0 ? lowest(whom) : -1;
     }
 }
@@ -156,15 +187,17 @@ static bool tell_circle(const int points[MOST_RANKS], int from) {
     return true;
 }
 
-static void tell_others(const struct sight *sight, uint64_t lost) {
-    for (int i = 0; i < the_run.size; i++) {
-        const struct rank *rank = &the_run.ranks[i];
-        if (lost >> i & 1) continue;
-        const char *site = atomic_load(&rank->site);
-        if (atomic_load(&rank->ended)) fprintf(stderr, "  rank %d has ended with status %d; its last call stands at %s\n", i, rank->status, site);
-        else if (sight->gone >> i & 1) fprintf(stderr, "  rank %d has called MPI_Finalize at %s\n", i, site);
-        else fprintf(stderr, "  rank %d goes on; its last call stands at %s\n", i, site);
-    }
+static void write_other(struct standing *standing, int rank, bool is_gone) {
+    char one[100], many[100];
+    const struct rank *it = &the_run.ranks[rank];
+    bool ended = atomic_load(&it->ended);
+    snprintf(one, sizeof one, is_gone ? "has called MPI_Finalize at" : "goes on; its last call stands at");
+    snprintf(many, sizeof many, is_gone ? "have called MPI_Finalize at" : "go on; their last calls stand at");
+    if (ended) snprintf(one, sizeof one, "has ended with status %d; its last call stands at", it->status);
+    if (ended) snprintf(many, sizeof many, "have ended with status %d; their last calls stand at", it->status);
+    FILE *to = begin_standing(standing, one, many);
+    fputs(atomic_load(&it->site), to);
+    end_standing(to);
 }
 
 /* A rank that has called MPI_Finalize mostly ends soon: it is given two seconds, so that its status is reported. */
@@ -177,23 +210,55 @@ static void wait_for_ends(void) {
     }
 }
 
-static void tell_stall(const struct sight *sight, uint64_t lost) {
-    char ranks[RANKS_TEXT];
-    bool all = (lost | sight->gone) == (the_run.size == 64 ? UINT64_MAX : (1ull << the_run.size) - 1);
-    if (!tells_first()) return; /* whoever tells already ends the run, and may want to look at the ranks before */
-    wait_for_ends();
-    flush_streams();
-    if (all) fprintf(stderr, "wzrun: stalled: no rank can go on\n");
-    else fprintf(stderr, "wzrun: stalled: %s can't go on\n", ranks_text(lost, ranks));
-    for (int i = 0; i < the_run.size; i++)
-        if (lost >> i & 1) tell_rank(&the_run.ranks[i], lost | sight->gone);
-    tell_others(sight, lost);
+static void tell_lost(const struct sight *sight, uint64_t lost) {
+    struct standing standings[MOST_RANKS];
     int points[MOST_RANKS];
+    for (int i = 0; i < the_run.size; i++) {
+        if (lost >> i & 1) write_lost(&standings[i], &the_run.ranks[i], lost | sight->gone);
+        else write_other(&standings[i], i, sight->gone >> i & 1);
+    }
+    tell_standings(standings, lost);
+    tell_standings(standings, all_ranks() & ~lost);
     point(lost, sight->gone, points);
     for (int i = 0; i < the_run.size; i++)
         if ((lost >> i & 1) && tell_circle(points, i)) break;
     if (the_run.strict) fprintf(stderr, "  (--strict: each collective is taken to wait for all its members, each send for its receive)\n");
-    end_run(STATUS_STALLED, complete_stalled(lost, sight->gone));
+}
+
+static bool some_test(uint64_t lost) {
+    bool some = false;
+    for (int i = 0; i < the_run.size; i++) some = some || ((lost >> i & 1) && the_run.ranks[i].wait.tests);
+    return some;
+}
+
+/* Ranks that only test may leave their loops by what isn't MPI. Then this isn't sure, and is told once. */
+static bool may_leave_loops(uint64_t lost) {
+    bool asks = tells_time();
+    for (int i = 0; i < the_run.size; i++) asks = asks || ((lost >> i & 1) && atomic_load(&the_run.ranks[i].asked_time));
+    return asks;
+}
+
+static void tell_stall(const struct sight *sight, uint64_t lost) {
+    static bool told;
+    char ranks[RANKS_TEXT];
+    bool all = (lost | sight->gone) == all_ranks(), tests = some_test(lost);
+    if (tests && may_leave_loops(lost)) {
+        if (!told) {
+            flush_streams();
+            fprintf(stderr, "wzrun: warning: no rank goes on: tests can't come true any more (not sure: the program may leave its loops by the time, or by something else than MPI)\n");
+            tell_lost(sight, lost);
+        }
+        told = true;
+        return;
+    }
+    if (!tells_first()) return; /* whoever tells already ends the run, and may want to look at the ranks before */
+    wait_for_ends();
+    flush_streams();
+    if (tests) fprintf(stderr, "wzrun: stalled: no rank can go on, and tests can't come true any more\n");
+    else if (all) fprintf(stderr, "wzrun: stalled: no rank can go on\n");
+    else fprintf(stderr, "wzrun: stalled: %s can't go on\n", ranks_text(lost, ranks));
+    tell_lost(sight, lost);
+    end_run(fault_status(STATUS_STALLED), tests ? (struct question){ NULL, NULL } : complete_stalled(lost, sight->gone));
 }
 
 /* The waits that lost ranks are in, as one number: it changes where one of them has gone on in between. */
@@ -253,25 +318,52 @@ static bool all_had_turns(uint64_t others, uint64_t before[MOST_RANKS]) {
 /* One look sees the ranks one after the other, so one that it sees last may just have let go on one that it saw first. Where a second look sees the same ranks
    lost in the same waits, nothing that any of them did before the first look's end has let another go on. At that second look an engine at rest stays so; if a rank
    that waits for room then makes a turn in vain, and a third look sees the same, none of its requests gives a slot up. */
-void watch_for_deadlock(void) {
+static void watch_waits(bool tests) {
     static uint64_t lost_before, waits_before;
     static unsigned turns_before[MOST_RANKS];
     static uint64_t run_before[MOST_RANKS];
     static int looks;
-    hold_watch(true);
     struct sight sight = look();
-    uint64_t lost = sight.waiting != 0 ? find_lost(&sight) : 0, waits = waits_of(lost);
-    uint64_t all = the_run.size == 64 ? UINT64_MAX : (1ull << the_run.size) - 1;
+    uint64_t lost = sight.waiting != 0 ? find_lost(&sight) : 0, waits = waits_of(lost), all = all_ranks();
     bool same = lost != 0 && lost == lost_before && waits == waits_before, again = all_tried_again(same ? lost : 0, turns_before);
-    bool had_turns = all_had_turns(same ? all & ~lost & ~sight.gone : 0, run_before);
+    bool had_turns = all_had_turns(same ? all & ~lost & ~sight.gone : 0, run_before), whole = (lost | sight.gone) == all;
     looks = !same ? 0 : again && had_turns ? looks + 1 : looks;
     lost_before = lost;
     waits_before = waits;
     struct rank *without_room = first_without_room(lost);
-    bool is_sure = looks > ((lost | sight.gone) == all ? 0 : PATIENCE) + (without_room != NULL);
+    bool is_sure = looks > (whole ? 0 : PATIENCE) + (without_room != NULL) && (whole || !tests);
     if (is_sure && without_room != NULL) {
         atomic_store(&without_room->has_no_hope, true); /* it is refused, and others may go on then */
         lost_before = 0;
     } else if (is_sure) tell_stall(&sight, lost);
+}
+
+/* Ranks that rest: they wait, or have ended. */
+static uint64_t resting(void) {
+    uint64_t ranks = 0;
+    for (int i = 0; i < the_run.size; i++) {
+        const struct rank *rank = &the_run.ranks[i];
+        if (atomic_load(&rank->waits) || atomic_load(&rank->ended) || atomic_load(&rank->finalized)) ranks |= 1ull << i;
+    }
+    return ranks;
+}
+
+/* Where all ranks rest or only test, those that test stand still for some looks, and then for a longer time not. */
+void watch_for_deadlock(void) {
+    enum { STILL = 8, PAUSE = 200 };
+    static int still, pause;
+    hold_watch(true);
+    look_at_tests();
+    look_at_calls();
+    if (still == 0 && pause > 0) pause--;
+    if (still == 0 && pause == 0 && all_others_test(resting())) {
+        show_tests(true);
+        still = STILL;
+    }
+    watch_waits(still > 0);
+    if (still > 0 && --still == 0) {
+        show_tests(false);
+        pause = PAUSE;
+    }
     hold_watch(false);
 }

@@ -71,6 +71,8 @@ void go_back(void) {
     if (the_run.folder >= 0 && fchdir(the_run.folder) != 0) fprintf(stderr, "wzrun: the folder in which it was begun can't be entered any more\n");
 }
 
+int fault_status(int status) { return the_run.status_of_faults > 0 ? the_run.status_of_faults : status; }
+
 void end_run(int status, struct question question) {
     flush_streams();
     go_back();
@@ -109,7 +111,7 @@ int refuse(struct comm *comm, int class, const char *call, const char *format, .
     tell_alone();
     flush_streams();
     fprintf(stderr, "wzrun: rank %d: %s at %s: %s (%s)\n", me->number, call, me->site, me->last_refusal, class_name(class));
-    end_run(STATUS_WRONG, (struct question){ NULL, NULL });
+    end_run(fault_status(STATUS_WRONG), (struct question){ NULL, NULL });
 }
 
 /* ---- words */
@@ -120,9 +122,14 @@ const char *ranks_text(uint64_t ranks, char text[RANKS_TEXT]) {
     const char *before = " ";
     size_t at = (size_t)snprintf(text, RANKS_TEXT, count_ranks(ranks) == 1 ? "rank" : "ranks");
     while (ranks != 0) {
-        at += (size_t)snprintf(text + at, RANKS_TEXT - at, "%s%d", before, __builtin_ctzll(ranks));
-        ranks &= ranks - 1;
-        before = count_ranks(ranks) == 1 ? " and " : ", ";
+        int first = __builtin_ctzll(ranks), last = first;
+        while (last + 1 < MOST_RANKS && (ranks >> (last + 1) & 1)) last++;
+        bool row = last - first >= 2; /* three or more stand as FIRST-LAST */
+        for (int rank = first; rank <= (row ? last : first); rank++) ranks &= ~(1ull << rank);
+        if (row) at += (size_t)snprintf(text + at, RANKS_TEXT - at, "%s%d-%d", before, first, last);
+        else at += (size_t)snprintf(text + at, RANKS_TEXT - at, "%s%d", before, first);
+        uint64_t rest = ranks != 0 ? ranks >> __builtin_ctzll(ranks) : 0;
+        before = count_ranks(ranks) == 1 || (count_ranks(ranks) >= 3 && (rest & (rest + 1)) == 0) ? " and " : ", ";
     }
     return text;
 }

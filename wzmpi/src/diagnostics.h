@@ -17,6 +17,7 @@ const char *class_name(int class);
 void tell_alone(void);
 bool tells_first(void); /* false, and at once, where another has taken it */
 void go_back(void); /* to the folder in which wzrun was begun: a rank may have left it */
+int fault_status(int status); /* as --status-of-faults says, or STATUS */
 void end_run(int status, struct question question) __attribute__((noreturn));
 
 /* Lists of ranks: "rank 2", "ranks 0, 1 and 3". */

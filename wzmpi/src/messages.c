@@ -5,6 +5,7 @@
 #include "diagnostics.h"
 
 int start_message(struct request *request) {
+    note_progress();
     request->active = true;
     request->cancelled = false;
     if (request->persistent) request->begun = run_clock();
@@ -67,6 +68,7 @@ static int receive_message(struct request *request, const char *call) {
 }
 
 int finish_message(struct request *request, MPI_Status *status, const char *call) {
+    note_progress();
     const char *changed = end_loan(request);
     show_status(request, status);
     int code = request->sort == RECEIVING ? receive_message(request, call) : MPI_SUCCESS;

@@ -127,5 +127,5 @@ void tell_mismatch(struct comm *comm, uint64_t number) {
     tell_calls(&place);
     tell_absent(&place);
     tell_difference(&place);
-    end_run(STATUS_WRONG, complete_mismatch());
+    end_run(fault_status(STATUS_WRONG), complete_mismatch());
 }

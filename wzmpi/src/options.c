@@ -6,20 +6,32 @@
 #include <sys/wait.h>
 #include <unistd.h>
 
+static const char version[] = "wzrun (Worzsunab) 0.1.0, MPI 4.1 with ranks as threads of one process\n";
 static const char help[] =
-    "wzrun [-n N] [OPTION ..] PROGRAM [ARGUMENT ..]: runs N ranks of a program that wzcc linked, as threads of one process\n"
+    "wzrun: runs an MPI program with its ranks as threads of one process, and reports deadlocks, mismatched collectives and wrong calls\n"
+    "  wzrun [-n N] [OPTION ..] PROGRAM [ARGUMENT ..]      PROGRAM was linked by wzcc or wzc++\n"
+    "Ranks:\n"
     "  -n N, -np N      1 to 64 ranks; else WZ_RANKS says how many, or there is one\n"
+    "  -x NAME[=VALUE]  sets a variable of the environment\n"
+    "Checks:\n"
     "  --strict         a collective is complete only once all its members have called it, and a send once it is received\n"
     "  --check          reports where a program changes what a nonblocking or persistent call sends, or writes to where it receives, before it is completed\n"
     "  --seed S         draws by the number S how the ranks interleave and which of several finished requests MPI_Waitany and its like take\n"
     "  --seeds A..B     runs it with each of these seeds until a run ends badly\n"
     "  --explain        at a bad end has colljob, which PATH has or COLLJOB names, tell why\n"
+    "  --timeout S      ends the run after S seconds with status 124, and says where each rank stands, as SIGINT and SIGTERM do; SIGQUIT says it, and the run goes on\n"
+    "Files and figures:\n"
     "  --text FILE      writes the calls as a job text\n"
     "  --values FILE    writes what requests got, as the lines of `colljob plain`\n"
     "  --timeline FILE  writes when each collective and message was under way, and each wait, as trace events that Perfetto opens\n"
     "  --trace FILE     writes each call that an engine accepted, in the order in which the engines took them\n"
-    "  --quiet          without notes about what ranks share, as processes wouldn't\n"
     "  --stats          says what ranks and collectives gave, got and waited, how many collectives the engine carried out as they are, and how many it carried\n"
+    "Else:\n"
+    "  --status-of-faults N  the status where wzrun reports a fault, 1 to 255, so that it can't be the program's\n"
+    "  -q, --quiet      without notes about what ranks share, as processes wouldn't\n"
+    "  --oversubscribe, --allow-run-as-root  are taken, as mpirun's, and mean nothing\n"
+    "  --version, --help\n"
+    "  --               ends the options\n"
     "Statuses: that of the program; 1: wzrun can't run it; 2: a call that MPI doesn't allow, or calls that don't agree; 3: stalled; 128 + the signal of a crash.\n";
 
 static void give_up(const char *word, const char *reason) __attribute__((noreturn));
@@ -43,11 +55,34 @@ static int ranks_of(const char *word, const char *text) {
     return (int)it;
 }
 
+static int status_of(const char *word, const char *text) {
+    uint64_t it = number(word, text, NULL);
+    if (it > 255) give_up(word, "a status is 1 to 255");
+    return (int)it;
+}
+
+static double seconds_of(const char *word, const char *text) {
+    char *end;
+    double it = strtod(text, &end);
+    if (end == text || *end != '\0' || !(it > 0) || it > 1e9) give_up(word, "seconds stand after it");
+    return it;
+}
+
 static void read_seeds(const char *text, struct options *options) {
     const char *rest;
     options->first_seed = number("--seeds", text, &rest);
     if (strncmp(rest, "..", 2) != 0) give_up("--seeds", "A..B stands after it");
     options->last_seed = number("--seeds", rest + 2, NULL);
+    if (options->first_seed > options->last_seed) give_up("--seeds", "A..B stands after it, and A is at most B");
+}
+
+/* NAME=VALUE; a NAME alone is in the environment already. */
+static void set_variable(const char *text) {
+    const char *equals = strchr(text, '=');
+    if (equals == NULL) return;
+    char *name = must(strndup(text, (size_t)(equals - text)));
+    if (setenv(name, equals + 1, 1) != 0) give_up("-x", "NAME or NAME=VALUE stands after it");
+    free(name);
 }
 
 static bool is_word(const char *word, const char *text) { return strcmp(word, text) == 0; }
@@ -59,12 +94,15 @@ static bool read_flag(const char *word) {
     else if (is_word(word, "--explain")) the_run.explains = true;
     else if (is_word(word, "--stats")) the_run.statistics = true;
     else if (is_word(word, "--quiet") || is_word(word, "-q")) the_run.quiet = true;
-    else return false;
+    else return is_word(word, "--oversubscribe") || is_word(word, "--allow-run-as-root");
     return true;
 }
 
 static bool read_value(const char *word, const char *value, struct options *options) {
     if (is_word(word, "-n") || is_word(word, "-np")) options->ranks = ranks_of(word, value);
+    else if (is_word(word, "-x")) set_variable(value);
+    else if (is_word(word, "--status-of-faults")) the_run.status_of_faults = status_of(word, value);
+    else if (is_word(word, "--timeout")) the_run.timeout = seconds_of(word, value);
     else if (is_word(word, "--seed")) the_run.seed = number(word, value, NULL);
     else if (is_word(word, "--seeds")) read_seeds(value, options);
     else if (is_word(word, "--text")) the_run.text = value;
@@ -75,43 +113,74 @@ static bool read_value(const char *word, const char *value, struct options *opti
     return true;
 }
 
-static bool is_set(const char *variable) {
-    const char *value = getenv(variable);
-    return value != NULL && !is_word(value, "") && !is_word(value, "0");
+/* A variable's value; NULL: it has none. */
+static const char *variable(const char *name) {
+    const char *value = getenv(name);
+    return value != NULL && value[0] != '\0' ? value : NULL;
 }
+
+static bool is_set(const char *name) { return variable(name) != NULL && !is_word(variable(name), "0"); }
 
 /* A program that runs by itself has its options in variables. */
 static void read_variables(struct options *options) {
-    if (is_set("WZ_RANKS")) options->ranks = ranks_of("WZ_RANKS", getenv("WZ_RANKS"));
+    if (variable("WZ_RANKS") != NULL) options->ranks = ranks_of("WZ_RANKS", variable("WZ_RANKS"));
     the_run.strict = is_set("WZ_STRICT");
     the_run.checks = is_set("WZ_CHECK");
     the_run.explains = is_set("WZ_EXPLAIN");
     the_run.statistics = is_set("WZ_STATS");
     the_run.quiet = is_set("WZ_QUIET");
-    if (is_set("WZ_SEED")) the_run.seed = number("WZ_SEED", getenv("WZ_SEED"), NULL);
-    if (is_set("WZ_TEXT")) the_run.text = getenv("WZ_TEXT");
-    if (is_set("WZ_VALUES")) the_run.values = getenv("WZ_VALUES");
-    if (is_set("WZ_TIMELINE")) the_run.timeline = getenv("WZ_TIMELINE");
-    if (is_set("WZ_TRACE")) the_run.trace = getenv("WZ_TRACE");
+    if (variable("WZ_STATUS_OF_FAULTS") != NULL) the_run.status_of_faults = status_of("WZ_STATUS_OF_FAULTS", variable("WZ_STATUS_OF_FAULTS"));
+    if (variable("WZ_TIMEOUT") != NULL) the_run.timeout = seconds_of("WZ_TIMEOUT", variable("WZ_TIMEOUT"));
+    if (variable("WZ_SEED") != NULL) the_run.seed = number("WZ_SEED", variable("WZ_SEED"), NULL);
+    the_run.text = variable("WZ_TEXT");
+    the_run.values = variable("WZ_VALUES");
+    the_run.timeline = variable("WZ_TIMELINE");
+    the_run.trace = variable("WZ_TRACE");
+}
+
+static void tell_and_end(const char *text) {
+    fputs(text, stdout);
+    exit(fflush(stdout) == 0 ? 0 : 1);
+}
+
+/* An option with its value: in the next word, after `=`, or as in -n4. How many words it is. */
+static int read_option(char **words, int many, struct options *options) {
+    char *equals = strchr(words[0], '=');
+    if (is_word(words[0], "--help") || is_word(words[0], "-h")) tell_and_end(help);
+    if (is_word(words[0], "--version") || is_word(words[0], "-V")) tell_and_end(version);
+    if (read_flag(words[0])) return 1;
+    size_t letters = strspn(words[0], "-np");
+    if (strncmp(words[0], "-n", 2) == 0 && words[0][letters] >= '0' && words[0][letters] <= '9' && read_value("-n", words[0] + letters, options)) return 1;
+    if (strncmp(words[0], "--", 2) == 0 && equals != NULL) {
+        char *word = must(strndup(words[0], (size_t)(equals - words[0])));
+        if (!read_value(word, equals + 1, options)) give_up(word, "wzrun has no such option with a value");
+        free(word);
+        return 1;
+    }
+    if (many < 2 || !read_value(words[0], words[1], options)) give_up(words[0], "wzrun has no such option, or its value is missing");
+    return 2;
+}
+
+/* mpirun starts processes, each of which would be a run of one rank. */
+static void refuse_mpirun(const char *program) {
+    static const char *const sizes[] = { "OMPI_COMM_WORLD_SIZE", "PMI_SIZE" };
+    for (size_t i = 0; i < sizeof sizes / sizeof sizes[0]; i++) {
+        const char *size = variable(sizes[i]);
+        if (size == NULL || strtol(size, NULL, 10) < 2) continue;
+        fprintf(stderr, "wzrun: mpirun can't run %s, which wzcc linked: wzrun -n %s %s\n", program, size, program);
+        exit(1);
+    }
 }
 
 void read_options(int argc, char **argv, struct options *options) {
     int at = 1;
-    *options = (struct options){ .ranks = 1 };
+    *options = (struct options){ .ranks = 0 };
     read_variables(options);
-    while (at < argc && argv[at][0] == '-') {
-        if (is_word(argv[at], "--help") || is_word(argv[at], "-h")) {
-            fputs(help, stdout);
-            exit(0);
-        }
-        if (read_flag(argv[at])) {
-            at++;
-            continue;
-        }
-        if (at + 1 == argc || !read_value(argv[at], argv[at + 1], options)) give_up(argv[at], "wzrun has no such option, or its value is missing");
-        at += 2;
-    }
+    while (at < argc && argv[at][0] == '-' && !is_word(argv[at], "--")) at += read_option(argv + at, argc - at, options);
+    if (at < argc && is_word(argv[at], "--")) at++;
     if (at == argc) give_up("no program", "it stands after the options");
+    if (options->ranks == 0) refuse_mpirun(argv[at]);
+    if (options->ranks == 0) options->ranks = 1;
     options->program = at;
 }
 
@@ -119,17 +188,18 @@ void read_options(int argc, char **argv, struct options *options) {
 
 /* The same words with --seed SEED in place of --seeds. */
 static int run_seed(int argc, char **argv, uint64_t seed) {
-    static char word[] = "--seed";
-    char text[24];
+    static char quiet[] = "--oversubscribe"; /* a word that means nothing */
+    char text[40];
     char **words = must(calloc((size_t)argc + 1, sizeof *words));
-    snprintf(text, sizeof text, "%llu", (unsigned long long)seed);
     for (int i = 0; i < argc; i++) words[i] = argv[i];
-    for (int i = 1; i + 1 < argc; i++)
-        if (is_word(words[i], "--seeds")) {
-            words[i] = word;
-            words[i + 1] = text;
-            break;
-        }
+    for (int i = 1; i < argc; i++) {
+        if (strncmp(words[i], "--seeds", 7) != 0) continue;
+        snprintf(text, sizeof text, "--seed=%llu", (unsigned long long)seed);
+        bool one = words[i][7] == '=';
+        words[i] = text;
+        if (!one) words[i + 1] = quiet; /* in place of the seeds */
+        break;
+    }
     int status = 0;
     pid_t child = fork();
     if (child == 0) {

@@ -2,8 +2,7 @@
 #include "counted.h"
 #include "mailbox.h"
 #include "diagnostics.h"
-
-#include <sched.h>
+#include "test_loops.h"
 
 /* A probe as a request that is active, with what it asks for. */
 static int make_probe(int source, int tag, MPI_Comm comm, struct request **made, const char *call) {
@@ -24,7 +23,7 @@ static bool look(struct request *request, bool waits, MPI_Status *status) {
     }
     if (waits && !has_come(request, MPI_STATUS_IGNORE)) wait_for(request->name, only, 1, false);
     bool there = has_come(request, status);
-    if (!there) sched_yield();
+    if (!there) test_in_vain(request->name, only, 1);
     return there;
 }
 

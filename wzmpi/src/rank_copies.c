@@ -256,6 +256,23 @@ static bool read_imports(const char *path, bool copied, struct shared *shared) {
     return calls;
 }
 
+static bool imports(const char *path, const char *name) {
+    struct elf_file file;
+    size_t length = strlen(name);
+    bool begins = name[length - 1] == '*', found = false;
+    const char *imported;
+    if (read_elf(path, &file) != NULL) return false;
+    for (size_t i = 0; !found && (imported = imported_name(&file, i)) != NULL; i++) found = begins ? strncmp(imported, name, length - 1) == 0 : strcmp(imported, name) == 0;
+    leave_elf(&file);
+    return found;
+}
+
+bool is_imported(const char *name) {
+    bool found = imports(program_path, name);
+    for (const struct library *library = libraries; library != NULL && !found; library = library->next) found = library->linked_by_wzcc && imports(library->path, name);
+    return found;
+}
+
 void tell_shared(void) {
     struct shared shared = { "", "" };
     if (the_run.size < 2 || the_run.quiet) return;

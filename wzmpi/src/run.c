@@ -5,6 +5,7 @@
 #include "options.h"
 #include "per_rank_libc.h"
 #include "rank_copies.h"
+#include "signals.h"
 #include "record.h"
 #include "diagnostics.h"
 
@@ -124,6 +125,7 @@ static void watch_ranks(int size) {
         until.tv_nsec %= 1000000000;
         if (sem_timedwait(&ended, &until) == 0) left--;
         else if (errno == ETIMEDOUT) watch_for_deadlock();
+        answer_signals();
     }
 }
 
@@ -141,6 +143,7 @@ static int run_ranks(int argc, char **argv, const struct options *options) {
     the_run.folder = open(".", O_PATH | O_DIRECTORY | O_CLOEXEC);
     sem_init(&ended, 0, 0);
     tell_crashes();
+    catch_signals();
     const char *why = open_program(program);
     if (why != NULL) give_up(program, why);
     tell_shared();

@@ -51,6 +51,8 @@ void hold_watch(bool begin) {
     pthread_mutex_unlock(&looking);
 }
 
+void note_progress(void) { atomic_fetch_add_explicit(&current_rank->progress, 1, memory_order_relaxed); }
+
 /* ---- how far a request is */
 
 static bool has_called(const struct request *request, int member) {

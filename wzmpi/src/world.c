@@ -42,12 +42,13 @@ void wz_note_line_(const char *line) {
     struct rank *rank = rank_of_code(line);
     if (rank == NULL) return; /* the call itself tells that its thread is no rank's */
     atomic_store_explicit(&rank->site, line, memory_order_relaxed);
+    atomic_store_explicit(&rank->lines, atomic_load_explicit(&rank->lines, memory_order_relaxed) + 1, memory_order_relaxed);
 }
 
 struct rank *this_rank(const char *call) {
     if (rank_of_code(__builtin_return_address(0)) != NULL) return current_rank;
     fprintf(stderr, "wzrun: %s: the thread that calls it isn't one of a rank\n", call);
-    _exit(STATUS_WRONG);
+    _exit(fault_status(STATUS_WRONG));
 }
 
 void begin_run(int size) {
@@ -138,6 +139,7 @@ int MPI_Abort(MPI_Comm comm, int status) {
 
 double MPI_Wtime(void) {
     struct timespec now;
+    if (current_rank != NULL) atomic_store_explicit(&current_rank->asked_time, true, memory_order_relaxed);
     clock_gettime(CLOCK_MONOTONIC, &now);
     return (double)now.tv_sec + (double)now.tv_nsec / 1e9;
 }

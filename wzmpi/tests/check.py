@@ -17,7 +17,9 @@ import shutil
 import sys
 import tempfile
 
+import check_calling
 import check_processes
+import check_standing
 from checking import HERE, compiled, run
 
 NAME_LINE = re.compile(r"== (.*): status (\d+)")
@@ -34,7 +36,7 @@ OPTIONS = {
 # Those that --explain is tried with.
 EXPLAINED = ["root", "blocking", "lacking", "crossed", "missing_start", "missing_split", "any_of_two", "receives_first", "lucky_bcasts", "lucky_sends"]
 # Other tests, each in a file of its own.
-MODULES = [check_processes]
+MODULES = [check_calling, check_processes, check_standing]
 # The programs without a mistake.
 RIGHT = [HERE / "right.c", HERE / "right_edges.c"]
 # How many ranks each right program is run with, where these aren't 1, 2 and 5.
@@ -234,17 +236,6 @@ def check_alone(binaries, out):
     return 1
 
 
-def check_help(binaries):
-    """Each tool explains itself: the compilers, which hand all other words down, too."""
-    failed = 0
-    for tool in ("wzcc", "wzc++", "wzrun"):
-        status, said = run([str(binaries / tool), "--help"])
-        if status != 0 or not said.startswith(f"{tool} [") or "./program" not in said and "PROGRAM" not in said:
-            failed += 1
-            print(f"check.py: {tool} --help: status {status}: {said}")
-    return failed
-
-
 def main():
     words = sys.argv[1:]
     write = "--write" in words
@@ -259,7 +250,6 @@ def main():
             failed += check_notes(binaries, out)
             failed += check_examples(binaries, out)
             failed += check_alone(binaries, out)
-            failed += check_help(binaries)
             failed += sum(module.check(binaries, out) for module in MODULES)
     print("check.py: all as it should be" if failed == 0 else f"check.py: {failed} failed")
     return min(failed, 1)

@@ -1,0 +1,54 @@
+/* SIGQUIT asks where the ranks stand; SIGINT, SIGTERM and --timeout end the run after that, and the files that are wanted are written. A program that has handlers
+   of its own keeps them. */
+#include "signals.h"
+
+#include "per_rank_libc.h"
+#include "standing.h"
+#include "trace.h"
+
+#include <signal.h>
+#include <time.h>
+
+static atomic_int caught;
+static struct timespec begun;
+
+static void catch(int number) { atomic_store(&caught, number); }
+
+/* A second signal that ends does so at once. */
+void catch_signals(void) {
+    static const int numbers[] = { SIGINT, SIGTERM, SIGQUIT };
+    clock_gettime(CLOCK_MONOTONIC, &begun);
+    for (size_t i = 0; i < sizeof numbers / sizeof numbers[0]; i++) {
+        struct sigaction before, action = { .sa_handler = catch, .sa_flags = SA_RESTART };
+        if (numbers[i] != SIGQUIT) action.sa_flags |= (int)SA_RESETHAND;
+        sigemptyset(&action.sa_mask);
+        if (sigaction(numbers[i], NULL, &before) == 0 && before.sa_handler == SIG_DFL) sigaction(numbers[i], &action, NULL);
+    }
+}
+
+static void tell(const char *why) {
+    flush_streams();
+    fprintf(stderr, "wzrun: %s: here the ranks stand:\n", why);
+    tell_where_all_stand();
+}
+
+static void end(const char *why, int status) {
+    tell_alone();
+    tell(why);
+    if (the_run.statistics) tell_statistics();
+    end_run(status, (struct question){ NULL, NULL });
+}
+
+void answer_signals(void) {
+    struct timespec now;
+    char text[60];
+    int number = atomic_exchange(&caught, 0);
+    if (number == SIGQUIT) tell("SIGQUIT");
+    else if (number == SIGINT) end("SIGINT ends the run", 128 + number);
+    else if (number == SIGTERM) end("SIGTERM ends the run", 128 + number);
+    if (the_run.timeout <= 0) return;
+    clock_gettime(CLOCK_MONOTONIC, &now);
+    double seconds = (double)(now.tv_sec - begun.tv_sec) + (double)(now.tv_nsec - begun.tv_nsec) / 1e9;
+    snprintf(text, sizeof text, "--timeout ends the run after %g s", the_run.timeout);
+    if (seconds >= the_run.timeout) end(text, fault_status(STATUS_TIMED_OUT));
+}

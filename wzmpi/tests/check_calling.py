@@ -1,0 +1,154 @@
+"""Whether wzrun is called as mpirun is, and wzcc as mpicc: for check.py."""
+
+import os
+import shutil
+import subprocess
+
+from checking import HERE, compiled, reported, run
+
+# A program that says what it was given, and one that has MPI refuse a call.
+GIVEN = r"""#include <mpi.h>
+#include <stdio.h>
+#include <stdlib.h>
+int main(int argc, char **argv) {
+    int rank, size;
+    MPI_Init(&argc, &argv);
+    MPI_Comm_rank(MPI_COMM_WORLD, &rank);
+    MPI_Comm_size(MPI_COMM_WORLD, &size);
+    if (argc > 2) MPI_Barrier(MPI_COMM_NULL);
+    if (rank == 0) printf("%d ranks, %s, WORD=%s\n", size, argc > 1 ? argv[1] : "no word", getenv("WORD") ? getenv("WORD") : "");
+    MPI_Finalize();
+    return 0;
+}
+"""
+# A profiler's source: it defines calls itself.
+PROFILER = r"""#include <mpi.h>
+#include <stdio.h>
+static int barriers;
+int MPI_Barrier(MPI_Comm comm) { barriers++; return PMPI_Barrier(comm); }
+int
+MPI_Finalize(void) {
+    printf("%d barriers\n", barriers);
+    return PMPI_Finalize();
+}
+"""
+PROFILED = r"""#include <mpi.h>
+int main(int argc, char **argv) {
+    MPI_Init(&argc, &argv);
+    MPI_Barrier(MPI_COMM_WORLD);
+    MPI_Finalize();
+    return 0;
+}
+"""
+PROJECT = """cmake_minimum_required(VERSION 3.10)
+project(hello CXX C)
+find_package(MPI REQUIRED)
+add_executable(hello hello.cpp)
+target_link_libraries(hello MPI::MPI_CXX)
+add_executable(average average.c)
+target_link_libraries(average MPI::MPI_C)
+"""
+
+
+def written(path, text):
+    path.write_text(text)
+    return path
+
+
+def check_words(binaries, program):
+    """Words of wzrun, variables, and what comes of them."""
+    wzrun, alone = str(binaries / "wzrun"), "wzrun: -n: a number from 1 on stands after it (wzrun --help says more)\n"
+    wanted = [
+        (["-n4", program], {}, 0, "4 ranks, no word, WORD=\n"), (["-np2", program], {}, 0, "2 ranks, no word, WORD=\n"),
+        (["-n", "2", "--", program, "--", "-n"], {}, 2, None), (["-n", "2", "--", program, "--x"], {}, 0, "2 ranks, --x, WORD=\n"),
+        (["-x", "WORD=a b", "-n", "1", program], {}, 0, "1 ranks, no word, WORD=a b\n"), (["-x", "WORD", "-n", "1", program], {"WORD": "c"}, 0, "1 ranks, no word, WORD=c\n"),
+        (["--seed=7", "--oversubscribe", program], {"WZ_RANKS": "3"}, 0, "3 ranks, no word, WORD=\n"), (["-n", "0", program], {}, 1, alone),
+        ([program], {"WZ_RANKS": "0"}, 1, alone.replace("-n:", "WZ_RANKS:")), ([program], {"WZ_RANKS": "many"}, 1, alone.replace("-n:", "WZ_RANKS:")),
+        (["--seeds", "3..1", program], {}, 1, "wzrun: --seeds: A..B stands after it, and A is at most B (wzrun --help says more)\n"),
+        (["-n", "2", "--seeds", "1..2", "-q", program], {}, 0, "2 ranks, no word, WORD=\n" * 2 + "wzrun: all runs with the seeds 1 to 2 ended well\n"),
+        (["--wrong", program], {}, 1, "wzrun: --wrong: wzrun has no such option, or its value is missing (wzrun --help says more)\n"),
+        (["--status-of-faults", "99", "-n", "1", program, "1", "2"], {}, 99, None), ([program, "1", "2"], {"WZ_STATUS_OF_FAULTS": "98"}, 98, None),
+        (["--version"], {}, 0, "wzrun (Worzsunab) 0.1.0, MPI 4.1 with ranks as threads of one process\n"),
+        (["./given"], {"OMPI_COMM_WORLD_SIZE": "3"}, 1, "wzrun: mpirun can't run ./given, which wzcc linked: wzrun -n 3 ./given\n"),
+        (["./given"], {"PMI_SIZE": "2"}, 1, "wzrun: mpirun can't run ./given, which wzcc linked: wzrun -n 2 ./given\n"),
+        (["-n", "1", program], {"PMI_SIZE": "2"}, 0, "1 ranks, no word, WORD=\n"),
+    ]
+    failed = 0
+    for words, variables, status, text in wanted:
+        got, said = run([wzrun, *words], env={**os.environ, **variables})
+        failed += reported(got == status and (text is None or said == text), f"wzrun {words}, {variables}: status {got}:\n{said}and not {status}:\n{text}")
+    return failed
+
+
+def check_help(binaries):
+    """Each tool says first what it is for, in the field's words."""
+    failed = 0
+    for tool in ("wzcc", "wzc++", "wzrun"):
+        status, said = run([str(binaries / tool), "--help"])
+        first = said.split("\n")[0]
+        failed += reported(status == 0 and first.startswith(f"{tool}: ") and "deadlocks" in first and "MPI program" in first, f"{tool} --help: status {status}: {said}")
+    return failed
+
+
+def check_compilers(binaries, out):
+    wzcc = str(binaries / "wzcc")
+    failed = 0
+    for standard in ("c89", "c99", "c11", "gnu17"):
+        status, said = run([wzcc, f"-std={standard}", "-pedantic-errors", "-Wall", "-Wextra", "-Werror", str(out / "given.c"), "-o", str(out / "of_standard")])
+        failed += reported(status == 0 and said == "", f"wzcc -std={standard}: {said}")
+    for words in (["-static"], ["-static-libstdc++"]):
+        status, said = run([wzcc, *words, str(out / "given.c")])
+        failed += reported(status == 1 and words[0] in said, f"wzcc {words}: status {status}: {said}")
+    written(out / "profiler.c", PROFILER)
+    written(out / "profiled.c", PROFILED)
+    run([wzcc, "-c", str(out / "profiler.c"), "-o", str(out / "profiler.o")])
+    run([wzcc, str(out / "profiled.c"), str(out / "profiler.o"), "-o", str(out / "profiled")])
+    status, said = run([str(binaries / "wzrun"), "-n", "2", str(out / "profiled")])
+    failed += reported((status, said) == (0, "1 barriers\n" * 2), f"a profiler: status {status}: {said}")
+    shown = run([wzcc, "-show"])[1].split()
+    asked = run([wzcc, "-compile_info"])[1].split(), run([wzcc, "-link_info"])[1].split()
+    right = "-lworzsunab-mpi" in shown and any(it.startswith("-I") for it in shown) and asked[0] + asked[1][1:] == shown
+    return failed + reported(right, f"wzcc -show: {shown}, -compile_info, -link_info: {asked}")
+
+
+def check_cmake(binaries, out):
+    """find_package(MPI) takes wzcc, as the compiler and as MPI's."""
+    if shutil.which("cmake") is None:
+        print("check.py: there is no cmake, so find_package(MPI) isn't checked")
+        return 0
+    folder, failed = out / "project", 0
+    folder.mkdir()
+    written(folder / "CMakeLists.txt", PROJECT)
+    for name in ("hello.cpp", "average.c"):
+        shutil.copy(HERE.parent / "examples" / name, folder)
+    tools = {"C": str(binaries / "wzcc"), "CXX": str(binaries / "wzc++")}
+    ways = {"mpi": ([f"-DMPI_{it}_COMPILER={tools[it]}" for it in tools], {}), "compiler": ([], {"CC": tools["C"], "CXX": tools["CXX"]})}
+    for way, (words, variables) in ways.items():
+        environment = {**os.environ, **variables}
+        _, said = run(["cmake", "-S", str(folder), "-B", str(folder / way), *words], env=environment)
+        _, built = run(["cmake", "--build", str(folder / way)], env=environment)
+        ran = run([str(binaries / "wzrun"), "-n", "3", str(folder / way / "hello")]), run([str(binaries / "wzrun"), "-n", "4", str(folder / way / "average")])
+        right = ran == ((0, "the ranks' numbers are 0 1 2\n"), (0, "average 2.50, the farthest reading lies 1.50 from it\n"))
+        failed += reported(right, f"find_package(MPI), {way}: {ran}\n{said}{built}")
+    return failed
+
+
+def check_spaces(binaries, out):
+    """Installed in a folder with spaces it works there."""
+    prefix = out / "a b"
+    make = ["make", "-s", "-C", str(HERE.parent), f"OUT={binaries.parent}", f"PREFIX={prefix}"]
+    subprocess.run([*make, "install"], check=True)
+    program = compiled(prefix / "bin", out / "given.c", out / "of_spaces")
+    failed = reported(run([str(prefix / "bin" / "wzrun"), "-n", "2", str(program)]) == (0, "2 ranks, no word, WORD=\n"), "a program of a PREFIX with spaces")
+    subprocess.run([*make, "uninstall"], check=True)
+    left = [it for it in prefix.rglob("*") if not it.is_dir()]
+    return failed + reported(not left, f"make uninstall leaves {left}")
+
+
+def check(binaries, out):
+    folder = out / "calling.d"
+    folder.mkdir()
+    program = str(compiled(binaries, written(folder / "given.c", GIVEN), folder / "given"))
+    failed = check_words(binaries, program) + check_help(binaries) + check_compilers(binaries, folder) + check_cmake(binaries, folder) + check_spaces(binaries, folder)
+    print("check.py: the tools are called as mpirun and mpicc are" if failed == 0 else f"check.py: {failed} ways to call the tools failed")
+    return failed

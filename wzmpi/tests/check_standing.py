@@ -1,0 +1,86 @@
+"""Where the ranks stand: loops of tests that can't come true, signals and --timeout, of loops.c: for check.py."""
+
+import re
+import signal
+import subprocess
+import time
+
+from checking import HERE, compiled, reported, run
+
+SURE = "wzrun: stalled: no rank can go on, and tests can't come true any more\n"
+NOT_SURE = ("wzrun: warning: no rank goes on: tests can't come true any more "
+            "(not sure: the program may leave its loops by the time, or by something else than MPI)\n")
+# Of each case under `wzrun -n 3`: status, and what is said, with its lines.
+LOOPS = {
+    "lacking": (3, SURE + """  ranks 0 and 2 test in vain in MPI_Test at loops.c:9
+    for MPI_Ibarrier at loops.c:18, place 0 of MPI_COMM_WORLD, which rank 1 has not called
+  rank 1 waits in MPI_Recv at loops.c:15
+    for a message from rank 0, tag 4: MPI_Recv at loops.c:15
+  so they wait for one another: 0 -> 1 -> 0
+"""),
+    "other_tag": (3, SURE + """  ranks 0 and 2 wait in MPI_Barrier at loops.c:26
+    for MPI_Barrier, place 0 of MPI_COMM_WORLD, which rank 1 has not called
+  rank 1 tests in vain in MPI_Iprobe at loops.c:25
+    for a message from rank 0, tag 4: MPI_Iprobe at loops.c:25
+  so they wait for one another: 0 -> 1 -> 0
+"""),
+    "until": (0, NOT_SURE + """  ranks 0 and 2 wait in MPI_Barrier at loops.c:43
+    for MPI_Barrier, place 0 of MPI_COMM_WORLD, which rank 1 has not called
+  rank 1 tests in vain in MPI_Iprobe at loops.c:42
+    for a message from rank 0, tag 4: MPI_Iprobe at loops.c:42
+  so they wait for one another: 0 -> 1 -> 0
+"""),
+    "later": (0, ""),
+}
+STANDING = """  ranks 0, 3 and 4 wait in MPI_Wait at loops.c:66
+    for MPI_Ibarrier at loops.c:64, place 0 of MPI_COMM_WORLD, which rank 2 has not called
+  rank 1 tests in vain for N s, at loops.c:9
+  rank 2 computes, or waits outside of MPI, for N s since its call at loops.c:78
+"""
+
+
+def plain(said):
+    """Without the folder of the sources, and without seconds."""
+    return re.sub(r"for \d+ s", "for N s", said.replace(f"{HERE}/", ""))
+
+
+def check_loops(binaries, program):
+    failed = 0
+    for name, wanted in LOOPS.items():
+        status, said = run([str(binaries / "wzrun"), "-n", "3", str(program), name])
+        failed += reported((status, plain(said)) == wanted, f"loops {name}: status {status}:\n{said}")
+    status, said = run([str(binaries / "wzrun"), "-n", "3", str(program), "several"])
+    lines = ["from rank 1, tag 0: MPI_Irecv", "from rank 1, tag 1: MPI_Irecv", "from rank 1, tag 2: MPI_Irecv", "from any rank, tag 9: MPI_Iprobe"]
+    return failed + reported(status == 3 and said.startswith(SURE) and all(said.count(it) == (3 if "any" in it else 1) for it in lines), f"loops several: status {status}:\n{said}")
+
+
+def check_timeout(binaries, program, text):
+    words = ["-n", "5", "--timeout", "1.5", "--text", str(text)]
+    status, said = run([str(binaries / "wzrun"), *words, str(program), "computing"])
+    right = (status, plain(said)) == (124, f"wzrun: --timeout ends the run after 1.5 s: here the ranks stand:\n{STANDING}") and "post 0 barrier" in text.read_text()
+    return reported(right, f"loops computing, --timeout: status {status}:\n{said}")
+
+
+def check_signals(binaries, program, timeline):
+    """SIGQUIT is answered, and the run goes on until SIGINT or SIGTERM."""
+    failed = 0
+    for number in (signal.SIGINT, signal.SIGTERM):
+        timeline.unlink(missing_ok=True)
+        words = [str(binaries / "wzrun"), "-n", "5", "--timeline", str(timeline), str(program), "computing"]
+        running = subprocess.Popen(words, stdout=subprocess.PIPE, stderr=subprocess.STDOUT, text=True)
+        time.sleep(1.5)
+        running.send_signal(signal.SIGQUIT)
+        time.sleep(1)
+        running.send_signal(number)
+        said, _ = running.communicate(timeout=60)
+        wanted = f"wzrun: SIGQUIT: here the ranks stand:\n{STANDING}wzrun: {number.name} ends the run: here the ranks stand:\n{STANDING}"
+        right = running.returncode == 128 + number and plain(said) == wanted and timeline.exists()
+        failed += reported(right, f"loops computing, {number.name}: status {running.returncode}:\n{said}")
+    return failed
+
+
+def check(binaries, out):
+    program = compiled(binaries, HERE / "loops.c", out / "loops")
+    failed = check_loops(binaries, program) + check_timeout(binaries, program, out / "loops.job") + check_signals(binaries, program, out / "loops.json")
+    print("check.py: it is told where ranks stand" if failed == 0 else f"check.py: {failed} runs of loops.c failed")
+    return failed
