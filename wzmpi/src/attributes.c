@@ -1,4 +1,6 @@
 /* Attributes, error handlers and infos. */
+#include "attributes.h"
+
 #include "diagnostics.h"
 
 /* ---- attributes: each member has its own */
@@ -22,7 +24,7 @@ static struct keyval *keyval_of(int number) {
     return number >= FIRST_KEYVAL && number < FIRST_KEYVAL + current_rank->many_keyvals ? &current_rank->keyvals[number - FIRST_KEYVAL] : NULL;
 }
 
-static int create_keyval(MPI_Comm_copy_attr_function *copy, MPI_Comm_delete_attr_function *delete, int *number, void *extra, const char *call) {
+int create_keyval(MPI_Comm_copy_attr_function *copy, MPI_Comm_delete_attr_function *delete, int *number, void *extra, const char *call) {
     struct rank *me = this_rank(call);
     me->keyvals = must(realloc(me->keyvals, sizeof *me->keyvals * (size_t)(me->many_keyvals + 1)));
     me->keyvals[me->many_keyvals] = (struct keyval){ copy, delete, extra, false };
@@ -30,7 +32,7 @@ static int create_keyval(MPI_Comm_copy_attr_function *copy, MPI_Comm_delete_attr
     return MPI_SUCCESS;
 }
 
-static int free_keyval(int *number, const char *call) {
+int free_keyval(int *number, const char *call) {
     this_rank(call);
     struct keyval *keyval = keyval_of(*number);
     if (keyval == NULL || keyval->freed) return refuse(NULL, MPI_ERR_KEYVAL, call, "there is no key value %d", *number);
@@ -45,12 +47,8 @@ static struct attribute **find(struct comm *comm, int keyval) {
     return at;
 }
 
-static int known(MPI_Comm handle, int number, struct comm **comm, const char *call) {
-    this_rank(call);
-    *comm = find_comm(handle);
-    if (*comm == NULL) return comm_error(handle, call);
-    if (keyval_of(number) == NULL) return refuse(*comm, MPI_ERR_KEYVAL, call, "there is no key value %d", number);
-    return MPI_SUCCESS;
+static int judge_keyval(struct comm *comm, int number, const char *call) {
+    return keyval_of(number) != NULL ? MPI_SUCCESS : refuse(comm, MPI_ERR_KEYVAL, call, "there is no key value %d", number);
 }
 
 static int delete_one(MPI_Comm handle, struct attribute **at) {
@@ -63,9 +61,8 @@ static int delete_one(MPI_Comm handle, struct attribute **at) {
     return code;
 }
 
-static int set_attr(MPI_Comm handle, int number, void *value, const char *call) {
-    struct comm *comm;
-    int code = known(handle, number, &comm, call);
+int set_attribute(struct comm *comm, MPI_Comm handle, int number, void *value, const char *call) {
+    int code = judge_keyval(comm, number, call);
     if (code != MPI_SUCCESS) return code;
     struct attribute **at = find(comm, number);
     if (*at != NULL) code = delete_one(handle, at);
@@ -74,6 +71,12 @@ static int set_attr(MPI_Comm handle, int number, void *value, const char *call) 
     *attribute = (struct attribute){ number, value, this_member(comm)->attributes };
     this_member(comm)->attributes = attribute;
     return code;
+}
+
+static int set_attr(MPI_Comm handle, int number, void *value, const char *call) {
+    this_rank(call);
+    struct comm *comm = find_comm(handle);
+    return comm != NULL ? set_attribute(comm, handle, number, value, call) : comm_error(handle, call);
 }
 
 static bool predefined(int number, void *value) {
@@ -85,13 +88,8 @@ static bool predefined(int number, void *value) {
     return true;
 }
 
-static int get_attr(MPI_Comm handle, int number, void *value, int *flag, const char *call) {
-    this_rank(call);
-    struct comm *comm = find_comm(handle);
-    if (comm == NULL) return comm_error(handle, call);
-    *flag = predefined(number, value);
-    if (*flag) return MPI_SUCCESS;
-    int code = known(handle, number, &comm, call);
+int get_attribute(struct comm *comm, int number, void *value, int *flag, const char *call) {
+    int code = judge_keyval(comm, number, call);
     if (code != MPI_SUCCESS) return code;
     struct attribute *attribute = *find(comm, number);
     *flag = attribute != NULL;
@@ -99,13 +97,26 @@ static int get_attr(MPI_Comm handle, int number, void *value, int *flag, const c
     return code;
 }
 
-static int delete_attr(MPI_Comm handle, int number, const char *call) {
-    struct comm *comm;
-    int code = known(handle, number, &comm, call);
+static int get_attr(MPI_Comm handle, int number, void *value, int *flag, const char *call) {
+    this_rank(call);
+    struct comm *comm = find_comm(handle);
+    if (comm == NULL) return comm_error(handle, call);
+    *flag = predefined(number, value);
+    return *flag ? MPI_SUCCESS : get_attribute(comm, number, value, flag, call);
+}
+
+int delete_attribute(struct comm *comm, MPI_Comm handle, int number, const char *call) {
+    int code = judge_keyval(comm, number, call);
     if (code != MPI_SUCCESS) return code;
     struct attribute **at = find(comm, number);
-    if (*at == NULL) return refuse(comm, MPI_ERR_ARG, call, "the communicator has no value of this key");
+    if (*at == NULL) return refuse(comm, MPI_ERR_ARG, call, "there is no value of this key");
     return delete_one(handle, at);
+}
+
+static int delete_attr(MPI_Comm handle, int number, const char *call) {
+    this_rank(call);
+    struct comm *comm = find_comm(handle);
+    return comm != NULL ? delete_attribute(comm, handle, number, call) : comm_error(handle, call);
 }
 
 /* ---- the calls, and those of MPI 1 that MPI 4.1, 16.1 deprecates */
@@ -159,71 +170,91 @@ int delete_attributes(struct comm *comm, MPI_Comm handle) {
 struct errhandler errors_are_fatal = { .handle = MPI_ERRORS_ARE_FATAL, .uses = 1 };
 static struct errhandler aborting = { .handle = MPI_ERRORS_ABORT, .uses = 1 }, returning = { .handle = MPI_ERRORS_RETURN, .returns = true, .uses = 1 };
 
-static struct errhandler *handler_of(MPI_Errhandler handle) {
+struct errhandler *errhandler_of(MPI_Errhandler handle) {
     if (handle == MPI_ERRORS_ARE_FATAL) return &errors_are_fatal;
     if (handle == MPI_ERRORS_ABORT) return &aborting;
     return handle == MPI_ERRORS_RETURN ? &returning : find_handle(ERRHANDLER, handle);
 }
 
-static void unuse_handler(struct errhandler *handler) {
+void hold_errhandler(struct errhandler *handler) {
+    if (handler != NULL && handler->function != NULL) handler->uses++;
+}
+
+void unhold_errhandler(struct errhandler *handler) {
     if (handler != NULL && handler->function != NULL && --handler->uses == 0) free(handler);
 }
 
 /* This rank's error handler of a communicator; NULL: it has none any longer. */
 void use_handler(struct comm *comm, struct errhandler *handler) {
     struct member *member = this_member(comm);
-    if (handler != NULL && handler->function != NULL) handler->uses++;
-    unuse_handler(member->handler);
+    hold_errhandler(handler);
+    unhold_errhandler(member->handler);
     member->handler = handler;
 }
 
-int MPI_Comm_create_errhandler(MPI_Comm_errhandler_function *function, MPI_Errhandler *made) {
-    this_rank("MPI_Comm_create_errhandler");
+int create_errhandler(MPI_Comm_errhandler_function *function, MPI_Errhandler *made, const char *call) {
+    this_rank(call);
     struct errhandler *handler = must(malloc(sizeof *handler));
     *handler = (struct errhandler){ function, NULL, true, 1 };
     handler->handle = *made = (MPI_Errhandler)add_handle(ERRHANDLER, handler);
     return MPI_SUCCESS;
 }
 
+int set_errhandler(struct comm *comm, MPI_Errhandler wanted, const char *call) {
+    struct errhandler *handler = errhandler_of(wanted);
+    if (handler == NULL) return refuse(comm, MPI_ERR_ARG, call, "there is no such error handler");
+    use_handler(comm, handler);
+    return MPI_SUCCESS;
+}
+
+MPI_Errhandler errhandler_handle(struct errhandler *handler) {
+    if (handler->function == NULL) return handler->handle;
+    handler->uses++;
+    return (MPI_Errhandler)add_handle(ERRHANDLER, handler);
+}
+
+int get_errhandler(struct comm *comm, MPI_Errhandler *handler) {
+    *handler = errhandler_handle(this_member(comm)->handler);
+    return MPI_SUCCESS;
+}
+
+int call_errhandler(struct comm *comm, int code, const char *call) {
+    struct errhandler *errhandler = this_member(comm)->handler;
+    MPI_Comm handle = comm_handle(comm);
+    if (errhandler->function != NULL) errhandler->function(&handle, &code);
+    else if (!errhandler->returns) return refuse(comm, code, call, "the program called it with %s", class_name(code));
+    return MPI_SUCCESS;
+}
+
+int MPI_Comm_create_errhandler(MPI_Comm_errhandler_function *function, MPI_Errhandler *made) {
+    return create_errhandler(function, made, "MPI_Comm_create_errhandler");
+}
+
 int MPI_Comm_set_errhandler(MPI_Comm handle, MPI_Errhandler wanted) {
     this_rank("MPI_Comm_set_errhandler");
     struct comm *comm = find_comm(handle);
-    struct errhandler *handler = handler_of(wanted);
-    if (comm == NULL) return comm_error(handle, "MPI_Comm_set_errhandler");
-    if (handler == NULL) return refuse(comm, MPI_ERR_ARG, "MPI_Comm_set_errhandler", "there is no such error handler");
-    use_handler(comm, handler);
-    return MPI_SUCCESS;
+    return comm != NULL ? set_errhandler(comm, wanted, "MPI_Comm_set_errhandler") : comm_error(handle, "MPI_Comm_set_errhandler");
 }
 
 int MPI_Comm_get_errhandler(MPI_Comm handle, MPI_Errhandler *handler) {
     this_rank("MPI_Comm_get_errhandler");
     struct comm *comm = find_comm(handle);
-    if (comm == NULL) return comm_error(handle, "MPI_Comm_get_errhandler");
-    struct errhandler *errhandler = this_member(comm)->handler;
-    *handler = errhandler->handle;
-    if (errhandler->function == NULL) return MPI_SUCCESS;
-    errhandler->uses++;
-    *handler = (MPI_Errhandler)add_handle(ERRHANDLER, errhandler);
-    return MPI_SUCCESS;
+    return comm != NULL ? get_errhandler(comm, handler) : comm_error(handle, "MPI_Comm_get_errhandler");
 }
 
 int MPI_Comm_call_errhandler(MPI_Comm handle, int code) {
     this_rank("MPI_Comm_call_errhandler");
     struct comm *comm = find_comm(handle);
-    if (comm == NULL) return comm_error(handle, "MPI_Comm_call_errhandler");
-    struct errhandler *errhandler = this_member(comm)->handler;
-    if (errhandler->function != NULL) errhandler->function(&handle, &code);
-    else if (!errhandler->returns) return refuse(comm, code, "MPI_Comm_call_errhandler", "the program called it with %s", class_name(code));
-    return MPI_SUCCESS;
+    return comm != NULL ? call_errhandler(comm, code, "MPI_Comm_call_errhandler") : comm_error(handle, "MPI_Comm_call_errhandler");
 }
 
 int MPI_Errhandler_free(MPI_Errhandler *handle) {
     this_rank("MPI_Errhandler_free");
-    struct errhandler *errhandler = handler_of(*handle);
+    struct errhandler *errhandler = errhandler_of(*handle);
     if (errhandler == NULL) return refuse(NULL, MPI_ERR_ARG, "MPI_Errhandler_free", "there is no such error handler");
     if (errhandler->function != NULL) {
         remove_handle(ERRHANDLER, *handle);
-        unuse_handler(errhandler);
+        unhold_errhandler(errhandler);
     }
     *handle = MPI_ERRHANDLER_NULL;
     return MPI_SUCCESS;

@@ -18,7 +18,7 @@ enum { MOST_RANKS = 64 };
 
 enum { TABLE_NUMBER_BITS = 24, FIRST_MADE = 64 }; /* the numbers below FIRST_MADE are those of mpi.h's own objects, which no table has */
 
-enum kind { COMM = 1, GROUP, TYPE, OP, REQUEST, INFO, ERRHANDLER, TAKEN, KINDS }; /* TAKEN: a message that MPI_Mprobe took out */
+enum kind { COMM = 1, GROUP, TYPE, OP, REQUEST, INFO, ERRHANDLER, TAKEN, WINDOW, FILE_, KINDS }; /* TAKEN: a message that MPI_Mprobe took out */
 
 /* A rank's objects of one kind, by their numbers. A handle has the generation of its number too, so that one which was freed is known as such. */
 struct table {

@@ -88,7 +88,8 @@ static int disagreeing(struct request *request, const struct called *called, int
     struct called theirs;
     char text[NAME_TEXT];
     record_refused(request);
-    if (!this_member(comm)->handler->returns || !read_called(comm, other, request->place, &theirs)) tell_mismatch(comm, request->place);
+    bool of_file = comm->serves == FILE_; /* their handlers return what the system says, and so would hide it */
+    if (of_file || !this_member(comm)->handler->returns || !read_called(comm, other, request->place, &theirs)) tell_mismatch(comm, request->place);
     return refuse(comm, MPI_ERR_ARG, request->name, "place %llu: rank %d has another collective, %s at %s: %s", (unsigned long long)request->place, comm->members[other].rank,
                      called_text(&theirs, text), theirs.site, what_differs(called, &theirs));
 }

@@ -40,7 +40,7 @@ struct arguments {
     const char *name; /* NULL: as the function and form say */
 };
 
-enum sort { COLLECTIVE, SENDING, RECEIVING, PROBING };
+enum sort { COLLECTIVE, SENDING, RECEIVING, PROBING, LOCKING, ACCESSING }; /* LOCKING, ACCESSING: of a window */
 
 struct message;
 
@@ -94,6 +94,7 @@ struct request {
     void *to;
     MPI_Count many;
     const struct type *type;
+    const char *awaits;      /* the call that sends what a window's call receives; NULL: it is the program's message */
     struct message *message; /* what came */
     uint64_t sent;           /* the number of the message that it has sent */
     _Atomic bool arrived;

@@ -52,7 +52,9 @@ int comm_error(MPI_Comm handle, const char *call) {
     return refuse(NULL, MPI_ERR_COMM, call, was_freed(COMM, handle) ? "the communicator was freed" : "there is no such communicator");
 }
 
+/* Of one that serves a window or a file it is that one's handle, which its error handler and attributes get. */
 MPI_Comm comm_handle(const struct comm *comm) {
+    if (comm->serves != 0) return (MPI_Comm)handle_of(comm->serves, comm->served);
     if (comm == world) return MPI_COMM_WORLD;
     if (comm->maker == NULL) return MPI_COMM_SELF;
     return (MPI_Comm)handle_of(COMM, comm);
@@ -101,6 +103,7 @@ static void free_topology(struct topology *topology) {
 
 void unuse_comm(struct comm *comm) {
     if (comm->maker == NULL || atomic_fetch_sub(&comm->users, 1) > 1) return;
+    if (comm->served != NULL) comm->end_service(comm->served);
     close_engines(comm);
     for (int i = 0; i < comm->size; i++) {
         free(comm->members[i].board);
@@ -142,14 +145,15 @@ MPI_Comm join_comm(struct comm *parent, uint64_t key, const char *maker, const i
 /* ---- names */
 
 const char *comm_name(struct comm *comm, char text[NAME_TEXT]) {
+    const char *kind = comm->serves == WINDOW ? "window" : comm->serves == FILE_ ? "file" : "communicator";
     char name[MPI_MAX_OBJECT_NAME];
     pthread_mutex_lock(&comm->guard);
     memcpy(name, comm->name, sizeof name);
     pthread_mutex_unlock(&comm->guard);
-    if (name[0] != '\0') snprintf(text, NAME_TEXT, "communicator \"%s\"", name);
+    if (name[0] != '\0') snprintf(text, NAME_TEXT, "%s \"%s\"", kind, name);
     else if (comm == world) snprintf(text, NAME_TEXT, "MPI_COMM_WORLD");
     else if (comm->maker == NULL) snprintf(text, NAME_TEXT, "MPI_COMM_SELF");
-    else snprintf(text, NAME_TEXT, "the communicator of %s at %s", comm->maker, comm->site);
+    else snprintf(text, NAME_TEXT, "the %s of %s at %s", kind, comm->maker, comm->site);
     return text;
 }
 

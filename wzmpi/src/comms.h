@@ -85,6 +85,10 @@ struct comm {
     pthread_mutex_t guard; /* for its engines, starts and name */
     atomic_int users;      /* its members until they free it, and its requests */
     struct topology **topologies; /* each member's own; NULL: none has one */
+    /* of one that serves a window or a file, and that no program sees */
+    enum kind serves; /* 0: none */
+    void *served;
+    void (*end_service)(void *served);
     /* while its members come to it (join_comm) */
     long parent;
     uint64_t key, joined;

@@ -10,6 +10,7 @@
 #include "standing.h"
 #include "test_loops.h"
 #include "per_rank_libc.h"
+#include "window.h"
 
 #include <time.h>
 
@@ -110,9 +111,13 @@ static uint64_t find_lost(const struct sight *sight) {
 /* ---- telling */
 
 static void write_message(FILE *to, const struct request *request) {
-    char ranks[RANKS_TEXT];
+    char ranks[RANKS_TEXT], name[NAME_TEXT];
     const char *what = request->sort == SENDING ? "that its message is received by" : "for a message from";
     const char *whom = request->other == MPI_ANY_SOURCE ? "any rank" : ranks_text(lacking(request), ranks);
+    if (request->awaits != NULL) {
+        fprintf(to, "\n    for %s of %s on %s", request->awaits, whom, comm_name(request->comm, name));
+        return;
+    }
     fprintf(to, "\n    %s %s", what, whom);
     if (request->tag >= 0) fprintf(to, ", tag %d", request->tag);
     fprintf(to, ": %s at %s", request->name, request->started_at);
@@ -121,6 +126,10 @@ static void write_message(FILE *to, const struct request *request) {
 void write_awaited(FILE *to, struct request *request, const char *call) {
     char ranks[RANKS_TEXT], name[NAME_TEXT], root[40] = "", start[300] = "";
     uint64_t lacks = lacking(request);
+    if (request->sort == LOCKING) {
+        write_lock(to, request);
+        return;
+    }
     if (request->sort != COLLECTIVE) {
         write_message(to, request);
         return;

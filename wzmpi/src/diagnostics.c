@@ -17,6 +17,12 @@ static const char *const classes[] = {
     "MPI_ERR_OP", "MPI_ERR_TOPOLOGY", "MPI_ERR_DIMS", "MPI_ERR_ARG", "MPI_ERR_UNKNOWN", "MPI_ERR_TRUNCATE", "MPI_ERR_OTHER", "MPI_ERR_INTERN",
     "MPI_ERR_IN_STATUS", "MPI_ERR_PENDING", "MPI_ERR_REQUEST", "MPI_ERR_NO_MEM", "MPI_ERR_KEYVAL", "MPI_ERR_INFO", "MPI_ERR_INFO_KEY",
     "MPI_ERR_INFO_VALUE", "MPI_ERR_INFO_NOKEY", "MPI_ERR_UNSUPPORTED_OPERATION",
+    "MPI_ERR_WIN", "MPI_ERR_BASE", "MPI_ERR_SIZE", "MPI_ERR_DISP", "MPI_ERR_LOCKTYPE", "MPI_ERR_ASSERT", "MPI_ERR_RMA_CONFLICT", "MPI_ERR_RMA_SYNC",
+    "MPI_ERR_RMA_RANGE", "MPI_ERR_RMA_ATTACH", "MPI_ERR_RMA_SHARED", "MPI_ERR_RMA_FLAVOR",
+    "MPI_ERR_FILE", "MPI_ERR_NOT_SAME", "MPI_ERR_AMODE", "MPI_ERR_UNSUPPORTED_DATAREP", "MPI_ERR_NO_SUCH_FILE", "MPI_ERR_FILE_EXISTS", "MPI_ERR_BAD_FILE",
+    "MPI_ERR_ACCESS", "MPI_ERR_NO_SPACE", "MPI_ERR_QUOTA", "MPI_ERR_READ_ONLY", "MPI_ERR_FILE_IN_USE", "MPI_ERR_DUP_DATAREP", "MPI_ERR_CONVERSION",
+    "MPI_ERR_IO", "MPI_ERR_SPAWN", "MPI_ERR_PORT", "MPI_ERR_SERVICE", "MPI_ERR_NAME", "MPI_ERR_SESSION", "MPI_ERR_PROC_ABORTED",
+    "MPI_ERR_VALUE_TOO_LARGE", "MPI_ERR_ERRHANDLER",
 };
 enum { CLASSES = sizeof classes / sizeof classes[0], OWN_CODES = 64 };
 
@@ -93,25 +99,34 @@ void print_warning(const char *format, ...) {
     fprintf(stderr, "wzrun: warning: %s\n", text);
 }
 
-int refuse(struct comm *comm, int class, const char *call, const char *format, ...) {
-    struct rank *me = this_rank(call);
-    struct comm *judge = comm != NULL && my_member(comm) >= 0 ? comm : world_comm();
-    struct errhandler *handler = this_member(judge)->handler;
-    va_list rest;
-    va_start(rest, format);
+int refuse_by(const struct refusal *refusal, const char *format, va_list rest) {
+    struct rank *me = this_rank(refusal->call);
+    struct errhandler *handler = refusal->handler;
+    int class = refusal->class;
     vsnprintf(me->last_refusal, sizeof me->last_refusal, format, rest);
-    va_end(rest);
     me->last_class = class;
     if (handler != NULL && handler->function != NULL) {
-        MPI_Comm handle = comm_handle(judge);
+        MPI_Comm handle = refusal->handle;
         handler->function(&handle, &class);
         return class;
     }
-    if (handler != NULL && handler->returns) return class;
+    bool returns = handler != NULL && handler->returns;
+    if (returns && refusal->told) print_warning("rank %d: %s at %s: %s (%s)", me->number, refusal->call, me->site, me->last_refusal, class_name(class));
+    if (returns) return class;
     tell_alone();
     flush_streams();
-    fprintf(stderr, "wzrun: rank %d: %s at %s: %s (%s)\n", me->number, call, me->site, me->last_refusal, class_name(class));
+    fprintf(stderr, "wzrun: rank %d: %s at %s: %s (%s)\n", me->number, refusal->call, me->site, me->last_refusal, class_name(class));
     end_run(fault_status(STATUS_WRONG), (struct question){ NULL, NULL });
+}
+
+int refuse(struct comm *comm, int class, const char *call, const char *format, ...) {
+    this_rank(call);
+    struct comm *judge = comm != NULL && my_member(comm) >= 0 ? comm : world_comm();
+    va_list rest;
+    va_start(rest, format);
+    int code = refuse_by(&(struct refusal){ this_member(judge)->handler, comm_handle(judge), class, false, call }, format, rest);
+    va_end(rest);
+    return code;
 }
 
 /* ---- words */

@@ -2,6 +2,8 @@
 #ifndef WZ_DIAGNOSTICS_H
 #define WZ_DIAGNOSTICS_H
 
+#include <stdarg.h>
+
 #include "comms.h"
 #include "pending_calls.h"
 
@@ -10,6 +12,15 @@ enum { STATUS_WRONG = 2, STATUS_STALLED = 3 };
 /* A call that MPI doesn't allow. Under MPI_ERRORS_RETURN of the communicator (NULL: of MPI_COMM_WORLD) gives the class back; else it is told and the run
    ends. */
 int refuse(struct comm *comm, int class, const char *call, const char *format, ...) __attribute__((format(printf, 4, 5)));
+/* The same where HANDLER, which gets HANDLE, judges it; TOLD: where it returns the class, that is told as a warning. */
+struct refusal {
+    struct errhandler *handler;
+    MPI_Comm handle;
+    int class;
+    bool told;
+    const char *call;
+};
+int refuse_by(const struct refusal *refusal, const char *format, va_list rest);
 void print_warning(const char *format, ...) __attribute__((format(printf, 1, 2)));
 const char *class_name(int class);
 

@@ -3,6 +3,7 @@
 #include "mailbox.h"
 #include "trace.h"
 #include "diagnostics.h"
+#include "window.h"
 
 int start_message(struct request *request) {
     note_progress();
@@ -69,6 +70,7 @@ static int receive_message(struct request *request, const char *call) {
 
 int finish_message(struct request *request, MPI_Status *status, const char *call) {
     note_progress();
+    if (request->sort == ACCESSING) return finish_access(request, status);
     const char *changed = end_loan(request);
     show_status(request, status);
     int code = request->sort == RECEIVING ? receive_message(request, call) : MPI_SUCCESS;

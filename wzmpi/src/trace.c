@@ -177,7 +177,7 @@ void note_freed(struct request *request) {
 
 void note_message(struct request *request, const char *call) {
     char text[NAME_TEXT];
-    if (!the_run.notes || request->other == MPI_PROC_NULL) return;
+    if (!the_run.notes || request->other == MPI_PROC_NULL || request->awaits != NULL) return;
     struct notes *notes = current_rank->notes;
     size_t bytes = (size_t)request->many * request->type->size;
     pthread_mutex_lock(&notes->guard);

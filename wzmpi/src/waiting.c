@@ -1,5 +1,6 @@
 /* Waiting: for one request of an engine the engine's own wait serves; for others a rank sleeps until a call of another may have let it go on. */
 #include "trace.h"
+#include "window.h"
 
 #include <linux/futex.h>
 #include <sched.h>
@@ -62,6 +63,7 @@ static bool has_called(const struct request *request, int member) {
 
 uint64_t lacking(const struct request *request) {
     uint64_t ranks = 0;
+    if (request->sort == LOCKING) return lock_holders(request);
     if (request->sort != COLLECTIVE) {
         int other, far = far_group_from(request->comm, request->member, &other); /* the watching thread is no rank */
         int first = request->other == MPI_ANY_SOURCE ? 0 : request->other, last = request->other == MPI_ANY_SOURCE ? far - 1 : request->other;

@@ -14,8 +14,10 @@ Ends with 0 where all pass.
 
 import argparse
 import concurrent.futures
+import functools
 import os
 import pathlib
+import re
 import shlex
 import shutil
 import subprocess
@@ -26,7 +28,7 @@ import time
 
 HERE = pathlib.Path(__file__).resolve().parent
 # What MPICH's configure finds on such a machine.
-FOUND = ["STDARG_H", "STRING_H", "STDLIB_H", "UNISTD_H", "SYS_TIME_H", "SYS_RESOURCE_H", "GETRUSAGE", "LONG_DOUBLE", "LONG_LONG", "STDINT_H", "INTTYPES_H", "STDBOOL_H",
+FOUND = ["MPI_WIN_CREATE", "STDARG_H", "STRING_H", "STDLIB_H", "UNISTD_H", "SYS_TIME_H", "SYS_RESOURCE_H", "GETRUSAGE", "LONG_DOUBLE", "LONG_LONG", "STDINT_H", "INTTYPES_H", "STDBOOL_H",
          "COMPLEX_H", "FLOAT__COMPLEX", "DOUBLE__COMPLEX", "LONG_DOUBLE__COMPLEX", "INT8_T", "INT16_T", "INT32_T", "INT64_T", "UINT8_T", "UINT16_T", "UINT32_T", "UINT64_T", "_BOOL"]
 LONGEST = 180
 
@@ -48,13 +50,26 @@ def rows(folder, part):
         yield name, int(words[1]), arguments, max(limits, default=0)
 
 
-def source_of(folder, name):
-    """A test's source, and whether it is compiled for the nonblocking calls."""
+@functools.lru_cache(None)
+def rules(folder, part):
+    """What the Makefile.am of a part says of its programs: their sources and words of the compiler."""
+    path, found = folder / part / "Makefile.am", {}
+    text = path.read_text().replace("\\\n", " ") if path.exists() else ""
+    for name, what, words in re.findall(r"(?m)^(\w+)_(SOURCES|CPPFLAGS)[ \t]*=(.*)$", text):
+        found.setdefault(name, {})[what] = words.split()
+    return found
+
+
+def sources_of(folder, name):
+    """A test's sources, and words for the compiler; none where there is no source."""
     part, word = name.rsplit("/", 1)
-    plain, other = folder / f"{name}.c", folder / part / f"{word[2:]}.c"
-    if plain.exists():
-        return plain, False
-    return (other, True) if word.startswith("nb") and other.exists() else (None, False)
+    rule = rules(folder, part).get(re.sub(r"\W", "_", word), {})
+    sources = [folder / part / it for it in rule.get("SOURCES", [f"{word}.c"]) if it.endswith(".c")]
+    defined = [it for it in rule.get("CPPFLAGS", []) if it.startswith("-D")]
+    if sources and all(it.exists() for it in sources):
+        return sources, defined
+    nonblocking = folder / part / f"{word[2:]}.c"
+    return ([nonblocking], ["-DUSE_MTEST_NBC"]) if word.startswith("nb") and nonblocking.exists() else ([], [])
 
 
 class Programs:
@@ -66,9 +81,9 @@ class Programs:
         (out / "mpitestconf.h").write_text(threads + "".join(f"#define HAVE_{it} 1\n" for it in FOUND))
         self.util = []
 
-    def words(self, source, nonblocking):
-        include = [self.out, self.folder / "include", self.folder / "util", self.folder / "dtpools/include", source.parent]
-        return [self.wzcc, "-O1", "-w", *(["-DUSE_MTEST_NBC"] if nonblocking else []), *(f"-I{it}" for it in include), source, *self.util]
+    def words(self, sources, defined):
+        include = [self.out, self.folder / "include", self.folder / "util", self.folder / "dtpools/include", sources[0].parent]
+        return [self.wzcc, "-O1", "-w", *defined, *(f"-I{it}" for it in include), *sources, *self.util]
 
     def compile_util(self):
         """What all tests share, once."""
@@ -77,7 +92,7 @@ class Programs:
             if made.exists():
                 self.util.append(made)
                 continue
-            subprocess.run([*map(str, [it for it in self.words(self.folder / f"util/{name}.c", False) if it not in self.util]), "-c", "-o", str(made)], check=True)
+            subprocess.run([*map(str, [it for it in self.words([self.folder / f"util/{name}.c"], []) if it not in self.util]), "-c", "-o", str(made)], check=True)
             self.util.append(made)
 
     def program(self, name):
@@ -86,8 +101,7 @@ class Programs:
         if program.exists():
             self.made[name] = (program, None)
         if name not in self.made:
-            source, nonblocking = source_of(self.folder, name)
-            made = subprocess.run([*map(str, self.words(source, nonblocking)), "-o", str(program)], capture_output=True, text=True)
+            made = subprocess.run([*map(str, self.words(*sources_of(self.folder, name))), "-o", str(program)], capture_output=True, text=True)
             lacks = sorted({it.split("`")[1].split("'")[0] for it in made.stderr.splitlines() if "undefined reference to" in it})
             said = "lacks " + ", ".join(lacks) if lacks else made.stderr.strip().splitlines()[:1]
             self.made[name] = (program, None) if made.returncode == 0 else (None, str(said))
@@ -142,7 +156,7 @@ def main():
         out.mkdir(parents=True, exist_ok=True)
         programs = Programs(options.folder, str(options.bin / "wzcc"), out)
         wanted = [it for part in options.parts for it in rows(options.folder, part) if not options.only or it[0].rsplit("/", 1)[1] in options.only]
-        lacks = [it for it in wanted if source_of(options.folder, it[0])[0] is None]
+        lacks = [it for it in wanted if not sources_of(options.folder, it[0])[0]]
         wanted = [it for it in wanted if it not in lacks]
         programs.compile_util()
         with concurrent.futures.ThreadPoolExecutor(options.jobs) as pool:

@@ -1,0 +1,70 @@
+#!/usr/bin/env python3
+"""Runs the tests of windows and files over the tools in a folder, as tests/check.py does those of the rest:
+
+    tests/check_more.py BIN [--write] [--only WORD ..]
+
+NAME.c has programs without a mistake, NAME_wrong.c programs with one planted mistake each, and NAME_wrong.want what is said of them.
+--write writes what is said anew: read what changed. Ends with 0 where all is as it should be.
+"""
+
+import pathlib
+import sys
+import tempfile
+
+import check
+
+HERE = check.HERE
+# The options of each wrong program that isn't run as `wzrun -n 3`, by source.
+OPTIONS = {
+    "windows_wrong": {"two_operations": "-n 3 --strict", "put_store": "-n 3 --check", "changed_origin": "-n 3 --check", "changed_result": "-n 3 --check"},
+}
+# How many ranks the right programs of a source are run with.
+RANKS = {"windows": [1, 2, 5]}
+MODES = ([], ["--strict", "--check"], ["--seed", "7"])
+
+
+def wrong_blocks(binaries, program, source, only):
+    """What is said of each wrong program, as its file of what is wanted has it."""
+    for name in check.names_of(source)[1:]:
+        if only and name not in only:
+            continue
+        options = OPTIONS.get(source.stem, {}).get(name, "-n 3")
+        status, said = check.run([str(binaries / "wzrun"), *options.split(), str(program), name])
+        yield name, f"== wzrun {options} {source.stem} {name}: status {status}\n{said.replace(f'{HERE}/', 'tests/')}"
+
+
+def check_wrong(binaries, out, stem, only, write):
+    source = HERE / f"{stem}_wrong.c"
+    program = check.compiled(binaries, source, out)
+    return check.compare(dict(wrong_blocks(binaries, program, source, only)), source.with_suffix(".want"), write, "reported")
+
+
+def check_right(binaries, out, stem, only):
+    source, failed, runs = HERE / f"{stem}.c", 0, 0
+    program = check.compiled(binaries, source, out)
+    for name in check.names_of(source)[1:]:
+        for ranks, mode in ((ranks, mode) for ranks in RANKS[stem] for mode in MODES if not only or name in only):
+            runs += 1
+            status, said = check.run([str(binaries / "wzrun"), "-n", str(ranks), *mode, str(program), name])
+            if status != 0 or said:
+                failed += 1
+                print(f"check_more.py: {stem} {name}, {ranks} ranks, {mode}: status {status}: {said}")
+    print(f"check_more.py: {runs - failed} of {runs} runs of right programs with {stem} end well, with nothing said")
+    return failed
+
+
+def main():
+    words = sys.argv[1:]
+    write = "--write" in words
+    only = words[words.index("--only") + 1 :] if "--only" in words else []
+    binaries, failed = pathlib.Path(words[0]).resolve(), 0
+    with tempfile.TemporaryDirectory() as folder:
+        for stem in RANKS:
+            failed += check_wrong(binaries, pathlib.Path(folder), stem, only, write)
+            failed += 0 if write else check_right(binaries, pathlib.Path(folder), stem, only)
+    print("check_more.py: all as it should be" if failed == 0 else f"check_more.py: {failed} failed")
+    return min(failed, 1)
+
+
+if __name__ == "__main__":
+    sys.exit(main())
