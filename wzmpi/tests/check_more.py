@@ -19,7 +19,7 @@ OPTIONS = {
     "windows_wrong": {"two_operations": "-n 3 --strict", "put_store": "-n 3 --check", "changed_origin": "-n 3 --check", "changed_result": "-n 3 --check"},
 }
 # How many ranks the right programs of a source are run with.
-RANKS = {"windows": [1, 2, 5]}
+RANKS = {"windows": [1, 2, 5], "files": [1, 2, 5]}
 MODES = ([], ["--strict", "--check"], ["--seed", "7"])
 
 
