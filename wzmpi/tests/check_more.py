@@ -7,13 +7,15 @@ NAME.c has programs without a mistake, NAME_wrong.c programs with one planted mi
 --write writes what is said anew: read what changed. Ends with 0 where all is as it should be.
 """
 
+import os
 import pathlib
 import sys
 import tempfile
 
 import check
+import checking
 
-HERE = check.HERE
+HERE = checking.HERE
 # The options of each wrong program that isn't run as `wzrun -n 3`, by source.
 OPTIONS = {
     "windows_wrong": {"two_operations": "-n 3 --strict", "put_store": "-n 3 --check", "changed_origin": "-n 3 --check", "changed_result": "-n 3 --check"},
@@ -23,29 +25,35 @@ RANKS = {"windows": [1, 2, 5], "files": [1, 2, 5]}
 MODES = ([], ["--strict", "--check"], ["--seed", "7"])
 
 
+def run(words, folder):
+    """Status and what is said of a program that has its files in a folder."""
+    return checking.run(words, env={**os.environ, "TMPDIR": str(folder)})
+
+
 def wrong_blocks(binaries, program, source, only):
     """What is said of each wrong program, as its file of what is wanted has it."""
     for name in check.names_of(source)[1:]:
         if only and name not in only:
             continue
         options = OPTIONS.get(source.stem, {}).get(name, "-n 3")
-        status, said = check.run([str(binaries / "wzrun"), *options.split(), str(program), name])
-        yield name, f"== wzrun {options} {source.stem} {name}: status {status}\n{said.replace(f'{HERE}/', 'tests/')}"
+        status, said = run([str(binaries / "wzrun"), *options.split(), str(program), name], program.parent)
+        said = said.replace(f"{HERE}/", "tests/").replace(f"{program.parent}/", "")
+        yield name, f"== wzrun {options} {source.stem} {name}: status {status}\n{said}"
 
 
 def check_wrong(binaries, out, stem, only, write):
     source = HERE / f"{stem}_wrong.c"
-    program = check.compiled(binaries, source, out)
+    program = checking.compiled(binaries, source, out / source.stem)
     return check.compare(dict(wrong_blocks(binaries, program, source, only)), source.with_suffix(".want"), write, "reported")
 
 
 def check_right(binaries, out, stem, only):
     source, failed, runs = HERE / f"{stem}.c", 0, 0
-    program = check.compiled(binaries, source, out)
+    program = checking.compiled(binaries, source, out / source.stem)
     for name in check.names_of(source)[1:]:
         for ranks, mode in ((ranks, mode) for ranks in RANKS[stem] for mode in MODES if not only or name in only):
             runs += 1
-            status, said = check.run([str(binaries / "wzrun"), "-n", str(ranks), *mode, str(program), name])
+            status, said = run([str(binaries / "wzrun"), "-n", str(ranks), *mode, str(program), name], out)
             if status != 0 or said:
                 failed += 1
                 print(f"check_more.py: {stem} {name}, {ranks} ranks, {mode}: status {status}: {said}")

@@ -223,7 +223,7 @@ int main(int argc, char **argv) {
     MPI_Init(&argc, &argv);
     MPI_Comm_rank(MPI_COMM_WORLD, &rank);
     MPI_Comm_size(MPI_COMM_WORLD, &size);
-    snprintf(name, sizeof name, "%s/wzrun-files-%ld", getenv("TMPDIR") != NULL ? getenv("TMPDIR") : "/tmp", (long)getpid());
+    snprintf(name, sizeof name, "%s/wzrun-files", getenv("TMPDIR") != NULL ? getenv("TMPDIR") : "/tmp");
     file = MPI_FILE_NULL;
     for (size_t i = 0; i < sizeof cases / sizeof cases[0]; i++)
         if (argc > 1 && strcmp(argv[1], cases[i].name) == 0) cases[i].run();
