@@ -3,7 +3,7 @@
 microseconds an operation of all ranks, for 1, 2, 4 and 8 ranks. Ours are one thread that plays all ranks, and a thread for each;
 theirs are processes.
 
-    bench/c_interface.py [RUNS]    (3 where no number is said)
+    bench/c_interface.py [RUNS]    (3 by default)
 
 With `samples` after RUNS each thread of the shim has a processor of its own, for 2 and 4 ranks, and of 400 samples of 40 operations the
 lowest tenth counts: that can be compared on a machine that does other work too. WZ_HEADERS names a folder with other headers.

@@ -2,7 +2,7 @@
 """Compares collectives of this engine with MPI libraries, in one run: medians of RUNS runs in turn, in microseconds a collective, for
 2, 4 and 8 ranks. Ours are threads, theirs are processes; ours also keep the bytes of each post and outcome in the trace.
 
-    bench/mpi.py [RUNS] [--busy]    (5 runs where no number is said)
+    bench/mpi.py [RUNS] [--busy]    (5 runs by default)
 
 With --busy it does so beside as many busy processes as there are processors. In brackets stands how many of the runs weren't through in
 time: a thread that waits in a loop may keep the processor from the one that it waits for.

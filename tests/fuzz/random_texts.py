@@ -1,12 +1,12 @@
 #!/usr/bin/env python3
 """Writes random job texts without faults, whose ranks don't wait for one another in a cycle:
 
-    tests/fuzz/random_texts.py FOLDER [COUNT [SEED]]    COUNT texts, 1000 where none is said, of numbers from SEED, 1 where none is said
+    tests/fuzz/random_texts.py FOLDER [COUNT [SEED]]    COUNT texts (1000 by default), with numbers from SEED (1 by default) on
     tests/fuzz/random_texts.py FOLDER COUNT SEED pairs    some of them over the type 2int
     tests/fuzz/random_texts.py FOLDER COUNT SEED counts   some of them allgathervs, with a count for each member
 
-All ranks post and start in one common order, so each wait ends: of all requests that ranks wait for, the members of the first one have
-all come to it, or go on. Starts that follow one another without a wait between them change places now and then.
+All ranks post and start in one common order, so each wait ends: among the requests that ranks wait for, all members of the first one have
+come to it, or can go on. Starts that follow one another without a wait between them change places now and then.
 """
 
 import os

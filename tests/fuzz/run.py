@@ -1,7 +1,7 @@
 #!/usr/bin/env python3
 """Runs texts by `colljob run` many times and holds each answer against that of `colljob plain`.
 
-    tests/fuzz/run.py [RUNS]    (1,000 where no number is said)
+    tests/fuzz/run.py [RUNS]    (1,000 by default)
 
 One text has 16 ranks and 500 collectives of all kinds on 16 communicators, some persistent, with waits and tests in
 between; it is run with 0 to 8 progress threads in turn. Then `plain` and `run` are timed on a text of 64 ranks and 4,096

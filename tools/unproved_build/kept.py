@@ -1,8 +1,8 @@
-"""What was built without proof and is kept: the program, a small one for `run` and `plain`, and the C library.
+"""What was built without proof and is kept: the program, the minimal program for `run` and `plain`, and the C library.
 
-Each is kept under a name that holds the kit's id and a sum over its sources, so that none is ever taken for that of other sources. A call
-that finds one loads no module that only a build needs, and reads no source: it looks whether the system says the same of all files as when
-their sum was taken.
+Each is kept under a name with the kit's id and a checksum of its sources, so that none is ever taken for a build of other sources. A call that
+finds a kept program loads no module that only a build needs, and reads no source: it compares what the system says of each file (time, size)
+with what it said when the checksum was taken.
 """
 
 import os
