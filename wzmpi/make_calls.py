@@ -8,6 +8,8 @@
     FOLDER/counted.h      the functions counted_Name that calls with COUNT are carried out by
     FOLDER/forms.c        the collectives in all their forms, and the calls with COUNT
     FOLDER/names.c        the names of the collectives' forms
+    FOLDER/bodies.h       the sources here define body_MPI_Name where they say MPI_Name
+    FOLDER/entered.c      each MPI_Name, which enters its rank (threads.c), calls its body and leaves
     FOLDER/pmpi.ld        words for the linker: MPI_Name by its second name PMPI_Name
 """
 
@@ -110,6 +112,15 @@ def counted(call):
         yield f"int MPI_{call.name}{'_c' if wide else ''}({call.declared(wide)}) {{\n    return counted_{call.name}({words});\n}}\n"
 
 
+def entered(result, name, words, section):
+    """A call that the program makes: but for the quick ones it is of one thread of its rank at a time, or as the thread level says."""
+    if section == "quick":
+        return ""
+    given = ", ".join(name_of(it) for it in re.split(r", ", words)) if words != "void" else ""
+    return (f"{result}body_MPI_{name}({words});\n{result}MPI_{name}({words}) {{\n    enter_call(\"MPI_{name}\", __builtin_return_address(0));\n"
+            f"    {result}code = body_MPI_{name}({given});\n    leave_call();\n    return code;\n}}\n")
+
+
 def names(calls):
     lines = ["/* Written by make_calls.py: the names of the collectives. */", '#include "collectives.h"', "",
              "const char *const collective_names[COLLECTIVES][FORMS] = {"]
@@ -133,13 +144,15 @@ def main():
     (folder / "mpi_calls.h").write_text("".join(lines))
     pragma = "#ifdef __GNUC__\n#pragma GCC system_header /* macros with any number of arguments, also under -std=c89 -pedantic */\n#endif\n"
     lines = [head, pragma, "#define WZ_WORD2_(line) #line\n#define WZ_WORD_(line) WZ_WORD2_(line)\n", '#define WZ_HERE_ __FILE__ ":" WZ_WORD_(__LINE__)\n']
-    lines += [f"#define MPI_{name}(...) (wz_note_line_(WZ_HERE_), MPI_{name}(__VA_ARGS__))\n" for _, name, _, section in declared if section != "unproved"]
+    lines += [f"#define MPI_{name}(...) (wz_note_line_(WZ_HERE_), MPI_{name}(__VA_ARGS__))\n" for _, name, _, section in declared if section != "quick"]
     (folder / "mpi_lines.h").write_text("".join(lines))
     (folder / "counted.h").write_text(head + "#include <mpi.h>\n" + "".join(f"int counted_{it.name}({it.declared(True)});\n" for it in plain))
     lines = [head, '#include "collectives.h"\n#include "counted.h"\n\n']
     lines += ["".join(collective(it)) for it in collectives] + ["".join(counted(it)) for it in plain]
     (folder / "forms.c").write_text("".join(lines))
     (folder / "names.c").write_text(names(collectives))
+    (folder / "bodies.h").write_text(head + "".join(f"#define MPI_{name} body_MPI_{name}\n" for _, name, _, section in declared if section != "quick"))
+    (folder / "entered.c").write_text(head + '#include "threads.h"\n\n' + "".join(entered(*it) for it in declared))
     (folder / "pmpi.ld").write_text("".join(f"--defsym=PMPI_{name}=MPI_{name}\n" for _, name, _, _ in declared))
 
 

@@ -2,6 +2,7 @@
    other members'. Where none of these can, the thread that watches says so (deadlock_watch.c), and the post is refused. */
 #include "collectives.h"
 #include "diagnostics.h"
+#include "threads.h"
 
 #include <time.h>
 
@@ -33,7 +34,9 @@ static int32_t try_again(struct request *request, const struct asking *asking) {
     if (made) atomic_fetch_add(&me->waits_begun, 1); /* it waits anew */
     int32_t code = asking->ask(request, asking->bytes, asking->length);
     if (code != WZ_FULL || made) return code;
+    let_others_in();
     nanosleep(&(struct timespec){ 0, 1000000 }, NULL);
+    come_back();
     atomic_fetch_add(&me->turns_in_vain, 1);
     return code;
 }

@@ -75,7 +75,7 @@ struct rank {
     atomic_uint turns_in_vain; /* of waits for room */
     atomic_bool has_no_hope;   /* whoever watches says so: nobody makes room */
     atomic_uint wake; /* counts what may have let it go on; it sleeps until it changes */
-    atomic_bool sleeps;
+    atomic_int sleeps; /* its threads that do */
 };
 
 struct run {

@@ -63,7 +63,8 @@ int complete_request(struct request *request, MPI_Status *status, const char *ca
         finish_freed();
         return finish_message(request, status, call);
     }
-    if (the_run.strict && lacking(request) != 0) wait_for(call, only, 1, false);
+    bool alone = current_rank->level < MPI_THREAD_MULTIPLE;
+    if (!alone || (the_run.strict && lacking(request) != 0)) wait_for(call, only, 1, false);
     int32_t code = request->collected ? WZ_DONE : wait_in_engine(request, call);
     finish_freed();
     return code == WZ_DONE ? end_collective(request, call) : engine_refused(request, code, call);

@@ -14,7 +14,10 @@
 
 #include <time.h>
 
-enum { PATIENCE = 20 }; /* looks that give one answer, before a stall of some of the ranks is told while others go on */
+enum {
+    PATIENCE = 20,             /* looks that give one answer, before a stall of some of the ranks is told while others go on */
+    PATIENCE_OF_THREADS = 120, /* and before one that is not sure */
+};
 
 uint64_t all_ranks(void) { return the_run.size == 64 ? UINT64_MAX : (1ull << the_run.size) - 1; }
 
@@ -234,6 +237,13 @@ static void tell_lost(const struct sight *sight, uint64_t lost) {
     if (the_run.strict) fprintf(stderr, "  (--strict: each collective is taken to wait for all its members, each send for its receive)\n");
 }
 
+/* Whether a lost rank may have threads that wait for nothing. */
+static bool has_other_threads(uint64_t lost) {
+    bool multiple = false;
+    for (int i = 0; i < the_run.size; i++) multiple = multiple || ((lost >> i & 1) && the_run.ranks[i].level == MPI_THREAD_MULTIPLE);
+    return multiple && makes_threads();
+}
+
 static bool some_test(uint64_t lost) {
     bool some = false;
     for (int i = 0; i < the_run.size; i++) some = some || ((lost >> i & 1) && the_run.ranks[i].wait.tests);
@@ -247,17 +257,25 @@ static bool may_leave_loops(uint64_t lost) {
     return asks;
 }
 
-static void tell_stall(const struct sight *sight, uint64_t lost) {
+/* What may be so, and is told once. */
+static void warn_of_stall(const struct sight *sight, uint64_t lost, const char *what) {
     static bool told;
+    if (told) return;
+    told = true;
+    flush_streams();
+    fprintf(stderr, "wzrun: warning: no rank goes on: %s\n", what);
+    tell_lost(sight, lost);
+}
+
+static void tell_stall(const struct sight *sight, uint64_t lost) {
     char ranks[RANKS_TEXT];
     bool all = (lost | sight->gone) == all_ranks(), tests = some_test(lost);
     if (tests && may_leave_loops(lost)) {
-        if (!told) {
-            flush_streams();
-            fprintf(stderr, "wzrun: warning: no rank goes on: tests can't come true any more (not sure: the program may leave its loops by the time, or by something else than MPI)\n");
-            tell_lost(sight, lost);
-        }
-        told = true;
+        warn_of_stall(sight, lost, "tests can't come true any more (not sure: the program may leave its loops by the time, or by something else than MPI)");
+        return;
+    }
+    if (has_other_threads(lost)) {
+        if (all) warn_of_stall(sight, lost, "each waits (not sure: under MPI_THREAD_MULTIPLE another thread of a rank may let it go on)");
         return;
     }
     if (!tells_first()) return; /* whoever tells already ends the run, and may want to look at the ranks before */
@@ -340,7 +358,7 @@ static void watch_waits(bool tests) {
     lost_before = lost;
     waits_before = waits;
     struct rank *without_room = first_without_room(lost);
-    bool is_sure = looks > (whole ? 0 : PATIENCE) + (without_room != NULL) && (whole || !tests);
+    bool is_sure = looks > (has_other_threads(lost) ? PATIENCE_OF_THREADS : whole ? 0 : PATIENCE) + (without_room != NULL) && (whole || !tests);
     if (is_sure && without_room != NULL) {
         atomic_store(&without_room->has_no_hope, true); /* it is refused, and others may go on then */
         lost_before = 0;

@@ -130,19 +130,23 @@ int MPI_Cancel(MPI_Request *handle) {
 
 /* ---- a buffer isn't needed: each send has its own memory */
 
-static __thread void *attached;
-static __thread int attached_size;
+static struct {
+    void *at;
+    int size;
+} attached[MOST_RANKS];
 
 int MPI_Buffer_attach(void *buffer, int size) {
-    attached = buffer;
-    attached_size = size;
+    int rank = this_rank("MPI_Buffer_attach")->number;
+    attached[rank].at = buffer;
+    attached[rank].size = size;
     return MPI_SUCCESS;
 }
 
 int MPI_Buffer_detach(void *buffer, int *size) {
-    *(void **)buffer = attached;
-    *size = attached_size;
-    attached = NULL;
-    attached_size = 0;
+    int rank = this_rank("MPI_Buffer_detach")->number;
+    *(void **)buffer = attached[rank].at;
+    *size = attached[rank].size;
+    attached[rank].at = NULL;
+    attached[rank].size = 0;
     return MPI_SUCCESS;
 }

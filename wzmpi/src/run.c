@@ -6,6 +6,7 @@
 #include "per_rank_libc.h"
 #include "rank_copies.h"
 #include "signals.h"
+#include "threads.h"
 #include "record.h"
 #include "diagnostics.h"
 

@@ -4,7 +4,6 @@
 
 void begin_run(int size);
 void note_copy(int rank, const void *base); /* where a rank's copy of the program, or of a library, lies */
-void be_main(void);                         /* this thread is its rank's main one */
 
 /* wzrun itself. */
 int wz_main_(int argc, char **argv);

@@ -4,6 +4,7 @@
 
 #include "deadlock_watch.h"
 #include "rank_copies.h"
+#include "threads.h"
 
 #include <sched.h>
 #include <time.h>
@@ -104,8 +105,11 @@ void test_in_vain(const char *call, struct request **list, int many) {
     struct rank *me = current_rank;
     atomic_fetch_add_explicit(&me->vain_tests, 1, memory_order_relaxed);
     note_tests(me, list, many);
-    if (atomic_load_explicit(&asked, memory_order_relaxed)) stand_still(call, me);
-    else sched_yield();
+    bool alone = me->level < MPI_THREAD_MULTIPLE;
+    if (alone && atomic_load_explicit(&asked, memory_order_relaxed)) stand_still(call, me);
+    if (!alone) let_others_in();
+    sched_yield();
+    if (!alone) come_back();
 }
 
 /* ---- the watching thread's */
@@ -143,12 +147,17 @@ bool all_others_test(uint64_t resting) {
 
 void show_tests(bool begin) { atomic_store(&asked, begin); }
 
+bool makes_threads(void) {
+    static int known; /* 1: it doesn't, 2: it does */
+    if (known == 0) known = is_imported("pthread_create") || is_imported("thrd_create") || is_imported("GOMP_*") || is_imported("__kmpc_*") || is_imported("_ZNSt6thread*") ? 2 : 1;
+    return known == 2;
+}
+
 /* Functions by which a program may know that time passes, or hear of something else than MPI. */
 bool tells_time(void) {
-    static const char *const functions[] = { "time", "gettimeofday", "clock", "clock_gettime", "times", "getrusage", "timespec_get", "ftime", "pthread_create", "thrd_create",
-                                             "GOMP_parallel", "__kmpc_fork_call", "signal", "sigaction", "alarm", "setitimer", "poll", "select", "epoll_wait", "read", "recv",
+    static const char *const functions[] = { "time", "gettimeofday", "clock", "clock_gettime", "times", "getrusage", "timespec_get", "ftime", "signal", "sigaction", "alarm", "setitimer", "poll", "select", "epoll_wait", "read", "recv",
                                              "stat", "access", "fopen", "fopen64", "open", "open64", "sem_open", "mmap", "shmat" };
     for (size_t i = 0; i < sizeof functions / sizeof functions[0]; i++)
         if (is_imported(functions[i])) return true;
-    return is_imported("_ZNSt6chrono*") || is_imported("_ZNSt6thread*");
+    return makes_threads() || is_imported("_ZNSt6chrono*");
 }

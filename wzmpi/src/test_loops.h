@@ -13,6 +13,7 @@ double seconds_of_testing(int rank);
 bool is_testing(int rank);         /* for a while it has made nothing but tests */
 bool all_others_test(uint64_t resting); /* all ranks but these, for so long that it is worth a closer look */
 void show_tests(bool begin);       /* between the two, ranks that test stand as if they waited for what they test */
+bool makes_threads(void);          /* the program may */
 bool tells_time(void);             /* the program may leave such a loop by what isn't MPI: the time, a thread, a signal */
 
 #endif

@@ -1,7 +1,9 @@
 /* Waiting: for one request of an engine the engine's own wait serves; for others a rank sleeps until a call of another may have let it go on. */
 #include "trace.h"
+#include "threads.h"
 #include "window.h"
 
+#include <limits.h>
 #include <linux/futex.h>
 #include <sched.h>
 #include <sys/syscall.h>
@@ -18,8 +20,13 @@ enum {
 static pthread_mutex_t looking = PTHREAD_MUTEX_INITIALIZER;
 static atomic_bool looked_at;
 
+/* Of a rank's threads one at a time is looked at (MPI_THREAD_MULTIPLE). */
+static __thread bool is_looked_at;
+
 static void begin_wait(struct wait wait) {
     struct rank *me = current_rank;
+    if (atomic_load(&me->waits)) return;
+    is_looked_at = true;
     me->wait = wait;
     me->wait_begun = run_clock();
     atomic_fetch_add_explicit(&me->waits_begun, 1, memory_order_relaxed);
@@ -35,6 +42,8 @@ void begin_wait_for_room(const char *call, struct request *request) { begin_wait
 /* Whoever looks at the ranks may be at this one's list, which the caller gives up now. */
 void end_waiting(void) {
     struct rank *me = current_rank;
+    if (!is_looked_at) return;
+    is_looked_at = false;
     atomic_store(&me->waits, false);
     note_wait(me->wait.call, me->wait.site, me->wait_begun);
     if (!atomic_load(&looked_at)) return;
@@ -117,9 +126,9 @@ static void sleep_until_woken(struct rank *me, uint32_t seen) {
 }
 
 void wake_rank(struct rank *rank) {
-    if (!atomic_load(&rank->sleeps)) return;
+    if (atomic_load(&rank->sleeps) == 0) return;
     atomic_fetch_add(&rank->wake, 1);
-    syscall(SYS_futex, &rank->wake, FUTEX_WAKE_PRIVATE, 1, NULL, NULL, 0);
+    syscall(SYS_futex, &rank->wake, FUTEX_WAKE_PRIVATE, INT_MAX, NULL, NULL, 0);
 }
 
 void wake_members(struct comm *comm, int but) {
@@ -166,15 +175,20 @@ static bool wait_in_engine(struct engine *engine, struct request **list, int man
 void wait_for(const char *call, struct request **list, int many, bool any) {
     struct rank *me = current_rank;
     begin_waiting(call, list, many, any);
-    struct engine *engine = any && !the_run.strict ? common_engine(list, many) : NULL;
+    bool alone = me->level < MPI_THREAD_MULTIPLE; /* else the engine's wait would hold up the rank's other threads */
+    struct engine *engine = any && alone && !the_run.strict ? common_engine(list, many) : NULL;
     bool done = engine != NULL && wait_in_engine(engine, list, many);
     for (int look = 0; !done && look < LOOKS; look++) done = may_go_on(list, many, any);
     while (!done) {
         uint32_t seen = atomic_load(&me->wake);
-        atomic_store(&me->sleeps, true);
+        atomic_fetch_add(&me->sleeps, 1);
         done = may_go_on(list, many, any);
-        if (!done) sleep_until_woken(me, seen);
-        atomic_store(&me->sleeps, false);
+        if (!done) {
+            let_others_in();
+            sleep_until_woken(me, seen);
+            come_back();
+        }
+        atomic_fetch_sub(&me->sleeps, 1);
     }
     end_waiting();
 }

@@ -3,6 +3,7 @@
 #include "record.h"
 #include "diagnostics.h"
 #include "per_rank_libc.h"
+#include "threads.h"
 
 #include <dlfcn.h>
 #include <time.h>
@@ -38,13 +39,6 @@ struct rank *rank_of_code(const void *address) {
     return current_rank;
 }
 
-void wz_note_line_(const char *line) {
-    struct rank *rank = rank_of_code(line);
-    if (rank == NULL) return; /* the call itself tells that its thread is no rank's */
-    atomic_store_explicit(&rank->site, line, memory_order_relaxed);
-    atomic_store_explicit(&rank->lines, atomic_load_explicit(&rank->lines, memory_order_relaxed) + 1, memory_order_relaxed);
-}
-
 struct rank *this_rank(const char *call) {
     if (rank_of_code(__builtin_return_address(0)) != NULL) return current_rank;
     fprintf(stderr, "wzrun: %s: the thread that calls it isn't one of a rank\n", call);
@@ -70,6 +64,7 @@ static int initialise(int level, const char *call) {
     if (me->begun) return refuse(NULL, MPI_ERR_OTHER, call, "MPI_Init was called before");
     me->begun = true;
     me->level = level;
+    be_main();
     return MPI_SUCCESS;
 }
 
@@ -80,7 +75,7 @@ int MPI_Init(int *argc, char ***argv) {
 
 int MPI_Init_thread(int *argc, char ***argv, int wanted, int *given) {
     (void)argc, (void)argv;
-    *given = wanted < MPI_THREAD_SERIALIZED ? wanted : MPI_THREAD_SERIALIZED;
+    *given = wanted < MPI_THREAD_MULTIPLE ? wanted : MPI_THREAD_MULTIPLE;
     return initialise(*given, "MPI_Init_thread");
 }
 
@@ -89,12 +84,8 @@ int MPI_Query_thread(int *given) {
     return MPI_SUCCESS;
 }
 
-static __thread bool is_main;
-
-void be_main(void) { is_main = true; }
-
 int MPI_Is_thread_main(int *flag) {
-    *flag = is_main;
+    *flag = is_main();
     return MPI_SUCCESS;
 }
 

@@ -464,7 +464,7 @@ static void threads(void) {
     pthread_t thread;
     int sum = -1, level;
     MPI_Query_thread(&level);
-    HOLDS(level == MPI_THREAD_SERIALIZED);
+    HOLDS(level == MPI_THREAD_SERIALIZED); /* as main asks for */
     pthread_create(&thread, NULL, call_from_thread, &sum);
     pthread_join(thread, NULL);
     HOLDS(sum == sum_of_ranks());

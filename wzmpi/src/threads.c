@@ -1,0 +1,112 @@
+/* Calls of a rank's threads. Under MPI_THREAD_SINGLE and MPI_THREAD_FUNNELED the main thread alone calls, under MPI_THREAD_SERIALIZED one at a time: what isn't so
+   ends the run, with both lines. Under MPI_THREAD_MULTIPLE one at a time has the rank, and a call that waits lets others in. */
+#include "threads.h"
+
+#include "diagnostics.h"
+#include "per_rank_libc.h"
+
+struct threads {
+    pthread_mutex_t one;               /* MPI_THREAD_MULTIPLE: who has the rank */
+    const char *_Atomic inside, *_Atomic inside_at; /* MPI_THREAD_SERIALIZED: the call of the thread that is inside, and its line */
+    atomic_uintptr_t first;            /* the first thread that has called */
+    atomic_bool several;
+};
+static struct threads threads[MOST_RANKS] = { [0 ... MOST_RANKS - 1] = { .one = PTHREAD_MUTEX_INITIALIZER } };
+
+static __thread const char *line; /* of this thread's last call that has noted one */
+static __thread bool main_thread;
+static __thread int depth; /* calls in calls, as an operation of the program may make */
+
+void wz_note_line_(const char *at) { line = at; }
+
+void be_main(void) { main_thread = true; }
+
+bool is_main(void) { return main_thread; }
+
+bool has_threads(const struct rank *rank) { return atomic_load(&threads[rank->number].several); }
+
+static const char *line_text(void) { return line != NULL ? line : "a line that isn't known"; }
+
+/* ---- what isn't allowed */
+
+static const char *level_name(int level) {
+    return level == MPI_THREAD_SINGLE ? "MPI_THREAD_SINGLE" : level == MPI_THREAD_FUNNELED ? "MPI_THREAD_FUNNELED" : "MPI_THREAD_SERIALIZED";
+}
+
+static void tell_wrong_thread(const struct rank *rank, const char *call) __attribute__((noreturn));
+static void tell_wrong_thread(const struct rank *rank, const char *call) {
+    tell_alone();
+    flush_streams();
+    fprintf(stderr, "wzrun: rank %d: %s at %s: another thread than the main one calls it, under %s; the main thread's last call stands at %s (MPI_ERR_OTHER)\n", rank->number, call,
+            line_text(), level_name(rank->level), atomic_load(&rank->site));
+    end_run(fault_status(STATUS_WRONG), (struct question){ NULL, NULL });
+}
+
+static void tell_two(const struct rank *rank, const char *call, const char *other) __attribute__((noreturn));
+static void tell_two(const struct rank *rank, const char *call, const char *other) {
+    const char *at = atomic_load(&threads[rank->number].inside_at);
+    tell_alone();
+    flush_streams();
+    fprintf(stderr, "wzrun: rank %d: %s at %s: another thread is in %s at %s, and under MPI_THREAD_SERIALIZED threads call one at a time (MPI_ERR_OTHER)\n", rank->number, call,
+            line_text(), other, at != NULL ? at : "a line that isn't known");
+    end_run(fault_status(STATUS_WRONG), (struct question){ NULL, NULL });
+}
+
+/* ---- in and out */
+
+static void note_thread(struct threads *own) {
+    uintptr_t me = (uintptr_t)pthread_self(), nobody = 0;
+    uintptr_t first = atomic_load_explicit(&own->first, memory_order_relaxed);
+    if (first == me) return;
+    if (first == 0 && atomic_compare_exchange_strong(&own->first, &nobody, me)) return;
+    atomic_store(&own->several, true);
+}
+
+/* Threads may ask for the level, and whether they are the main one, at any time. */
+static bool is_asking(const char *call) { return strcmp(call, "MPI_Query_thread") == 0 || strcmp(call, "MPI_Is_thread_main") == 0; }
+
+static void judge_thread(struct rank *rank, const char *call) {
+    struct threads *own = &threads[rank->number];
+    if (rank->level == MPI_THREAD_MULTIPLE) {
+        pthread_mutex_lock(&own->one);
+        note_thread(own);
+    } else if (rank->level == MPI_THREAD_SERIALIZED) {
+        const char *other = is_asking(call) ? NULL : atomic_exchange(&own->inside, call);
+        if (other != NULL) tell_two(rank, call, other);
+        atomic_store_explicit(&own->inside_at, line, memory_order_relaxed);
+    } else if (!main_thread && !is_asking(call)) tell_wrong_thread(rank, call);
+}
+
+static __thread int entered_level; /* that of the call that this thread is in: MPI_Init_thread changes it */
+
+void enter_call(const char *call, const void *from) {
+    struct rank *rank = current_rank;
+    if (rank == NULL && line != NULL) rank = rank_of_code(line);
+    if (rank == NULL) rank = rank_of_code(from);
+    if (rank == NULL) return; /* the call itself tells that its thread is no rank's */
+    if (depth++ == 0) {
+        entered_level = rank->begun ? rank->level : MPI_THREAD_SINGLE;
+        if (rank->begun) judge_thread(rank, call);
+    }
+    if (line != NULL) atomic_store_explicit(&rank->site, line, memory_order_relaxed);
+    atomic_store_explicit(&rank->lines, atomic_load_explicit(&rank->lines, memory_order_relaxed) + 1, memory_order_relaxed);
+}
+
+void leave_call(void) {
+    if (current_rank == NULL || --depth > 0) return;
+    struct threads *own = &threads[current_rank->number];
+    if (entered_level == MPI_THREAD_MULTIPLE) pthread_mutex_unlock(&own->one);
+    else if (entered_level == MPI_THREAD_SERIALIZED) atomic_store(&own->inside, NULL);
+}
+
+/* ---- waits */
+
+void let_others_in(void) {
+    if (entered_level == MPI_THREAD_MULTIPLE) pthread_mutex_unlock(&threads[current_rank->number].one);
+}
+
+void come_back(void) {
+    if (entered_level != MPI_THREAD_MULTIPLE) return;
+    pthread_mutex_lock(&threads[current_rank->number].one);
+    if (line != NULL) atomic_store_explicit(&current_rank->site, line, memory_order_relaxed);
+}
