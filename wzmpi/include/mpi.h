@@ -116,17 +116,39 @@ typedef struct MPI_Status {
 #define MPI_LONG_INT 0x3c000024
 #define MPI_SHORT_INT 0x3c000025
 #define MPI_LONG_DOUBLE_INT 0x3c000026
-/* C++ and Fortran names of types that are the same. */
+/* Fortran's types; those of C that are the same match them. */
+#define MPI_CHARACTER 0x3c000027
+#define MPI_LOGICAL 0x3c000028
+#define MPI_INTEGER 0x3c000029
+#define MPI_REAL 0x3c00002a
+#define MPI_DOUBLE_PRECISION 0x3c00002b
+#define MPI_COMPLEX 0x3c00002c
+#define MPI_DOUBLE_COMPLEX 0x3c00002d
+#define MPI_INTEGER1 0x3c00002e
+#define MPI_INTEGER2 0x3c00002f
+#define MPI_INTEGER4 0x3c000030
+#define MPI_INTEGER8 0x3c000031
+#define MPI_REAL4 0x3c000032
+#define MPI_REAL8 0x3c000033
+#define MPI_COMPLEX8 0x3c000034
+#define MPI_COMPLEX16 0x3c000035
+#define MPI_2INTEGER 0x3c000036
+#define MPI_2REAL 0x3c000037
+#define MPI_2DOUBLE_PRECISION 0x3c000038
+/* Those that gfortran or this library lacks. */
+#define MPI_INTEGER16 MPI_DATATYPE_NULL
+#define MPI_REAL2 MPI_DATATYPE_NULL
+#define MPI_REAL16 MPI_DATATYPE_NULL
+#define MPI_COMPLEX4 MPI_DATATYPE_NULL
+#define MPI_COMPLEX32 MPI_DATATYPE_NULL
+/* Of MPI 1, for MPI_Type_struct alone. */
+#define MPI_LB 0x3c0000f1
+#define MPI_UB 0x3c0000f2
+/* C++ names of types that are the same. */
 #define MPI_CXX_BOOL MPI_C_BOOL
 #define MPI_CXX_FLOAT_COMPLEX MPI_C_FLOAT_COMPLEX
 #define MPI_CXX_DOUBLE_COMPLEX MPI_C_DOUBLE_COMPLEX
 #define MPI_CXX_LONG_DOUBLE_COMPLEX MPI_C_LONG_DOUBLE_COMPLEX
-#define MPI_COMPLEX MPI_C_FLOAT_COMPLEX
-#define MPI_DOUBLE_COMPLEX MPI_C_DOUBLE_COMPLEX
-#define MPI_CHARACTER MPI_CHAR
-#define MPI_INTEGER MPI_INT
-#define MPI_REAL MPI_FLOAT
-#define MPI_DOUBLE_PRECISION MPI_DOUBLE
 
 #define MPI_MAX WZ_HANDLE_(MPI_Op, 4, 1)
 #define MPI_MIN WZ_HANDLE_(MPI_Op, 4, 2)
@@ -189,6 +211,7 @@ enum { MPI_THREAD_SINGLE, MPI_THREAD_FUNNELED, MPI_THREAD_SERIALIZED, MPI_THREAD
 #define MPI_SEEK_END 604
 #define MPI_DISPLACEMENT_CURRENT (-54278278)
 #define MPI_MAX_DATAREP_STRING 128
+#define MPIO_Request MPI_Request /* of ROMIO */
 
 enum { MPI_WIN_FLAVOR_CREATE = 1, MPI_WIN_FLAVOR_ALLOCATE, MPI_WIN_FLAVOR_DYNAMIC, MPI_WIN_FLAVOR_SHARED };
 enum { MPI_WIN_SEPARATE = 1, MPI_WIN_UNIFIED };
@@ -197,7 +220,8 @@ enum { MPI_COMM_TYPE_SHARED = 1, MPI_COMM_TYPE_HW_UNGUIDED, MPI_COMM_TYPE_HW_GUI
 enum { MPI_GRAPH = 1, MPI_CART, MPI_DIST_GRAPH };
 enum {
     MPI_COMBINER_NAMED, MPI_COMBINER_DUP, MPI_COMBINER_CONTIGUOUS, MPI_COMBINER_VECTOR, MPI_COMBINER_HVECTOR, MPI_COMBINER_INDEXED, MPI_COMBINER_HINDEXED,
-    MPI_COMBINER_INDEXED_BLOCK, MPI_COMBINER_HINDEXED_BLOCK, MPI_COMBINER_STRUCT, MPI_COMBINER_SUBARRAY, MPI_COMBINER_RESIZED
+    MPI_COMBINER_INDEXED_BLOCK, MPI_COMBINER_HINDEXED_BLOCK, MPI_COMBINER_STRUCT, MPI_COMBINER_SUBARRAY, MPI_COMBINER_RESIZED, MPI_COMBINER_DARRAY, MPI_COMBINER_F90_REAL,
+    MPI_COMBINER_F90_COMPLEX, MPI_COMBINER_F90_INTEGER, MPI_COMBINER_HVECTOR_INTEGER, MPI_COMBINER_HINDEXED_INTEGER, MPI_COMBINER_STRUCT_INTEGER
 };
 enum { MPI_ORDER_C = 56, MPI_ORDER_FORTRAN };
 enum { MPI_TAG_UB = 1, MPI_HOST, MPI_IO, MPI_WTIME_IS_GLOBAL, MPI_UNIVERSE_SIZE, MPI_LASTUSEDCODE, MPI_APPNUM };
@@ -224,6 +248,13 @@ typedef int MPI_Comm_delete_attr_function(MPI_Comm comm, int keyval, void *value
 #define MPI_COMM_NULL_DELETE_FN ((MPI_Comm_delete_attr_function *)0)
 int wz_comm_dup_fn_(MPI_Comm comm, int keyval, void *extra, void *value, void *copied, int *flag);
 #define MPI_COMM_DUP_FN wz_comm_dup_fn_
+typedef int MPI_Type_copy_attr_function(MPI_Datatype type, int keyval, void *extra, void *value, void *copied, int *flag);
+typedef int MPI_Type_delete_attr_function(MPI_Datatype type, int keyval, void *value, void *extra);
+#define MPI_TYPE_NULL_COPY_FN ((MPI_Type_copy_attr_function *)0)
+#define MPI_TYPE_NULL_DELETE_FN ((MPI_Type_delete_attr_function *)0)
+int wz_type_dup_fn_(MPI_Datatype type, int keyval, void *extra, void *value, void *copied, int *flag);
+#define MPI_TYPE_DUP_FN wz_type_dup_fn_
+typedef MPI_Comm_errhandler_function MPI_Handler_function;
 typedef MPI_Comm_copy_attr_function MPI_Copy_function;
 typedef MPI_Comm_delete_attr_function MPI_Delete_function;
 #define MPI_NULL_COPY_FN MPI_COMM_NULL_COPY_FN

@@ -2,6 +2,7 @@
 #include "attributes.h"
 
 #include "diagnostics.h"
+#include "fortran.h"
 
 /* ---- attributes: each member has its own */
 
@@ -10,6 +11,7 @@ struct keyval {
     MPI_Comm_delete_attr_function *delete;
     void *extra;
     bool freed;
+    enum language language;
 };
 enum { FIRST_KEYVAL = 100 };
 
@@ -24,10 +26,40 @@ static struct keyval *keyval_of(int number) {
     return number >= FIRST_KEYVAL && number < FIRST_KEYVAL + current_rank->many_keyvals ? &current_rank->keyvals[number - FIRST_KEYVAL] : NULL;
 }
 
+/* ---- a key's functions, which may be Fortran's */
+
+typedef void fortran_copy(int *handle, int *keyval, MPI_Aint *extra, MPI_Aint *value, MPI_Aint *copied, int *flag, int *code);
+typedef void fortran_delete(int *handle, int *keyval, MPI_Aint *value, MPI_Aint *extra, int *code);
+typedef void old_fortran_copy(int *handle, int *keyval, int *extra, int *value, int *copied, int *flag, int *code);
+typedef void old_fortran_delete(int *handle, int *keyval, int *value, int *extra, int *code);
+
+static int call_copy(const struct keyval *keyval, MPI_Comm handle, int number, void *value, void **copied, int *flag) {
+    int short_handle = to_fortran(handle), code = MPI_SUCCESS, extra = (int)(intptr_t)keyval->extra, old = (int)(intptr_t)value, new = 0;
+    MPI_Aint wide_extra = (MPI_Aint)keyval->extra, wide = (MPI_Aint)value, made = 0;
+    if (keyval->copy == NULL) return code;
+    if (keyval->language == IN_C) return keyval->copy(handle, number, keyval->extra, value, copied, flag);
+    if (keyval->language == IN_FORTRAN) ((fortran_copy *)(void (*)(void))keyval->copy)(&short_handle, &number, &wide_extra, &wide, &made, flag, &code);
+    else ((old_fortran_copy *)(void (*)(void))keyval->copy)(&short_handle, &number, &extra, &old, &new, flag, &code);
+    *copied = (void *)(keyval->language == IN_FORTRAN ? (intptr_t)made : (intptr_t)new);
+    return code;
+}
+
+static int call_delete(const struct keyval *keyval, MPI_Comm handle, int number, void *value) {
+    int short_handle = to_fortran(handle), code = MPI_SUCCESS, extra = (int)(intptr_t)keyval->extra, old = (int)(intptr_t)value;
+    MPI_Aint wide_extra = (MPI_Aint)keyval->extra, wide = (MPI_Aint)value;
+    if (keyval->delete == NULL) return code;
+    if (keyval->language == IN_C) return keyval->delete(handle, number, value, keyval->extra);
+    if (keyval->language == IN_FORTRAN) ((fortran_delete *)(void (*)(void))keyval->delete)(&short_handle, &number, &wide, &wide_extra, &code);
+    else ((old_fortran_delete *)(void (*)(void))keyval->delete)(&short_handle, &number, &old, &extra, &code);
+    return code;
+}
+
+void set_language(int number, enum language language) { keyval_of(number)->language = language; }
+
 int create_keyval(MPI_Comm_copy_attr_function *copy, MPI_Comm_delete_attr_function *delete, int *number, void *extra, const char *call) {
     struct rank *me = this_rank(call);
     me->keyvals = must(realloc(me->keyvals, sizeof *me->keyvals * (size_t)(me->many_keyvals + 1)));
-    me->keyvals[me->many_keyvals] = (struct keyval){ copy, delete, extra, false };
+    me->keyvals[me->many_keyvals] = (struct keyval){ copy, delete, extra, false, IN_C };
     *number = FIRST_KEYVAL + me->many_keyvals++;
     return MPI_SUCCESS;
 }
@@ -41,8 +73,8 @@ int free_keyval(int *number, const char *call) {
     return MPI_SUCCESS;
 }
 
-static struct attribute **find(struct comm *comm, int keyval) {
-    struct attribute **at = &this_member(comm)->attributes;
+static struct attribute **find(struct attribute **list, int keyval) {
+    struct attribute **at = list;
     while (*at != NULL && (*at)->keyval != keyval) at = &(*at)->next;
     return at;
 }
@@ -53,30 +85,33 @@ static int judge_keyval(struct comm *comm, int number, const char *call) {
 
 static int delete_one(MPI_Comm handle, struct attribute **at) {
     struct attribute *attribute = *at;
-    struct keyval *keyval = keyval_of(attribute->keyval);
-    int code = keyval->delete != NULL ? keyval->delete(handle, attribute->keyval, attribute->value, keyval->extra) : MPI_SUCCESS;
+    int code = call_delete(keyval_of(attribute->keyval), handle, attribute->keyval, attribute->value);
     if (code != MPI_SUCCESS) return code;
     *at = attribute->next;
     free(attribute);
     return code;
 }
 
-int set_attribute(struct comm *comm, MPI_Comm handle, int number, void *value, const char *call) {
-    int code = judge_keyval(comm, number, call);
+int set_attribute(const struct attributed *of, int number, void *value, const char *call) {
+    int code = judge_keyval(of->comm, number, call);
     if (code != MPI_SUCCESS) return code;
-    struct attribute **at = find(comm, number);
-    if (*at != NULL) code = delete_one(handle, at);
+    struct attribute **at = find(of->list, number);
+    if (*at != NULL) code = delete_one(of->handle, at);
     if (code != MPI_SUCCESS) return code;
     struct attribute *attribute = must(malloc(sizeof *attribute));
-    *attribute = (struct attribute){ number, value, this_member(comm)->attributes };
-    this_member(comm)->attributes = attribute;
+    *attribute = (struct attribute){ number, value, *of->list };
+    *of->list = attribute;
     return code;
 }
+
+struct attributed attributes_of(struct comm *comm, const void *handle) { return (struct attributed){ comm, &this_member(comm)->attributes, (MPI_Comm)(uintptr_t)handle }; }
 
 static int set_attr(MPI_Comm handle, int number, void *value, const char *call) {
     this_rank(call);
     struct comm *comm = find_comm(handle);
-    return comm != NULL ? set_attribute(comm, handle, number, value, call) : comm_error(handle, call);
+    if (comm == NULL) return comm_error(handle, call);
+    struct attributed of = attributes_of(comm, handle);
+    return set_attribute(&of, number, value, call);
 }
 
 static bool predefined(int number, void *value) {
@@ -88,10 +123,10 @@ static bool predefined(int number, void *value) {
     return true;
 }
 
-int get_attribute(struct comm *comm, int number, void *value, int *flag, const char *call) {
-    int code = judge_keyval(comm, number, call);
+int get_attribute(const struct attributed *of, int number, void *value, int *flag, const char *call) {
+    int code = judge_keyval(of->comm, number, call);
     if (code != MPI_SUCCESS) return code;
-    struct attribute *attribute = *find(comm, number);
+    struct attribute *attribute = *find(of->list, number);
     *flag = attribute != NULL;
     if (attribute != NULL) *(void **)value = attribute->value;
     return code;
@@ -102,21 +137,25 @@ static int get_attr(MPI_Comm handle, int number, void *value, int *flag, const c
     struct comm *comm = find_comm(handle);
     if (comm == NULL) return comm_error(handle, call);
     *flag = predefined(number, value);
-    return *flag ? MPI_SUCCESS : get_attribute(comm, number, value, flag, call);
+    if (*flag) return MPI_SUCCESS;
+    struct attributed of = attributes_of(comm, handle);
+    return get_attribute(&of, number, value, flag, call);
 }
 
-int delete_attribute(struct comm *comm, MPI_Comm handle, int number, const char *call) {
-    int code = judge_keyval(comm, number, call);
+int delete_attribute(const struct attributed *of, int number, const char *call) {
+    int code = judge_keyval(of->comm, number, call);
     if (code != MPI_SUCCESS) return code;
-    struct attribute **at = find(comm, number);
-    if (*at == NULL) return refuse(comm, MPI_ERR_ARG, call, "there is no value of this key");
-    return delete_one(handle, at);
+    struct attribute **at = find(of->list, number);
+    if (*at == NULL) return refuse(of->comm, MPI_ERR_ARG, call, "there is no value of this key");
+    return delete_one(of->handle, at);
 }
 
 static int delete_attr(MPI_Comm handle, int number, const char *call) {
     this_rank(call);
     struct comm *comm = find_comm(handle);
-    return comm != NULL ? delete_attribute(comm, handle, number, call) : comm_error(handle, call);
+    if (comm == NULL) return comm_error(handle, call);
+    struct attributed of = attributes_of(comm, handle);
+    return delete_attribute(&of, number, call);
 }
 
 /* ---- the calls, and those of MPI 1 that MPI 4.1, 16.1 deprecates */
@@ -145,24 +184,33 @@ int MPI_Comm_delete_attr(MPI_Comm handle, int number) { return delete_attr(handl
 
 int MPI_Attr_delete(MPI_Comm handle, int number) { return delete_attr(handle, number, "MPI_Attr_delete"); }
 
-int copy_attributes(struct comm *from, MPI_Comm from_handle, struct comm *to) {
-    for (struct attribute *attribute = this_member(from)->attributes; attribute != NULL; attribute = attribute->next) {
-        struct keyval *keyval = keyval_of(attribute->keyval);
+int copy_list(const struct attributed *from, struct attribute **to) {
+    for (struct attribute *attribute = *from->list; attribute != NULL; attribute = attribute->next) {
         void *copied = NULL;
-        int flag = 0, code = keyval->copy != NULL ? keyval->copy(from_handle, attribute->keyval, keyval->extra, attribute->value, &copied, &flag) : MPI_SUCCESS;
+        int flag = 0, code = call_copy(keyval_of(attribute->keyval), from->handle, attribute->keyval, attribute->value, &copied, &flag);
         if (code != MPI_SUCCESS) return code;
         if (!flag) continue;
         struct attribute *copy = must(malloc(sizeof *copy));
-        *copy = (struct attribute){ attribute->keyval, copied, this_member(to)->attributes };
-        this_member(to)->attributes = copy;
+        *copy = (struct attribute){ attribute->keyval, copied, *to };
+        *to = copy;
     }
     return MPI_SUCCESS;
 }
 
-int delete_attributes(struct comm *comm, MPI_Comm handle) {
+int copy_attributes(struct comm *from, MPI_Comm from_handle, struct comm *to) {
+    struct attributed of = attributes_of(from, from_handle);
+    return copy_list(&of, &this_member(to)->attributes);
+}
+
+int delete_list(const struct attributed *of) {
     int code = MPI_SUCCESS;
-    while (code == MPI_SUCCESS && this_member(comm)->attributes != NULL) code = delete_one(handle, &this_member(comm)->attributes);
+    while (code == MPI_SUCCESS && *of->list != NULL) code = delete_one(of->handle, of->list);
     return code;
+}
+
+int delete_attributes(struct comm *comm, MPI_Comm handle) {
+    struct attributed of = attributes_of(comm, handle);
+    return delete_list(&of);
 }
 
 /* ---- error handlers */
@@ -192,10 +240,16 @@ void use_handler(struct comm *comm, struct errhandler *handler) {
     member->handler = handler;
 }
 
+void call_handler(const struct errhandler *handler, MPI_Comm handle, int *class) {
+    int short_handle = to_fortran(handle);
+    if (handler->in_fortran) ((void (*)(int *, int *))(void (*)(void))handler->function)(&short_handle, class);
+    else handler->function(&handle, class);
+}
+
 int create_errhandler(MPI_Comm_errhandler_function *function, MPI_Errhandler *made, const char *call) {
     this_rank(call);
     struct errhandler *handler = must(malloc(sizeof *handler));
-    *handler = (struct errhandler){ function, NULL, true, 1 };
+    *handler = (struct errhandler){ .function = function, .returns = true, .uses = 1, .handles = 1 };
     handler->handle = *made = (MPI_Errhandler)add_handle(ERRHANDLER, handler);
     return MPI_SUCCESS;
 }
@@ -210,7 +264,8 @@ int set_errhandler(struct comm *comm, MPI_Errhandler wanted, const char *call) {
 MPI_Errhandler errhandler_handle(struct errhandler *handler) {
     if (handler->function == NULL) return handler->handle;
     handler->uses++;
-    return (MPI_Errhandler)add_handle(ERRHANDLER, handler);
+    if (handler->handles++ == 0) handler->handle = (MPI_Errhandler)add_handle(ERRHANDLER, handler);
+    return handler->handle;
 }
 
 int get_errhandler(struct comm *comm, MPI_Errhandler *handler) {
@@ -220,8 +275,7 @@ int get_errhandler(struct comm *comm, MPI_Errhandler *handler) {
 
 int call_errhandler(struct comm *comm, int code, const char *call) {
     struct errhandler *errhandler = this_member(comm)->handler;
-    MPI_Comm handle = comm_handle(comm);
-    if (errhandler->function != NULL) errhandler->function(&handle, &code);
+    if (errhandler->function != NULL) call_handler(errhandler, comm_handle(comm), &code);
     else if (!errhandler->returns) return refuse(comm, code, call, "the program called it with %s", class_name(code));
     return MPI_SUCCESS;
 }
@@ -253,7 +307,7 @@ int MPI_Errhandler_free(MPI_Errhandler *handle) {
     struct errhandler *errhandler = errhandler_of(*handle);
     if (errhandler == NULL) return refuse(NULL, MPI_ERR_ARG, "MPI_Errhandler_free", "there is no such error handler");
     if (errhandler->function != NULL) {
-        remove_handle(ERRHANDLER, *handle);
+        if (--errhandler->handles == 0) remove_handle(ERRHANDLER, *handle);
         unhold_errhandler(errhandler);
     }
     *handle = MPI_ERRHANDLER_NULL;

@@ -67,6 +67,9 @@ struct rank {
     int many_keyvals;
     struct recording *_Atomic recording; /* its part of the job text */
     struct notes *notes; /* where notes are wanted */
+    void *const *fortran_places; /* of a Fortran program: where its words lie (fortran.h), and the program */
+    const void *fortran_base;
+    struct remembered **fortran_sites;
     /* while it waits */
     atomic_bool waits;
     atomic_uint waits_begun;

@@ -31,7 +31,8 @@ struct errhandler {
     MPI_Comm_errhandler_function *function; /* NULL: a predefined one */
     MPI_Errhandler handle;                  /* of a predefined one */
     bool returns;
-    int uses;
+    bool in_fortran; /* the function is a Fortran subroutine */
+    int uses, handles; /* of them those that the program frees */
 };
 
 struct attribute {

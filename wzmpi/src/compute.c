@@ -10,6 +10,8 @@ struct pair_double { double value; int index; };
 struct pair_long { long value; int index; };
 struct pair_short { short value; int index; };
 struct pair_long_double { long double value; int index; };
+struct pair_real { float value, index; };
+struct pair_double_precision { double value, index; };
 
 /* A loop over N elements of type T, x[i] and y[i], of which the outcome goes to y. C has no other way to say it for each type. */
 #define EACH(T, expression)                                                 \
@@ -92,6 +94,8 @@ PAIRS(of_pair_double, struct pair_double)
 PAIRS(of_pair_long, struct pair_long)
 PAIRS(of_pair_short, struct pair_short)
 PAIRS(of_pair_long_double, struct pair_long_double)
+PAIRS(of_pair_real, struct pair_real)
+PAIRS(of_pair_double_precision, struct pair_double_precision)
 
 typedef void computer(int op, size_t many, const void *row, void *more);
 
@@ -100,7 +104,8 @@ static computer *const computers[] = {
     [1] = of_int8, [2] = of_int8, [3] = of_uint8, [4] = of_int16, [5] = of_uint16, [6] = of_int32, [7] = of_uint32, [8] = of_int64, [9] = of_uint64,
     [10] = of_uint8, [11] = of_uint8, [12] = of_int32, [13] = of_uint8, [14] = of_float, [15] = of_double, [16] = of_long_double, [17] = of_float_complex,
     [18] = of_double_complex, [19] = of_long_double_complex, [20] = of_pair_int, [21] = of_pair_float, [22] = of_pair_double, [23] = of_pair_long,
-    [24] = of_pair_short, [25] = of_pair_long_double,
+    [24] = of_pair_short, [25] = of_pair_long_double, [26] = of_int32, [27] = of_pair_real,
+    [28] = of_pair_double_precision,
 };
 
 void compute(const struct op *op, MPI_Datatype handle, const struct type *type, MPI_Count many, void *row, void *more) {

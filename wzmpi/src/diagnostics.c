@@ -2,6 +2,7 @@
 #include "diagnostics.h"
 #include "per_rank_libc.h"
 
+#include "attributes.h"
 #include "collectives.h"
 #include "explain.h"
 #include "trace.h"
@@ -106,8 +107,7 @@ int refuse_by(const struct refusal *refusal, const char *format, va_list rest) {
     vsnprintf(me->last_refusal, sizeof me->last_refusal, format, rest);
     me->last_class = class;
     if (handler != NULL && handler->function != NULL) {
-        MPI_Comm handle = refusal->handle;
-        handler->function(&handle, &class);
+        call_handler(handler, refusal->handle, &class);
         return class;
     }
     bool returns = handler != NULL && handler->returns;

@@ -83,17 +83,25 @@ void release_view(struct view *view) {
     if (view->filetype != NULL && !view->filetype->predefined) MPI_Type_free(&view->filetype_handle);
 }
 
-/* The filetype is of etypes, goes forward, and no byte of it lies before the displacement. */
-static int judge_filetype(struct file *file, const struct type *etype, const struct type *filetype, const char *call) {
-    if (etype->size == 0) return refuse_file(file, MPI_ERR_ARG, call, "the etype has no bytes");
-    if (filetype->size % etype->size != 0) return refuse_file(file, MPI_ERR_ARG, call, "the filetype has %zu bytes, which are no whole number of etypes of %zu", filetype->size, etype->size);
-    MPI_Aint last = -1;
-    for (size_t i = 0; i < filetype->many; i++) {
-        if (filetype->runs[i].at < 0 || filetype->runs[i].at < last)
-            return refuse_file(file, MPI_ERR_ARG, call, "the displacements within the filetype are negative, or don't ascend");
-        last = filetype->runs[i].at;
+/* The displacements within a type ascend from 0 on; of a file that is written the elements don't overlap either (MPI 4.1, 14.1.1). */
+static int judge_order(struct file *file, const struct type *type, const char *what, const char *call) {
+    MPI_Aint last = 0, end = 0;
+    for (size_t i = 0; i < type->many; i++) {
+        MPI_Aint at = type->runs[i].at;
+        if (at < last) return refuse_file(file, MPI_ERR_IO, call, "the displacements within the %s are negative, or don't ascend", what);
+        if (at < end && (file->mode & MPI_MODE_RDONLY) == 0) return refuse_file(file, MPI_ERR_IO, call, "elements of the %s overlap, and the file may be written", what);
+        last = at;
+        end = at + (MPI_Aint)bytes_of_run(&type->runs[i]);
     }
     return MPI_SUCCESS;
+}
+
+static int judge_filetype(struct file *file, const struct type *etype, const struct type *filetype, const char *call) {
+    if (etype->size == 0) return refuse_file(file, MPI_ERR_ARG, call, "the etype has no bytes");
+    int code = judge_order(file, etype, "etype", call);
+    if (code == MPI_SUCCESS) code = judge_order(file, filetype, "filetype", call);
+    if (code != MPI_SUCCESS || filetype->size % etype->size == 0) return code;
+    return refuse_file(file, MPI_ERR_ARG, call, "the filetype has %zu bytes, which are no whole number of etypes of %zu", filetype->size, etype->size);
 }
 
 static int judge_type(struct file *file, MPI_Datatype handle, const char *call, const struct type **type) {

@@ -3,6 +3,7 @@
 #include "rank_copies.h"
 
 #include "elf_file.h"
+#include "fortran.h"
 #include "run.h"
 
 #include <dlfcn.h>
@@ -122,6 +123,7 @@ static struct copy *make_copy(int rank, const char *original, const char *progra
     snprintf(copy->path, sizeof copy->path, "/proc/%ld/fd/%d", (long)getpid(), file.descriptor);
     copies[rank] = copy;
     for (Elf64_Dyn *entry = file.dynamic; file.room != NULL && entry < file.end; entry++) {
+        if (entry->d_tag == DT_NEEDED) give_own_library(rank, (char *)(uintptr_t)needed_name(&file, entry));
         const struct library *library = entry->d_tag == DT_NEEDED ? find_library(needed_name(&file, entry)) : NULL;
         const struct copy *needed = library != NULL && library->linked_by_wzcc ? make_copy(rank, library->path, NULL, why) : NULL;
         if (needed != NULL) rename_needed(&file, entry, needed->path);
@@ -172,6 +174,7 @@ void *load_program(struct rank *rank, const char **why) {
         return NULL;
     }
     note_addresses(rank->number, loaded);
+    note_fortran(rank, loaded, program_path);
     run = dlsym(loaded, "wz_run_rank_");
     if (run == NULL) *why = "it was not linked by wzcc";
     return run;

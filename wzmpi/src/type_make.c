@@ -48,13 +48,10 @@ static struct type *known(MPI_Datatype handle, const char *call, int *code) {
 
 static int count_error(long long count, const char *call) { return refuse(NULL, MPI_ERR_COUNT, call, "the count %lld is negative", count); }
 
-/* Gives the program a type, which says by what call it was made. */
-static int give(MPI_Datatype *made, MPI_Datatype handle, int combiner, int integers, int addresses, int parts) {
-    struct type *type = find_type(handle);
-    type->combiner = combiner;
-    type->integers = integers;
-    type->addresses = addresses;
-    type->parts = parts;
+/* Gives the program a type, which says by what call it was made, and of which types. */
+static int give(MPI_Datatype *made, MPI_Datatype handle, int combiner, int parts, const MPI_Datatype *of) {
+    find_type(handle)->combiner = combiner;
+    keep_parts(handle, parts, of);
     *made = handle;
     return MPI_SUCCESS;
 }
@@ -68,7 +65,9 @@ int counted_Type_contiguous(MPI_Count many, MPI_Datatype of, MPI_Datatype *made)
     if (many < 0) return count_error(many, "MPI_Type_contiguous");
     struct building b = { 0 };
     build(&b, type, 0, many);
-    return give(made, built(&b), MPI_COMBINER_CONTIGUOUS, 1, 0, 1);
+    MPI_Datatype handle = built(&b);
+    keep_integers(handle, 1, &(int){ (int)many });
+    return give(made, handle, MPI_COMBINER_CONTIGUOUS, 1, &of);
 }
 
 static int vector(MPI_Count many, MPI_Count length, MPI_Aint stride, bool in_bytes, MPI_Datatype of, MPI_Datatype *made, const char *call) {
@@ -80,7 +79,10 @@ static int vector(MPI_Count many, MPI_Count length, MPI_Aint stride, bool in_byt
     struct building b = { 0 };
     MPI_Aint step = in_bytes ? stride : stride * type->extent;
     for (MPI_Count i = 0; i < many; i++) build(&b, type, (MPI_Aint)i * step, length);
-    return in_bytes ? give(made, built(&b), MPI_COMBINER_HVECTOR, 2, 1, 1) : give(made, built(&b), MPI_COMBINER_VECTOR, 3, 0, 1);
+    MPI_Datatype handle = built(&b);
+    keep_integers(handle, in_bytes ? 2 : 3, (int[]){ (int)many, (int)length, (int)stride });
+    if (in_bytes) keep_addresses(handle, 1, &stride);
+    return give(made, handle, in_bytes ? MPI_COMBINER_HVECTOR : MPI_COMBINER_VECTOR, 1, &of);
 }
 
 int counted_Type_vector(MPI_Count many, MPI_Count length, MPI_Count stride, MPI_Datatype of, MPI_Datatype *made) {
@@ -112,8 +114,12 @@ static int indexed(const struct blocks *blocks, MPI_Datatype of, MPI_Datatype *m
         MPI_Aint at = blocks->bytes != NULL ? blocks->bytes[i] : blocks->places[i] * type->extent;
         build(&b, type, at, blocks->lengths != NULL ? blocks->lengths[i] : blocks->length);
     }
-    int addresses = blocks->bytes != NULL ? blocks->many : 0, integers = 1 + (blocks->lengths != NULL ? blocks->many : 1) + (blocks->bytes != NULL ? 0 : blocks->many);
-    return give(made, built(&b), blocks->combiner, integers, addresses, 1);
+    MPI_Datatype handle = built(&b);
+    keep_integers(handle, 1, &blocks->many);
+    keep_integers(handle, blocks->lengths != NULL ? blocks->many : 1, blocks->lengths != NULL ? blocks->lengths : &blocks->length);
+    if (blocks->bytes != NULL) keep_addresses(handle, blocks->many, blocks->bytes);
+    else keep_integers(handle, blocks->many, blocks->places);
+    return give(made, handle, blocks->combiner, 1, &of);
 }
 
 int MPI_Type_indexed(int many, const int lengths[], const int places[], MPI_Datatype of, MPI_Datatype *made) {
@@ -145,7 +151,11 @@ int MPI_Type_create_struct(int many, const int lengths[], const MPI_Aint places[
         MPI_Aint over = (b.high - b.low) % (MPI_Aint)b.alignment;
         if (over > 0) b.high += (MPI_Aint)b.alignment - over;
     }
-    return give(made, built(&b), MPI_COMBINER_STRUCT, many + 1, many, many);
+    MPI_Datatype handle = built(&b);
+    keep_integers(handle, 1, &many);
+    keep_integers(handle, many, lengths);
+    keep_addresses(handle, many, places);
+    return give(made, handle, MPI_COMBINER_STRUCT, many, of);
 }
 
 /* A dimension of a subarray: so many of the type that the inner dimensions make, of so many in all. */
@@ -173,7 +183,12 @@ int MPI_Type_create_subarray(int dimensions, const int sizes[], const int parts[
         inner = outer;
     }
     if (inner == of) return MPI_Type_dup(of, made);
-    return give(made, inner, MPI_COMBINER_SUBARRAY, 3 * dimensions + 2, 0, 1);
+    keep_integers(inner, 1, &dimensions);
+    keep_integers(inner, dimensions, sizes);
+    keep_integers(inner, dimensions, parts);
+    keep_integers(inner, dimensions, starts);
+    keep_integers(inner, 1, &order);
+    return give(made, inner, MPI_COMBINER_SUBARRAY, 1, &of);
 }
 
 static MPI_Datatype copied(const struct type *type, MPI_Aint low, MPI_Aint extent) {
@@ -185,18 +200,20 @@ static MPI_Datatype copied(const struct type *type, MPI_Aint low, MPI_Aint exten
 int MPI_Type_create_resized(MPI_Datatype of, MPI_Aint low, MPI_Aint extent, MPI_Datatype *made) {
     int code;
     struct type *type = known(of, "MPI_Type_create_resized", &code);
-    return type != NULL ? give(made, copied(type, low, extent), MPI_COMBINER_RESIZED, 0, 2, 1) : code;
+    if (type == NULL) return code;
+    MPI_Datatype handle = copied(type, low, extent);
+    keep_addresses(handle, 2, (MPI_Aint[]){ low, extent });
+    return give(made, handle, MPI_COMBINER_RESIZED, 1, &of);
 }
 
 int MPI_Type_dup(MPI_Datatype of, MPI_Datatype *made) {
     int code;
     struct type *type = known(of, "MPI_Type_dup", &code);
     if (type == NULL) return code;
-    give(made, copied(type, type->low, type->extent), MPI_COMBINER_DUP, 0, 0, 1);
+    give(made, copied(type, type->low, type->extent), MPI_COMBINER_DUP, 1, &of);
     struct type *copy = find_type(*made);
     copy->committed = type->committed;
-    if (type->name != NULL) copy->name = must(strdup(type->name));
-    return code;
+    return copy_type_attributes(type, of, copy);
 }
 
 int MPI_Type_commit(MPI_Datatype *of) {
@@ -211,6 +228,8 @@ int MPI_Type_free(MPI_Datatype *of) {
     struct type *type = known(*of, "MPI_Type_free", &code);
     if (type == NULL) return code;
     if (type->predefined) return refuse(NULL, MPI_ERR_TYPE, "MPI_Type_free", "%s can't be freed", type->name);
+    if (type->uses == 1) code = delete_type_attributes(type, *of); /* else another handle of it is there */
+    if (code != MPI_SUCCESS) return code;
     forget_type(*of);
     type_unuse(type);
     *of = MPI_DATATYPE_NULL;
@@ -272,17 +291,6 @@ int MPI_Type_get_name(MPI_Datatype of, char *name, int *length) {
     int code;
     struct type *type = known(of, "MPI_Type_get_name", &code);
     if (type != NULL) *length = snprintf(name, MPI_MAX_OBJECT_NAME, "%s", type->name != NULL ? type->name : "");
-    return code;
-}
-
-int MPI_Type_get_envelope(MPI_Datatype of, int *integers, int *addresses, int *parts, int *combiner) {
-    int code;
-    struct type *type = known(of, "MPI_Type_get_envelope", &code);
-    if (type == NULL) return code;
-    *integers = type->integers;
-    *addresses = type->addresses;
-    *parts = type->parts;
-    *combiner = type->combiner;
     return code;
 }
 

@@ -47,6 +47,24 @@ static const struct basic basics[] = {
     { "MPI_LONG_INT", 12, 8, PAIR, -1, 23 },
     { "MPI_SHORT_INT", 8, 4, PAIR, WZ_UINT64, 24 }, /* with the gap between its value and its index */
     { "MPI_LONG_DOUBLE_INT", sizeof(long double) + 4, _Alignof(long double), PAIR, -1, 25 },
+    { "MPI_CHARACTER", 1, 1, CHARACTER, WZ_INT8, 1 },
+    { "MPI_LOGICAL", 4, 4, TRUTH, WZ_INT32, 26 },
+    { "MPI_INTEGER", 4, 4, SIGNED, WZ_INT32, 6 },
+    { "MPI_REAL", 4, 4, REAL, WZ_UINT32, 14 },
+    { "MPI_DOUBLE_PRECISION", 8, 8, REAL, WZ_UINT64, 15 },
+    { "MPI_COMPLEX", 8, 4, COMPLEX, WZ_UINT64, 17 },
+    { "MPI_DOUBLE_COMPLEX", 16, 8, COMPLEX, -1, 18 },
+    { "MPI_INTEGER1", 1, 1, SIGNED, WZ_INT8, 2 },
+    { "MPI_INTEGER2", 2, 2, SIGNED, WZ_INT16, 4 },
+    { "MPI_INTEGER4", 4, 4, SIGNED, WZ_INT32, 6 },
+    { "MPI_INTEGER8", 8, 8, SIGNED, WZ_INT64, 8 },
+    { "MPI_REAL4", 4, 4, REAL, WZ_UINT32, 14 },
+    { "MPI_REAL8", 8, 8, REAL, WZ_UINT64, 15 },
+    { "MPI_COMPLEX8", 8, 4, COMPLEX, WZ_UINT64, 17 },
+    { "MPI_COMPLEX16", 16, 8, COMPLEX, -1, 18 },
+    { "MPI_2INTEGER", 8, 4, PAIR, WZ_2INT, 20 },
+    { "MPI_2REAL", 8, 4, PAIR, WZ_UINT64, 27 },
+    { "MPI_2DOUBLE_PRECISION", 16, 8, PAIR, -1, 28 },
 };
 enum { BASICS = sizeof basics / sizeof basics[0] };
 static struct type basic_types[BASICS];
@@ -84,7 +102,8 @@ struct signature spread_of(const struct type *type, uint64_t many) { return repe
 static const int values[] = { MPI_INT, MPI_FLOAT, MPI_DOUBLE, MPI_LONG, 0, MPI_LONG_DOUBLE };
 
 static const struct basic *value_of(int basic) {
-    int value = basics[basic].class == PAIR ? values[basic - (MPI_2INT & 0xff)] : 0;
+    bool of_c = basics[basic].class == PAIR && basic <= (MPI_LONG_DOUBLE_INT & 0xff); /* those of Fortran meet only themselves */
+    int value = of_c ? values[basic - (MPI_2INT & 0xff)] : 0;
     return value != 0 ? &basics[value & 0xff] : NULL;
 }
 
@@ -160,6 +179,7 @@ void type_unuse(const struct type *type) {
     if (own->predefined || --own->uses > 0) return;
     free((char *)(uintptr_t)own->name);
     free(own->runs);
+    free_contents(&own->contents);
     free(own);
 }
 
@@ -197,6 +217,12 @@ MPI_Datatype new_type(struct run_of *runs, size_t many, MPI_Aint low, MPI_Aint e
     type->alignment = alignment;
     type->uses = 1;
     measure(type);
+    return short_handle(add_handle(TYPE, type));
+}
+
+MPI_Datatype handle_of_type(struct type *type) {
+    if (type->predefined) return MPI_DATATYPE_NULL + (MPI_Datatype)(type - basic_types);
+    type_use(type);
     return short_handle(add_handle(TYPE, type));
 }
 

@@ -28,6 +28,14 @@ struct signature {
     uint64_t elements, hash, power;
 };
 
+/* The arguments of the call that made a type. */
+struct contents {
+    int integers, addresses, parts; /* how many */
+    int *integer;
+    MPI_Aint *address;
+    const struct type **part;
+};
+
 struct type {
     const char *name;
     size_t size;            /* bytes of its elements alone */
@@ -41,7 +49,9 @@ struct type {
     struct signature spread; /* the same with a pair as its value and its index */
     size_t many;
     struct run_of *runs;
-    int combiner, integers, addresses, parts; /* how it was made (MPI 4.1, 5.1.13): the call, and how many arguments it had */
+    int combiner; /* how it was made (MPI 4.1, 5.1.13): the call, and its arguments */
+    struct contents contents;
+    struct attribute *attributes;
     int uses;
 };
 
@@ -73,6 +83,18 @@ int type_error(MPI_Datatype type, const char *call); /* tells what is wrong with
 void pack(const struct type *type, size_t many, const void *from, void *bytes);
 void unpack(const struct type *type, size_t many, void *to, const void *bytes);
 void unpack_part(const struct type *type, void *to, const void *bytes, size_t length); /* the first bytes of one element */
+
+MPI_Datatype handle_of_type(struct type *type); /* one more, which the program frees */
+
+/* ---- type_contents.c: what a made type's call had */
+void keep_integers(MPI_Datatype made, int many, const int *from);
+void keep_addresses(MPI_Datatype made, int many, const MPI_Aint *from);
+void keep_parts(MPI_Datatype made, int many, const MPI_Datatype *from);
+void free_contents(struct contents *contents);
+
+/* ---- type_attributes.c */
+int copy_type_attributes(struct type *from, MPI_Datatype handle, struct type *to);
+int delete_type_attributes(struct type *type, MPI_Datatype handle);
 
 /* ---- making types (type_make.c) */
 struct building {

@@ -19,7 +19,9 @@ int MPI_Win_free_keyval(int *number) { return free_keyval(number, "MPI_Win_free_
 int MPI_Win_set_attr(MPI_Win handle, int number, void *value) {
     int code;
     struct window *window = find_window(handle, "MPI_Win_set_attr", &code);
-    return window != NULL ? set_attribute(window->comm, (MPI_Comm)handle, number, value, "MPI_Win_set_attr") : code;
+    if (window == NULL) return code;
+    struct attributed of = attributes_of(window->comm, handle);
+    return set_attribute(&of, number, value, "MPI_Win_set_attr");
 }
 
 static bool predefined(struct window *window, int number, void *value) {
@@ -36,13 +38,17 @@ int MPI_Win_get_attr(MPI_Win handle, int number, void *value, int *flag) {
     struct window *window = find_window(handle, "MPI_Win_get_attr", &code);
     if (window == NULL) return code;
     *flag = predefined(window, number, value);
-    return *flag ? MPI_SUCCESS : get_attribute(window->comm, number, value, flag, "MPI_Win_get_attr");
+    if (*flag) return MPI_SUCCESS;
+    struct attributed of = attributes_of(window->comm, handle);
+    return get_attribute(&of, number, value, flag, "MPI_Win_get_attr");
 }
 
 int MPI_Win_delete_attr(MPI_Win handle, int number) {
     int code;
     struct window *window = find_window(handle, "MPI_Win_delete_attr", &code);
-    return window != NULL ? delete_attribute(window->comm, (MPI_Comm)handle, number, "MPI_Win_delete_attr") : code;
+    if (window == NULL) return code;
+    struct attributed of = attributes_of(window->comm, handle);
+    return delete_attribute(&of, number, "MPI_Win_delete_attr");
 }
 
 /* ---- error handlers */

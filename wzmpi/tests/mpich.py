@@ -31,6 +31,9 @@ HERE = pathlib.Path(__file__).resolve().parent
 FOUND = ["MPI_WIN_CREATE", "STDARG_H", "STRING_H", "STDLIB_H", "UNISTD_H", "SYS_TIME_H", "SYS_RESOURCE_H", "GETRUSAGE", "LONG_DOUBLE", "LONG_LONG", "STDINT_H", "INTTYPES_H", "STDBOOL_H",
          "COMPLEX_H", "FLOAT__COMPLEX", "DOUBLE__COMPLEX", "LONG_DOUBLE__COMPLEX", "INT8_T", "INT16_T", "INT32_T", "INT64_T", "UINT8_T", "UINT16_T", "UINT32_T", "UINT64_T", "_BOOL"]
 LONGEST = 180
+# The languages of parts that aren't in C: how sources end, and how the compiler takes what MPICH's configure allows it to.
+ENDINGS = {"f77": ".f", "f90": ".f90", "f08": ".f90"}
+ALLOWED = ["-fallow-argument-mismatch", "-w"]
 
 
 def rows(folder, part):
@@ -64,7 +67,8 @@ def sources_of(folder, name):
     """A test's sources, and words for the compiler; none where there is no source."""
     part, word = name.rsplit("/", 1)
     rule = rules(folder, part).get(re.sub(r"\W", "_", word), {})
-    sources = [folder / part / it for it in rule.get("SOURCES", [f"{word}.c"]) if it.endswith(".c")]
+    ending = ENDINGS.get(part.split("/")[0], ".c")
+    sources = [folder / part / it for it in rule.get("SOURCES", [f"{word}{ending}"]) if it.endswith((".c", ".f", ".f90"))]
     defined = [it for it in rule.get("CPPFLAGS", []) if it.startswith("-D")]
     if sources and all(it.exists() for it in sources):
         return sources, defined
@@ -77,13 +81,43 @@ class Programs:
 
     def __init__(self, folder, wzcc, out):
         self.folder, self.wzcc, self.out, self.made = folder, wzcc, out, {}
+        self.wzfort = str(pathlib.Path(wzcc).with_name("wzfort"))
         threads = "#define THREAD_PACKAGE_NAME THREAD_PACKAGE_POSIX\n"
-        (out / "mpitestconf.h").write_text(threads + "".join(f"#define HAVE_{it} 1\n" for it in FOUND))
+        (out / "include").mkdir(exist_ok=True)
+        for path in (out / "mpitestconf.h", out / "include/mpitestconf.h"):  # tests in two languages name it by its folder
+            path.write_text(threads + "#define F77_NAME_LOWER_USCORE 1\n" + "".join(f"#define HAVE_{it} 1\n" for it in FOUND))
         self.util = []
 
     def words(self, sources, defined):
         include = [self.out, self.folder / "include", self.folder / "util", self.folder / "dtpools/include", sources[0].parent]
         return [self.wzcc, "-O1", "-w", *defined, *(f"-I{it}" for it in include), *sources, *self.util]
+
+    def prepare_fortran(self, part):
+        """The headers that configure makes, and what the tests of a language share. The words for the compiler."""
+        language, made = part.split("/")[0], self.out / part
+        made.mkdir(parents=True, exist_ok=True)
+        for path in [*(self.folder / part).glob("*.h.in"), *(self.folder / part).parent.glob("attr/*.h.in")]:
+            text = re.sub(r"@F77_MPI_(ADDRESS|OFFSET)@", "INTEGER*8", path.read_text())
+            (made / path.name[: -len(".in")]).write_text(text)
+        util = self.out / f"mtest_{language}.o"
+        if not util.exists():
+            source = self.folder / f"util/mtest_{language}{ENDINGS[language]}"
+            subprocess.run([self.wzfort, *ALLOWED, "-J", str(self.out), "-c", str(source), "-o", str(util)], check=True)
+        return ["-I", str(made), "-I", str(self.folder / part), "-J", str(made), "-I", str(self.out), str(util)]
+
+    def link_fortran(self, name, program):
+        """Compiles and links a test in Fortran, of which some sources may be in C."""
+        part, (sources, _) = name.rsplit("/", 1)[0], sources_of(self.folder, name)
+        words, objects = self.prepare_fortran(part), []
+        include = [f"-I{it}" for it in (self.out, self.out / part, self.folder / "include", self.folder / "util")]
+        for source in (it for it in sources if it.suffix == ".c"):
+            objects.append(program.with_name(f"{program.name}-{source.stem}.o"))
+            done = subprocess.run([*map(str, [self.wzcc, "-O1", "-w", *include, "-c", source, "-o", objects[-1]])], capture_output=True, text=True)
+            if done.returncode != 0:
+                return done
+        shared = [it for it in self.util if objects]
+        inputs = [it for it in sources if it.suffix != ".c"]
+        return subprocess.run([*map(str, [self.wzfort, "-O1", *ALLOWED, *words, *inputs, *objects, *shared, "-o", program])], capture_output=True, text=True)
 
     def compile_util(self):
         """What all tests share, once."""
@@ -101,7 +135,10 @@ class Programs:
         if program.exists():
             self.made[name] = (program, None)
         if name not in self.made:
-            made = subprocess.run([*map(str, self.words(*sources_of(self.folder, name))), "-o", str(program)], capture_output=True, text=True)
+            if name.split("/")[0] in ENDINGS:
+                made = self.link_fortran(name, program)
+            else:
+                made = subprocess.run([*map(str, self.words(*sources_of(self.folder, name))), "-o", str(program)], capture_output=True, text=True)
             lacks = sorted({it.split("`")[1].split("'")[0] for it in made.stderr.splitlines() if "undefined reference to" in it})
             said = "lacks " + ", ".join(lacks) if lacks else made.stderr.strip().splitlines()[:1]
             self.made[name] = (program, None) if made.returncode == 0 else (None, str(said))

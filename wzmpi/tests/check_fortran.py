@@ -1,0 +1,84 @@
+#!/usr/bin/env python3
+"""Runs the tests of tests/fortran over the tools in a folder, where gfortran is installed:
+
+    tests/check_fortran.py BIN [--write]
+
+old.f, modern.f90 and newest.f90 have programs without a mistake, by mpif.h, the module mpi and the module mpi_f08; wrong.f90 has programs
+with one planted mistake each, and wrong.want what is said of them. --write writes that anew. Ends with 0 where all is as it should be.
+"""
+
+import os
+import pathlib
+import re
+import shutil
+import subprocess
+import sys
+import tempfile
+
+import checking
+
+HERE = checking.HERE / "fortran"
+RIGHT = ["old.f", "modern.f90", "newest.f90"]
+MODES = ([], ["--strict", "--check"], ["--seed", "7"])
+OPTIONS = {"changed": "-n 3 --check"}
+
+
+def compiled(binaries, source, out):
+    program = out / source.stem
+    done = subprocess.run([str(binaries / "wzfort"), "-O1", "-fallow-argument-mismatch", "-w", str(source), "-o", str(program)], capture_output=True, text=True, cwd=out)
+    if done.returncode != 0:
+        sys.exit(f"check_fortran.py: {source}:\n{done.stderr}")
+    return program
+
+
+def names_of(source):
+    return re.findall(r"(?:case \(|name \.eq\. )'(\w+)'", source.read_text())
+
+
+def run(binaries, options, program, name):
+    return checking.run([str(binaries / "wzrun"), *options, str(program), name], env={**os.environ, "TMPDIR": str(program.parent)})
+
+
+def check_right(binaries, out):
+    failed = runs = 0
+    for source in (HERE / it for it in RIGHT):
+        program = compiled(binaries, source, out)
+        for name in names_of(source):
+            for options in (["-n", str(ranks), *mode] for ranks in (1, 2, 5) for mode in MODES):
+                runs += 1
+                status, said = run(binaries, options, program, name)
+                failed += checking.reported(status == 0 and not said, f"{source.name} {name}, {' '.join(options)}: status {status}: {said}")
+    print(f"check_fortran.py: {runs - failed} of {runs} runs of right programs end well, with nothing said")
+    return failed
+
+
+def check_wrong(binaries, out, write):
+    program, failed, blocks = compiled(binaries, HERE / "wrong.f90", out), 0, []
+    for name in names_of(HERE / "wrong.f90"):
+        options = OPTIONS.get(name, "-n 3")
+        status, said = run(binaries, options.split(), program, name)
+        blocks.append(f"== wzrun {options} wrong {name}: status {status}\n{said.replace(f'{HERE}/', 'tests/fortran/')}")
+    if write:
+        (HERE / "wrong.want").write_text("".join(blocks))
+        return 0
+    want = re.split(r"(?m)^(?=== )", (HERE / "wrong.want").read_text())[1:]
+    for got, wanted in zip(blocks, want):
+        failed += checking.reported(got == wanted, f"got\n{got}and not\n{wanted}")
+    failed += checking.reported(len(blocks) == len(want), "wrong.want has other programs")
+    print(f"check_fortran.py: {len(blocks) - failed} of {len(blocks)} programs with a mistake are reported as they should be")
+    return failed
+
+
+def main():
+    binaries, write = pathlib.Path(sys.argv[1]).resolve(), "--write" in sys.argv
+    if not (binaries / "wzfort").exists() or shutil.which((os.environ.get("WZ_FC") or "gfortran").split()[0]) is None:
+        print("check_fortran.py: there is no gfortran, so Fortran isn't checked")
+        return 0
+    with tempfile.TemporaryDirectory() as folder:
+        failed = check_wrong(binaries, pathlib.Path(folder), write)
+        failed += 0 if write else check_right(binaries, pathlib.Path(folder))
+    return min(failed, 1)
+
+
+if __name__ == "__main__":
+    sys.exit(main())

@@ -1,0 +1,86 @@
+! Programs with the module mpi_f08 and without a mistake: newest NAME runs one of them, which says nothing and ends with 0.
+program newest
+  use mpi_f08
+  implicit none
+  integer :: rank, size
+  character(len=20) :: name
+  call MPI_Init()
+  call MPI_Comm_rank(MPI_COMM_WORLD, rank)
+  call MPI_Comm_size(MPI_COMM_WORLD, size)
+  call get_command_argument(1, name)
+  select case (name)
+  case ('handles'); call handles
+  case ('statuses'); call statuses
+  case ('operations'); call operations
+  end select
+  call MPI_Finalize()
+contains
+
+  subroutine holds(what, where)
+    logical, intent(in) :: what
+    integer, intent(in) :: where
+    if (what) return
+    print *, 'newest.f90: not so: check ', where
+    stop 1
+  end subroutine
+
+  subroutine handles
+    type(MPI_Comm) :: copy, none
+    type(MPI_Group) :: group
+    integer :: how, code, bytes
+    none = MPI_COMM_NULL
+    call MPI_Comm_dup(MPI_COMM_WORLD, copy, code)
+    call holds(code == MPI_SUCCESS .and. copy /= MPI_COMM_WORLD .and. none == MPI_COMM_NULL, 1)
+    call MPI_Comm_compare(MPI_COMM_WORLD, copy, how)
+    call holds(how == MPI_CONGRUENT, 2)
+    call MPI_Comm_group(copy, group)
+    call MPI_Group_size(group, how)
+    call holds(how == size, 3)
+    call MPI_Group_free(group)
+    call MPI_Comm_free(copy)
+    call holds(copy == MPI_COMM_NULL, 4)
+    call MPI_Sizeof(1.0d0, bytes)
+    call holds(bytes == 8, 5)
+  end subroutine
+
+  subroutine statuses
+    type(MPI_Status) :: status, all(2)
+    type(MPI_Request) :: requests(2)
+    integer :: f(MPI_STATUS_SIZE), count
+    real(8) :: x(3), y(3)
+    x = rank
+    call MPI_Irecv(y, 3, MPI_DOUBLE_PRECISION, mod(rank + size - 1, size), 9, MPI_COMM_WORLD, requests(1))
+    call MPI_Isend(x, 3, MPI_REAL8, mod(rank + 1, size), 9, MPI_COMM_WORLD, requests(2))
+    call MPI_Waitall(2, requests, all)
+    status = all(1)
+    call holds(status%MPI_SOURCE == mod(rank + size - 1, size) .and. status%MPI_TAG == 9, 10)
+    call MPI_Get_count(status, MPI_REAL8, count)
+    call holds(count == 3 .and. y(3) == status%MPI_SOURCE, 11)
+    call MPI_Status_f082f(status, f)
+    call holds(f(1) == status%MPI_SOURCE, 12)
+  end subroutine
+
+  subroutine operations
+    type(MPI_Op) :: op
+    integer :: i, got
+    call MPI_Op_create(added, .true., op)
+    i = rank
+    call MPI_Allreduce(i, got, 1, MPI_INTEGER, op, MPI_COMM_WORLD)
+    call holds(got == size * (size - 1) / 2, 20)
+    call MPI_Allreduce(MPI_IN_PLACE, i, 1, MPI_INTEGER, MPI_MAX, MPI_COMM_WORLD)
+    call holds(i == size - 1, 21)
+    call MPI_Op_free(op)
+  end subroutine
+
+  subroutine added(in, inout, length, datatype)
+    use, intrinsic :: iso_c_binding
+    type(c_ptr), value :: in, inout
+    integer :: length
+    type(MPI_Datatype) :: datatype
+    integer, pointer :: a(:), b(:)
+    if (datatype /= MPI_INTEGER) stop 1
+    call c_f_pointer(in, a, [length])
+    call c_f_pointer(inout, b, [length])
+    b = a + b
+  end subroutine
+end program
