@@ -50,13 +50,20 @@ pub fn first_misfit(
     rows: &[CoreRow],
 ) -> Result<Option<(usize, CoreAnswer)>, Refusal> {
     let mut driver = CoreDriver::open(alloc, setup)?;
+    let misfit = misfit_of(&mut driver, rows);
+    driver.close();
+    Ok(misfit)
+}
+
+/// The index and the answer of the first call that the driver answers otherwise.
+fn misfit_of(driver: &mut CoreDriver, rows: &[CoreRow]) -> Option<(usize, CoreAnswer)> {
     for (index, (call, want)) in rows.iter().enumerate() {
         let got = driver.answer(*call);
         if got != *want {
-            return Ok(Some((index, got)));
+            return Some((index, got));
         }
     }
-    Ok(None)
+    None
 }
 
 /// Ends the test if a call is answered otherwise.

@@ -89,12 +89,15 @@ fn act(core: &mut Core) -> Result<bool, Refusal> {
 fn finish(core: &mut Core, work: Work) -> Result<bool, Refusal> {
     match work.run() {
         Ok(done) => commit(core, done),
-        Err(refused) => Err(refused.why),
+        Err(refused) => {
+            core.abandon(refused.back)?;
+            Err(refused.why)
+        }
     }
 }
 
 fn commit(core: &mut Core, done: DoneWork) -> Result<bool, Refusal> {
-    core.commit(done)?;
+    core.commit(done)?.has_finished();
     Ok(true)
 }
 

@@ -12,6 +12,7 @@ ghost use Rattle.coll_core.specs.Advancing.{IsSent};
 ghost use Rattle.coll_core.specs.Works.{Combined, IsOwnResult, IsShort, Piece, StandsAt, result_of};
 
 use crate::buffer::Buffer;
+use crate::result_cell::ResultCell;
 use crate::sent::Sent;
 use crate::shared_result::{InstanceResults, LONG, share};
 use crate::short_work::{DoneShortWork, ShortWork};
@@ -251,28 +252,34 @@ impl Request {
         self.buffer.has(left, work.left()) && self.buffer.has(right, work.right())
     }
 
-    /// The result of the combination that comes next, if the work is of it: that of its own operands, where whoever computed it has put it
-    /// there, or else the work's, whose operands have the same bytes then.
+    /// The result of the combination that comes next, if the work is of it: what was put into its place, if the work has the place's other
+    /// owner, or else the work's, whose operands have the same bytes then.
     pub(crate) fn result_by(&self, done: DoneWork) -> Option<Bytes>
         requires { length self.now.buffer ≡ (schedule (shown self.now)).size }
         ensures own { IfSome result (IsOwnResult (shown self.now) done.piece) }
         ensures stands { StandsAt (shown self.now) done.piece → IsTrue (is_some result) }
     {
-        if let Some(bytes) = self.own_result(done.work()) {
+        let mut done = done;
+        let cell = done.take_cell();
+        if let Some(bytes) = self.own_result(done.work(), cell) {
+            done.discard();
             return Some(bytes);
         }
         if self.stands_at(done.work()) {
             return Some(done.into_result());
         }
+        done.discard();
         None
     }
 
-    /// The result that was put there for the combination that comes next, if the work names it.
+    /// The result that was put into the place for that of the combination that comes next, if the work names it and has that place's other
+    /// owner: work of another engine may name the same action.
     #[inline(always)]
-    fn own_result(&self, work: &Work) -> Option<Bytes>
+    fn own_result(&self, work: &Work, cell: Option<ResultCell>) -> Option<Bytes>
         ensures { IfSome result (IsOwnResult (shown self.now) work.now) }
     {
         let awaited = self.buffer.awaited()?;
+        let cell = cell?;
         let Some(
             Action::Combine {
                 op,
@@ -289,6 +296,9 @@ impl Request {
             return None;
         }
         if !are_alike(op, ty, work) || !awaited.is_of(op, ty, left, right) {
+            return None;
+        }
+        if !awaited.cell.was_shared_with(cell) {
             return None;
         }
         awaited.cell.result()

@@ -12,7 +12,7 @@ use std::fmt::Write;
 use std::marker::Model;
 use std::sync::Arc;
 
-/// A place for certain bytes, which two owners know: it is empty, or has them. It takes no lock.
+/// An owner of a place for certain bytes, of which there are two: the place is empty, or has the bytes. It takes no lock.
 #[derive(Drop)]
 pub(crate) struct ResultCell {
     slot: Arc<OnceSlot<Bytes, IsTag>>,
@@ -50,6 +50,13 @@ impl ResultCell {
         if let Some(shared) = bytes.share_counted() {
             let _ = self.slot.set(shared);
         }
+    }
+
+    /// Gives an owner up. Returns whether it was the other owner of this one's place.
+    pub(crate) fn was_shared_with(&self, other: ResultCell) -> bool {
+        let owners = Arc::strong_count(&self.slot);
+        drop(other);
+        owners == 2 && Arc::strong_count(&self.slot) == 1
     }
 
     /// The bytes, if they were put there.

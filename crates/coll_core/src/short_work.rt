@@ -8,9 +8,9 @@ use coll_bytes::Bytes;
 use coll_kinds::{Datatype, Op, Ticket};
 use std::marker::Model;
 
-/// A combination of operands of up to eight bytes that was handed out by value, to be computed outside the engine. It is spent by
-/// `commit_short`.
-#[derive(Debug, Drop)]
+/// A combination of operands of up to eight bytes that was handed out by value, to be computed outside the engine. It can't be dropped:
+/// `run` and then `commit_short` take it, and `discard` where its engine is gone.
+#[derive(Debug)]
 pub struct ShortWork {
     ticket: Ticket,
     round: usize,
@@ -31,8 +31,8 @@ impl Model for ShortWork {
     ghost invariant = { λ w. IsPiece (record { ticket = w.ticket; round = w.round; index = w.index; op = w.op; ty = w.ty; left = w.left; right = w.right }) };
 }
 
-/// Such a combination with its result.
-#[derive(Debug, Drop)]
+/// Such a combination with its result. It can't be dropped: `commit_short` takes it, and `discard` where its engine is gone.
+#[derive(Debug)]
 pub struct DoneShortWork {
     work: ShortWork,
     result: Word,
@@ -129,6 +129,20 @@ impl ShortWork {
         let result = combined_words(self.op, self.ty, &self.left, &self.right);
         DoneShortWork { work: self, result }
     }
+
+    /// Lets the combination go though no engine takes it back, as `Work::discard`.
+    #[inline(always)]
+    pub fn discard(self) {
+        let ShortWork {
+            ticket: _,
+            round: _,
+            index: _,
+            op: _,
+            ty: _,
+            left: _,
+            right: _,
+        } = self;
+    }
 }
 
 impl DoneShortWork {
@@ -153,6 +167,14 @@ impl DoneShortWork {
         ensures is { result ≡ self.bytes }
         ensures combined { self.bytes ≡ result_of self.piece }
     {
-        Bytes::few(self.result.as_slice())
+        let DoneShortWork { work, result } = self;
+        work.discard();
+        Bytes::few(result.as_slice())
+    }
+
+    /// Lets the combination go though no engine takes its result, as `Work::discard`.
+    pub fn discard(self) {
+        let DoneShortWork { work, result: _ } = self;
+        work.discard();
     }
 }

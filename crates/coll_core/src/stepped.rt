@@ -1,10 +1,11 @@
-ghost use Rattle.std.specs.Prelude.{◌≡◌};
-ghost use Rattle.coll_core.specs.Steps.{stepped_by};
+ghost use Rattle.std.specs.Prelude.{◌≡◌, ◌↔◌, IsTrue};
+ghost use Rattle.coll_core.specs.declared.stepped.Stepped.TheVariants.{Finished};
+ghost use Rattle.coll_core.specs.Steps.{IsWork, stepped_by};
 
 use crate::work::Work;
 
-/// What a step did.
-#[derive(Debug, Drop)]
+/// What a step did. It can't be dropped, since it may have a combination.
+#[derive(Debug)]
 pub enum Stepped {
     /// Nothing: no request is ready.
     Quiet,
@@ -25,6 +26,18 @@ impl Stepped {
             Stepped::Finished
         } else {
             Stepped::Moved
+        }
+    }
+
+    /// Whether the request is Done; for a step that handed nothing out, as that of a commit.
+    pub fn has_finished(self) -> bool
+        requires { IsWork self → ⊥ }
+        ensures { IsTrue result ↔ (self ≡ Finished) }
+    {
+        match self {
+            Stepped::Quiet | Stepped::Moved => false,
+            Stepped::Finished => true,
+            Stepped::Out(_work) => unreachable!(),
         }
     }
 }

@@ -10,9 +10,9 @@ use coll_kinds::{Datatype, Op, Refusal, Refused, Ticket};
 use std::alloc::Global;
 use std::marker::Model;
 
-/// A combination that was handed out, with its operands, to be computed outside the engine. It is spent by
-/// `commit` or `abandon`.
-#[derive(Debug, Drop)]
+/// A combination that was handed out, with its operands, to be computed outside the engine. It can't be dropped: `run`, `commit` and
+/// `abandon` take it, and `discard` where its engine is gone.
+#[derive(Debug)]
 pub struct Work {
     alloc: Global,
     ticket: Ticket,
@@ -47,8 +47,8 @@ impl Names<Work> for ItsResult {
     ghost numbers = { result_of };
 }
 
-/// A combination with its result.
-#[derive(Debug, Drop)]
+/// A combination with its result. It can't be dropped: `commit` takes it, and `discard` where its engine is gone.
+#[derive(Debug)]
 pub struct DoneWork {
     work: Work,
     result: Bytes,
@@ -152,6 +152,13 @@ impl Work {
         Some(own)
     }
 
+    /// The owner of the place for the result, if there is one. The engine doesn't find the result there any more.
+    fn take_cell(&mut self) -> Option<ResultCell>
+        ensures { self.new ≡ self.old }
+    {
+        self.cell.take()
+    }
+
     /// Puts the result where the engine finds it.
     #[inline(always)]
     fn put(&self, bytes: &Bytes)
@@ -178,6 +185,23 @@ impl Work {
                 back: self,
             }),
         }
+    }
+
+    /// Lets the combination go though no engine takes it back. It is for one whose engine is gone: in a live engine its request would run for
+    /// ever.
+    pub fn discard(self) {
+        let Work {
+            alloc: _,
+            ticket: _,
+            round: _,
+            index: _,
+            op: _,
+            ty: _,
+            left: _,
+            right: _,
+            shared: _,
+            cell: _,
+        } = self;
     }
 
     /// The result of another member that combines the same, or else one that others may share. Only NoMemory is refused.
@@ -219,6 +243,21 @@ impl DoneWork {
         ensures is { result ≡ self.bytes }
         ensures combined { self.bytes ≡ result_of self.piece }
     {
-        self.result
+        let DoneWork { work, result } = self;
+        work.discard();
+        result
+    }
+
+    /// The owner of the place for the result, if there is one.
+    pub(crate) fn take_cell(&mut self) -> Option<ResultCell>
+        ensures { self.new ≡ self.old }
+    {
+        self.work.take_cell()
+    }
+
+    /// Lets the combination go though no engine takes its result, as `Work::discard`.
+    pub fn discard(self) {
+        let DoneWork { work, result: _ } = self;
+        work.discard();
     }
 }

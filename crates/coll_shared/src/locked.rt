@@ -69,7 +69,8 @@ impl<L: Entries> Locked<L> {
             match self.traced.move_on() {
                 Ok(Stepped::Moved) => {}
                 Ok(Stepped::Finished) => self.finished = true,
-                _ => return,
+                Ok(Stepped::Quiet) | Err(_) => return,
+                Ok(Stepped::Out(_work)) => unreachable!(),
             }
         }
     }
@@ -93,14 +94,14 @@ impl<L: Entries> Locked<L> {
     {
         match computed {
             Ok(done) => {
-                if let Stepped::Finished = self.traced.commit(done)? {
+                if self.traced.commit(done)?.has_finished() {
                     self.finished = true;
                 }
                 Ok(())
             }
-            Err(refused) => {
-                self.traced.abandon(refused.back)?;
-                Err(refused.why)
+            Err(Refused { why, back }) => {
+                self.traced.abandon(back)?;
+                Err(why)
             }
         }
     }
@@ -109,7 +110,7 @@ impl<L: Entries> Locked<L> {
     pub(crate) fn write_short(&mut self, done: DoneShortWork) -> Result<(), Refusal>
         ensures { IfErr result IsSetback }
     {
-        if let Stepped::Finished = self.traced.commit_short(done)? {
+        if self.traced.commit_short(done)?.has_finished() {
             self.finished = true;
         }
         Ok(())

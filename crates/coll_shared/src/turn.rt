@@ -28,7 +28,6 @@ pub(crate) enum Turn {
 }
 
 /// What a waiting port that has the lock does next.
-#[derive(Drop)]
 enum Next {
     /// It looks round again.
     Again,
@@ -154,7 +153,7 @@ impl<L: Entries> Combiner<L> {
         if held.locked.traced.is_ready() {
             return Ok(match held.locked.step()? {
                 Stepped::Out(work) => effort.compute(work),
-                _ => effort.step(),
+                Stepped::Quiet | Stepped::Moved | Stepped::Finished => effort.step(),
             });
         }
         if held.locked.is_stalled(rank) {
@@ -214,9 +213,19 @@ impl<L: Entries> Combiner<L> {
         if held.locked.successor() != Successor::Nobody {
             return held;
         }
-        let Ok(Stepped::Out(work)) = held.locked.step() else {
-            return held;
-        };
+        match held.locked.step() {
+            Ok(Stepped::Out(work)) => self.compute_unseen(rt, held, work),
+            Ok(Stepped::Quiet | Stepped::Moved | Stepped::Finished) | Err(_) => held,
+        }
+    }
+
+    /// Computes a combination with the lock free, which no gate sees. Then the lock is held again, and what was published meanwhile is done.
+    fn compute_unseen<'a, R: Wait>(
+        &'a self,
+        rt: &R,
+        held: Held<'a, L>,
+        work: Work,
+    ) -> Held<'a, L> {
         self.release(held);
         let computed = work.run();
         let mut held = self.enter(rt);
@@ -254,7 +263,7 @@ impl<L: Entries> Combiner<L> {
                     written = Some(piece);
                     computed = computed.saturating_add(1);
                 }
-                Ok(_) => {
+                Ok(Stepped::Quiet | Stepped::Moved | Stepped::Finished) => {
                     self.leave(gate, held, written);
                     written = None;
                     held = self.enter(rt);

@@ -6,6 +6,8 @@ use coll_kinds::Signature;
 pub enum CoreCall {
     /// A rank posts i32 values on communicator 0, with its own rank as the member number.
     Post(u8, Signature, &'static [u8]),
+    /// A rank posts as many i32 values as the signature's count on communicator 0, each of them this value.
+    PostEqual(u8, Signature, u8),
     /// A rank posts this number of bytes on communicator 0.
     PostBytes(u8, Signature, u8),
     /// A rank posts i32 values on a communicator, with a plan for that number of members and that member.
@@ -36,7 +38,7 @@ pub enum CoreCall {
     /// Abandons the combination that is held.
     Abandon,
     /// Computes a combination of another engine, of the same ticket, and commits it here. It is that engine's first, where
-    /// ranks 0 and 1 have posted these values with this signature.
+    /// ranks 0 and 1 have posted equal values with this signature, each its own.
     CommitForeign(Signature, [u8; 2]),
     /// Abandons such a combination of another engine here.
     AbandonForeign(Signature, [u8; 2]),

@@ -93,14 +93,22 @@ pub fn rest(core: &mut Core) -> CoreAnswer {
 pub fn finish(core: &mut Core, work: Work) -> CoreAnswer {
     match work.run() {
         Ok(done) => commit(core, done),
-        Err(refused) => CoreAnswer::Refused(refused.why),
+        Err(refused) => {
+            refused.back.discard();
+            CoreAnswer::Refused(refused.why)
+        }
     }
 }
 
 fn commit(core: &mut Core, done: DoneWork) -> CoreAnswer {
     match core.commit(done) {
-        Ok(Stepped::Finished) => CoreAnswer::Finished,
-        Ok(_) => CoreAnswer::Moved,
+        Ok(stepped) => {
+            if stepped.has_finished() {
+                CoreAnswer::Finished
+            } else {
+                CoreAnswer::Moved
+            }
+        }
         Err(why) => CoreAnswer::Refused(why),
     }
 }

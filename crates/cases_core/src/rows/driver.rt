@@ -8,9 +8,9 @@ use coll_core::{Contribution, Core, Offer, Work};
 use coll_kinds::{Refusal, Signature, Ticket};
 use coll_plans::{Plan, plan};
 use std::alloc::Global;
+use std::mem;
 
 /// An engine with the requests that a row made, and the combination that the row holds.
-#[derive(Drop)]
 pub struct CoreDriver {
     alloc: Global,
     core: Core,
@@ -64,12 +64,21 @@ fn plan_of(alloc: Global, sig: Signature, size: u8, member: u8) -> Result<Plan, 
 fn bytes_of(alloc: Global, values: &[u8]) -> Result<Contribution, Refusal> {
     let mut bytes = Vec::new(alloc);
     for value in values {
-        bytes.push(*value)?;
-        bytes.push(0)?;
-        bytes.push(0)?;
-        bytes.push(0)?;
+        bytes.extend_from_slice(&[*value, 0, 0, 0])?;
     }
     Ok(Contribution::new(bytes))
+}
+
+/// What a post of as many i32 values as the signature's count hands in, each of them this value, or why it can't.
+fn offer_of_equal(
+    alloc: Global,
+    sig: Signature,
+    size: u8,
+    member: u8,
+    value: u8,
+) -> Result<Offer, Refusal> {
+    let values = Vec::from_elem(alloc, value, sig.count as usize)?;
+    offer(alloc, sig, size, member, values.as_slice())
 }
 
 impl CoreDriver {
@@ -84,11 +93,24 @@ impl CoreDriver {
         })
     }
 
+    /// Ends the row. The combination that it holds is discarded together with its engine.
+    pub fn close(self) {
+        let CoreDriver {
+            alloc: _,
+            core: _,
+            size: _,
+            tickets: _,
+            held,
+        } = self;
+        discard(held);
+    }
+
     /// Makes a call, and returns its answer.
     pub fn answer(&mut self, call: CoreCall) -> CoreAnswer {
         let all = self.size;
         match call {
             CoreCall::Post(rank, sig, values) => self.post(rank, 0, (sig, all, rank), values),
+            CoreCall::PostEqual(rank, sig, value) => self.post_equal(rank, sig, value),
             CoreCall::PostBytes(rank, sig, count) => self.post_bytes(rank, sig, count),
             CoreCall::Offer(rank, comm, planned, values) => self.post(rank, comm, planned, values),
             CoreCall::Init(rank, sig) => self.init(rank, sig),
@@ -140,19 +162,29 @@ impl CoreDriver {
         (sig, size, member): (Signature, u8, u8),
         values: &[u8],
     ) -> CoreAnswer {
-        match offer(self.alloc, sig, size, member, values) {
-            Ok(offer) => {
-                let made = calls::post(&mut self.core, rank, comm, offer);
-                self.number(made)
-            }
-            Err(why) => CoreAnswer::Refused(why),
-        }
+        let offered = offer(self.alloc, sig, size, member, values);
+        self.post_offered(rank, comm, offered)
+    }
+
+    fn post_equal(&mut self, rank: u8, sig: Signature, value: u8) -> CoreAnswer {
+        let offered = offer_of_equal(self.alloc, sig, self.size, rank, value);
+        self.post_offered(rank, 0, offered)
     }
 
     fn post_bytes(&mut self, rank: u8, sig: Signature, count: u8) -> CoreAnswer {
-        match offer_of_bytes(self.alloc, sig, self.size, rank, count) {
+        let offered = offer_of_bytes(self.alloc, sig, self.size, rank, count);
+        self.post_offered(rank, 0, offered)
+    }
+
+    fn post_offered(
+        &mut self,
+        rank: u8,
+        comm: u32,
+        offered: Result<Offer, Refusal>,
+    ) -> CoreAnswer {
+        match offered {
             Ok(offer) => {
-                let made = calls::post(&mut self.core, rank, 0, offer);
+                let made = calls::post(&mut self.core, rank, comm, offer);
                 self.number(made)
             }
             Err(why) => CoreAnswer::Refused(why),
@@ -189,8 +221,8 @@ impl CoreDriver {
 
     fn step(&mut self) -> CoreAnswer {
         let (answer, work) = calls::step(&mut self.core);
-        if work.is_some() {
-            self.held = work;
+        if let Some(work) = work {
+            discard(mem::replace(&mut self.held, Some(work)));
         }
         answer
     }
@@ -241,21 +273,32 @@ impl CoreDriver {
         if let Some(own) = &self.held
             && own.ticket() != foreign.ticket()
         {
+            foreign.discard();
             return None;
         }
         Some(foreign)
     }
 }
 
-/// The first combination of an engine in which ranks 0 and 1 post these values.
+/// Gives up a combination that is held.
+fn discard(held: Option<Work>) {
+    match held {
+        Some(work) => work.discard(),
+        None => {}
+    }
+}
+
+/// The first combination of an engine in which ranks 0 and 1 post equal values, each its own.
 fn foreign(
     alloc: Global,
     sig: Signature,
     [first, second]: [u8; 2],
 ) -> Result<Option<Work>, Refusal> {
     let mut driver = CoreDriver::open(alloc, &PAIR)?;
-    driver.post(0, 0, (sig, 2, 0), &[first]);
-    driver.post(1, 0, (sig, 2, 1), &[second]);
+    driver.post_equal(0, sig, first);
+    driver.post_equal(1, sig, second);
     driver.steps_to_work();
-    Ok(driver.held.take())
+    let work = driver.held.take();
+    driver.close();
+    Ok(work)
 }

@@ -36,6 +36,17 @@ pub const SUM: Signature = Signature {
 
 pub const SUM_OF_THREE: Signature = Signature { count: 3, ..SUM };
 
+/// An allreduce of 65,536 bytes.
+pub const LONG_SUM: Signature = Signature {
+    count: 16_384,
+    ..SUM
+};
+
+pub const LONG_MAX: Signature = Signature {
+    op: Some(Op::Max),
+    ..LONG_SUM
+};
+
 pub const MAX: Signature = Signature {
     op: Some(Op::Max),
     ..SUM

@@ -4,7 +4,7 @@ ghost use Rattle.std.specs.Prelude.{◌≡◌, ◌↔◌, IfErr, IfOk, IfSome, I
 ghost use Rattle.coll_lists.specs.Layouts.{sequence};
 ghost use Rattle.coll_arena.specs.declared.list_name.ListName.TheVariants.{Ready, Running};
 ghost use Rattle.coll_arena.specs.ListNames.{number_of};
-ghost use Rattle.coll_core.specs.Steps.{CommitSteps, CommitsOwn, HasOwnResult, IsOut, Returns};
+ghost use Rattle.coll_core.specs.Steps.{CommitSteps, CommitsOwn, HasOwnResult, IsOut, IsWork, Returns};
 ghost use Rattle.coll_core.specs.Works.{result_of};
 
 use crate::engine::Core;
@@ -19,15 +19,16 @@ use coll_kinds::Refusal;
 
 impl Core {
     /// Writes the result of a combination that was handed out, and its request goes on. What is written is the combination of the request's
-    /// own operands: where the result of a long one was put into the core's own record, nothing is compared.
+    /// own operands. Those of a long one aren't compared: the work and the core's record are the two owners of the place of its result.
     ///
     /// # Errors
     ///
     /// Stale, with nothing changed, unless the work is out: its request runs, and stands at that action with these
-    /// operands. Work of another core that names the same action as work of this one that is out and computed is taken for that.
+    /// operands. The work is gone.
     pub fn commit(&mut self, done: DoneWork) -> Result<Stepped, Refusal>
         ensures out { IsOut self.old done.piece → IsTrue (is_ok result) }
         ensures own { IfOk result (CommitsOwn self.old self.new done.piece) }
+        ensures inside { IfOk result (λ stepped. IsWork stepped → ⊥) }
         ensures steps { IsOut self.old done.piece → IfOk result (CommitSteps self.old self.new done) }
         ensures err { OnErr result (self.new ≡ self.old) }
         ensures refused { IfErr result (λ why. why ≡ Refusal.Stale) }
@@ -52,9 +53,11 @@ impl Core {
     {
         let ticket = done.work().ticket();
         let Ok(request) = self.arena.get(ticket) else {
+            done.discard();
             return None;
         };
         if !self.arena.is_on(ticket, ListName::Running) {
+            done.discard();
             return None;
         }
         request.result_by(done)
@@ -68,10 +71,12 @@ impl Core {
     pub fn commit_short(&mut self, done: DoneShortWork) -> Result<Stepped, Refusal>
         ensures out { IsTrue (is_ok result) ↔ IsOut self.old done.piece }
         ensures steps { IfOk result (CommitSteps self.old self.new done) }
+        ensures inside { IfOk result (λ stepped. IsWork stepped → ⊥) }
         ensures err { OnErr result (self.new ≡ self.old) }
         ensures refused { IfErr result (λ why. why ≡ Refusal.Stale) }
     {
         if !self.is_short_out(done.work()) {
+            done.discard();
             return Err(Refusal::Stale);
         }
         is_sound(&self.arena);
@@ -94,11 +99,14 @@ impl Core {
         ensures err { OnErr result (self.new ≡ self.old) }
         ensures refused { IfErr result (λ why. why ≡ Refusal.Stale) }
     {
-        if !self.is_out(&work) {
+        let ticket = work.ticket();
+        let is_out = self.is_out(&work);
+        work.discard();
+        if !is_out {
             return Err(Refusal::Stale);
         }
         is_sound(&self.arena);
-        let Ok(()) = self.arena.shift_front(work.ticket(), ListName::Ready) else {
+        let Ok(()) = self.arena.shift_front(ticket, ListName::Ready) else {
             unreachable!()
         };
         Ok(())

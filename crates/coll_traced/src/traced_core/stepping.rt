@@ -63,6 +63,7 @@ impl<L: Entries> TracedCore<L> {
     pub fn commit_short(&mut self, done: DoneShortWork) -> Result<Stepped, Refusal>
         ensures out { IsTrue (is_ok result) ↔ IsOut self.old.core done.piece }
         ensures steps { IfOk result (CommitSteps self.old.core self.new.core done) }
+        ensures inside { IfOk result (λ stepped. IsWork stepped → ⊥) }
         ensures entries { self.new.entries ≡ self.old.entries }
         ensures waits { (self.new.waits ≡ self.old.waits) × (self.new.stalled ≡ self.old.stalled) }
         ensures err { OnErr result (self.new ≡ self.old) }
@@ -86,6 +87,7 @@ impl<L: Entries> TracedCore<L> {
     pub fn commit(&mut self, done: DoneWork) -> Result<Stepped, Refusal>
         ensures out { IsOut self.old.core done.piece → IsTrue (is_ok result) }
         ensures own { IfOk result (CommitsOwn self.old.core self.new.core done.piece) }
+        ensures inside { IfOk result (λ stepped. IsWork stepped → ⊥) }
         ensures steps { IsOut self.old.core done.piece → IfOk result (CommitSteps self.old.core self.new.core done) }
         ensures entries { self.new.entries ≡ self.old.entries }
         ensures waits { (self.new.waits ≡ self.old.waits) × (self.new.stalled ≡ self.old.stalled) }
