@@ -2,11 +2,12 @@ ghost use Rattle.std.specs.Prelude.{◌≡◌, Some, false, IsOkUnless, OnErr, O
 ghost use Rattle.coll_serial.specs.Combinations.{is_due, piece_of};
 
 use coll_core::{DoneWork, Work};
-use coll_kinds::Refusal;
+use coll_kinds::{Refusal, Refused};
 use std::marker::Model;
+use std::mem;
 
 /// How far a combination outside an engine is.
-#[derive(Debug, Drop)]
+#[derive(Debug)]
 pub enum Stage {
     /// It is to be computed.
     Due(Work),
@@ -14,9 +15,9 @@ pub enum Stage {
     Computed(DoneWork),
 }
 
-/// A combination that an engine handed out, so that it is computed outside the engine, and outside its lock. Contracts see its
-/// stage; one that has none is of no use.
-#[derive(Debug, Drop)]
+/// A combination that an engine handed out, so that it is computed outside the engine, and outside its lock. It can't be dropped:
+/// `take_back` takes it, and `discard`. Contracts see its stage; one that has none is of no use.
+#[derive(Debug)]
 pub struct Combination {
     stage: Option<Stage>,
 }
@@ -51,28 +52,33 @@ impl Combination {
         ensures err { OnErr result (self.new ≡ self.old) }
         ensures refusal { IsOkUnless result Refusal.NoMemory }
     {
-        match self.stage.take() {
-            None => Ok(()),
-            Some(Stage::Computed(done)) => {
-                self.stage = Some(Stage::Computed(done));
-                Ok(())
-            }
+        let (stage, answer) = match self.stage.take() {
+            None => (None, Ok(())),
+            Some(Stage::Computed(done)) => (Some(Stage::Computed(done)), Ok(())),
             Some(Stage::Due(work)) => match work.run() {
-                Ok(done) => {
-                    self.stage = Some(Stage::Computed(done));
-                    Ok(())
-                }
-                Err(refused) => {
-                    self.stage = Some(Stage::Due(refused.back));
-                    Err(refused.why)
-                }
+                Ok(done) => (Some(Stage::Computed(done)), Ok(())),
+                Err(Refused { why, back }) => (Some(Stage::Due(back)), Err(why)),
             },
+        };
+        let None = mem::replace(&mut self.stage, stage) else {
+            unreachable!()
+        };
+        answer
+    }
+
+    /// Lets it go though no engine takes it back: for one whose engine is gone.
+    pub fn discard(self) {
+        match self.into_stage() {
+            None => {}
+            Some(Stage::Due(work)) => work.discard(),
+            Some(Stage::Computed(done)) => done.discard(),
         }
     }
 
     pub(crate) fn into_stage(self) -> Option<Stage>
         ensures { result ≡ self }
     {
-        self.stage
+        let Combination { stage } = self;
+        stage
     }
 }

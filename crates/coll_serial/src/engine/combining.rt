@@ -52,9 +52,8 @@ impl Engine {
     ///
     /// # Errors
     ///
-    /// Stale, with nothing changed, unless it is one that this engine handed out and didn't take back, or another engine's that was computed and
-    /// names the same action as one of this engine's that is out and computed: what is written then is the result of this engine's own operands.
-    /// The combination is gone.
+    /// Stale, with nothing changed, unless it is one that this engine handed out and didn't take back, or another engine's of the same action
+    /// and operands. The combination is gone.
     pub fn take_back(&mut self, combination: Combination) -> Result<(), Refusal>
         ensures out { IsOutside self.old (piece_of combination) → IsTrue (is_ok result) }
         ensures due { IsTrue (is_due combination) → IsTrue (is_ok result) → IsOutside self.old (piece_of combination) }
@@ -80,7 +79,7 @@ impl Engine {
     {
         match self.core.commit(done) {
             Ok(stepped) => {
-                drop(stepped);
+                stepped.has_finished();
                 Ok(())
             }
             Err(why) => Err(why),

@@ -75,9 +75,10 @@ impl Engine {
     {
         match work.run() {
             Ok(done) => {
-                let Ok(_) = self.core.commit(done) else {
+                let Ok(stepped) = self.core.commit(done) else {
                     unreachable!()
                 };
+                stepped.has_finished();
                 Ok(())
             }
             Err(refused) => {
