@@ -16,11 +16,14 @@ pub enum Measure {
     ShortBcast,
     LongBcast,
     LongAllreduce,
+    ShortAllreduce,
+    ShortAllgather,
+    LongAllgather,
 }
 
 impl Measure {
     /// All measures, in the order in which they are run.
-    pub const ALL: [Measure; 7] = [
+    pub const ALL: [Measure; 10] = [
         Measure::Barrier,
         Measure::SmallAllreduce,
         Measure::Starts,
@@ -28,6 +31,9 @@ impl Measure {
         Measure::ShortBcast,
         Measure::LongBcast,
         Measure::LongAllreduce,
+        Measure::ShortAllreduce,
+        Measure::ShortAllgather,
+        Measure::LongAllgather,
     ];
 
     /// The signature of the collective.
@@ -40,6 +46,9 @@ impl Measure {
             Measure::ShortBcast => (Kind::Bcast, Datatype::Byte, 65_536),
             Measure::LongBcast => (Kind::Bcast, Datatype::I64, 65_536),
             Measure::LongAllreduce => (Kind::Allreduce, Datatype::I64, 65_536),
+            Measure::ShortAllreduce => (Kind::Allreduce, Datatype::I64, 8_192),
+            Measure::ShortAllgather => (Kind::Allgather, Datatype::Byte, 65_536),
+            Measure::LongAllgather => (Kind::Allgather, Datatype::I64, 65_536),
         };
         Signature {
             kind,
@@ -65,8 +74,9 @@ impl Measure {
         match self {
             Measure::Barrier | Measure::SmallAllreduce | Measure::Starts => 60,
             Measure::Outstanding => 20,
-            Measure::ShortBcast => 60,
-            Measure::LongBcast | Measure::LongAllreduce => 20,
+            Measure::ShortBcast | Measure::ShortAllreduce => 60,
+            Measure::LongBcast | Measure::LongAllreduce | Measure::ShortAllgather => 20,
+            Measure::LongAllgather => 10,
         }
     }
 
@@ -85,8 +95,11 @@ impl Measure {
             Measure::Barrier | Measure::SmallAllreduce | Measure::Starts => 200,
             Measure::Outstanding if ranks > 4 => 500,
             Measure::Outstanding => 1_000,
-            Measure::ShortBcast => 5,
-            Measure::LongBcast | Measure::LongAllreduce => 1,
+            Measure::ShortBcast | Measure::ShortAllreduce => 5,
+            Measure::LongBcast
+            | Measure::LongAllreduce
+            | Measure::ShortAllgather
+            | Measure::LongAllgather => 1,
         }
     }
 }
@@ -101,6 +114,9 @@ impl fmt::Display for Measure {
             Measure::ShortBcast => "bcast of 64 KiB",
             Measure::LongBcast => "bcast of 512 KiB",
             Measure::LongAllreduce => "allreduce of 512 KiB",
+            Measure::ShortAllreduce => "allreduce of 64 KiB",
+            Measure::ShortAllgather => "allgather of 64 KiB",
+            Measure::LongAllgather => "allgather of 512 KiB",
         })
     }
 }
