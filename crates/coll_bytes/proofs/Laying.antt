@@ -1,9 +1,9 @@
 -- segments laid one over the other
-use Rattle.std.proofs.Common.{◌≡◌, ℕ, ◌+◌, ◌<◌, ◌⊎◌, inl, inr, refl, List, [], ◌∷◌, ◌++◌, ◌-◌, fold, take, drop, length, get_or, replicate, remove, zero, suc, sym, ap, subst, ◌∙◌, append_assoc, arith}
+use Rattle.std.proofs.Common.{◌≡◌, ℕ, ◌+◌, ◌<◌, ◌⊎◌, inl, inr, refl, List, [], ◌∷◌, ◌++◌, ◌-◌, fold, take, drop, length, get_or, replicate, remove, zero, suc, sym, ap, subst, ◌∙◌, arith}
 use Rattle.std.proofs.lemmas.List.{length-replicate, same_lists, take_more, get_or_default}
 use Rattle.std.proofs.lemmas.List.Elements.{All-append, All-drop, All-take}
 use Rattle.std.proofs.lemmas.List.Sums.{fold-append}
-use Rattle.std.proofs.Math.Seq.{take-add, take-length}
+use Rattle.std.proofs.Math.Seq.{take-length}
 use Rattle.coll_sched.specs.declared.region.Region.{Region}
 use Rattle.coll_sched.specs.Regions.{Apart, Inside, read_of, written}
 use Rattle.coll_sched.proofs.Buffers.{length_written, read_apart}
@@ -77,38 +77,6 @@ read_next size xs i s from out now l e h inside before step =
     let n : length (laid size (take i xs)) ≡ size = length_laid size (take i xs) (take_inside size i xs h) in
     let its : Inside size (place_of s) = rw e (h i s l) in
     step (laid size (take i xs)) (omega (arith, n, its)) (omega (arith, n, inside)) before ∙ sym (ap (λ buf. read_of buf from) (laid_next size xs i s l e))
-
--- the newest segment shows all its bytes
-newest_shown : (size : ℕ) (xs : List Segment) (i : ℕ) (s : Segment) → AllInside size xs → length xs ≡ i + 1 → s ≡ get_or xs i s → read_of (laid size xs) (place_of s) ≡ s.bytes
-newest_shown size xs i s h last e =
-    let all : take (i + 1) xs ≡ xs = ap (λ n. take n xs) (sym last) ∙ take-length xs in
-    let l : i < length xs = omega (arith, last) in
-    let none : s.at - s.at ≡ 0 = omega arith in
-    sym (ap (λ ys. read_of (laid size ys) (place_of s)) all)
-    ∙ (read_shown size xs i s (place_of s) h l e (omega arith, omega arith)
-    ∙ (ap (λ n. take (length s.bytes) (drop n s.bytes)) none ∙ take-length s.bytes))
-
--- bytes that lie there already, written again with others after them
-written-more : (buf bytes : List ℕ) (at len more : ℕ) → written buf (record { at = at; len = len + more }) (take len (drop at buf) ++ bytes) ≡ written buf (record { at = at + len; len = more }) bytes
-written-more buf bytes at len more =
-    let own : List ℕ = take len (drop at buf) in
-    let rest : List ℕ = drop (at + (len + more)) buf in
-    let end : at + (len + more) ≡ at + len + more = omega arith in
-    ap (λ tail. take at buf ++ tail) (append_assoc own bytes rest)
-    ∙ (sym (append_assoc (take at buf) own (bytes ++ rest))
-    ∙ (ap (λ front. front ++ (bytes ++ rest)) (sym (take-add at len buf))
-    ∙ ap (λ n. take (at + len) buf ++ (bytes ++ drop n buf)) end))
-
--- a write of the newest segment's bytes and of those that go on with them is a write of the latter
-pub written-continued : (size : ℕ) (xs : List Segment) (i : ℕ) (s : Segment) (place region : Region) (bytes all : List ℕ) → AllInside size xs → length xs ≡ i + 1 → s ≡ get_or xs i s → place ≡ place_of s → place.at + place.len ≡ region.at → all ≡ s.bytes ++ bytes → written (laid size xs) (record { at = place.at; len = place.len + region.len }) all ≡ written (laid size xs) region bytes
-written-continued size xs i s place region bytes all h last e p next both =
-    let buf : List ℕ = laid size xs in
-    let shown : read_of buf (place_of s) ≡ s.bytes = newest_shown size xs i s h last e in
-    let begins : s.at + length s.bytes ≡ region.at = sym (ap (λ (g : Region). g.at + g.len) p) ∙ next in
-    ap (λ (g : Region). written buf (record { at = g.at; len = g.len + region.len }) all) p
-    ∙ (ap (λ bs. written buf (record { at = s.at; len = length s.bytes + region.len }) bs) (both ∙ ap (λ own. own ++ bytes) (sym shown))
-    ∙ (written-more buf bytes s.at (length s.bytes) region.len
-    ∙ ap (λ n. written buf (record { at = n; len = region.len }) bytes) begins))
 
 -- the same bytes outside a region
 abbrev SameOutside : Region → List ℕ → List ℕ → Type 0

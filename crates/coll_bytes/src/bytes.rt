@@ -1,8 +1,7 @@
-ghost use Rattle.std.specs.Prelude.{◌≡◌, ◌+◌, ◌<◌, ◌≤◌, ◌^◌, ◌==◌, [], ◌++◌, length, take, IfErr, IfOk, IfSome, IsOk, vec_capacity, vec_len};
+ghost use Rattle.std.specs.Prelude.{◌≡◌, ◌+◌, ◌<◌, ◌≤◌, ◌^◌, ◌==◌, [], length, take, IfErr, IfOk, IfSome, IsOk, vec_capacity, vec_len};
 ghost use Rattle.std.specs.Arc.{arc_value};
 ghost use Rattle.coll_sched.specs.Regions.{Inside, read_of};
 
-use coll_ops::are_same;
 use coll_sched::Region;
 use std::alloc::{AllocError, Global};
 use std::marker::Model;
@@ -108,32 +107,6 @@ fn shared_part(block: Arc<Vec<u8>>, place: Region, from: Region) -> Bytes
             },
         },
     }
-}
-
-// Two regions of a block as one, the second directly after the first; none where they lie otherwise, or the block has other bytes in the
-// second than these.
-#[tactic(auto, using(crate::proofs::Parts::read_more))]
-fn joined(block: &[u8], first: Region, second: Region, bytes: &[u8]) -> Option<Region>
-    requires inside { Inside (length block.now) first }
-    requires first_fits { first.at + first.len < 2 ^ 32 }
-    ensures inside { IfSome result (λ both. Inside (length block.now) both) }
-    ensures fits { IfSome result (λ both. both.at + both.len < 2 ^ 32) }
-    ensures bytes { IfSome result (λ both. read_of block.now both ≡ read_of block.now first ++ bytes.now) }
-{
-    if second.at != first.at + first.len {
-        return None;
-    }
-    let end = second.at as usize + second.len as usize;
-    if block.len() < end || u32::MAX as usize <= end {
-        return None;
-    }
-    if !are_same(second.read(block), bytes) {
-        return None;
-    }
-    Some(Region {
-        at: first.at,
-        len: first.len + second.len,
-    })
 }
 
 // A copy of bytes in a vector that has room for them.
@@ -329,30 +302,6 @@ impl Bytes {
         ensures { IfSome result (λ other. other ≡ self.now) }
     {
         self.counted_part(Region::front(self.len())).ok()
-    }
-
-    /// A second owner of these bytes and of others that lie directly after them in one block; none where they don't, or the block doesn't
-    /// count its owners. It takes no memory. That the block is one is found out by its bytes, so others at the same place will do as well, and
-    /// so will a few that lie in place.
-    pub(crate) fn followed_by(&self, others: &Bytes) -> Option<Bytes>
-        ensures { IfSome result (λ both. both ≡ self.now ++ others.now) }
-    {
-        let Memory::Shared { block, place } = &self.memory else {
-            return None;
-        };
-        let next = match &others.memory {
-            Memory::InPlace { len, .. } => Region {
-                at: place.at + place.len,
-                len: u32::from(*len),
-            },
-            Memory::Owned { .. } => return None,
-            Memory::Shared { place, .. } => *place,
-        };
-        let both = joined(block, *place, next, others.as_slice())?;
-        match Arc::try_clone(block) {
-            Ok(block) => Some(shared(block, both)),
-            Err(_) => None,
-        }
     }
 
     /// Whether more owners than this many have the bytes' block, where it counts them; `false` else. It is so at one moment: others may

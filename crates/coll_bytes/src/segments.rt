@@ -17,8 +17,8 @@ use std::marker::Model;
 pub const WRITES_IN_PLACE: usize = 1;
 
 /// A schedule's buffer: what was written lies there as segments, a newer one over the older ones, and all of them over zeros. So a write
-/// copies nothing, and a region that was written as a whole is read without a copy, also one that was written from its front on in parts of
-/// one block. Contracts see the buffer's bytes, and how many writes need no memory.
+/// copies nothing, and a region that was written as a whole is read without a copy. Contracts see the buffer's bytes, and how many writes need
+/// no memory.
 ///
 /// Each call looks at the segments from the newest one on: a schedule mostly reads what it wrote last, and a write takes out those that it
 /// hides.
@@ -132,46 +132,8 @@ fn remove_hidden(segments: &mut SmallVec<Segment, WRITES_IN_PLACE>, size: u32, r
     }
 }
 
-// The region of the newest segment with one that begins where it ends, and the bytes of both, where the segment's block has the latter's
-// bytes too, after its own.
-fn continued(
-    segments: &[Segment],
-    size: u32,
-    region: Region,
-    bytes: &Bytes,
-) -> Option<(Region, Bytes)>
-    requires all { AllInside size segments.now }
-    requires inside { Inside size region }
-    requires same { length bytes.now ≡ region.len }
-    ensures inside { IfSome result (λ both. Inside size both.0) }
-    ensures same { IfSome result (λ both. length both.1 ≡ both.0.len) }
-    ensures written { IfSome result (λ both. written (laid size segments.now) both.0 both.1 ≡ written (laid size segments.now) region bytes.now) }
-{
-    let count = segments.len();
-    if count == 0 {
-        return None;
-    }
-    let i = count - 1;
-    let newest = &segments[i];
-    let place = newest.place();
-    if place.at + place.len != region.at {
-        return None;
-    }
-    let both = Region {
-        at: place.at,
-        len: place.len + region.len,
-    };
-    let all = newest.bytes.followed_by(bytes)?;
-    Some((both, all))
-}
-
-// Lays bytes over a region, in a segment of their own.
-fn lay_apart(
-    segments: &mut SmallVec<Segment, WRITES_IN_PLACE>,
-    size: u32,
-    region: Region,
-    bytes: Bytes,
-)
+// Lays bytes over a region.
+fn lay(segments: &mut SmallVec<Segment, WRITES_IN_PLACE>, size: u32, region: Region, bytes: Bytes)
     requires all { AllInside size segments.old.items }
     requires inside { Inside size region }
     requires same { length bytes ≡ region.len }
@@ -186,24 +148,6 @@ fn lay_apart(
         at: region.at,
         bytes,
     });
-}
-
-// Lays bytes over a region, in one segment with those of the newest where they go on with them: a row that comes in parts of one block
-// is then read, and taken out, without a copy.
-fn lay(segments: &mut SmallVec<Segment, WRITES_IN_PLACE>, size: u32, region: Region, bytes: Bytes)
-    requires all { AllInside size segments.old.items }
-    requires inside { Inside size region }
-    requires same { length bytes ≡ region.len }
-    requires room { HasRoomFor segments.old 1 }
-    ensures all { AllInside size segments.new.items }
-    ensures written { laid size segments.new.items ≡ written (laid size segments.old.items) region bytes }
-    ensures len { small_vec_len segments.new ≤ small_vec_len segments.old + 1 }
-    ensures capacity { segments.new.capacity ≡ segments.old.capacity }
-{
-    match continued(segments.as_slice(), size, region, &bytes) {
-        Some((both, all)) => lay_apart(segments, size, both, all),
-        None => lay_apart(segments, size, region, bytes),
-    }
 }
 
 impl Segments {

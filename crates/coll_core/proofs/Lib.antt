@@ -17,6 +17,7 @@ pub mod Beginning
 pub mod Restarting
 -- completions
 pub mod Retiring
+pub mod RootRows
 -- steps: the first of Ready acts, sends, combines
 pub mod Stepping
 pub mod Settling

@@ -1,7 +1,8 @@
 -- What a completion takes out of the arena.
-use Rattle.std.specs.Prelude.{◌≡◌, ◌<◌, ℕ, true, length, Some, None}
+use Rattle.std.specs.Prelude.{◌≡◌, ◌<◌, ℕ, true, List, length, Option, Some, None}
+use Rattle.std.specs.Option.{ForSome}
 use Rattle.coll_kinds.specs.declared.ticket.Ticket.{Ticket}
-use Rattle.coll_sched.specs.Regions.{Inside}
+use Rattle.coll_sched.specs.Regions.{Inside, read_of}
 use Rattle.coll_arena.specs.Slots.{Slots, names, record_in}
 use Rattle.coll_machine.specs.Common.{Retire, refusal}
 use Rattle.coll_core.specs.declared.request.Request.{Request}
@@ -18,3 +19,7 @@ pub record Owns (p : Parts) (rank : ℕ) (t : Ticket) (x : Request) : Type 0 whe
 pub record GivesUp (a : Slots Request) (x : Request) : Type 0 where
   pub comm_in : x.comm < a.comms
   pub outcome_in : Inside (length x.buffer) (schedule (shown x)).output
+
+-- the bytes, where there are some, are the outcome that the request's buffer has
+abbrev pub IsOutcome : Option (List ℕ) → Request → Type 0
+IsOutcome known x = ForSome known (λ bytes. bytes ≡ read_of x.buffer (schedule (shown x)).output)

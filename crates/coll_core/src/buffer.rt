@@ -1,4 +1,5 @@
 ghost use Rattle.std.specs.Prelude.{◌≡◌, ◌≤◌, ◌↔◌, ◌%◌, [], length, IfOk, IfSome, IsOkUnless, IsTrue, OnErr, OnOk};
+ghost use Rattle.std.specs.Option.{ForSome};
 ghost use Rattle.coll_core.specs.Buffers.{HasRoom, HasRooms, IsRoom, bytes_of};
 ghost use Rattle.coll_kinds.specs.Checks.{allowed};
 ghost use Rattle.coll_kinds.specs.Elements.{width};
@@ -407,10 +408,17 @@ impl Buffer {
         }
     }
 
-    /// Takes a region's bytes out, with room for a copy of them, and leaves none. It takes no memory, and copies only what lies together.
+    /// Takes a region's bytes out, with room for a copy of them, and leaves none. Where another owner of such bytes is known, it is handed
+    /// out, and segments go unread. It takes no memory, and copies only what lies together.
     #[inline(always)]
-    pub(crate) fn take(&mut self, alloc: Global, region: Region) -> (Bytes, Vec<u8>)
-        requires { Inside (length self.old) region }
+    pub(crate) fn take(
+        &mut self,
+        alloc: Global,
+        region: Region,
+        known: Option<Bytes>,
+    ) -> (Bytes, Vec<u8>)
+        requires inside { Inside (length self.old) region }
+        requires known { ForSome known (λ bytes. bytes ≡ read_of self.old region) }
         ensures bytes { result.0 ≡ read_of self.old region }
         ensures room { HasRoom result.1 (length result.0) }
         ensures none { self.new ≡ [] }
@@ -429,7 +437,10 @@ impl Buffer {
                     shell,
                     ..
                 } = long;
-                (segments.into_part(region, own, shell), spare)
+                match known {
+                    Some(bytes) => (bytes, spare),
+                    None => (segments.into_part(region, own, shell), spare),
+                }
             }
         }
     }

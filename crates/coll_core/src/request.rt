@@ -1,4 +1,5 @@
 ghost use Rattle.std.specs.Prelude.{◌≡◌, ◌≢◌, ◌≤◌, ◌<◌, ◌+◌, ◌^◌, suc, length, take, drop, None, Some, IsTrue, ◌↔◌, IsSome, IfSome, IfOk, IsOkUnless, IfErr, [], is_some};
+ghost use Rattle.std.specs.Option.{ForSome};
 ghost use Rattle.coll_arena.specs.ListNames.{number_of};
 ghost use Rattle.coll_match.specs.Instances.{mail};
 ghost use Rattle.coll_sched.specs.Actions.{Fits, IsCombine};
@@ -329,10 +330,12 @@ impl Request {
         self.buffer.write(into, done.into_result());
     }
 
-    /// Takes the outcome out of the buffer, with room for a copy of it, and goes back to the first round. The buffer is empty then.
+    /// Takes the outcome out of the buffer, with room for a copy of it, and goes back to the first round. The buffer is empty then. Where
+    /// another owner of such bytes is known, it is handed out.
     #[inline(always)]
-    pub(crate) fn take_outcome(&mut self, alloc: Global) -> (Bytes, Vec<u8>)
-        requires { Inside (length self.old.buffer) (schedule (shown self.old)).output }
+    pub(crate) fn take_outcome(&mut self, alloc: Global, known: Option<Bytes>) -> (Bytes, Vec<u8>)
+        requires inside { Inside (length self.old.buffer) (schedule (shown self.old)).output }
+        requires known { ForSome known (λ bytes. bytes ≡ read_of self.old.buffer (schedule (shown self.old)).output) }
         ensures bytes { result.0 ≡ read_of self.old.buffer (schedule (shown self.old)).output }
         ensures room { HasRoom result.1 (length result.0) }
         ensures left { shown self.new ≡ advanced (shown self.old) (record { round = 0; index = 0; buf = [] }) }
@@ -340,7 +343,7 @@ impl Request {
         let output = self.plan.schedule().output();
         self.round = 0;
         self.index = 0;
-        self.buffer.take(alloc, output)
+        self.buffer.take(alloc, output, known)
     }
 }
 

@@ -1,4 +1,4 @@
-ghost use Rattle.std.specs.Prelude.{◌≡◌, ◌<◌, ◌&&◌, [], Some, None, length, is_some, is_none, IsTrue, ◌↔◌, IfOk, OnOk, IfErr, OnErr, replicate};
+ghost use Rattle.std.specs.Prelude.{◌≡◌, ◌<◌, ◌&&◌, [], Some, None, length, is_some, is_none, IsTrue, ◌↔◌, IfOk, IfSome, OnOk, IfErr, OnErr, replicate};
 ghost use Rattle.std.specs.List.{list_all};
 ghost use Rattle.std.specs.Option.{option_copied};
 ghost use Rattle.coll_kinds.specs.declared.refusal.Refusal.TheVariants.{NoMemory};
@@ -147,6 +147,14 @@ impl Instance {
     {
         let share = self.shares.get(usize::from(member))?;
         share.given.as_ref().map(Bytes::as_slice)
+    }
+
+    /// A further owner of what a member gave, where the bytes' block counts its owners; none else. It takes no memory.
+    pub(crate) fn share_given(&self, member: u8) -> Option<Bytes>
+        ensures { IfSome result (λ bytes. given_in self.now member ≡ Some bytes) }
+    {
+        let share = self.shares.get(usize::from(member))?;
+        share.given.as_ref()?.share_counted()
     }
 
     /// Notes the slot of a member's active request.

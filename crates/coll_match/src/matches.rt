@@ -1,4 +1,4 @@
-ghost use Rattle.std.specs.Prelude.{◌≡◌, ◌<◌, ◌≢◌, length, Some, None, slice_get, is_some, IsTrue, ◌↔◌, OnOk, IfOk, IfErr, OnErr};
+ghost use Rattle.std.specs.Prelude.{◌≡◌, ◌<◌, ◌≢◌, length, Some, None, slice_get, is_some, IsTrue, ◌↔◌, OnOk, IfOk, IfSome, IfErr, OnErr};
 ghost use Rattle.std.specs.Option.{option_copied, option_copied_mut};
 ghost use Rattle.coll_kinds.specs.declared.refusal.Refused.{Refused};
 ghost use Rattle.coll_match.specs.Held.{given_in, mail_in, seat_in};
@@ -112,6 +112,13 @@ impl Matches {
         ensures { option_copied result ≡ given self.now key member }
     {
         self.instances.get(&key)?.given(member)
+    }
+
+    /// A further owner of what a member gave to an instance, where the bytes' block counts its owners; none else. It takes no memory.
+    pub fn share_given(&self, key: Key, hint: usize, member: u8) -> Option<Bytes>
+        ensures { IfSome result (λ bytes. given self.now key member ≡ Some bytes) }
+    {
+        self.at(key, hint)?.share_given(member)
     }
 
     /// Notes the slot of the active request of a member that has joined. It takes no memory.

@@ -4,13 +4,15 @@ ghost use Rattle.std.specs.Prelude.{◌≡◌, Some, true, length, IfOk, IfErr, 
 ghost use Rattle.std.specs.Result.{result_err};
 ghost use Rattle.coll_lists.specs.Moves.{moved_back};
 ghost use Rattle.coll_arena.specs.Slots.{home, names, record_in};
+ghost use Rattle.coll_match.specs.Instances.{given};
 ghost use Rattle.coll_machine.specs.Calls.{Outcome as Completed, Nothing, Retire};
 ghost use Rattle.coll_machine.specs.Machines.{MachineStep};
 ghost use Rattle.coll_machine.specs.Refusals.{refusal};
 ghost use Rattle.coll_sched.specs.Regions.{Inside, read_of};
 ghost use Rattle.coll_refinement.specs.Engines.{Rests};
+ghost use Rattle.coll_refinement.specs.Requests.{key};
 ghost use Rattle.coll_core.specs.Buffers.{HasRoom};
-ghost use Rattle.coll_core.specs.Completions.{GivesUp};
+ghost use Rattle.coll_core.specs.Completions.{GivesUp, IsOutcome};
 ghost use Rattle.coll_core.specs.Cores.{seen, setting};
 ghost use Rattle.coll_core.specs.Progress.{KeepsProgress};
 ghost use Rattle.coll_core.specs.Requests.{schedule, shown};
@@ -22,7 +24,8 @@ use crate::shared_result::forget;
 use coll_arena::laws::is_sound;
 use coll_arena::{Arena, ListName, Ticket};
 use coll_bytes::Bytes;
-use coll_kinds::{Mode, Refusal};
+use coll_kinds::{Kind, Mode, Refusal};
+use coll_match::Matches;
 use std::alloc::Global;
 
 impl Core {
@@ -100,7 +103,8 @@ impl Core {
         let key = request.key();
         let hint = request.hint;
         let member = request.plan.member();
-        let (bytes, room) = give_up(&mut self.arena, self.alloc, ticket);
+        let known = root_row(&self.matches, request);
+        let (bytes, room) = give_up(&mut self.arena, self.alloc, ticket, known);
         let is_over = self.matches.leave(key, hint, member);
         forget(&mut self.results, key, is_over);
         let outcome = Outcome {
@@ -114,10 +118,29 @@ impl Core {
     }
 }
 
-/// Takes the outcome of a request with room for a copy of it. The request goes, or is Idle then, by its mode.
-fn give_up(arena: &mut Arena<Request>, alloc: Global, ticket: Ticket) -> (Bytes, Vec<u8>)
+/// The value of a bcast that is Done: a further owner of what its root gave. None where that doesn't count its owners, and for other kinds.
+fn root_row(matches: &Matches, request: &Request) -> Option<Bytes>
+    ensures kind { IfSome result (λ bytes. request.now.plan.sig.kind ≡ Kind.Bcast) }
+    ensures given { IfSome result (λ bytes. given matches.now (key (shown request.now)) request.now.plan.sig.root ≡ Some bytes) }
+{
+    let sig = request.plan.sig();
+    if sig.kind != Kind::Bcast {
+        return None;
+    }
+    matches.share_given(request.key(), request.hint, sig.root)
+}
+
+/// Takes the outcome of a request with room for a copy of it, of which another owner may be known. The request goes, or is Idle then, by its
+/// mode.
+fn give_up(
+    arena: &mut Arena<Request>,
+    alloc: Global,
+    ticket: Ticket,
+    known: Option<Bytes>,
+) -> (Bytes, Vec<u8>)
     requires named { names arena.old ticket ≡ true }
     requires can { IfSome (record_in arena.old ticket.slot) (GivesUp arena.old) }
+    requires known { IfSome (record_in arena.old ticket.slot) (IsOutcome known) }
     ensures bytes { IfSome (record_in arena.old ticket.slot) (λ x. result.0 ≡ read_of x.buffer (schedule (shown x)).output) }
     ensures room { HasRoom result.1 (length result.0) }
     ensures rests { IfSome (record_in arena.old ticket.slot) (λ x. Rests shown x.plan.sig.mode arena.old arena.new ticket x) }
@@ -127,30 +150,42 @@ fn give_up(arena: &mut Arena<Request>, alloc: Global, ticket: Ticket) -> (Bytes,
         unreachable!()
     };
     match request.plan.sig().mode {
-        Mode::Once => end(arena, alloc, ticket),
-        Mode::Persistent => rest(arena, alloc, ticket),
+        Mode::Once => end(arena, alloc, ticket, known),
+        Mode::Persistent => rest(arena, alloc, ticket, known),
     }
 }
 
 /// The outcome of a once request, which goes.
-fn end(arena: &mut Arena<Request>, alloc: Global, ticket: Ticket) -> (Bytes, Vec<u8>)
+fn end(
+    arena: &mut Arena<Request>,
+    alloc: Global,
+    ticket: Ticket,
+    known: Option<Bytes>,
+) -> (Bytes, Vec<u8>)
     requires named { names arena.old ticket ≡ true }
     requires can { IfSome (record_in arena.old ticket.slot) (GivesUp arena.old) }
+    requires known { IfSome (record_in arena.old ticket.slot) (IsOutcome known) }
     ensures bytes { IfSome (record_in arena.old ticket.slot) (λ x. result.0 ≡ read_of x.buffer (schedule (shown x)).output) }
     ensures room { HasRoom result.1 (length result.0) }
     ensures rests { IfSome (record_in arena.old ticket.slot) (λ x. Rests shown Mode.Once arena.old arena.new ticket x) }
     ensures lists { arena.new.lists ≡ moved_back ticket.slot (home arena.new ticket.slot) arena.old.lists }
 {
     match arena.retire(ticket) {
-        Ok(mut request) => request.take_outcome(alloc),
+        Ok(mut request) => request.take_outcome(alloc, known),
         Err(_) => unreachable!(),
     }
 }
 
 /// The outcome of a persistent request, which is Idle then.
-fn rest(arena: &mut Arena<Request>, alloc: Global, ticket: Ticket) -> (Bytes, Vec<u8>)
+fn rest(
+    arena: &mut Arena<Request>,
+    alloc: Global,
+    ticket: Ticket,
+    known: Option<Bytes>,
+) -> (Bytes, Vec<u8>)
     requires named { names arena.old ticket ≡ true }
     requires can { IfSome (record_in arena.old ticket.slot) (GivesUp arena.old) }
+    requires known { IfSome (record_in arena.old ticket.slot) (IsOutcome known) }
     ensures bytes { IfSome (record_in arena.old ticket.slot) (λ x. result.0 ≡ read_of x.buffer (schedule (shown x)).output) }
     ensures room { HasRoom result.1 (length result.0) }
     ensures rests { IfSome (record_in arena.old ticket.slot) (λ x. Rests shown Mode.Persistent arena.old arena.new ticket x) }
@@ -160,7 +195,7 @@ fn rest(arena: &mut Arena<Request>, alloc: Global, ticket: Ticket) -> (Bytes, Ve
     let Ok(request) = arena.get_mut(ticket) else {
         unreachable!()
     };
-    let bytes = request.take_outcome(alloc);
+    let bytes = request.take_outcome(alloc, known);
     let comm = request.comm;
     let Ok(()) = arena.reweigh(ticket, 0) else {
         unreachable!()

@@ -1,5 +1,6 @@
 use Rattle.std.proofs.Common.{◌+◌, ◌*◌, refl, arith, ap}
 use Rattle.coll_core.proofs.Standings.{list_in}
+use Rattle.coll_core.proofs.RootRows.{known_outcome}
 use Rattle.coll_core.proofs.Retiring.{completes, gives_up, kept, on_done, owned, retires_alone, seated, waits}
 use Rattle.coll_match.specs.Instances.{LookUps}
 use Rattle.coll_core.proofs.engine.Core.complete.Goals as goal
@@ -19,6 +20,14 @@ give_up-bytes-requires-clause-can c =
     let owns = owned _ c.args.self.now c.args.rank c.args.ticket c.in_ok-request.request.now c.self.view_is c.in_ok-request.ensures.refused c.in_ok-request.ensures.named c.in_ok-request.ensures.found in
     let on = on_done c.self.inside.arena c.args.ticket (6 + 3 * c.in_ok-request.request.now.comm) c.if-not-is_on.ensures in
     gives_up _ c.args.rank c.args.ticket c.in_ok-request.request.now c.self.invariant owns on
+
+pub give_up-bytes-requires-clause-known : goal.give_up-bytes-requires-clause-known
+give_up-bytes-requires-clause-known c =
+    let owns = owned _ c.args.self.now c.args.rank c.args.ticket c.in_ok-request.request.now c.self.view_is
+    c.in_ok-request.ensures.refused c.in_ok-request.ensures.named c.in_ok-request.ensures.found in
+    let on = on_done c.self.inside.arena c.args.ticket (6 + 3 * c.in_ok-request.request.now.comm) c.if-not-is_on.ensures in
+    known_outcome _ c.args.rank c.args.ticket c.in_ok-request.request.now c.self.invariant owns on
+    c.root_row-known.result c.root_row-known.ensures.kind c.root_row-known.ensures.given
 
 pub leave-is_over-requires : goal.leave-is_over-requires
 leave-is_over-requires c =
