@@ -24,6 +24,7 @@ int main(int argc, char **argv) {
     MPI_Barrier(MPI_COMM_WORLD);
     if (rank == 1) std::cout << "rank 1: " << 255 << ' ' << 3.14159265 << std::endl;
     for (int i = 0; i < 5000; i++) std::cout << "rank " << std::dec << rank << " line " << i << '\n';
+    MPI_Barrier(MPI_COMM_WORLD);
     if (rank == 1) std::cerr << std::setw(4) << 1 << std::endl;
     MPI_Finalize();
 }
